@@ -1,0 +1,51 @@
+ghost use Rattle.std.specs.Prelude.{◌≡◌, ◌<◌, ◌≤◌, ℕ, length};
+ghost use Rattle.bond_prices.specs.Price.{price_of, price_digits, fraction_digits, IsShortest};
+
+use crate::ticks::Ticks;
+use arrayvec::ArrayString;
+use itoa::Buffer;
+
+/// The price as text in points, as `99.50390625`.
+pub fn price_text(price: Ticks) -> ArrayString<12>
+    ensures exact { result.bytes ≡ price_digits price }
+{
+    points_text(price)
+}
+
+/// The price in points.
+fn points_text(price: Ticks) -> ArrayString<12>
+    ensures { result.bytes ≡ price_digits price }
+{
+    let count = price.get();
+    let mut buffer = Buffer::new();
+    let mut text = ArrayString::new();
+    text.push_str(buffer.format(count / 256));
+    let rest = count % 256;
+    if rest == 0 {
+        return text;
+    }
+    text.push('.');
+    text.push_str(decimals(rest).as_str());
+    text
+}
+
+/// The most digits behind the point, since 256 divides 10^8.
+const MAX_DECIMALS: usize = 8;
+
+/// The decimals of `rest` 256ths, without trailing zeros: at most eight, since 256 divides 10^8.
+fn decimals(mut rest: u32) -> ArrayString<MAX_DECIMALS>
+    requires { rest < 256 }
+    ensures digits { result.bytes ≡ fraction_digits rest }
+    ensures short { length result.bytes ≤ 8 }
+{
+    let mut text = ArrayString::new();
+    for _ in 0..MAX_DECIMALS {
+        if rest == 0 {
+            break;
+        }
+        let tenths = rest * 10;
+        text.push(char::from(b'0' + (tenths / 256) as u8));
+        rest = tenths % 256;
+    }
+    text
+}
