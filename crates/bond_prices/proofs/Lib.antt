@@ -1,5 +1,9 @@
+pub mod Tests
 pub mod PriceAt
 pub mod Spelled
 pub mod PriceOf
 pub mod Fractions
 pub mod Printed
+pub mod Built
+pub mod Meaning
+pub mod ReadBack

@@ -8,6 +8,10 @@ use crate::ticks::Ticks;
 /// Reads the price that `text` spells in points, as in `99.50390625`.
 pub fn read_price(text: &[u8]) -> Result<Ticks, PriceFault>
     ensures exact { result ≡ price_of text.now }
+    ensures read { (n : ℕ) → (result ≡ Ok n) ↔ IsReadAs text.now n }
+    ensures form { (result ≡ Err PriceFault.Form) ↔ (¬ IsPriceForm text.now) }
+    ensures range { (result ≡ Err PriceFault.Range) ↔ IsOutOfRange text.now }
+    ensures grid { (result ≡ Err PriceFault.Grid) ↔ IsOffGrid text.now }
 {
     read_exactly(text)
 }

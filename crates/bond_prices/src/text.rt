@@ -8,13 +8,18 @@ use itoa::Buffer;
 /// The price as text in points, as `99.50390625`.
 pub fn price_text(price: Ticks) -> ArrayString<12>
     ensures exact { result.bytes ≡ price_digits price }
+    ensures shortest { IsShortest result.bytes price }
+    ensures read_back { price_of result.bytes ≡ Ok price }
+    ensures distinct { (n : ℕ) → (1 ≤ n) × (n ≤ 255999) → price_digits n ≡ result.bytes → n ≡ price }
 {
     points_text(price)
 }
 
 /// The price in points.
 fn points_text(price: Ticks) -> ArrayString<12>
-    ensures { result.bytes ≡ price_digits price }
+    ensures exact { result.bytes ≡ price_digits price }
+    ensures at_least_one { 1 ≤ price }
+    ensures at_most { price ≤ 255999 }
 {
     let count = price.get();
     let mut buffer = Buffer::new();
