@@ -7,7 +7,7 @@ use Rattle.std.specs.Char.{is_digit, digit_value}
 use Rattle.std.specs.List.{list_all}
 use Rattle.bond_prices.specs.Price.{Parts, text_of, sign_text, point_text, behind_point, digits_of, cut_at_point, parts_of, are_lawful, IsLawful}
 use Rattle.bond_prices.proofs.PriceOf.{cut_at_point-unsigned}
-use Rattle.bond_prices.proofs.Tests.{and_true, digits_test, digits_from_test}
+use Rattle.bond_prices.proofs.DigitTests.{and_true, digits_test, digits_from_test}
 
 -- the test of the form
 pub lawful_test : (p : Parts) → IsLawful p → are_lawful (digits_of p) ≡ true

@@ -9,7 +9,7 @@ use Rattle.std.specs.Str.Parse.{AllDigits, digits_value}
 use Rattle.std.specs.Char.{is_digit}
 use Rattle.std.specs.List.{list_all}
 use Rattle.bond_prices.specs.Price.{fraction_digits}
-use Rattle.bond_prices.proofs.Tests.{and_true, digits_from_test}
+use Rattle.bond_prices.proofs.DigitTests.{and_true, digits_from_test}
 
 -- the digits of r 256ths, by long division
 abbrev pub divided : ℕ → ℕ → List ℕ

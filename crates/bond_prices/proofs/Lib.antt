@@ -1,4 +1,4 @@
-pub mod Tests
+pub mod DigitTests
 pub mod PriceAt
 pub mod Spelled
 pub mod PriceOf

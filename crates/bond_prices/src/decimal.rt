@@ -1,17 +1,20 @@
-ghost use Rattle.std.specs.Prelude.{◌≡◌, ◌<◌, ◌≤◌, ◌*◌, ◌^◌, IfSome};
+ghost use Rattle.std.specs.Prelude.{◌≡◌, ◌<◌, ◌≤◌, ◌^◌, IfSome};
 ghost use Rattle.bond_prices.specs.Decimal.{decimal_of};
 
-/// An unsigned decimal number: its digits read as one whole number, over a power of ten.
+/// An unsigned decimal number: `number / scale`.
 #[derive(Clone, Copy)]
 pub struct Decimal {
+    /// The digits, read as one whole number.
     pub number: u64,
+    /// Ten to the number of digits behind the point.
     pub scale: u64,
 }
 
 /// How many digits a price may have, before and behind the point together.
 const MAX_DIGITS: u32 = 15;
 
-/// The number that the whole text spells, if it is 1 to 15 digits with at most one point among them.
+/// The number that the text spells, if it is 1 to 15 digits with at most one point before, among or
+/// behind them.
 pub fn read_decimal(text: &[u8]) -> Option<Decimal>
     ensures spelled { result ≡ decimal_of text.now }
     ensures number_fits { IfSome result (λ decimal. decimal.number < 10 ^ 15) }

@@ -3,11 +3,17 @@ ghost use Rattle.bond_prices.specs.Price.{price_of, price_at, IsReadAs, IsPriceF
 
 use crate::decimal::{Decimal, read_decimal};
 use crate::fault::PriceFault;
-use crate::ticks::Ticks;
+use crate::ticks::{MAX_COUNT, Ticks};
 
-/// Reads the price that `text` spells in points, as in `99.50390625`.
+/// Reads the price that the whole text spells in points, as `99.50390625`.
+///
+/// Leading zeros, zeros at the end, and a point before or behind all digits are read too: `099.5000`, `.5`
+/// and `5.` are prices.
 pub fn read_price(text: &[u8]) -> Result<Ticks, PriceFault>
+    // The text as a function, for callers that go on with the answer.
     ensures exact { result ≡ price_of text.now }
+
+    // The text by its parts. The four cover every text, and no two meet.
     ensures read { (n : ℕ) → (result ≡ Ok n) ↔ IsReadAs text.now n }
     ensures form { (result ≡ Err PriceFault.Form) ↔ (¬ IsPriceForm text.now) }
     ensures range { (result ≡ Err PriceFault.Range) ↔ IsOutOfRange text.now }
@@ -16,7 +22,7 @@ pub fn read_price(text: &[u8]) -> Result<Ticks, PriceFault>
     read_exactly(text)
 }
 
-/// Reads a price.
+/// `read_price`, by its one exact clause.
 fn read_exactly(text: &[u8]) -> Result<Ticks, PriceFault>
     ensures exact { result ≡ price_of text.now }
 {
@@ -35,9 +41,9 @@ fn read_exactly(text: &[u8]) -> Result<Ticks, PriceFault>
     ticks_of(decimal)
 }
 
-/// The decimal number in 256ths, where it is a price.
+/// The price of a decimal number of points.
 ///
-/// It divides, since 255,999 times the scale need not fit 64 bits.
+/// It divides by the scale, since 255,999 times the scale may pass 64 bits.
 fn ticks_of(decimal: Decimal) -> Result<Ticks, PriceFault>
     requires number_fits { decimal.number < 10 ^ 15 }
     requires scale_is_positive { 1 ≤ decimal.scale }
@@ -45,17 +51,18 @@ fn ticks_of(decimal: Decimal) -> Result<Ticks, PriceFault>
 {
     let scaled = 256 * decimal.number;
     let count = scaled / decimal.scale;
-    let rest = scaled % decimal.scale;
-    if count > 255_999 {
+    let remainder = scaled % decimal.scale;
+    let highest = MAX_COUNT as u64;
+    if count > highest {
         return Err(PriceFault::Range);
     }
-    if count == 255_999 && rest > 0 {
+    if count == highest && remainder > 0 {
         return Err(PriceFault::Range);
     }
     let Some(price) = Ticks::new(count as u32) else {
         return Err(PriceFault::Range);
     };
-    if rest > 0 {
+    if remainder > 0 {
         return Err(PriceFault::Grid);
     }
     Ok(price)

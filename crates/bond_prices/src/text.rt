@@ -6,16 +6,22 @@ use arrayvec::ArrayString;
 use itoa::Buffer;
 
 /// The price as text in points, as `99.50390625`.
+///
+/// Whole points stand without leading zeros, and are `0` below one point. A point and the fraction follow,
+/// without zeros at the end, unless the fraction is zero. `12` bytes hold three digits, the point and eight
+/// digits.
 pub fn price_text(price: Ticks) -> ArrayString<12>
     ensures exact { result.bytes ≡ price_digits price }
     ensures shortest { IsShortest result.bytes price }
+
+    // It is read back as this price, and so no other price prints the same text.
     ensures read_back { price_of result.bytes ≡ Ok price }
     ensures distinct { (n : ℕ) → (1 ≤ n) × (n ≤ 255999) → price_digits n ≡ result.bytes → n ≡ price }
 {
     points_text(price)
 }
 
-/// The price in points.
+/// `price_text`, by its one exact clause, with the range of the price.
 fn points_text(price: Ticks) -> ArrayString<12>
     ensures exact { result.bytes ≡ price_digits price }
     ensures at_least_one { 1 ≤ price }
@@ -34,10 +40,10 @@ fn points_text(price: Ticks) -> ArrayString<12>
     text
 }
 
-/// The most digits behind the point, since 256 divides 10^8.
+/// The most digits behind the point: 256 divides 10^8.
 const MAX_DECIMALS: usize = 8;
 
-/// The decimals of `rest` 256ths, without trailing zeros: at most eight, since 256 divides 10^8.
+/// The decimals of `rest` ticks, without zeros at the end, by long division.
 fn decimals(mut rest: u32) -> ArrayString<MAX_DECIMALS>
     requires { rest < 256 }
     ensures digits { result.bytes ≡ fraction_digits rest }

@@ -2,9 +2,9 @@ ghost use Rattle.std.specs.Prelude.{◌≡◌, ℕ, ◌≤◌, ◌↔◌, IsSome
 
 use std::marker::Model;
 
-/// A price in points, counted in ticks of 1/256: 1 to 255,999 of them.
+/// A price, as a whole number of ticks of 1/256 point, from 1 to 255,999.
 ///
-/// A contract sees a `Ticks` as that number.
+/// A contract sees a `Ticks` as that number. Prices compare as their numbers do.
 #[derive(Clone, Copy, Debug, PartialEq, Eq, PartialOrd, Ord)]
 pub struct Ticks {
     count: u32,
@@ -20,8 +20,14 @@ impl Model for Ticks {
     ghost inverse = { λ n. record { count = n } };
 }
 
+/// The lowest price, in ticks: 0.00390625 points.
+pub(crate) const MIN_COUNT: u32 = 1;
+
+/// The highest price, in ticks: 999.99609375 points.
+pub(crate) const MAX_COUNT: u32 = 255_999;
+
 impl Ticks {
-    /// The price of `count` 256ths, or `None` where `count` is 0 or above 255,999.
+    /// The price of `count` ticks of 1/256 point, or `None` where `count` is 0 or above 255,999.
     pub fn new(count: u32) -> Option<Ticks>
         ensures in_range { IsSome result ↔ ((1 ≤ count) × (count ≤ 255999)) }
         ensures value { IfSome result (λ price. price ≡ count) }
@@ -32,7 +38,7 @@ impl Ticks {
         Some(Ticks { count })
     }
 
-    /// How many 256ths of a point the price is, 1 to 255,999.
+    /// The number of ticks of 1/256 point, from 1 to 255,999.
     pub fn get(self) -> u32
         ensures value { result ≡ self }
         ensures at_least_one { 1 ≤ result }
@@ -41,9 +47,3 @@ impl Ticks {
         self.count
     }
 }
-
-/// The lowest price, in 256ths.
-const MIN_COUNT: u32 = 1;
-
-/// The highest price, in 256ths.
-pub const MAX_COUNT: u32 = 255_999;
