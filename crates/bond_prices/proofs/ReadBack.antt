@@ -1,12 +1,12 @@
 -- A printed price is read back as its number, and has no digit to spare.
-use Rattle.std.proofs.Common.{◌≡◌, ◌≢◌, ℕ, suc, ◌+◌, ◌*◌, ◌/◌, ◌%◌, ◌^◌, ◌<◌, ◌≤◌, ◌⊎◌, inl, inr, Bool, true, false, List, [], ◌∷◌, ◌++◌, length, Option, Some, Ok, refl, sym, ◌∙◌, ap, arith, length-append}
+use Rattle.std.proofs.Common.{◌≡◌, ◌≢◌, ℕ, suc, ◌+◌, ◌*◌, ◌/◌, ◌%◌, ◌^◌, ◌<◌, ◌≤◌, ◌⊎◌, inl, inr, Bool, true, false, List, [], ◌∷◌, ◌++◌, length, Option, Some, None, Ok, refl, sym, ◌∙◌, ap, arith, length-append}
 use Rattle.std.proofs.lemmas.Bool.{eqb-true, eqb-false}
 use Rattle.std.proofs.lemmas.Fmt.{decimal_is_IsNumeral, length-decimal-le}
 use Rattle.std.proofs.Math.Nat.{pow-suc}
 use Rattle.std.specs.Prelude.{◌==◌, decimal}
 use Rattle.std.specs.Str.Parse.{AllDigits, digits_value, digits_value_after}
 use Rattle.std.specs.Char.{digit_value}
-use Rattle.bond_prices.specs.Price.{Parts, text_of, behind_point, number_of, scale_of, price_of, price_digits, fraction_digits, fraction_of, eight_decimals, before_nonzero, without_last_zeros, EndsInNonzero, IsLawful, IsReadAs, IsShortest}
+use Rattle.bond_prices.specs.Price.{Parts, text_of, point_text, behind_point, number_of, scale_of, price_of, price_digits, fraction_digits, fraction_of, eight_decimals, before_nonzero, without_last_zeros, EndsInNonzero, IsLawful, IsReadAs, IsShortest}
 use Rattle.bond_prices.proofs.Fractions.{fraction_digits-decimals}
 use Rattle.bond_prices.proofs.Meaning.{price_of-read}
 
@@ -107,6 +107,19 @@ price_digits-shortest n one most = record {
   built = price_digits-parts n;
   trimmed = (fraction_of-fits (n % 256) (omega arith)).trimmed;
 }
+
+-- the point and the decimals are at most one byte more than the decimals
+length-point_text : (fraction : Option (List ℕ)) → length (point_text fraction) ≤ length (behind_point fraction) + 1
+length-point_text None = omega arith
+length-point_text (Some digits) = omega arith
+
+-- a printed price has at most twelve bytes
+pub length-price_digits : (n : ℕ) → n ≤ 255999 → length (price_digits n) ≤ 12
+unfolding price_digits
+length-price_digits n most =
+    let points : length (decimal (n / 256)) ≤ 3 = length-decimal-le 3 (n / 256) (omega arith) (omega arith) (omega arith) in
+    let fits = fraction_of-fits (n % 256) (omega arith) in
+    rw (length-append (decimal (n / 256)) (point_text (fraction_of (n % 256)))) (omega (arith, points, fits.at_most, length-point_text (fraction_of (n % 256))))
 
 pub price_of-price_digits : (n : ℕ) → 1 ≤ n → n ≤ 255999 → price_of (price_digits n) ≡ Ok n
 price_of-price_digits n one most = price_of-read (price_digits n) n (price_digits-read n one most)

@@ -13,6 +13,7 @@ use itoa::Buffer;
 pub fn price_text(price: Ticks) -> ArrayString<12>
     ensures exact { result.bytes ≡ price_digits price }
     ensures shortest { IsShortest result.bytes price }
+    ensures short { length result.bytes ≤ 12 }
 
     // It is read back as this price, and so no other price prints the same text.
     ensures read_back { price_of result.bytes ≡ Ok price }
