@@ -1,0 +1,6 @@
+pub mod Digits
+pub mod FieldLemmas
+pub mod CutLemmas
+pub mod FrameLemmas
+pub mod WriterLemmas
+pub mod ClockLemmas

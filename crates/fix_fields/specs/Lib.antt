@@ -1,0 +1,5 @@
+pub mod Frame
+pub mod Clock
+pub mod Garbled
+pub mod Scan
+pub mod UtcTimestamp

@@ -1,0 +1,38 @@
+//! What is wrong with bytes that are no frame, and with texts that are no moment.
+use thiserror::Error;
+
+/// Why bytes are no frame: the first of these checks, in this order, that they do not pass.
+#[derive(Clone, Copy, Debug, PartialEq, Eq, Error)]
+pub enum Garbled {
+    /// There are more than 4,096 bytes.
+    #[error("the message is longer than 4,096 bytes")]
+    TooLong,
+    /// They do not begin `8=FIXT.1.1`, SOH, `9=` (BeginString, and the tag of BodyLength).
+    #[error("the message does not begin with BeginString FIXT.1.1 and BodyLength")]
+    Start,
+    /// BodyLength (9) is not 1 to 6 digits and SOH, or not the number of the bytes behind it but for
+    /// the last seven.
+    #[error("BodyLength is not the length of the body")]
+    Length,
+    /// The body is not one or more fields `tag=value` SOH, each with a tag of 1 to 9 digits that does
+    /// not begin with 0 and is not 8, 9 or 10, the first with tag 35 (MsgType).
+    #[error("the body is no list of fields that begins with MsgType")]
+    Field,
+    /// The last seven bytes are not `10=` (CheckSum), three digits and SOH.
+    #[error("the message does not end with CheckSum")]
+    End,
+    /// CheckSum (10) is not the sum of all bytes before it, modulo 256.
+    #[error("CheckSum is not the sum of the bytes")]
+    Sum,
+}
+
+/// Why a text is no moment of a day.
+#[derive(Clone, Copy, Debug, PartialEq, Eq, Error)]
+pub enum MomentFault {
+    /// It is neither `YYYYMMDD-HH:MM:SS` nor `YYYYMMDD-HH:MM:SS.sss` of any date and any time of day.
+    #[error("the text is no UTCTimestamp")]
+    Form,
+    /// It is a moment of another date.
+    #[error("the UTCTimestamp is one of another day")]
+    OtherDay,
+}

@@ -1,0 +1,88 @@
+//! The parts of a field, found at the front of a text.
+ghost use Rattle.std.specs.Prelude.{◌≡◌, ◌++◌, ◌==◌, ◌≤◌, ◌↔◌, take, length, IsTrue, MatchOption};
+ghost use Rattle.std.specs.List.{prefix_len, position_or_len};
+ghost use Rattle.std.specs.Char.{is_ascii_digit};
+ghost use Rattle.std.specs.Str.Parse.{digits_value};
+ghost use Rattle.fix_fields.specs.Frame.{IsField, field_text};
+ghost use Rattle.fix_fields.specs.Scan.{BeginsWithField, HoldsFields, HoldsBody};
+
+use memchr::memchr;
+
+/// SOH, the byte that ends each field.
+pub(crate) const SOH: u8 = 1;
+
+/// The number that the digits at the front of a text write, and how many digits they are: those
+/// before the first other byte, and at most `most`.
+pub(crate) fn leading_number(text: &[u8], most: usize) -> (u32, usize)
+    requires { most ≤ 9 }
+    ensures few { result.1 ≤ most }
+    ensures fits { result.1 ≤ length text.now }
+    ensures count { result.1 ≡ prefix_len is_ascii_digit (take most text.now) }
+    ensures value { result.0 ≡ digits_value 10 (take result.1 text.now) }
+{
+    let mut value = 0;
+    let mut count = 0;
+    while count < most && count < text.len() && text[count].is_ascii_digit() {
+        value = value * 10 + (text[count] - b'0') as u32;
+        count += 1;
+    }
+    (value, count)
+}
+
+/// How many bytes stand before the first SOH, or all where there is none.
+pub(crate) fn value_len(text: &[u8]) -> usize
+    ensures fits { result ≤ length text.now }
+    ensures place { result ≡ position_or_len (λ byte. byte == 1) text.now }
+{
+    match memchr(SOH, text) {
+        Some(len) => len,
+        None => text.len(),
+    }
+}
+
+/// The tag and the value of the field at the front of a text, and what stands behind it.
+pub(crate) fn split_field(text: &[u8]) -> Option<(u32, &[u8], &[u8])>
+    ensures { MatchOption result (¬ BeginsWithField text.now)
+        (λ field. IsField (field.0, field.1.now) × (text.now ≡ field_text (field.0, field.1.now) ++ field.2.now)) }
+{
+    let (tag, digits) = leading_number(text, 9);
+    if digits == 0 || digits == text.len() {
+        return None;
+    }
+    if text[0] == b'0' || text[digits] != b'=' {
+        return None;
+    }
+    if tag == 8 || tag == 9 || tag == 10 {
+        return None;
+    }
+    let behind = &text[digits + 1..];
+    let len = value_len(behind);
+    if len == behind.len() {
+        return None;
+    }
+    Some((tag, &behind[..len], &behind[len + 1..]))
+}
+
+/// Whether a text is lawful fields, one behind the other.
+pub(crate) fn are_fields(text: &[u8]) -> bool
+    ensures { IsTrue result ↔ HoldsFields text.now }
+{
+    let mut rest = text;
+    while !rest.is_empty() {
+        let Some((_, _, behind)) = split_field(rest) else {
+            return false;
+        };
+        rest = behind;
+    }
+    true
+}
+
+/// Whether a text is a body: lawful fields, the first with tag 35.
+pub(crate) fn is_body(text: &[u8]) -> bool
+    ensures { IsTrue result ↔ HoldsBody text.now }
+{
+    if !text.starts_with(b"35=") {
+        return false;
+    }
+    are_fields(text)
+}

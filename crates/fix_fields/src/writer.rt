@@ -1,0 +1,144 @@
+//! Frames that are written.
+ghost use Rattle.std.specs.Prelude.{◌≡◌, ◌≢◌, ℕ, ◌+◌, ◌<◌, ◌≤◌, [], ◌∷◌, ◌++◌, length, decimal, IfOk, OnOk, OnErr, Some};
+ghost use Rattle.fix_fields.specs.Frame.{Field, IsTag, IsValue, IsFrame, AreBody, field_len, decimal_len, left_of, field_text, frame_text, frame_of};
+ghost use Rattle.fix_fields.specs.Scan.{text_around};
+
+use crate::Memory;
+use crate::frames::{END_LEN, START, checksum};
+use crate::scan::SOH;
+use itoa::Buffer;
+use std::alloc::Global;
+use std::marker::Model;
+
+/// A frame that is being written. A clause sees the list of its fields so far, MsgType (35) first.
+#[derive(Debug, Drop)]
+pub struct FrameWriter {
+    body: Vec<u8>,
+}
+
+impl Model for FrameWriter {
+    ghost use Rattle.std.specs.Prelude.{List};
+    ghost use Rattle.fix_fields.specs.Frame.{Field, fields_of};
+    ghost use Rattle.fix_fields.specs.Scan.{IsBodyText};
+
+    ghost Value = { List Field };
+
+    ghost view = { λ writer. fields_of writer.body.items };
+
+    ghost invariant = { λ writer. IsBodyText writer.body.items };
+}
+
+impl FrameWriter {
+    /// A frame with MsgType (35) alone.
+    pub fn new(alloc: Global, msg_type: &[u8]) -> Result<FrameWriter, Memory>
+        requires value { IsValue msg_type.now }
+        requires room { field_len 35 (length msg_type.now) ≤ 4071 }
+        ensures fields { IfOk result (λ writer. writer ≡ (35, msg_type.now) ∷ []) }
+        ensures left { IfOk result (λ writer. left_of writer + field_len 35 (length msg_type.now) ≡ 4071) }
+    {
+        let mut body = Vec::new(alloc);
+        push_field(&mut body, 35, msg_type)?;
+        Ok(FrameWriter { body })
+    }
+
+    /// How many bytes still fit: a field takes the digits of its tag, its value and two more.
+    pub fn left(&self) -> usize
+        ensures { result ≡ left_of self.now }
+    {
+        4071 - self.body.len()
+    }
+
+    /// Adds a field behind the others. After an error the frame is as before.
+    pub fn text(&mut self, tag: u32, value: &[u8]) -> Result<(), Memory>
+        requires tag { IsTag tag }
+        requires value { IsValue value.now }
+        requires room { field_len tag (length value.now) ≤ left_of self.old }
+        ensures ok { OnOk result (self.new ≡ self.old ++ (tag, value.now) ∷ []) }
+        ensures left { OnOk result (left_of self.new + field_len tag (length value.now) ≡ left_of self.old) }
+        ensures err { OnErr result (self.new ≡ self.old) }
+    {
+        push_field(&mut self.body, tag, value)?;
+        Ok(())
+    }
+
+    /// Adds a field whose value is a number in decimal, without leading zeros. After an error the
+    /// frame is as before.
+    pub fn number(&mut self, tag: u32, value: u64) -> Result<(), Memory>
+        requires tag { IsTag tag }
+        requires room { field_len tag (decimal_len value) ≤ left_of self.old }
+        ensures ok { OnOk result (self.new ≡ self.old ++ (tag, decimal value) ∷ []) }
+        ensures left { OnOk result (left_of self.new + field_len tag (decimal_len value) ≡ left_of self.old) }
+        ensures err { OnErr result (self.new ≡ self.old) }
+    {
+        let mut buffer = Buffer::new();
+        let digits = buffer.format(value).as_bytes();
+        push_field(&mut self.body, tag, digits)?;
+        Ok(())
+    }
+
+    /// The frame of the fields: BodyLength (9) without leading zeros, CheckSum (10) in three digits.
+    /// The writer is gone either way.
+    pub fn finish(self) -> Result<Vec<u8>, Memory>
+        ensures text { IfOk result (λ bytes. bytes.items ≡ frame_text self) }
+        ensures frame { IfOk result (λ bytes. IsFrame bytes.items self) }
+        ensures read_back { IfOk result (λ bytes. frame_of bytes.items ≡ Some self) }
+    {
+        let alloc = *self.body.allocator();
+        framed(alloc, self.body.as_slice())
+    }
+}
+
+/// How many digits a number has in decimal: what [`FrameWriter::number`] takes for a value.
+pub fn decimal_len(n: u64) -> usize
+    ensures value { result ≡ decimal_len n }
+    ensures digits { result ≡ length (decimal n) }
+    ensures few { result ≤ 20 }
+{
+    let mut buffer = Buffer::new();
+    buffer.format(n).len()
+}
+
+/// Puts a field at the end of a body.
+fn push_field(body: &mut Vec<u8>, tag: u32, value: &[u8]) -> Result<(), Memory>
+    requires { length value.now ≤ 4071 }
+    ensures ok { OnOk result (body.new.items ≡ body.old.items ++ field_text (tag, value.now)) }
+    ensures err { OnErr result (body.new.items ≡ body.old.items) }
+{
+    let mut buffer = Buffer::new();
+    let digits = buffer.format(tag).as_bytes();
+    body.reserve(digits.len() + value.len() + 2)?;
+    body.extend_from_slice(digits)?;
+    body.push(b'=')?;
+    body.extend_from_slice(value)?;
+    body.push(SOH)?;
+    Ok(())
+}
+
+/// A body between its BodyLength and its CheckSum.
+fn framed(alloc: Global, body: &[u8]) -> Result<Vec<u8>, Memory>
+    requires { length body.now ≤ 4071 }
+    ensures { IfOk result (λ bytes. bytes.items ≡ text_around body.now) }
+{
+    let mut buffer = Buffer::new();
+    let digits = buffer.format(body.len()).as_bytes();
+    let mut bytes = Vec::with_capacity(
+        alloc,
+        START.len() + digits.len() + 1 + body.len() + END_LEN,
+    )?;
+    bytes.extend_from_slice(START)?;
+    bytes.extend_from_slice(digits)?;
+    bytes.push(SOH)?;
+    bytes.extend_from_slice(body)?;
+    let sum = checksum(&bytes);
+    let end = [
+        b'1',
+        b'0',
+        b'=',
+        b'0' + sum / 100,
+        b'0' + sum / 10 % 10,
+        b'0' + sum % 10,
+        SOH,
+    ];
+    bytes.extend_from_slice(&end)?;
+    Ok(bytes)
+}
