@@ -1,0 +1,147 @@
+-- The rules of the market for a dealer: what becomes of a message that came to its desk.
+use Rattle.std.specs.Prelude.{ℕ, ◌+◌, Bool, true, false, ◌==◌, ◌&&◌, ◌||◌, not, nat_lt, nat_le, List, [], ◌∷◌, length, Option, Some, None, unwrap_or, is_none, is_some, Result, Ok, Err, if◌then◌else◌, option_and_then}
+use Rattle.std.specs.Str.Parse.{digits_value}
+use Rattle.bond_prices.specs.declared.fault.PriceFault.{PriceFault}
+use Rattle.fix_fields.specs.Frame.{Field, frame_of, times_of, value_of}
+use Rattle.dealer_desk.specs.Texts.{same_text, text_if, is_msg_type, is_sequence_number}
+use Rattle.dealer_desk.specs.SessionChecks.{session_verdict, text_at}
+use Rattle.dealer_desk.specs.DealerFacts.{expected_number, request_named, quotes_accepted, is_used_id, has_live_quote, exposure_beside}
+use Rattle.dealer_desk.specs.declared.sides.Side.{Side}
+use Rattle.dealer_desk.specs.declared.sides.Side.TheVariants.{Buy, Sell}
+use Rattle.dealer_desk.specs.declared.asks.Ask.{Ask}
+use Rattle.dealer_desk.specs.declared.out_messages.Request.{Request}
+use Rattle.dealer_desk.specs.declared.out_messages.Reject.{Reject}
+use Rattle.dealer_desk.specs.declared.dealer_rows.DealerRow.{DealerRow}
+use Rattle.dealer_desk.specs.declared.facts.AcceptedQuote.{AcceptedQuote}
+use Rattle.dealer_desk.specs.declared.facts.DealerFact.{DealerFact}
+use Rattle.dealer_desk.specs.declared.session_faults.SessionFault.{SessionFault}
+use Rattle.dealer_desk.specs.declared.session_faults.SessionRejectReason.TheVariants.{ValueIncorrect}
+use Rattle.dealer_desk.specs.declared.quotes.Quote.{Quote}
+use Rattle.dealer_desk.specs.declared.quotes.DealerMessage.{DealerMessage}
+use Rattle.dealer_desk.specs.declared.quotes.DealerMessage.TheVariants.{Quote as AQuote}
+use Rattle.dealer_desk.specs.declared.reject_reasons.QuoteRejectReason.{QuoteRejectReason}
+use Rattle.dealer_desk.specs.declared.reject_reasons.QuoteRejectReason.TheVariants.{UnknownSymbol, ExceedsLimit, TooLate, DuplicateQuote, InvalidPrice, Other}
+use Rattle.dealer_desk.specs.declared.verdicts.DealerVerdict.{DealerVerdict}
+use Rattle.dealer_desk.specs.declared.verdicts.DealerVerdict.TheVariants.{Dropped, OutOfSequence, Rejected, QuoteRefused, QuoteAccepted}
+
+-- Prices: a buyer asks for an offer, a seller for a bid.
+
+abbrev pub asked_price : Side → Quote → Option (Result ℕ PriceFault)
+asked_price Buy quote = quote.offer
+asked_price Sell quote = quote.bid
+
+abbrev pub other_price : Side → Quote → Option (Result ℕ PriceFault)
+other_price Buy quote = quote.bid
+other_price Sell quote = quote.offer
+
+-- a price that is in range and on the grid, with none on the other side
+abbrev pub lone_price : Option (Result ℕ PriceFault) → Option (Result ℕ PriceFault) → Option ℕ
+lone_price (Some (Ok price)) None = Some price
+lone_price (Some (Ok price)) (Some other) = None
+lone_price (Some (Err fault)) other = None
+lone_price None other = None
+
+-- the price at which a quote answers an ask, if it is a lawful answer
+unfoldable pub price_for : Ask → Quote → Option ℕ
+price_for ask quote = lone_price (asked_price ask.side quote) (other_price ask.side quote)
+
+-- The conditions of the checks.
+
+abbrev pub is_past : ℕ → ℕ → Bool
+is_past deadline moment = nat_le deadline moment
+
+abbrev pub differs_from : ℕ → Option ℕ → Bool
+differs_from wanted None = false
+differs_from wanted (Some found) = not (found == wanted)
+
+abbrev pub is_not_after : ℕ → Option ℕ → Bool
+is_not_after moment None = false
+is_not_after moment (Some until) = nat_le until moment
+
+-- The checks of a quote on a request that was shown, in their order: a condition, and the reason that it gives.
+abbrev pub quote_checks : DealerRow → List DealerFact → ℕ → Quote → Request → List (Bool × QuoteRejectReason)
+quote_checks row facts moment quote request =
+    (is_past request.ask.deadline moment, TooLate)
+    ∷ (not (same_text quote.bond request.ask.bond), UnknownSymbol)
+    ∷ (is_none (price_for request.ask quote), InvalidPrice)
+    ∷ (differs_from request.ask.quantity quote.bid_size, Other)
+    ∷ (differs_from request.ask.quantity quote.offer_size, Other)
+    ∷ (differs_from 1 quote.quote_type, Other)
+    ∷ (is_used_id facts quote.id, DuplicateQuote)
+    ∷ (is_not_after moment quote.valid_until, Other)
+    ∷ (nat_le row.quotes (quotes_accepted facts), ExceedsLimit)
+    ∷ (nat_lt row.exposure (request.ask.quantity + exposure_beside facts request.number), ExceedsLimit)
+    ∷ (has_live_quote facts request.number, TooLate)
+    ∷ []
+
+-- the reason of the first check whose condition holds
+abbrev pub first_refusal : List (Bool × QuoteRejectReason) → Option QuoteRejectReason
+first_refusal [] = None
+first_refusal (check ∷ checks) = if check.0 then Some check.1 else first_refusal checks
+
+-- why a quote on a request that was shown is refused, if it is
+unfoldable pub quote_refusal : DealerRow → List DealerFact → ℕ → Quote → Request → Option QuoteRejectReason
+quote_refusal row facts moment quote request = first_refusal (quote_checks row facts moment quote request)
+
+-- what is kept of an accepted quote
+abbrev pub quote_kept : ℕ → Quote → Request → AcceptedQuote
+quote_kept moment quote request = record {
+  id = quote.id;
+  request = request.number;
+  quantity = request.ask.quantity;
+  price = unwrap_or (price_for request.ask quote) 0;
+  valid_until = quote.valid_until;
+  moment = moment;
+}
+
+-- a refusal, or else the quote is accepted
+abbrev pub quote_answer : ℕ → Quote → Request → Option QuoteRejectReason → DealerVerdict
+quote_answer moment quote request (Some reason) = QuoteRefused quote.request quote.id reason
+quote_answer moment quote request None = QuoteAccepted quote.request quote.id (quote_kept moment quote request)
+
+-- a quote on no request that was shown is refused before all else
+abbrev pub quote_on : DealerRow → List DealerFact → ℕ → Quote → Option Request → DealerVerdict
+quote_on row facts moment quote None = QuoteRefused quote.request quote.id Other
+quote_on row facts moment quote (Some request) = quote_answer moment quote request (quote_refusal row facts moment quote request)
+
+unfoldable pub quote_verdict : DealerRow → List DealerFact → ℕ → Quote → DealerVerdict
+quote_verdict row facts moment quote = quote_on row facts moment quote (request_named facts quote.request)
+
+-- The session.
+
+-- what a Reject says of a message with this MsgSeqNum
+abbrev pub reject_of : List Field → List ℕ → SessionFault → Reject
+reject_of fields number fault = record {
+  number = number;
+  fault = fault;
+  msg_type = option_and_then (text_if is_msg_type) (value_of 35 fields);
+}
+
+-- the text of MsgSeqNum (34), where it stands once and is readable
+unfoldable pub sequence_number : List Field → Option (List ℕ)
+sequence_number fields = if times_of 34 fields == 1 then text_if is_sequence_number (text_at 34 fields) else None
+
+-- the fault of a message that is out of sequence
+abbrev pub out_of_sequence : SessionFault
+out_of_sequence = record { tag = 34; reason = ValueIncorrect }
+
+-- a message that came in sequence: its session fault, or the market's verdict
+abbrev pub message_verdict : DealerRow → List DealerFact → ℕ → List Field → List ℕ → Result DealerMessage SessionFault → DealerVerdict
+message_verdict row facts moment fields number (Err fault) = Rejected (reject_of fields number fault)
+message_verdict row facts moment fields number (Ok (AQuote quote)) = quote_verdict row facts moment quote
+
+-- a frame with this MsgSeqNum
+abbrev pub sequence_verdict : List ℕ → DealerRow → List DealerFact → ℕ → List Field → Option (List ℕ) → DealerVerdict
+sequence_verdict date row facts moment fields None = Dropped
+sequence_verdict date row facts moment fields (Some number) =
+    if digits_value 10 number == expected_number facts
+    then message_verdict row facts moment fields number (session_verdict date row fields)
+    else OutOfSequence (reject_of fields number out_of_sequence)
+
+abbrev pub frame_verdict : List ℕ → DealerRow → List DealerFact → ℕ → Option (List Field) → DealerVerdict
+frame_verdict date row facts moment None = Dropped
+frame_verdict date row facts moment (Some fields) = sequence_verdict date row facts moment fields (sequence_number fields)
+
+-- what becomes of bytes that came to a dealer's desk at a moment, given the facts that stood
+unfoldable pub dealer_verdict : List ℕ → DealerRow → List DealerFact → ℕ → List ℕ → DealerVerdict
+dealer_verdict date row facts moment bytes = frame_verdict date row facts moment (frame_of bytes)
