@@ -1,0 +1,7 @@
+pub mod TextLemmas
+pub mod NumberLemmas
+pub mod CountLemmas
+pub mod WritingLemmas
+pub mod DeskLemmas
+pub mod SessionLemmas
+pub mod ExposureLemmas

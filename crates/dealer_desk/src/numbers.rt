@@ -1,0 +1,29 @@
+//! Numbers written in digits.
+ghost use Rattle.std.specs.Prelude.{◌≡◌, ◌≤◌};
+ghost use Rattle.dealer_desk.specs.Texts.{number_up_to};
+ghost use Rattle.std.specs.List.{list_all};
+ghost use Rattle.std.specs.Char.{is_ascii_digit};
+
+use std::str;
+
+/// The number that 1 to `most` digits write, leading zeros allowed, or none for another text.
+#[tactic(auto, using(crate::proofs::TextLemmas::digits_are_utf8))]
+pub fn read_number(text: &[u8], most: usize) -> Option<u64>
+    requires { most ≤ 16 }
+    ensures { result ≡ number_up_to most text.now }
+{
+    if text.is_empty() || text.len() > most || !are_digits(text) {
+        return None;
+    }
+    let Ok(digits) = str::from_utf8(text) else {
+        return None;
+    };
+    digits.parse().ok()
+}
+
+/// Whether each byte is a digit.
+pub(crate) fn are_digits(text: &[u8]) -> bool
+    ensures { result ≡ list_all is_ascii_digit text.now }
+{
+    text.iter().all(|c| c.is_ascii_digit())
+}

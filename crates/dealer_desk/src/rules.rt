@@ -1,0 +1,236 @@
+//! The rules of the market for a dealer, over the facts of its desk. Each function goes over the facts anew.
+ghost use Rattle.std.specs.Prelude.{◌≡◌, ℕ, ◌+◌, ◌<◌, ◌≤◌, length, Some, None, MatchResult, option_map};
+ghost use Rattle.std.specs.Str.Parse.{digits_value};
+ghost use Rattle.dealer_desk.specs.DealerRules.{dealer_verdict, quote_verdict, quote_refusal, price_for, reject_of, sequence_number, differs_from, is_not_after, quote_kept, lone_price};
+ghost use Rattle.dealer_desk.specs.DealerFacts.{exposure_of};
+
+use crate::characters::same_text;
+use crate::counts::{
+    expected_number, exposure_beside, has_live_quote, is_used_id, quotes_accepted, request_named,
+};
+use crate::{
+    AcceptedQuote, Ask, DealerFact, DealerMessage, DealerRow, DealerVerdict, MsgType, Quantity,
+    Quote, QuoteId, QuoteRejectReason, Reject, Request, SeqNum, SessionFault, SessionRejectReason,
+    Side, read_dealer,
+};
+use bond_prices::{PriceFault, Ticks};
+use fix_fields::{Date, Frame, Moment, read_frame};
+
+/// The verdict on bytes that came at a moment, by the facts that stand.
+#[tactic(auto, unfolding(crate::specs::DealerRules::dealer_verdict))]
+pub(crate) fn dealer_verdict<'a>(
+    date: &Date,
+    row: &DealerRow,
+    facts: &[DealerFact],
+    moment: Moment,
+    bytes: &'a [u8],
+) -> DealerVerdict<'a>
+    requires { exposure_of facts.now ≤ 1000000000000000 }
+    ensures { result ≡ dealer_verdict date.now row.now facts.now moment bytes.now }
+{
+    let Ok(frame) = read_frame(bytes) else {
+        return DealerVerdict::Dropped;
+    };
+    let Some(number) = sequence_number(&frame) else {
+        return DealerVerdict::Dropped;
+    };
+    if number.get() != expected_number(facts) {
+        let fault = SessionFault {
+            tag: 34,
+            reason: SessionRejectReason::ValueIncorrect,
+        };
+        return DealerVerdict::OutOfSequence(reject_of(&frame, number, fault));
+    }
+    match read_dealer(date, row, &frame) {
+        Err(fault) => DealerVerdict::Rejected(reject_of(&frame, number, fault)),
+        Ok(DealerMessage::Quote(quote)) => quote_verdict(row, facts, moment, quote),
+    }
+}
+
+/// MsgSeqNum (34), where it stands once and is readable.
+#[tactic(auto, unfolding(crate::specs::DealerRules::sequence_number))]
+fn sequence_number<'a>(frame: &Frame<'a>) -> Option<SeqNum<'a>>
+    ensures { result ≡ sequence_number frame.now }
+{
+    if frame.times(34) != 1 {
+        return None;
+    }
+    SeqNum::new(frame.get(34)?)
+}
+
+/// The Reject of a message with this MsgSeqNum.
+fn reject_of<'a>(frame: &Frame<'a>, number: SeqNum<'a>, fault: SessionFault) -> Reject<'a>
+    ensures { result ≡ reject_of frame.now number.entry fault }
+{
+    let msg_type = frame.get(35).and_then(|text| MsgType::new(text));
+    Reject {
+        number,
+        fault,
+        msg_type,
+    }
+}
+
+/// The verdict on a quote.
+#[tactic(auto, unfolding(crate::specs::DealerRules::quote_verdict))]
+fn quote_verdict<'a>(
+    row: &DealerRow,
+    facts: &[DealerFact],
+    moment: Moment,
+    quote: Quote<'a>,
+) -> DealerVerdict<'a>
+    requires { exposure_of facts.now ≤ 1000000000000000 }
+    ensures { result ≡ quote_verdict row.now facts.now moment quote.entry }
+{
+    let Some(request) = request_named(facts, quote.request.as_bytes()) else {
+        return refused(quote, QuoteRejectReason::Other);
+    };
+    match quote_refusal(row, facts, moment, &quote, &request) {
+        Err(reason) => refused(quote, reason),
+        Ok(price) => accepted(quote, &request, price, moment),
+    }
+}
+
+/// The price of a quote that no check refuses, or the reason of the first check that does.
+#[tactic(auto, using(crate::proofs::CountLemmas::exposure_beside_le), unfolding(crate::specs::DealerRules::quote_refusal))]
+fn quote_refusal(
+    row: &DealerRow,
+    facts: &[DealerFact],
+    moment: Moment,
+    quote: &Quote,
+    request: &Request,
+) -> Result<Ticks, QuoteRejectReason>
+    requires { exposure_of facts.now ≤ 1000000000000000 }
+    ensures { MatchResult result
+        (λ price. (quote_refusal row.now facts.now moment quote.now request.now ≡ None) × (price_for request.now.ask quote.now ≡ Some price))
+        (λ reason. quote_refusal row.now facts.now moment quote.now request.now ≡ Some reason) }
+{
+    let ask = &request.ask;
+    if ask.deadline <= moment {
+        return Err(QuoteRejectReason::TooLate);
+    }
+    if !same_text(quote.bond.as_bytes(), ask.bond.as_bytes()) {
+        return Err(QuoteRejectReason::UnknownSymbol);
+    }
+    let Some(price) = price_for(ask, quote) else {
+        return Err(QuoteRejectReason::InvalidPrice);
+    };
+    let quantity = ask.quantity.get();
+    if differs_from(quantity, units(quote.bid_size)) {
+        return Err(QuoteRejectReason::Other);
+    }
+    if differs_from(quantity, units(quote.offer_size)) {
+        return Err(QuoteRejectReason::Other);
+    }
+    if differs_from(TRADEABLE, quote.quote_type) {
+        return Err(QuoteRejectReason::Other);
+    }
+    if is_used_id(facts, quote.id.as_bytes()) {
+        return Err(QuoteRejectReason::DuplicateQuote);
+    }
+    if is_not_after(moment, quote.valid_until) {
+        return Err(QuoteRejectReason::Other);
+    }
+    if row.quotes as usize <= quotes_accepted(facts) {
+        return Err(QuoteRejectReason::ExceedsLimit);
+    }
+    if row.exposure < quantity + exposure_beside(facts, request.number) {
+        return Err(QuoteRejectReason::ExceedsLimit);
+    }
+    if has_live_quote(facts, request.number) {
+        return Err(QuoteRejectReason::TooLate);
+    }
+    Ok(price)
+}
+
+/// QuoteType (537) of a quote that can be hit.
+const TRADEABLE: u64 = 1;
+
+/// The number of units of a quantity.
+fn units(quantity: Option<Quantity>) -> Option<u64>
+    ensures { result ≡ quantity }
+{
+    match quantity {
+        Some(quantity) => Some(quantity.get()),
+        None => None,
+    }
+}
+
+/// Whether a value stands and is not the one that is wanted.
+fn differs_from(wanted: u64, found: Option<u64>) -> bool
+    ensures { result ≡ differs_from wanted found }
+{
+    match found {
+        Some(found) => found != wanted,
+        None => false,
+    }
+}
+
+/// Whether a moment until which a quote is valid stands and is not after this moment.
+fn is_not_after(moment: Moment, until: Option<Moment>) -> bool
+    ensures { result ≡ is_not_after moment until }
+{
+    match until {
+        Some(until) => until <= moment,
+        None => false,
+    }
+}
+
+/// The price at which a quote answers an ask: in range and on the grid, on the asked side, with none on the other.
+#[tactic(auto, unfolding(crate::specs::DealerRules::price_for))]
+fn price_for(ask: &Ask, quote: &Quote) -> Option<Ticks>
+    ensures { result ≡ price_for ask.now quote.now }
+{
+    match ask.side {
+        Side::Buy => lone_price(quote.offer, quote.bid),
+        Side::Sell => lone_price(quote.bid, quote.offer),
+    }
+}
+
+/// A lawful price that stands alone.
+fn lone_price(
+    asked: Option<Result<Ticks, PriceFault>>,
+    other: Option<Result<Ticks, PriceFault>>,
+) -> Option<Ticks>
+    ensures { result ≡ lone_price asked other }
+{
+    match (asked, other) {
+        (Some(Ok(price)), None) => Some(price),
+        _ => None,
+    }
+}
+
+/// The refusal of a quote.
+fn refused(quote: Quote<'_>, reason: QuoteRejectReason) -> DealerVerdict<'_>
+    ensures { result ≡ DealerVerdict.QuoteRefused quote.entry.request quote.entry.id reason }
+{
+    DealerVerdict::QuoteRefused {
+        request: quote.request,
+        id: quote.id,
+        reason,
+    }
+}
+
+/// The acceptance of a quote on a request, at a price.
+fn accepted<'a>(
+    quote: Quote<'a>,
+    request: &Request,
+    price: Ticks,
+    moment: Moment,
+) -> DealerVerdict<'a>
+    requires { price_for request.now.ask quote ≡ Some price }
+    ensures { result ≡ DealerVerdict.QuoteAccepted quote.entry.request quote.entry.id (quote_kept moment quote.entry request.now) }
+{
+    let kept = AcceptedQuote {
+        id: QuoteId::of(&quote.id),
+        request: request.number,
+        quantity: request.ask.quantity,
+        price,
+        valid_until: quote.valid_until,
+        moment,
+    };
+    DealerVerdict::QuoteAccepted {
+        request: quote.request,
+        id: quote.id,
+        quote: kept,
+    }
+}
