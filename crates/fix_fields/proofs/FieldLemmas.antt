@@ -1,5 +1,5 @@
 -- Fields at the front of a text: where their parts stand, and that they stand nowhere else.
-use Rattle.std.proofs.Common.{◌≡◌, ◌≢◌, ℕ, ◌+◌, ◌^◌, ◌<◌, ◌≤◌, ◌==◌, ◌⊎◌, Bool, true, false, cond, List, [], ◌∷◌, ◌++◌, length, take, drop, get_or, sym, ap, ◌∙◌, subst, refl, arith, inl, inr, add-one, append_assoc, length-append, lit<, Some}
+use Rattle.std.proofs.Common.{◌≡◌, ◌≢◌, ℕ, ◌+◌, ◌^◌, ◌<◌, ◌≤◌, ◌==◌, ◌⊎◌, Bool, true, false, cond, List, [], ◌∷◌, ◌++◌, length, take, drop, get_or, sym, ap, ◌∙◌, subst, refl, arith, inl, inr, zero, suc, add-one, append_assoc, zero-add, length-append, lit<, Some}
 use Rattle.std.specs.Prelude.{decimal}
 use Rattle.std.specs.Fmt.{digits}
 use Rattle.std.specs.Char.{is_ascii_digit}
@@ -29,6 +29,15 @@ place_behind c [] rest free = grind (arith, nat_tests)
 place_behind c (x ∷ xs) rest free =
     let other : (x == c) ≡ false = (let h = free.0 in grind (arith, nat_tests)) in
     rw (other, place_behind c xs rest free.1) (omega arith)
+
+-- bytes that are passed over
+pub place_from : (c n : ℕ) (xs : List ℕ) → n ≤ length xs → ((k : ℕ) → k < n → (get_or xs k 0 == c) ≡ false)
+    → n + place_of c (drop n xs) ≡ place_of c xs
+place_from c zero xs fits each = zero-add (place_of c xs)
+place_from c (suc n) [] fits each = absurd (omega arith)
+place_from c (suc n) (x ∷ xs) fits each =
+    let here : (x == c) ≡ false = each 0 (omega arith) in
+    rw here (omega (arith, place_from c n xs (omega arith) (λ k less. each (suc k) (omega arith))))
 
 -- what stands before the first such byte is free of it
 pub free_before : (c : ℕ) (xs : List ℕ) → IsFree c (take (place_of c xs) xs)

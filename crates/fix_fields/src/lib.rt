@@ -1,4 +1,42 @@
-//! Frames of FIXT.1.1, dates and moments.
+//! Frames of FIXT.1.1, UTCTimestamps and dates: read from bytes and written to bytes, exactly.
+//!
+//! A frame is `8=FIXT.1.1`, SOH, `9=`, the length of the body, SOH, the body, `10=`, the sum of all
+//! bytes before it modulo 256 in three digits, and SOH. The body is one or more fields `tag=value`
+//! SOH, the first with tag 35 (MsgType). SOH is the byte 1. A frame has at most 4,096 bytes.
+//!
+//! ```text
+//! let frame = read_frame(bytes)?;
+//! let quote_id = frame.get(117);
+//!
+//! let mut writer = FrameWriter::new(alloc, b"S")?;
+//! writer.text(117, b"a1")?;
+//! writer.number(34, 7)?;
+//! let bytes = writer.finish()?;
+//!
+//! let date = Date::new(b"20250314")?;
+//! let moment = read_moment(&date, b"20250314-09:05:00")?;
+//! let text = moment_text(&date, moment);
+//! ```
+//!
+//! What is promised, and proved of every input:
+//!
+//! - [`read_frame`] reads exactly the frames, and gives the fields that a frame was built from. No
+//!   bytes are a frame of two lists of fields. Other bytes have one fault, the first in the order of
+//!   [`Garbled`]. Reading takes no memory and copies nothing.
+//! - [`Frame::get`] is the value of the first field with a tag, [`Frame::times`] how many have it,
+//!   and [`Frame::fields`] goes over all of them in order.
+//! - What [`FrameWriter::finish`] returns is the frame of the fields that were written, with the
+//!   length in decimal without leading zeros, so it is read back as these fields. [`FrameWriter::left`]
+//!   tells what still fits. A call whose memory is refused leaves the writer as it was.
+//! - [`read_moment`] reads exactly the two spellings of a moment of its date, and tells what is no
+//!   spelling at all from what is one of another date. What [`moment_text`] returns is read back.
+//!
+//! Not promised: that memory is there; calendar arithmetic, since a [`Date`] is any month from 01 to
+//! 12 with any day from 01 to 31.
+//!
+//! A contract sees a [`Frame`] and a [`FrameWriter`] as the list of their fields, a tag and the bytes
+//! of a value each, a [`Date`] as the list of its digits, and a [`Moment`] as a number. The
+//! definitions are in `specs/`: `Frame`, `Garbled` and `UtcTimestamp`.
 #![tactic(auto)]
 
 mod dates;
@@ -7,6 +45,8 @@ mod frames;
 mod laws;
 mod moments;
 mod scan;
+#[cfg(test)]
+mod tests;
 mod writer;
 
 pub use dates::Date;
@@ -19,5 +59,5 @@ pub use laws::{
 pub use moments::{Moment, moment_text, read_moment};
 pub use writer::{FrameWriter, decimal_len};
 
-/// An allocation that failed.
+/// An allocation that was refused.
 pub type Memory = std::alloc::AllocError;

@@ -13,6 +13,7 @@ pub(crate) const SOH: u8 = 1;
 
 /// The number that the digits at the front of a text write, and how many digits they are: those
 /// before the first other byte, and at most `most`.
+#[inline(always)]
 pub(crate) fn leading_number(text: &[u8], most: usize) -> (u32, usize)
     requires { most ≤ 9 }
     ensures few { result.1 ≤ most }
@@ -29,8 +30,29 @@ pub(crate) fn leading_number(text: &[u8], most: usize) -> (u32, usize)
     (value, count)
 }
 
-/// How many bytes stand before the first SOH, or all where there is none.
+/// How many bytes of a value are looked at one by one, before a vector search pays.
+const NEAR: usize = 16;
+
+/// How many bytes stand before the first SOH, or all where there is none. Most values are short, so
+/// the first bytes are looked at one by one.
+#[inline(always)]
 pub(crate) fn value_len(text: &[u8]) -> usize
+    ensures fits { result ≤ length text.now }
+    ensures place { result ≡ position_or_len (λ byte. byte == 1) text.now }
+{
+    let mut len = 0;
+    while len < NEAR && len < text.len() {
+        if text[len] == SOH {
+            return len;
+        }
+        len += 1;
+    }
+    len + long_value_len(&text[len..])
+}
+
+/// The same by a vector search.
+#[inline(never)]
+fn long_value_len(text: &[u8]) -> usize
     ensures fits { result ≤ length text.now }
     ensures place { result ≡ position_or_len (λ byte. byte == 1) text.now }
 {
@@ -41,6 +63,7 @@ pub(crate) fn value_len(text: &[u8]) -> usize
 }
 
 /// The tag and the value of the field at the front of a text, and what stands behind it.
+#[inline(always)]
 pub(crate) fn split_field(text: &[u8]) -> Option<(u32, &[u8], &[u8])>
     ensures { MatchOption result (¬ BeginsWithField text.now)
         (λ field. IsField (field.0, field.1.now) × (text.now ≡ field_text (field.0, field.1.now) ++ field.2.now)) }

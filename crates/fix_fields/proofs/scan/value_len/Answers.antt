@@ -1,11 +1,19 @@
-use Rattle.std.proofs.Common.{ℕ, ◌==◌, length, sym, arith, rules}
+use Rattle.std.proofs.Common.{◌≡◌, ℕ, ◌+◌, ◌==◌, sym, ap, ◌∙◌, arith}
+use Rattle.std.proofs.lemmas.Bool.Decides.{nat_tests}
+use Rattle.std.proofs.lemmas.List.{take_rest}
 use Rattle.std.proofs.lemmas.List.Sums.{position_or_len_is}
+use Rattle.fix_fields.proofs.FieldLemmas.{place_of, place_from}
 use Rattle.fix_fields.proofs.scan.value_len.Goals as goal
 
-pub returns-in-Some-clause-place : goal.returns-in-Some-clause-place
-returns-in-Some-clause-place c =
-    sym (position_or_len_is (λ (b : ℕ). b == 1) c.args.text.now c.in-Some.len 0 (search rules) (search rules) (search rules))
+pub returns-then-text-len-eq-SOH-clause-place : goal.returns-then-text-len-eq-SOH-clause-place
+returns-then-text-len-eq-SOH-clause-place c =
+    let here = c.if-text-len-eq-SOH.true in
+    sym (position_or_len_is (λ (b : ℕ). b == 1) c.args.text.now c.loop-len.len 0 c.loop-len.invariant.0 c.loop-len.invariant.1
+    (λ _. grind (arith, nat_tests)))
 
-pub returns-in-None-clause-place : goal.returns-in-None-clause-place
-returns-in-None-clause-place c =
-    sym (position_or_len_is (λ (b : ℕ). b == 1) c.args.text.now (length c.args.text.now) 0 (omega arith) (search rules) (search rules))
+pub returns-clause-place : goal.returns-clause-place
+returns-clause-place c =
+    let text = c.args.text.now in
+    let n = c.loop-len.len in
+    ap (λ m. n + m) (c.long_value_len.ensures.place ∙ ap (λ t. place_of 1 t) (take_rest text n))
+    ∙ place_from 1 n text c.loop-len.invariant.0 c.loop-len.invariant.1
