@@ -36,7 +36,7 @@ impl<'a> Model for Frame<'a> {
 }
 
 impl<'a> Frame<'a> {
-    /// The value of the first field with this tag.
+    /// The value of the first field with this tag, or none. It borrows the bytes that were read.
     pub fn get(&self, tag: u32) -> Option<&'a [u8]>
         ensures first { option_copied result ≡ value_of tag self.now }
         ensures value { IfSome result (λ value. IsValue value.now) }

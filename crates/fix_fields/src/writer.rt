@@ -29,7 +29,8 @@ impl Model for FrameWriter {
 }
 
 impl FrameWriter {
-    /// A frame with MsgType (35) alone.
+    /// A frame with MsgType (35) alone. Its value has no SOH, and at most 4,067 bytes. The one error is
+    /// that memory is refused.
     pub fn new(alloc: Global, msg_type: &[u8]) -> Result<FrameWriter, Memory>
         requires value { IsValue msg_type.now }
         requires room { field_len 35 (length msg_type.now) ≤ 4071 }
@@ -41,14 +42,17 @@ impl FrameWriter {
         Ok(FrameWriter { body })
     }
 
-    /// How many bytes still fit: a field takes the digits of its tag, its value and two more.
+    /// How many bytes still fit into the body, which has at most 4,071. A field takes the digits of its
+    /// tag, its value, and two bytes more.
     pub fn left(&self) -> usize
         ensures { result ≡ left_of self.now }
     {
         4071 - self.body.len()
     }
 
-    /// Adds a field behind the others. After an error the frame is as before.
+    /// Adds a field behind the others. The tag has 1 to 9 digits and is not 8, 9 or 10, the value has no
+    /// SOH, and the field fits ([`FrameWriter::left`]). The one error is that memory is refused; the
+    /// frame is then as before.
     pub fn text(&mut self, tag: u32, value: &[u8]) -> Result<(), Memory>
         requires tag { IsTag tag }
         requires value { IsValue value.now }
@@ -61,8 +65,8 @@ impl FrameWriter {
         Ok(())
     }
 
-    /// Adds a field whose value is a number in decimal, without leading zeros. After an error the
-    /// frame is as before.
+    /// Adds a field whose value is a number in decimal, without leading zeros. Tag, room and error are
+    /// as for [`FrameWriter::text`]; [`decimal_len`] tells how many digits a number has, at most 20.
     pub fn number(&mut self, tag: u32, value: u64) -> Result<(), Memory>
         requires tag { IsTag tag }
         requires room { field_len tag (decimal_len value) ≤ left_of self.old }
