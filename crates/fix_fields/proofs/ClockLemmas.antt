@@ -1,6 +1,7 @@
 -- Dates and times of day as texts.
-use Rattle.std.proofs.Common.{◌≡◌, ◌≢◌, ℕ, ◌+◌, ◌-◌, ◌*◌, ◌/◌, ◌%◌, ◌<◌, ◌≤◌, ◌⊎◌, true, false, cond, List, [], ◌∷◌, ◌++◌, length, take, drop, get_or, sym, ap, ◌∙◌, subst, refl, arith, inl, inr, append_assoc, Result, Ok, Err}
+use Rattle.std.proofs.Common.{◌≡◌, ◌≢◌, ℕ, ◌+◌, ◌-◌, ◌*◌, ◌/◌, ◌%◌, ◌<◌, ◌≤◌, ◌⊎◌, true, false, cond, List, [], ◌∷◌, ◌++◌, length, take, drop, get_or, sym, ap, ◌∙◌, subst, refl, arith, inl, inr, append_assoc, Result, Ok, Err, Option, Some, None}
 use Rattle.std.specs.Bool.{Decides}
+use Rattle.std.specs.Option.{SomeIff}
 use Rattle.std.specs.Char.{is_ascii_digit, digit_value}
 use Rattle.std.specs.List.{prefix_len, All, AllByRecursion}
 use Rattle.std.specs.Str.{bytes_eq}
@@ -221,6 +222,15 @@ date_decides digits =
           let d : day ≡ is.day = ap (λ t. number_at t 6 2) is.text ∙ two_digits_value is.day (let h = is.day_in in omega arith) in
           tests.1 (rw (y, m, d) (((((is.year_in, is.month_in.0), is.month_in.1), is.day_in.0), is.day_in.1), is.text))),
     )
+
+-- the date that digits are, as one function of them
+pub date_exact : (digits : List ℕ) (read : Option (List ℕ)) → SomeIff read (IsDate digits) digits → read ≡ cond (is_date digits) (Some digits) None
+date_exact digits None none =
+    let no : is_date digits ≡ false = false_from_ne_true (is_date digits) (λ t. none ((date_decides digits).0 t)) in
+    rw no refl
+date_exact digits (Some date) some =
+    let yes : is_date digits ≡ true = (date_decides digits).1 some.0 in
+    rw yes (ap Some some.1)
 
 spells_decides : (day : List ℕ) (n : ℕ) (text : List ℕ) → Decides (spells day n text) (UtcTimestamp day n text)
 unfolding spells

@@ -1,7 +1,7 @@
 //! Dates of eight digits.
-ghost use Rattle.std.specs.Prelude.{◌≡◌, ◌↔◌, ℕ, ◌+◌, ◌<◌, ◌≤◌, List, length, take, drop, SomeIff};
+ghost use Rattle.std.specs.Prelude.{◌≡◌, ◌↔◌, ℕ, ◌+◌, ◌<◌, ◌≤◌, List, length, take, drop, SomeIff, Some, None, if◌then◌else◌};
 ghost use Rattle.std.specs.Str.Parse.{digits_value};
-ghost use Rattle.fix_fields.specs.UtcTimestamp.{IsDate};
+ghost use Rattle.fix_fields.specs.UtcTimestamp.{IsDate, is_date};
 
 use crate::scan::leading_number;
 use std::marker::Model;
@@ -29,6 +29,16 @@ impl Model for Date {
 impl Date {
     /// The date that eight digits are.
     pub fn new(digits: &[u8]) -> Option<Date>
+        ensures read { SomeIff result (IsDate digits.now) digits.now }
+
+        // The same as one function of the digits.
+        ensures exact { result ≡ (if is_date digits.now then Some digits.now else None) }
+    {
+        Self::read(digits)
+    }
+
+    /// The date that eight digits are.
+    fn read(digits: &[u8]) -> Option<Date>
         ensures { SomeIff result (IsDate digits.now) digits.now }
     {
         let (_, count) = leading_number(digits, 8);

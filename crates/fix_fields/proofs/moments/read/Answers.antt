@@ -20,7 +20,7 @@ returns-in_default c =
     let text = c.args.text.now in
     sym (moment_of-other c.args.date.now text (λ day n spelled.
     (let own = (clock_of day n text spelled).0 in
-    absurd (c.in_default.ensures (subst IsDate (sym (c.split_at.ensures.front ∙ own)) spelled.date_is)))))
+    absurd (c.in_default.ensures.read (subst IsDate (sym (c.split_at.ensures.front ∙ own)) spelled.date_is)))))
 
 pub returns-in_default-read_clock : goal.returns-in_default-read_clock
 returns-in_default-read_clock c =
@@ -41,7 +41,7 @@ returns-then-ne c =
     let date = c.args.date.now in
     let other : own ≢ date = λ same. false≢true (sym (ap not ((bytes_eq-Decides own date).1 same)) ∙ (sym c.ne.ensures ∙ c.if-ne.true)) in
     sym (moment_of-other_day date own c.in-Some-read_clock.moment c.args.text.now other (spelled_is c.args.text.now own _ _ c.in-Some-read_clock.moment c.split_at.ensures.front c.split_at.ensures.back
-    c.in-Some.ensures.0 c.in-Some.ensures.1 c.in-Some-read_clock.ensures))
+    c.in-Some.ensures.read.0 c.in-Some.ensures.read.1 c.in-Some-read_clock.ensures))
 
 when_not : (b : Bool) → not b ≡ false → b ≡ true
 when_not true is = refl
@@ -55,4 +55,4 @@ returns c =
     let n = c.in-Some-read_clock.moment in
     let same : own ≡ date = (bytes_eq-Decides own date).0 (when_not (bytes_eq own date) (sym c.ne.ensures ∙ c.if-ne.false)) in
     sym (moment_of-own date n text (subst (λ d. UtcTimestamp d n text) same (spelled_is c.args.text.now own _ _ c.in-Some-read_clock.moment c.split_at.ensures.front c.split_at.ensures.back
-    c.in-Some.ensures.0 c.in-Some.ensures.1 c.in-Some-read_clock.ensures)))
+    c.in-Some.ensures.read.0 c.in-Some.ensures.read.1 c.in-Some-read_clock.ensures)))
