@@ -1,0 +1,102 @@
+//! Words in a plain list.
+ghost use Rattle.std.specs.Prelude.{◌≡◌, ℕ, ◌<◌, ◌^◌, List, length, replicate, None, IfOk};
+ghost use Rattle.quote_word.specs.PlainWords.{entry_in, answer_of, after_exchange, Exchanges};
+ghost use Rattle.quote_word.specs.PlainWordsLaws.{exchange_keeps_count, exchange_answers_entry, exchange_keeps_entries};
+
+use crate::{Settled, Words};
+use std::alloc::{AllocError, Global};
+use std::marker::Model;
+
+/// Words for one thread, in a list. A contract sees the list of their entries, none where a word is open.
+#[derive(Drop)]
+pub struct PlainWords {
+    entries: Vec<Option<Settled>>,
+}
+
+impl Model for PlainWords {
+    ghost use Rattle.std.specs.Prelude.{List, Option, length, ◌<◌, ◌^◌};
+    ghost use Rattle.quote_word.specs.declared.settled.Settled.{Settled};
+
+    ghost Value = { List (Option Settled) };
+
+    ghost view = { λ words. words.entries.items };
+
+    ghost invariant = { λ words. length words.entries.items < 2 ^ 32 };
+}
+
+impl PlainWords {
+    /// A row of n open words; n may be 0. It fails only for memory.
+    pub fn new(alloc: Global, n: u32) -> Result<Self, AllocError>
+        ensures { IfOk result (λ words. words ≡ replicate n None) }
+    {
+        let entries = vec![in alloc; None; n as usize]?;
+        Ok(PlainWords { entries })
+    }
+
+    /// One exchange: the word becomes the wish where it was open, and is answered.
+    fn exchange(&mut self, w: u32, wish: Settled) -> Settled
+        requires { w < length self.old }
+        ensures { Exchanges self.old w wish result self.new }
+    {
+        let at = w as usize;
+        if let Some(settled) = self.entries[at] {
+            return settled;
+        }
+        self.entries[at] = Some(wish);
+        wish
+    }
+}
+
+impl Words for PlainWords {
+    ghost count = { λ words. length words };
+
+    ghost entry = { entry_in };
+
+    ghost settles = { Exchanges };
+
+    ghost count_stays = { exchange_keeps_count };
+
+    ghost answer_is_entry = { exchange_answers_entry };
+
+    ghost entry_stays = { exchange_keeps_entries };
+
+    fn len(&self) -> u32 {
+        self.entries.len() as u32
+    }
+
+    fn withdraw(&mut self, w: u32) -> Settled {
+        self.exchange(w, Settled::Withdrawn)
+    }
+
+    fn lift(&mut self, w: u32) -> Settled {
+        self.exchange(w, Settled::Lifted)
+    }
+}
+
+#[cfg(test)]
+mod tests {
+    use super::*;
+    use std::test::Fail;
+
+    // The first settlement of a word is its last, whoever asks afterwards; other words are not touched.
+    #[test]
+    fn a_word_is_settled_once(rt: HostRuntime) -> Result<(), Fail> {
+        let mut words = PlainWords::new(rt.alloc(), 2)?;
+        assert_eq!(rt; words.len(), 2);
+        if words.len() == 2 {
+            assert_eq!(rt; words.withdraw(0), Settled::Withdrawn);
+            assert_eq!(rt; words.lift(0), Settled::Withdrawn);
+            assert_eq!(rt; words.lift(1), Settled::Lifted);
+            assert_eq!(rt; words.withdraw(1), Settled::Lifted);
+        }
+        Ok(())
+    }
+
+    // A row of no words takes part in nothing, and is lawful.
+    #[test]
+    fn a_row_may_have_no_words(rt: HostRuntime) -> Result<(), Fail> {
+        let words = PlainWords::new(rt.alloc(), 0)?;
+        assert_eq!(rt; words.len(), 0);
+        Ok(())
+    }
+}

@@ -1,0 +1,48 @@
+//! What a word is once it is settled, and what every row of words promises.
+ghost use Rattle.std.specs.Prelude.{◌≡◌, ℕ, ◌<◌, Option, Some};
+
+/// What a quote's word is from its settlement on, for good.
+#[derive(Clone, Copy, Debug, PartialEq, Eq)]
+pub enum Settled {
+    /// The dealer withdrew the quote, by a cancel or by replacing it.
+    Withdrawn,
+    /// An investor's hit lifted the quote.
+    Lifted,
+}
+
+/// A row of words, numbered from 0.
+pub trait Words {
+    ghost use Rattle.quote_word.specs.declared.settled.Settled.{Settled};
+
+    /// How many words there are.
+    ghost count: { Self → ℕ };
+
+    /// What a word is, where it is settled.
+    ghost entry: { Self → ℕ → Option Settled };
+
+    /// One exchange: the words before it, which word is asked, what is wished, what is answered, the words after it.
+    ghost settles: { Self → ℕ → Settled → Settled → Self → Type 0 };
+
+    /// How many words there are.
+    fn len(&self) -> u32
+        ensures { result ≡ count self.now };
+
+    /// Withdraws a word that is open, and answers what the word is from then on.
+    fn withdraw(&mut self, w: u32) -> Settled
+        requires { w < count self.old }
+        ensures { settles self.old w Settled.Withdrawn result self.new };
+
+    /// Lifts a word that is open, and answers what the word is from then on.
+    fn lift(&mut self, w: u32) -> Settled
+        requires { w < count self.old }
+        ensures { settles self.old w Settled.Lifted result self.new };
+
+    /// No word comes or goes.
+    ghost count_stays: { (before after : Self) (w : ℕ) (wish answer : Settled) → settles before w wish answer after → count after ≡ count before };
+
+    /// The answer is what the word is afterwards.
+    ghost answer_is_entry: { (before after : Self) (w : ℕ) (wish answer : Settled) → w < count before → settles before w wish answer after → entry after w ≡ Some answer };
+
+    /// A word that was settled stays as it was.
+    ghost entry_stays: { (before after : Self) (w v : ℕ) (wish answer was : Settled) → settles before w wish answer after → entry before v ≡ Some was → entry after v ≡ Some was };
+}
