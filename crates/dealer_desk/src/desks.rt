@@ -112,6 +112,13 @@ impl DealerDesk {
         self.sent.as_slice()
     }
 
+    /// The same messages, taken out of the desk. It takes no memory.
+    pub fn into_sent(self) -> Vec<Message>
+        ensures { result.items ≡ dealer_output self.date self.row self.events }
+    {
+        self.sent
+    }
+
     /// The events that came to the desk, the first one first.
     pub fn events(&self) -> &[DealerEvent]
         ensures { result.now ≡ self.now.events }

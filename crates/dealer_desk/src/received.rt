@@ -11,15 +11,15 @@ use std::marker::Model;
 /// MsgSeqNum (34) as it was spelled: 1 to 9 digits that write at least 1. A Reject repeats it as RefSeqNum (45).
 #[derive(Drop)]
 pub struct SeqNum<'a> {
-    text: &'a [u8],
+    digits: &'a [u8],
 }
 
 impl<'a> Model for SeqNum<'a> {
     ghost Value = { List ℕ };
 
-    ghost view = { λ s. s.text.now };
+    ghost view = { λ s. s.digits.now };
 
-    ghost invariant = { λ s. IsTrue (is_sequence_number s.text.now) };
+    ghost invariant = { λ s. IsTrue (is_sequence_number s.digits.now) };
 }
 
 impl<'a> SeqNum<'a> {
@@ -31,14 +31,14 @@ impl<'a> SeqNum<'a> {
         if number < 1 {
             return None;
         }
-        Some(SeqNum { text })
+        Some(SeqNum { digits: text })
     }
 
     /// The number.
     pub fn get(&self) -> u64
         ensures { result ≡ digits_value 10 self.now }
     {
-        read_number(self.text, 9).unwrap_or(0)
+        read_number(self.digits, 9).unwrap_or(0)
     }
 
     /// The digits as they were spelled.
@@ -49,22 +49,22 @@ impl<'a> SeqNum<'a> {
         ensures short { length self.now ≤ 9 }
         ensures field { IsValue self.now }
     {
-        self.text
+        self.digits
     }
 }
 
 /// MsgType (35) as it was received: 1 to 4 letters or digits. A Reject repeats it as RefMsgType (372).
 #[derive(Drop)]
 pub struct MsgType<'a> {
-    text: &'a [u8],
+    letters: &'a [u8],
 }
 
 impl<'a> Model for MsgType<'a> {
     ghost Value = { List ℕ };
 
-    ghost view = { λ m. m.text.now };
+    ghost view = { λ m. m.letters.now };
 
-    ghost invariant = { λ m. IsTrue (is_msg_type m.text.now) };
+    ghost invariant = { λ m. IsTrue (is_msg_type m.letters.now) };
 }
 
 impl<'a> MsgType<'a> {
@@ -75,7 +75,7 @@ impl<'a> MsgType<'a> {
         if text.is_empty() || text.len() > 4 || !are_letters_or_digits(text) {
             return None;
         }
-        Some(MsgType { text })
+        Some(MsgType { letters: text })
     }
 
     /// The letters and digits.
@@ -85,6 +85,6 @@ impl<'a> MsgType<'a> {
         ensures msg_type { IsTrue (is_msg_type self.now) }
         ensures field { IsValue self.now }
     {
-        self.text
+        self.letters
     }
 }
