@@ -1,6 +1,5 @@
 //! Counts and searches over the facts of a desk. Each goes over the facts anew.
-ghost use Rattle.std.specs.Prelude.{◌≡◌, ◌==◌, ℕ, ◌+◌, ◌<◌, ◌≤◌, ◌^◌, List, length, count_by, option_map};
-ghost use Rattle.std.specs.List.{sum_by, list_any};
+ghost use Rattle.std.specs.Prelude.{◌≡◌, ◌==◌, ◌+◌, ◌<◌, ◌^◌, option_map};
 ghost use Rattle.dealer_desk.specs.Texts.{same_text};
 ghost use Rattle.dealer_desk.specs.Written.{request_name};
 ghost use Rattle.dealer_desk.specs.DealerFacts.{expected_number, request_named, quotes_accepted, is_used_id, has_live_quote, exposure_of, exposure_beside, requests_shown, is_request, used_number, shown_ask, is_quote, is_quote_with_id, is_live_on, exposure_in, exposure_in_beside};

@@ -1,5 +1,5 @@
 //! The desk of one dealer.
-ghost use Rattle.std.specs.Prelude.{◌≡◌, ℕ, ◌+◌, ◌<◌, ◌≤◌, [], ◌∷◌, ◌++◌, length, vec_len, vec_capacity, IfOk, OnOk, OnErr, IsOk};
+ghost use Rattle.std.specs.Prelude.{◌≡◌, ◌+◌, ◌<◌, ◌≤◌, [], ◌∷◌, ◌++◌, vec_len, vec_capacity, IfOk, OnOk, OnErr, IsOk};
 ghost use Rattle.std.specs.Option.{option_to_list};
 ghost use Rattle.dealer_desk.specs.DealerFacts.{requests_shown, exposure_of};
 ghost use Rattle.dealer_desk.specs.DealerOutput.{dealer_output, facts_at, with_event, next_message, sent_with, verdict_facts, verdict_answer};

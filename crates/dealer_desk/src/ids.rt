@@ -1,5 +1,5 @@
 //! Identifiers that firms choose.
-ghost use Rattle.std.specs.Prelude.{◌≡◌, ℕ, ◌≤◌, List, length, IsTrue};
+ghost use Rattle.std.specs.Prelude.{◌≡◌, ℕ, List, IsTrue};
 ghost use Rattle.fix_fields.specs.Frame.{IsValue};
 ghost use Rattle.dealer_desk.specs.Texts.{is_id, text_if};
 

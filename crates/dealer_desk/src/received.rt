@@ -1,5 +1,5 @@
 //! Texts of a received message that its answer repeats.
-ghost use Rattle.std.specs.Prelude.{◌≡◌, ℕ, ◌≤◌, ◌<◌, ◌^◌, List, length, IsTrue};
+ghost use Rattle.std.specs.Prelude.{◌≡◌, ℕ, ◌≤◌, ◌<◌, List, length, IsTrue};
 ghost use Rattle.std.specs.Str.Parse.{digits_value};
 ghost use Rattle.fix_fields.specs.Frame.{IsValue};
 ghost use Rattle.dealer_desk.specs.Texts.{is_sequence_number, is_msg_type, text_if};

@@ -1,6 +1,5 @@
 //! The rules of the market for a dealer, over the facts of its desk. Each function goes over the facts anew.
-ghost use Rattle.std.specs.Prelude.{◌≡◌, ℕ, ◌+◌, ◌<◌, ◌≤◌, length, Some, None, MatchResult, option_map};
-ghost use Rattle.std.specs.Str.Parse.{digits_value};
+ghost use Rattle.std.specs.Prelude.{◌≡◌, ◌+◌, ◌<◌, ◌≤◌, Some, None, MatchResult};
 ghost use Rattle.dealer_desk.specs.DealerRules.{dealer_verdict, quote_verdict, quote_refusal, price_for, reject_of, sequence_number, differs_from, is_not_after, quote_kept, lone_price};
 ghost use Rattle.dealer_desk.specs.DealerFacts.{exposure_of};
 

@@ -1,5 +1,5 @@
 //! The session checks of a message, tag by tag.
-ghost use Rattle.std.specs.Prelude.{◌≡◌, ℕ, ◌<◌, List, [], ◌∷◌, codes, Some, None, MatchResult, MatchOption, option_map, option_and_then};
+ghost use Rattle.std.specs.Prelude.{◌≡◌, ℕ, ◌<◌, List, [], ◌∷◌, Some, None, MatchResult, MatchOption, option_map, option_and_then};
 ghost use Rattle.std.specs.Result.{result_ok};
 ghost use Rattle.bond_prices.specs.Price.{price_of};
 ghost use Rattle.fix_fields.specs.Frame.{value_of};

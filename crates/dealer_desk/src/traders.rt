@@ -1,8 +1,7 @@
 //! The traders of a firm.
-ghost use Rattle.std.specs.Prelude.{◌≡◌, ℕ, ◌+◌, ◌<◌, ◌≤◌, List, [], ◌∷◌, ◌++◌, length, map, IsTrue, true};
+ghost use Rattle.std.specs.Prelude.{◌≡◌, ℕ, ◌+◌, ◌<◌, ◌≤◌, List, [], ◌∷◌, ◌++◌, length, map};
 ghost use Rattle.std.specs.List.{list_any};
-ghost use Rattle.arrayvec.specs.ArrayVec.{array_vec_len};
-ghost use Rattle.dealer_desk.specs.Texts.{is_name, is_among, same_text};
+ghost use Rattle.dealer_desk.specs.Texts.{is_among, same_text};
 
 use crate::Name;
 use crate::characters::same_text;
@@ -16,9 +15,7 @@ pub struct Traders {
 }
 
 impl Model for Traders {
-    ghost use Rattle.std.specs.Prelude.{ℕ, ◌≤◌, List, length, map, IsTrue};
-    ghost use Rattle.std.specs.List.{list_all};
-    ghost use Rattle.dealer_desk.specs.Texts.{is_name};
+    ghost use Rattle.std.specs.Prelude.{ℕ, ◌≤◌, List, length, map};
 
     ghost Value = { List (List ℕ) };
 

@@ -1,5 +1,5 @@
 //! Writing the messages that a dealer is sent.
-ghost use Rattle.std.specs.Prelude.{◌≡◌, ℕ, ◌+◌, ◌≤◌, [], ◌∷◌, ◌++◌, length, IfOk, OnOk};
+ghost use Rattle.std.specs.Prelude.{◌≡◌, ◌+◌, ◌≤◌, [], ◌∷◌, ◌++◌, length, IfOk, OnOk};
 ghost use Rattle.fix_fields.specs.Frame.{left_of, IsValue};
 ghost use Rattle.dealer_desk.specs.Written.{written, header_fields, body_fields, reject_fields, request_fields, ref_msg_type, bond_fields, investor_fields, request_name};
 

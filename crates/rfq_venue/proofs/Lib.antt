@@ -1,0 +1,4 @@
+pub mod CutLemmas
+pub mod TagLemmas
+pub mod SpellLemmas
+pub mod StreamLemmas

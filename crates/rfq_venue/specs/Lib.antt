@@ -1,0 +1,5 @@
+pub mod DealerView
+pub mod DueText
+pub mod ProgramText
+pub mod SayLine
+pub mod Words

@@ -1,0 +1,86 @@
+//! The lines that due text begins with: `date YYYYMMDD` and `dealer NAME QUOTES EXPOSURE TRADER ..`.
+ghost use Rattle.std.specs.Prelude.{◌≡◌, ◌≤◌, length, IfSome};
+ghost use Rattle.std.specs.Option.{option_map};
+ghost use Rattle.rfq_venue.specs.DueText.{date_of, row_of, values_of, quotes_of, exposure_of, traders_of};
+
+use crate::lines::Parts;
+use crate::words::{cut_word, is_word, read_firm};
+use dealer_desk::{DealerRow, Name, Traders, read_number};
+use fix_fields::Date;
+
+/// The date that a date line gives.
+pub(crate) fn read_date(line: &[u8]) -> Option<Date>
+    ensures { result ≡ date_of line.now }
+{
+    let (keyword, digits) = cut_word(line);
+    if !is_word(keyword, b"date") {
+        return None;
+    }
+    Date::new(digits)
+}
+
+/// The dealer that a dealer line gives.
+pub(crate) fn read_dealer_row(line: &[u8]) -> Option<DealerRow>
+    ensures { option_map values_of result ≡ row_of line.now }
+{
+    let (keyword, rest) = cut_word(line);
+    if !is_word(keyword, b"dealer") {
+        return None;
+    }
+    let (name, rest) = cut_word(rest);
+    let (quotes, rest) = cut_word(rest);
+    let (exposure, traders) = cut_word(rest);
+    let name = read_firm(name)?;
+    let quotes = read_quotes(quotes)?;
+    let exposure = read_exposure(exposure)?;
+    let traders = read_traders(traders)?;
+    Some(DealerRow {
+        name,
+        traders,
+        quotes,
+        exposure,
+    })
+}
+
+/// How many quotes a dealer may have in a day.
+fn read_quotes(text: &[u8]) -> Option<u32>
+    ensures value { result ≡ quotes_of text.now }
+    ensures limits { IfSome result (λ quotes. (1 ≤ quotes) × (quotes ≤ 4096)) }
+{
+    let quotes = read_number(text, 9)?;
+    if quotes < 1 || quotes > DealerRow::MOST_QUOTES as u64 {
+        return None;
+    }
+    Some(quotes as u32)
+}
+
+/// The greatest exposure of a dealer.
+fn read_exposure(text: &[u8]) -> Option<u64>
+    ensures value { result ≡ exposure_of text.now }
+    ensures limits { IfSome result (λ exposure. (1 ≤ exposure) × (exposure ≤ 1000000000000000)) }
+{
+    let exposure = read_number(text, 16)?;
+    if exposure < 1 || exposure > DealerRow::MOST_EXPOSURE {
+        return None;
+    }
+    Some(exposure)
+}
+
+/// The traders of a firm: 1 to 16 names, none twice, divided by one space.
+fn read_traders(text: &[u8]) -> Option<Traders>
+    ensures value { result ≡ traders_of text.now }
+    ensures some { IfSome result (λ traders. 1 ≤ length traders) }
+{
+    if text.is_empty() || text[text.len() - 1] == b' ' {
+        return None;
+    }
+    let mut traders = Traders::new();
+    for word in Parts::new(text, b' ') {
+        let trader = Name::new(word)?;
+        if traders.len() == Traders::MOST || traders.contains(word) {
+            return None;
+        }
+        traders.push(&trader);
+    }
+    Some(traders)
+}

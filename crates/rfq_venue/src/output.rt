@@ -1,0 +1,26 @@
+//! Writing to standard output and standard error.
+ghost use Rattle.std.specs.Prelude.{IsTrue};
+ghost use Rattle.std.specs.Io.KnownBytes.{Appends};
+ghost use Rattle.std.specs.Bool.{OnTrue};
+ghost use Rattle.rfq_venue.specs.ProgramText.{AppendsPrefix};
+
+use std::io::Write;
+
+/// Writes a text, and says whether all of it was taken. A write that fails or takes no byte ends it,
+/// an interruption like any other error.
+pub(crate) fn write_text<W: Write>(out: &mut W, text: &[u8]) -> bool
+    ensures whole { OnTrue result (Appends (W.contents out.old) (W.contents out.new) text.now) }
+    ensures prefix { AppendsPrefix (W.contents out.old) (W.contents out.new) text.now }
+{
+    let mut rest = text;
+    while !rest.is_empty() {
+        let Ok(count) = out.write(rest) else {
+            return false;
+        };
+        if count == 0 {
+            return false;
+        }
+        rest = &rest[count..];
+    }
+    true
+}

@@ -1,0 +1,29 @@
+//! Lines of requests that the dealer is shown: `shown INVESTOR BOND SIDE QUANTITY DEADLINE TIME`.
+ghost use Rattle.std.specs.Prelude.{◌≡◌};
+ghost use Rattle.rfq_venue.specs.DueText.{shown_of};
+
+use crate::due::Due;
+use crate::words::{cut_word, read_firm, read_side, read_time};
+use dealer_desk::{Ask, BondId, Quantity, read_number};
+use fix_fields::Date;
+
+/// What stands behind the word `shown`, or none where that is not of its form.
+#[tactic(auto, unfolding(crate::specs::DueText::shown_of))]
+pub(crate) fn read_shown(date: &Date, text: &[u8]) -> Option<Due>
+    ensures { result ≡ shown_of date.now text.now }
+{
+    let (investor, rest) = cut_word(text);
+    let (bond, rest) = cut_word(rest);
+    let (side, rest) = cut_word(rest);
+    let (quantity, rest) = cut_word(rest);
+    let (deadline, time) = cut_word(rest);
+    let ask = Ask {
+        investor: read_firm(investor)?,
+        bond: BondId::new(bond)?,
+        side: read_side(side)?,
+        quantity: Quantity::new(read_number(quantity, 16)?)?,
+        deadline: read_time(date, deadline)?,
+    };
+    let moment = read_time(date, time)?;
+    Some(Due::Shown(ask, moment))
+}
