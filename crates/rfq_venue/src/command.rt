@@ -6,9 +6,8 @@ use clap::{Arg, ArgAction, Command, Error};
 use fix_fields::Memory;
 use std::alloc::Global;
 use std::convert::AsStr;
-use std::env;
-use std::io;
 use std::rt::Env;
+use std::{env, io};
 
 /// What is told of words that are not those of a command.
 #[derive(Drop)]
@@ -23,7 +22,8 @@ pub(crate) enum Told {
 
 const ABOUT: &str = "A blind multi-dealer RFQ venue for bonds";
 
-const ALONE: &str = "Prints the messages that one dealer is sent, from its due text on standard input";
+const ALONE: &str =
+    "Prints the messages that one dealer is sent, from its due text on standard input";
 
 const FRAMES: &str = "Prints each message as its whole frame, with a vertical bar for each SOH";
 

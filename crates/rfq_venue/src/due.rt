@@ -32,7 +32,7 @@ pub fn alone(
     for due in dues {
         do_due(&mut desk, due)?;
     }
-    copies(alloc, desk.sent())
+    Ok(desk.into_sent())
 }
 
 /// Lets an item happen at the desk of its dealer.
@@ -46,17 +46,6 @@ fn do_due(desk: &mut DealerDesk, due: &Due) -> Result<(), Memory>
             Ok(())
         }
     }
-}
-
-/// The same messages once more.
-fn copies(alloc: Global, messages: &[Message]) -> Result<Vec<Message>, Memory>
-    ensures { IfOk result (λ copies. copies.items ≡ messages.now) }
-{
-    let mut all = Vec::new(alloc);
-    for message in messages {
-        all.push(Message::copy_of(alloc, message.as_bytes())?)?;
-    }
-    Ok(all)
 }
 
 /// The headline: a dealer's messages are a function of the date, of its own row and of what is due to it.

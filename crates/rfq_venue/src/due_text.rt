@@ -131,6 +131,10 @@ fn read_own(
     let Some(message) = said.message(alloc, date, firm, number)? else {
         return Ok(None);
     };
-    let next = if said.is_numbered() { number } else { number + 1 };
+    let next = if said.is_numbered() {
+        number
+    } else {
+        number + 1
+    };
     Ok(Some((Due::Own(said.moment(), message), next)))
 }

@@ -24,15 +24,13 @@ mod output;
 mod program;
 mod say_line;
 mod shown_line;
-mod words;
-
 #[cfg(test)]
 mod tests;
+mod words;
 
 pub use due::{Due, alone, equal_lists_are_sent_equal_messages};
 pub use faults::ProgramFault;
 pub use program::{alone_text, run_program};
-
 use std::io;
 use std::process::ExitCode;
 

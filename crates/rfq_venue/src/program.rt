@@ -123,11 +123,7 @@ fn print_text<W: Write>(out: &mut W, text: &[u8]) -> Result<(), ProgramFault>
 }
 
 /// What `alone` prints for an input, or its first fault; memory may be refused at any point.
-pub fn alone_text(
-    alloc: Global,
-    with_frames: bool,
-    input: &[u8],
-) -> Result<Vec<u8>, ProgramFault>
+pub fn alone_text(alloc: Global, with_frames: bool, input: &[u8]) -> Result<Vec<u8>, ProgramFault>
     ensures ok { IfOk result (λ text. IsPrinted with_frames input.now text.items) }
     ensures err { IfErr result (λ fault. fault ≢ ProgramFault.Memory → first_fault input.now ≡ Some fault) }
     ensures unwritten { IfErr result (λ fault. fault ≢ ProgramFault.Write) }

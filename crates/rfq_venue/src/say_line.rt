@@ -36,11 +36,7 @@ impl<'a> Model for Said<'a> {
 impl<'a> Said<'a> {
     /// What stands behind the word `say`, or none where that is not of its form.
     #[tactic(auto, unfolding(crate::specs::SayLine::said_of))]
-    pub(crate) fn read(
-        alloc: Global,
-        date: &Date,
-        text: &'a [u8],
-    ) -> Result<Option<Self>, Memory>
+    pub(crate) fn read(alloc: Global, date: &Date, text: &'a [u8]) -> Result<Option<Self>, Memory>
         ensures { IfOk result (λ said. said ≡ said_of date.now text.entry.now) }
     {
         let (trader, rest) = cut_word(text);
@@ -205,10 +201,7 @@ fn finished(frame: Option<FrameWriter>) -> Result<Option<Message>, Memory>
 }
 
 /// A frame with the fields of BODY.
-fn with_all(
-    mut frame: Option<FrameWriter>,
-    body: &[Field],
-) -> Result<Option<FrameWriter>, Memory>
+fn with_all(mut frame: Option<FrameWriter>, body: &[Field]) -> Result<Option<FrameWriter>, Memory>
     ensures { IfOk result (λ fields. fields ≡ fold with_field frame body.now) }
 {
     for field in body {

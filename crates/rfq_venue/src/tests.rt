@@ -5,11 +5,14 @@ use std::io;
 use std::io::{Read, Write};
 use std::process::Abort;
 
-const FIRST_QUOTE: &[u8] = b"date 20250314\ndealer DLR1 4 10000000 T1\nshown INV1 BONDA0000001 1 2000000 09:05:00 09:00:00\nsay T1 09:00:10 S 117=a1|131=R1|48=BONDA0000001|22=4|133=99.50390625\n";
+const FIRST_QUOTE: &[u8] =
+    b"date 20250314\ndealer DLR1 4 10000000 T1\nshown INV1 BONDA0000001 1 2000000 09:05:00 09:00:00\nsay T1 09:00:10 S 117=a1|131=R1|48=BONDA0000001|22=4|133=99.50390625\n";
 
-const MESSAGES: &[u8] = b"DLR1 1 09:00:00.000 R 131=R1|146=1|55=[N/A]|48=BONDA0000001|22=4|54=1|38=2000000|126=20250314-09:05:00.000|453=1|448=INV1|447=D|452=13\nDLR1 2 09:00:10.000 AI 131=R1|117=a1|297=0\n";
+const MESSAGES: &[u8] =
+    b"DLR1 1 09:00:00.000 R 131=R1|146=1|55=[N/A]|48=BONDA0000001|22=4|54=1|38=2000000|126=20250314-09:05:00.000|453=1|448=INV1|447=D|452=13\nDLR1 2 09:00:10.000 AI 131=R1|117=a1|297=0\n";
 
-const ACCEPTED_FRAME: &[u8] = b"DLR1 8=FIXT.1.1|9=73|35=AI|49=VENUE|56=DLR1|34=2|52=20250314-09:00:10.000|131=R1|117=a1|297=0|10=207|\n";
+const ACCEPTED_FRAME: &[u8] =
+    b"DLR1 8=FIXT.1.1|9=73|35=AI|49=VENUE|56=DLR1|34=2|52=20250314-09:00:10.000|131=R1|117=a1|297=0|10=207|\n";
 
 /// A reader that gives these bytes, `left` of them, and then fails.
 #[derive(Drop)]
@@ -80,11 +83,7 @@ fn sink_taking(alloc: Global, left: usize, fails: bool) -> Sink {
 }
 
 /// The status of a run over an input, what it printed, and what it told.
-fn ran<T: AllocGlobal>(
-    rt: &T,
-    words: &[&str],
-    mut input: &[u8],
-) -> (u8, Vec<u8>, Vec<u8>) {
+fn ran<T: AllocGlobal>(rt: &T, words: &[&str], mut input: &[u8]) -> (u8, Vec<u8>, Vec<u8>) {
     let mut out = Vec::new(rt.alloc());
     let mut err = Vec::new(rt.alloc());
     let status = run_program(rt, rt.alloc(), words, &mut input, &mut out, &mut err);
@@ -93,7 +92,11 @@ fn ran<T: AllocGlobal>(
 
 #[test]
 fn nothing_due_prints_nothing(rt: HostRuntime) {
-    let (status, out, err) = ran(&rt, &["alone"], b"date 20250314\ndealer DLR1 4 10000000 T1\n");
+    let (status, out, err) = ran(
+        &rt,
+        &["alone"],
+        b"date 20250314\ndealer DLR1 4 10000000 T1\n",
+    );
     assert_eq!(rt; status, 0);
     assert!(rt; out.is_empty());
     assert!(rt; err.is_empty());
@@ -128,18 +131,38 @@ fn first_fault_is_told(rt: HostRuntime) {
     assert_fault(&rt, b"date 20250314", b"line 2: form\n");
     assert_fault(&rt, b"date 20251314\n%%\n", b"parts\n");
     assert_fault(&rt, b"date 20250314 \n", b"line 1: form\n");
-    assert_fault(&rt, b"date 20250314\ndealer CLOCK 4 1 T1\n", b"line 2: form\n");
-    assert_fault(&rt, b"date 20250314\ndealer DLR1 4 1 T1 T1\n", b"line 2: form\n");
-    assert_fault(&rt, b"date 20250314\ndealer DLR1 4 1 T1\n\nown 09:00:00 x\n", b"line 4: form\n");
-    assert_fault(&rt, b"date 20250314\ndealer DLR1 4 1 T1\nsay T1 09:00:00 S 1=a||2=b\n", b"line 3: form\n");
+    assert_fault(
+        &rt,
+        b"date 20250314\ndealer CLOCK 4 1 T1\n",
+        b"line 2: form\n",
+    );
+    assert_fault(
+        &rt,
+        b"date 20250314\ndealer DLR1 4 1 T1 T1\n",
+        b"line 2: form\n",
+    );
+    assert_fault(
+        &rt,
+        b"date 20250314\ndealer DLR1 4 1 T1\n\nown 09:00:00 x\n",
+        b"line 4: form\n",
+    );
+    assert_fault(
+        &rt,
+        b"date 20250314\ndealer DLR1 4 1 T1\nsay T1 09:00:00 S 1=a||2=b\n",
+        b"line 3: form\n",
+    );
 }
 
 #[test]
 fn numbers_count_what_the_program_wrote(rt: HostRuntime) {
-    let input = b"date 20250314\ndealer DLR1 4 1 T1\nsay T1 09:00:00 S 34=1|117=a\nsay T1 09:00:00 S 117=a\nsay T1 09:00:00 S 117=a|\n";
+    let input =
+        b"date 20250314\ndealer DLR1 4 1 T1\nsay T1 09:00:00 S 34=1|117=a\nsay T1 09:00:00 S 117=a\nsay T1 09:00:00 S 117=a|\n";
     let (status, out, _) = ran(&rt, &["alone"], input);
     assert_eq!(rt; status, 0);
-    assert!(rt; out.as_slice() == b"DLR1 1 09:00:00.000 3 45=1|371=131|372=S|373=1\nDLR1 2 09:00:00.000 3 45=1|371=34|372=S|373=5\nDLR1 3 09:00:00.000 3 45=2|371=131|372=S|373=1\n".as_slice());
+    assert!(rt;
+        out.as_slice()
+            == b"DLR1 1 09:00:00.000 3 45=1|371=131|372=S|373=1\nDLR1 2 09:00:00.000 3 45=1|371=34|372=S|373=5\nDLR1 3 09:00:00.000 3 45=2|371=131|372=S|373=1\n".as_slice()
+    );
 }
 
 /// Asserts the status of words; wrong words print nothing and are told.

@@ -13,5 +13,5 @@ returns-clause-ok c =
       fits = omega arith;
       spelled = c.in_ok-due.ensures.ok;
       printed = c.in_ok-text.ensures ∙ ap (messages_text c.args.with_frames due.row.name)
-      (c.as_slice-2.ensures.value ∙ c.in_ok-messages.ensures ∙ ap (dealer_view due.date due.row) c.as_slice.ensures.value);
+          (c.as_slice-2.ensures.value ∙ c.in_ok-messages.ensures ∙ ap (dealer_view due.date due.row) c.as_slice.ensures.value);
     }

@@ -5,7 +5,7 @@ use Rattle.rfq_venue.proofs.lines.SpokenLinesIterator.next.Goals as goal
 pub loop-self-preserved : goal.loop-self-preserved
 loop-self-preserved c = record {
   same = spoken_next c.loop-self.self-inside.number c.loop-self.self-inside.rest.now c.cut_at.result.0.now c.cut_at.result.1.now c.args.self.now
-  c.loop-self.invariant.same (search rules) c.cut_at.ensures.front c.cut_at.ensures.behind (search rules);
+      c.loop-self.invariant.same (search rules) c.cut_at.ensures.front c.cut_at.ensures.behind (search rules);
   within = search (rules, c.cut_at.ensures.shorter);
 }
 
