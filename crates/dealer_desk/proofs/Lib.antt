@@ -4,4 +4,5 @@ pub mod CountLemmas
 pub mod WritingLemmas
 pub mod DeskLemmas
 pub mod SessionLemmas
+pub mod RefusalLemmas
 pub mod ExposureLemmas

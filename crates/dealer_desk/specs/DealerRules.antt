@@ -1,5 +1,5 @@
 -- The rules of the market for a dealer: what becomes of a message that came to its desk.
-use Rattle.std.specs.Prelude.{ℕ, ◌+◌, Bool, true, false, ◌==◌, ◌&&◌, ◌||◌, not, nat_lt, nat_le, List, [], ◌∷◌, length, Option, Some, None, unwrap_or, is_none, is_some, Result, Ok, Err, if◌then◌else◌, option_and_then}
+use Rattle.std.specs.Prelude.{ℕ, ◌+◌, Bool, true, false, ◌==◌, ◌&&◌, ◌||◌, not, nat_lt, nat_le, List, [], ◌∷◌, ◌++◌, length, Option, Some, None, unwrap_or, is_none, is_some, Result, Ok, Err, if◌then◌else◌, option_and_then}
 use Rattle.std.specs.Str.Parse.{digits_value}
 use Rattle.bond_prices.specs.declared.fault.PriceFault.{PriceFault}
 use Rattle.fix_fields.specs.Frame.{Field, frame_of, times_of, value_of}
@@ -59,20 +59,30 @@ is_not_after moment None = false
 is_not_after moment (Some until) = nat_le until moment
 
 -- The checks of a quote on a request that was shown, in their order: a condition, and the reason that it gives.
-abbrev pub quote_checks : DealerRow → List DealerFact → ℕ → Quote → Request → List (Bool × QuoteRejectReason)
-quote_checks row facts moment quote request =
-    (is_past request.ask.deadline moment, TooLate)
-    ∷ (not (same_text quote.bond request.ask.bond), UnknownSymbol)
-    ∷ (is_none (price_for request.ask quote), InvalidPrice)
-    ∷ (differs_from request.ask.quantity quote.bid_size, Other)
-    ∷ (differs_from request.ask.quantity quote.offer_size, Other)
+
+-- what the quote says, beside the request
+abbrev pub terms_checks : ℕ → Quote → Ask → List (Bool × QuoteRejectReason)
+terms_checks moment quote ask =
+    (is_past ask.deadline moment, TooLate)
+    ∷ (not (same_text quote.bond ask.bond), UnknownSymbol)
+    ∷ (is_none (price_for ask quote), InvalidPrice)
+    ∷ (differs_from ask.quantity quote.bid_size, Other)
+    ∷ (differs_from ask.quantity quote.offer_size, Other)
     ∷ (differs_from 1 quote.quote_type, Other)
-    ∷ (is_used_id facts quote.id, DuplicateQuote)
+    ∷ []
+
+-- what the dealer's day leaves room for
+abbrev pub day_checks : DealerRow → List DealerFact → ℕ → Quote → Request → List (Bool × QuoteRejectReason)
+day_checks row facts moment quote request =
+    (is_used_id facts quote.id, DuplicateQuote)
     ∷ (is_not_after moment quote.valid_until, Other)
     ∷ (nat_le row.quotes (quotes_accepted facts), ExceedsLimit)
     ∷ (nat_lt row.exposure (request.ask.quantity + exposure_beside facts request.number), ExceedsLimit)
     ∷ (has_live_quote facts request.number, TooLate)
     ∷ []
+
+abbrev pub quote_checks : DealerRow → List DealerFact → ℕ → Quote → Request → List (Bool × QuoteRejectReason)
+quote_checks row facts moment quote request = terms_checks moment quote request.ask ++ day_checks row facts moment quote request
 
 -- the reason of the first check whose condition holds
 abbrev pub first_refusal : List (Bool × QuoteRejectReason) → Option QuoteRejectReason

@@ -1,5 +1,5 @@
 -- The forms of the short texts that a configuration and a message hold.
-use Rattle.std.specs.Prelude.{ℕ, ◌+◌, Bool, true, false, ◌&&◌, ◌||◌, ◌==◌, List, [], ◌∷◌, length, nat_le, nat_eq, not, Option, Some, None, if◌then◌else◌}
+use Rattle.std.specs.Prelude.{ℕ, ◌+◌, Bool, true, false, ◌&&◌, ◌||◌, ◌==◌, List, [], ◌∷◌, ◌++◌, length, nat_le, nat_lt, nat_eq, not, Option, Some, None, if◌then◌else◌}
 use Rattle.std.specs.List.{list_all, list_any}
 use Rattle.std.specs.Str.Parse.{digits_value}
 use Rattle.std.specs.Cmp.Lexicographic.{pointwise}
@@ -45,6 +45,10 @@ same_text a b = pointwise nat_eq a b
 -- whether a text is one of these
 abbrev pub is_among : List (List ℕ) → List ℕ → Bool
 is_among texts text = list_any (λ own. same_text own text) texts
+
+-- a trader behind the others of a firm, and whether there was room for it: a firm has at most 16
+abbrev pub trader_added : List (List ℕ) → List ℕ → List (List ℕ) × Bool
+trader_added traders name = if nat_lt (length traders) 16 then (traders ++ name ∷ [], true) else (traders, false)
 
 -- the point of a decimal number
 abbrev pub is_point : ℕ → Bool

@@ -116,7 +116,8 @@ impl DealerDesk {
     pub fn into_sent(self) -> Vec<Message>
         ensures { result.items ≡ dealer_output self.date self.row self.events }
     {
-        self.sent
+        let Self { sent, .. } = self;
+        sent
     }
 
     /// The events that came to the desk, the first one first.

@@ -73,7 +73,7 @@ pub use facts::{AcceptedQuote, DealerFact};
 pub use ids::{Id, QuoteId};
 pub use messages::Message;
 pub use names::Name;
-pub use numbers::read_number;
+pub use numbers::{read_long_number, read_number};
 pub use out_messages::{Head, OutMessage, Reject, Request};
 pub use quantities::{Quantity, read_quantity};
 pub use quotes::{DealerMessage, Quote};

@@ -1,14 +1,28 @@
 //! Numbers written in digits.
 ghost use Rattle.std.specs.Prelude.{◌≡◌, ◌≤◌};
-ghost use Rattle.dealer_desk.specs.Texts.{number_up_to};
+ghost use Rattle.dealer_desk.specs.Texts.{number_of, number_up_to};
 ghost use Rattle.std.specs.List.{list_all};
 ghost use Rattle.std.specs.Char.{is_ascii_digit};
 
 use std::str;
 
-/// The number that 1 to `most` digits write, leading zeros allowed, or none for another text.
+/// The number that 1 to 9 digits write, leading zeros allowed, or none for another text: a number of a message.
+pub fn read_number(text: &[u8]) -> Option<u64>
+    ensures { result ≡ number_of text.now }
+{
+    read_digits(text, 9)
+}
+
+/// The number that 1 to 16 digits write, leading zeros allowed, or none for another text: room for an exposure.
+pub fn read_long_number(text: &[u8]) -> Option<u64>
+    ensures { result ≡ number_up_to 16 text.now }
+{
+    read_digits(text, 16)
+}
+
+/// The number that 1 to `most` digits write. So few digits write a number of 64 bits.
 #[tactic(auto, using(crate::proofs::TextLemmas::digits_are_utf8))]
-pub fn read_number(text: &[u8], most: usize) -> Option<u64>
+fn read_digits(text: &[u8], most: usize) -> Option<u64>
     requires { most ≤ 16 }
     ensures { result ≡ number_up_to most text.now }
 {

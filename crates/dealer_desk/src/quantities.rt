@@ -5,7 +5,7 @@ ghost use Rattle.dealer_desk.specs.Texts.{is_quantity, is_point};
 ghost use Rattle.dealer_desk.specs.SessionChecks.{quantity_of};
 
 use crate::numbers::are_digits;
-use crate::{SessionRejectReason, read_number};
+use crate::{SessionRejectReason, read_long_number};
 use std::marker::Model;
 
 /// A quantity of a bond (OrderQty 38, BidSize 134, OfferSize 135): a whole number from 1 to 1,000,000,000,000.
@@ -64,7 +64,7 @@ pub fn read_quantity(text: &[u8]) -> Result<Quantity, SessionRejectReason>
     if !are_zeros(decimals) {
         return Err(SessionRejectReason::ValueIncorrect);
     }
-    let units = read_number(whole, 15).unwrap_or(0);
+    let units = read_long_number(whole).unwrap_or(0);
     let Some(quantity) = Quantity::new(units) else {
         return Err(SessionRejectReason::ValueIncorrect);
     };

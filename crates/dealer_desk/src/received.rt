@@ -27,7 +27,7 @@ impl<'a> SeqNum<'a> {
     pub fn new(text: &'a [u8]) -> Option<Self>
         ensures { result ≡ text_if is_sequence_number text.now }
     {
-        let number = read_number(text, 9)?;
+        let number = read_number(text)?;
         if number < 1 {
             return None;
         }
@@ -38,7 +38,7 @@ impl<'a> SeqNum<'a> {
     pub fn get(&self) -> u64
         ensures { result ≡ digits_value 10 self.now }
     {
-        read_number(self.digits, 9).unwrap_or(0)
+        read_number(self.digits).unwrap_or(0)
     }
 
     /// The digits as they were spelled.

@@ -1,6 +1,6 @@
 //! The rules of the market for a dealer, over the facts of its desk. Each function goes over the facts anew.
 ghost use Rattle.std.specs.Prelude.{◌≡◌, ◌+◌, ◌<◌, ◌≤◌, Some, None, MatchResult};
-ghost use Rattle.dealer_desk.specs.DealerRules.{dealer_verdict, quote_verdict, quote_refusal, price_for, reject_of, sequence_number, differs_from, is_not_after, quote_kept, lone_price};
+ghost use Rattle.dealer_desk.specs.DealerRules.{dealer_verdict, quote_verdict, quote_refusal, first_refusal, terms_checks, day_checks, price_for, reject_of, sequence_number, differs_from, is_not_after, quote_kept, lone_price};
 ghost use Rattle.dealer_desk.specs.DealerFacts.{exposure_of};
 
 use crate::characters::same_text;
@@ -90,7 +90,7 @@ fn quote_verdict<'a>(
 }
 
 /// The price of a quote that no check refuses, or the reason of the first check that does.
-#[tactic(auto, using(crate::proofs::CountLemmas::exposure_beside_le), unfolding(crate::specs::DealerRules::quote_refusal))]
+#[tactic(auto, unfolding(crate::specs::DealerRules::quote_refusal))]
 fn quote_refusal(
     row: &DealerRow,
     facts: &[DealerFact],
@@ -103,7 +103,22 @@ fn quote_refusal(
         (λ price. (quote_refusal row.now facts.now moment quote.now request.now ≡ None) × (price_for request.now.ask quote.now ≡ Some price))
         (λ reason. quote_refusal row.now facts.now moment quote.now request.now ≡ Some reason) }
 {
-    let ask = &request.ask;
+    let price = match price_by_terms(moment, quote, &request.ask) {
+        Ok(price) => price,
+        Err(reason) => return Err(reason),
+    };
+    match day_refusal(row, facts, moment, quote, request) {
+        Some(reason) => Err(reason),
+        None => Ok(price),
+    }
+}
+
+/// The price of a quote whose terms answer the ask, or the reason of the first of these checks that refuses it.
+fn price_by_terms(moment: Moment, quote: &Quote, ask: &Ask) -> Result<Ticks, QuoteRejectReason>
+    ensures { MatchResult result
+        (λ price. (first_refusal (terms_checks moment quote.now ask.now) ≡ None) × (price_for ask.now quote.now ≡ Some price))
+        (λ reason. first_refusal (terms_checks moment quote.now ask.now) ≡ Some reason) }
+{
     if ask.deadline <= moment {
         return Err(QuoteRejectReason::TooLate);
     }
@@ -123,22 +138,37 @@ fn quote_refusal(
     if differs_from(TRADEABLE, quote.quote_type) {
         return Err(QuoteRejectReason::Other);
     }
+    Ok(price)
+}
+
+/// The reason of the first check that finds no room for a quote in the dealer's day.
+#[tactic(auto, using(crate::proofs::CountLemmas::exposure_beside_le))]
+fn day_refusal(
+    row: &DealerRow,
+    facts: &[DealerFact],
+    moment: Moment,
+    quote: &Quote,
+    request: &Request,
+) -> Option<QuoteRejectReason>
+    requires { exposure_of facts.now ≤ 1000000000000000 }
+    ensures { result ≡ first_refusal (day_checks row.now facts.now moment quote.now request.now) }
+{
     if is_used_id(facts, quote.id.as_bytes()) {
-        return Err(QuoteRejectReason::DuplicateQuote);
+        return Some(QuoteRejectReason::DuplicateQuote);
     }
     if is_not_after(moment, quote.valid_until) {
-        return Err(QuoteRejectReason::Other);
+        return Some(QuoteRejectReason::Other);
     }
     if row.quotes as usize <= quotes_accepted(facts) {
-        return Err(QuoteRejectReason::ExceedsLimit);
+        return Some(QuoteRejectReason::ExceedsLimit);
     }
-    if row.exposure < quantity + exposure_beside(facts, request.number) {
-        return Err(QuoteRejectReason::ExceedsLimit);
+    if row.exposure < request.ask.quantity.get() + exposure_beside(facts, request.number) {
+        return Some(QuoteRejectReason::ExceedsLimit);
     }
     if has_live_quote(facts, request.number) {
-        return Err(QuoteRejectReason::TooLate);
+        return Some(QuoteRejectReason::TooLate);
     }
-    Ok(price)
+    None
 }
 
 /// QuoteType (537) of a quote that can be hit.

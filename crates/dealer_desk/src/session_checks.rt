@@ -167,7 +167,7 @@ fn optional_number(frame: &Frame, tag: u32) -> Result<Option<u64>, SessionFault>
     let Some(value) = single(frame, tag)? else {
         return Ok(None);
     };
-    let Some(number) = read_number(value, 9) else {
+    let Some(number) = read_number(value) else {
         return Err(fault(tag, SessionRejectReason::IncorrectDataFormat));
     };
     Ok(Some(number))

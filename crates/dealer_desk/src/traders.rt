@@ -1,7 +1,7 @@
 //! The traders of a firm.
-ghost use Rattle.std.specs.Prelude.{◌≡◌, ℕ, ◌+◌, ◌<◌, ◌≤◌, List, [], ◌∷◌, ◌++◌, length, map};
+ghost use Rattle.std.specs.Prelude.{◌≡◌, ℕ, ◌≤◌, List, [], length, map};
 ghost use Rattle.std.specs.List.{list_any};
-ghost use Rattle.dealer_desk.specs.Texts.{is_among, same_text};
+ghost use Rattle.dealer_desk.specs.Texts.{is_among, same_text, trader_added};
 
 use crate::Name;
 use crate::characters::same_text;
@@ -50,12 +50,15 @@ impl Traders {
         has_name(self.names.as_slice(), name)
     }
 
-    /// Adds a trader behind the others.
-    pub fn push(&mut self, name: &Name)
-        requires { length self.old < 16 }
-        ensures { self.new ≡ self.old ++ name.now ∷ [] }
+    /// Adds a trader behind the others, or answers false and changes nothing where there are 16 already.
+    pub fn push(&mut self, name: &Name) -> bool
+        ensures { (self.new, result) ≡ trader_added self.old name.now }
     {
+        if self.names.len() == Self::MOST {
+            return false;
+        }
         self.names.push(name.text());
+        true
     }
 
     /// The same traders once more. It takes no memory.

@@ -55,53 +55,42 @@ fn fields_come_in_order(rt: HostRuntime) -> Result<(), Fail> {
     Ok(())
 }
 
+/// Bytes that are no frame, and the first fault of each.
+const FAULTS: [(&[u8], Garbled); 12] = [
+    (b"", Garbled::Start),
+    (b"8=FIX.4.4\x019=5\x0135=S\x0110=000\x01", Garbled::Start),
+    (b"8=FIXT.1.1\x019=\x0135=S\x0110=000\x01", Garbled::Length),
+    (
+        b"8=FIXT.1.1\x019=0000005\x0135=S\x0110=000\x01",
+        Garbled::Length,
+    ),
+    (b"8=FIXT.1.1\x019=0\x0110=000\x01", Garbled::Field),
+    (b"8=FIXT.1.1\x019=5\x0149=S\x0110=000\x01", Garbled::Field),
+    (
+        b"8=FIXT.1.1\x019=10\x0135=S\x01035=\x0110=000\x01",
+        Garbled::Field,
+    ),
+    (
+        b"8=FIXT.1.1\x019=10\x0135=S\x0110=0\x0110=000\x01",
+        Garbled::Field,
+    ),
+    (
+        b"8=FIXT.1.1\x019=6\x0135=S\x01\x0110=000\x01",
+        Garbled::Field,
+    ),
+    (b"8=FIXT.1.1\x019=5\x0135=S\x0110=00\x01\x01", Garbled::End),
+    (b"8=FIXT.1.1\x019=5\x0135=S\x0111=000\x01", Garbled::End),
+    (
+        b"8=FIXT.1.1\x019=000005\x0135=S\x0110=999\x01",
+        Garbled::Sum,
+    ),
+];
+
 #[test]
 fn each_fault(rt: HostRuntime) {
-    assert_eq!(rt; fault_of(b""), Some(Garbled::Start));
-    assert_eq!(rt;
-        fault_of(b"8=FIX.4.4\x019=5\x0135=S\x0110=000\x01"),
-        Some(Garbled::Start)
-    );
-    assert_eq!(rt;
-        fault_of(b"8=FIXT.1.1\x019=\x0135=S\x0110=000\x01"),
-        Some(Garbled::Length)
-    );
-    assert_eq!(rt;
-        fault_of(b"8=FIXT.1.1\x019=0000005\x0135=S\x0110=000\x01"),
-        Some(Garbled::Length)
-    );
-    assert_eq!(rt;
-        fault_of(b"8=FIXT.1.1\x019=0\x0110=000\x01"),
-        Some(Garbled::Field)
-    );
-    assert_eq!(rt;
-        fault_of(b"8=FIXT.1.1\x019=5\x0149=S\x0110=000\x01"),
-        Some(Garbled::Field)
-    );
-    assert_eq!(rt;
-        fault_of(b"8=FIXT.1.1\x019=10\x0135=S\x01035=\x0110=000\x01"),
-        Some(Garbled::Field)
-    );
-    assert_eq!(rt;
-        fault_of(b"8=FIXT.1.1\x019=10\x0135=S\x0110=0\x0110=000\x01"),
-        Some(Garbled::Field)
-    );
-    assert_eq!(rt;
-        fault_of(b"8=FIXT.1.1\x019=6\x0135=S\x01\x0110=000\x01"),
-        Some(Garbled::Field)
-    );
-    assert_eq!(rt;
-        fault_of(b"8=FIXT.1.1\x019=5\x0135=S\x0110=00\x01\x01"),
-        Some(Garbled::End)
-    );
-    assert_eq!(rt;
-        fault_of(b"8=FIXT.1.1\x019=5\x0135=S\x0111=000\x01"),
-        Some(Garbled::End)
-    );
-    assert_eq!(rt;
-        fault_of(b"8=FIXT.1.1\x019=000005\x0135=S\x0110=999\x01"),
-        Some(Garbled::Sum)
-    );
+    for (bytes, fault) in FAULTS {
+        assert_eq!(rt; fault_of(bytes), Some(fault));
+    }
 }
 
 #[test]
@@ -224,40 +213,29 @@ fn read_of(day: &[u8], text: &[u8]) -> Option<Result<u32, MomentFault>> {
     }
 }
 
+/// Texts on the day 20250314: the milliseconds that each is, or its fault.
+const MOMENTS: [(&[u8], Result<u32, MomentFault>); 10] = [
+    (b"20250314-09:05:00", Ok(32_700_000)),
+    (b"20250314-23:59:59.999", Ok(86_399_999)),
+    (b"20250314-00:00:00", Ok(0)),
+    (b"20250314-23:59:60", Err(MomentFault::Form)),
+    (b"20250314-24:00:00", Err(MomentFault::Form)),
+    (b"20250314-09:05:00.0000", Err(MomentFault::Form)),
+    (b"20250314", Err(MomentFault::Form)),
+    (b"20251314-09:05:00", Err(MomentFault::Form)),
+    (b"20250315-00:00:00", Err(MomentFault::OtherDay)),
+    (b"20250315-00:00:60", Err(MomentFault::Form)),
+];
+
 #[test]
 fn moments_of_a_day(rt: HostRuntime) {
-    let day = b"20250314";
-    assert_eq!(rt; read_of(day, b"20250314-09:05:00"), Some(Ok(32_700_000)));
-    assert_eq!(rt;
-        read_of(day, b"20250314-23:59:59.999"),
-        Some(Ok(86_399_999))
-    );
-    assert_eq!(rt; read_of(day, b"20250314-00:00:00"), Some(Ok(0)));
-    assert_eq!(rt;
-        read_of(day, b"20250314-23:59:60"),
-        Some(Err(MomentFault::Form))
-    );
-    assert_eq!(rt;
-        read_of(day, b"20250314-24:00:00"),
-        Some(Err(MomentFault::Form))
-    );
-    assert_eq!(rt;
-        read_of(day, b"20250314-09:05:00.0000"),
-        Some(Err(MomentFault::Form))
-    );
-    assert_eq!(rt; read_of(day, b"20250314"), Some(Err(MomentFault::Form)));
-    assert_eq!(rt;
-        read_of(day, b"20251314-09:05:00"),
-        Some(Err(MomentFault::Form))
-    );
-    assert_eq!(rt;
-        read_of(day, b"20250315-00:00:00"),
-        Some(Err(MomentFault::OtherDay))
-    );
-    assert_eq!(rt;
-        read_of(day, b"20250315-00:00:60"),
-        Some(Err(MomentFault::Form))
-    );
+    for (text, moment) in MOMENTS {
+        assert_eq!(rt; read_of(b"20250314", text), Some(moment));
+    }
+}
+
+#[test]
+fn days_are_digits_of_a_calendar(rt: HostRuntime) {
     assert_eq!(rt;
         read_of(b"20250231", b"20250231-00:00:01.002"),
         Some(Ok(1_002))

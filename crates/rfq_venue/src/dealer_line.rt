@@ -5,7 +5,7 @@ ghost use Rattle.rfq_venue.specs.DueText.{date_of, row_of, values_of, quotes_of,
 
 use crate::lines::Parts;
 use crate::words::{cut_word, is_word, read_firm};
-use dealer_desk::{DealerRow, Name, Traders, read_number};
+use dealer_desk::{DealerRow, Name, Traders, read_long_number, read_number};
 use fix_fields::Date;
 
 /// The date that a date line gives.
@@ -47,7 +47,7 @@ fn read_quotes(text: &[u8]) -> Option<u32>
     ensures value { result ≡ quotes_of text.now }
     ensures limits { IfSome result (λ quotes. (1 ≤ quotes) × (quotes ≤ 4096)) }
 {
-    let quotes = read_number(text, 9)?;
+    let quotes = read_number(text)?;
     if quotes < 1 || quotes > DealerRow::MOST_QUOTES as u64 {
         return None;
     }
@@ -59,7 +59,7 @@ fn read_exposure(text: &[u8]) -> Option<u64>
     ensures value { result ≡ exposure_of text.now }
     ensures limits { IfSome result (λ exposure. (1 ≤ exposure) × (exposure ≤ 1000000000000000)) }
 {
-    let exposure = read_number(text, 16)?;
+    let exposure = read_long_number(text)?;
     if exposure < 1 || exposure > DealerRow::MOST_EXPOSURE {
         return None;
     }
@@ -77,10 +77,9 @@ fn read_traders(text: &[u8]) -> Option<Traders>
     let mut traders = Traders::new();
     for word in Parts::new(text, b' ') {
         let trader = Name::new(word)?;
-        if traders.len() == Traders::MOST || traders.contains(word) {
+        if traders.contains(word) || !traders.push(&trader) {
             return None;
         }
-        traders.push(&trader);
     }
     Some(traders)
 }

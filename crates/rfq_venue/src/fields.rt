@@ -86,7 +86,7 @@ fn read_tag(digits: &[u8]) -> Option<u32>
     if begins_with_zero(digits) {
         return None;
     }
-    let tag = read_number(digits, 9)?;
+    let tag = read_number(digits)?;
     if tag == 0 || tag == 8 || tag == 9 || tag == 10 {
         return None;
     }

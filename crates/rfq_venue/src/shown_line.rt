@@ -4,7 +4,7 @@ ghost use Rattle.rfq_venue.specs.DueText.{shown_of};
 
 use crate::due::Due;
 use crate::words::{cut_word, read_firm, read_side, read_time};
-use dealer_desk::{Ask, BondId, Quantity, read_number};
+use dealer_desk::{Ask, BondId, Quantity, read_long_number};
 use fix_fields::Date;
 
 /// What stands behind the word `shown`, or none where that is not of its form.
@@ -21,7 +21,7 @@ pub(crate) fn read_shown(date: &Date, text: &[u8]) -> Option<Due>
         investor: read_firm(investor)?,
         bond: BondId::new(bond)?,
         side: read_side(side)?,
-        quantity: Quantity::new(read_number(quantity, 16)?)?,
+        quantity: Quantity::new(read_long_number(quantity)?)?,
         deadline: read_time(date, deadline)?,
     };
     let moment = read_time(date, time)?;

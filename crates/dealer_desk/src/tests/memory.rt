@@ -8,7 +8,7 @@
 use super::*;
 
 /// What comes between the two requests, and the exposure after each.
-const TAKEN: [(&[u8], u64); 5] = [
+const TAKEN: &[(&[u8], u64)] = &[
     // no frame
     (b"8=FIXT.1.1\x019=1\x01", 0),
     // out of sequence
@@ -34,7 +34,7 @@ const TAKEN: [(&[u8], u64); 5] = [
 ];
 
 /// What the dealer is sent.
-const SENT: [&[u8]; 6] = [
+const SENT: &[&[u8]] = &[
     b"8=FIXT.1.1\x019=165\x0135=R\x0149=VENUE\x0156=DLR1\x0134=1\x0152=20250314-09:00:00.000\x01131=R1\x01146=1\x0155=[N/A]\x0148=BONDA0000001\x0122=4\x0154=1\x0138=2000000\x01126=20250314-09:05:00.000\x01453=1\x01448=INV1\x01447=D\x01452=13\x0110=216\x01",
     b"8=FIXT.1.1\x019=76\x0135=3\x0149=VENUE\x0156=DLR1\x0134=2\x0152=20250314-09:00:10.000\x0145=2\x01371=34\x01372=S\x01373=5\x0110=002\x01",
     b"8=FIXT.1.1\x019=77\x0135=3\x0149=VENUE\x0156=DLR1\x0134=3\x0152=20250314-09:00:10.000\x0145=1\x01371=35\x01372=Z\x01373=11\x0110=056\x01",
@@ -45,27 +45,37 @@ const SENT: [&[u8]; 6] = [
 
 #[test]
 fn a_refused_call_leaves_the_desk(rt: HostRuntime) -> Result<(), Fail> {
-    let morning = Moment::new(32_400_000).ok_or("no moment")?;
-    let later = Moment::new(32_410_000).ok_or("no moment")?;
-    let mut desk = desk(rt.alloc(), 4, 10_000_000)?;
-    assert_eq!(rt; shows(&rt, &mut desk, morning)?, 1);
-    for (bytes, exposure) in TAKEN {
-        takes(&rt, &mut desk, later, bytes)?;
-        assert_eq!(rt; desk.exposure(), exposure);
-    }
-    assert_eq!(rt; shows(&rt, &mut desk, morning)?, 2);
-    assert_eq!(rt; desk.exposure(), 2_000_000);
-    assert_eq!(rt; desk.events().len(), 7);
-    assert_eq!(rt; desk.sent().len(), 6);
-    for (message, bytes) in desk.sent().iter().zip(SENT) {
-        assert_eq!(rt; message.as_bytes(), bytes);
-    }
+    let morning = Moment::new(32_400_000).expect(&rt, "a moment");
+    let later = Moment::new(32_410_000).expect(&rt, "a moment");
+    let mut desk = desk(&rt, rt.alloc(), 4, 10_000_000)?;
+    shows(&rt, &mut desk, morning, 1)?;
+    takes_all(&rt, &mut desk, later)?;
+    shows(&rt, &mut desk, morning, 2)?;
+    assert!(rt; seen(&desk) == (7, 6, 2_000_000));
+    assert_sent(&rt, desk.sent());
     Ok(())
+}
+
+/// Asserts that the messages are those of [`SENT`].
+fn assert_sent(rt: &impl Abort, sent: &[Message]) {
+    assert!(rt; sent.len() == 6);
+    for (message, bytes) in sent.iter().zip(SENT) {
+        assert!(rt; message.as_bytes() == *bytes);
+    }
 }
 
 /// What the readers of a desk answer: how many events, how many messages, and the exposure.
 fn seen(desk: &DealerDesk) -> (usize, usize, u64) {
     (desk.events().len(), desk.sent().len(), desk.exposure())
+}
+
+/// Takes each message of [`TAKEN`].
+fn takes_all(rt: &impl Abort, desk: &mut DealerDesk, moment: Moment) -> Result<(), Fail> {
+    for &(bytes, exposure) in TAKEN {
+        takes(rt, desk, moment, bytes)?;
+        assert!(rt; desk.exposure() == exposure);
+    }
+    Ok(())
 }
 
 /// Takes a message, and where memory was refused looks at the desk and takes it again.
@@ -78,24 +88,21 @@ fn takes(rt: &impl Abort, desk: &mut DealerDesk, moment: Moment, bytes: &[u8]) -
     Ok(())
 }
 
-/// Shows a request, and where memory was refused looks at the desk and shows it again.
-fn shows(rt: &impl Abort, desk: &mut DealerDesk, moment: Moment) -> Result<u64, Fail> {
+/// Shows a request as the nth, and where memory was refused looks at the desk and shows it again.
+fn shows(rt: &impl Abort, desk: &mut DealerDesk, moment: Moment, n: u64) -> Result<(), Fail> {
     let before = seen(desk);
-    if let Ok(number) = desk.show(request()?, moment) {
-        return Ok(number);
+    if let Ok(number) = desk.show(request(rt), moment) {
+        assert!(rt; number == n);
+        return Ok(());
     }
     assert!(rt; seen(desk) == before, "a refused show changed the desk");
-    let number = desk.show(request()?, moment)?;
-    Ok(number)
+    let number = desk.show(request(rt), moment)?;
+    assert!(rt; number == n);
+    Ok(())
 }
 
 /// INV1 asks to buy 2,000,000 of BONDA0000001 until 09:05.
-fn request() -> Result<Ask, Fail> {
-    Ok(Ask {
-        investor: Name::new(b"INV1").ok_or("no investor")?,
-        bond: BondId::new(b"BONDA0000001").ok_or("no bond")?,
-        side: Side::Buy,
-        quantity: Quantity::new(2_000_000).ok_or("no quantity")?,
-        deadline: Moment::new(32_700_000).ok_or("no moment")?,
-    })
+fn request(rt: &impl Abort) -> Ask {
+    let deadline = Moment::new(32_700_000).expect(rt, "a moment");
+    ask(rt, "INV1", "BONDA0000001", Side::Buy, 2_000_000, deadline)
 }

@@ -6,11 +6,14 @@ use super::*;
 const QUOTE: &str =
     "09:00:20.000|34=2|117=a2|131=R2|48=BONDA0000001|22=4|133=99.25|134=2000000|135=2000000|537=1|62=20250314-09:59:00|";
 
-/// The moment and number of a message of the trader T1, and the other fields, as a Quote (35=S).
-fn quote_body(alloc: Global, text: &str) -> Result<(String, String), Fail> {
-    let (time, fields) = text.split_once("|").ok_or("no moment")?;
+/// The moment of a message of the trader T1 from the text of its moment and fields, and its body as a Quote (35=S).
+fn quote_body<'a>(
+    rt: &impl Abort,
+    alloc: Global,
+    text: &'a str,
+) -> Result<(&'a str, String), Fail> {
+    let (time, fields) = text.split_once("|").expect(rt, "a moment");
     let body = format!(in alloc; "35=S|49=DLR1|56=VENUE|52=20250314-{time}|50=T1|{fields}")?;
-    let time = String::from_str(alloc, time)?;
     Ok((time, body))
 }
 
@@ -23,16 +26,8 @@ fn quotes(
     answer: &str,
     exposure: u64,
 ) -> Result<(), Fail> {
-    let (time, body) = quote_body(alloc, text)?;
-    says(
-        rt,
-        alloc,
-        desk,
-        time.as_str(),
-        body.as_str(),
-        answer,
-        exposure,
-    )
+    let (time, body) = quote_body(rt, alloc, text)?;
+    says(rt, alloc, desk, time, body.as_str(), answer, exposure)
 }
 
 /// The desk of [`QUOTE`].
@@ -42,30 +37,27 @@ fn quoted_desk(
     most_quotes: u32,
     exposure: u64,
 ) -> Result<DealerDesk, Fail> {
-    let mut desk = asked_desk(alloc, most_quotes, exposure)?;
-    let second = ask(
-        alloc,
-        "INV2",
-        "BONDA0000001",
-        Side::Buy,
-        2_000_000,
-        "09:06:00.000",
-    )?;
-    assert_eq!(rt; desk.show(second, at(alloc, "09:00:01.000")?)?, 2);
-    quotes(
-        rt,
-        alloc,
-        &mut desk,
-        "09:00:10.000|34=1|117=a1|131=R1|48=BONDA0000001|22=4|133=99.5|",
-        "AI 131=R1|117=a1|297=0|",
-        2_000_000,
-    )?;
+    let mut desk = asked_desk(rt, alloc, most_quotes, exposure)?;
+    shows_second(rt, alloc, &mut desk)?;
+    let text = "09:00:10.000|34=1|117=a1|131=R1|48=BONDA0000001|22=4|133=99.5|";
+    let answer = "AI 131=R1|117=a1|297=0|";
+    quotes(rt, alloc, &mut desk, text, answer, 2_000_000)?;
     Ok(desk)
+}
+
+/// A desk shows the request R2.
+fn shows_second(rt: &impl Abort, alloc: Global, desk: &mut DealerDesk) -> Result<(), Fail> {
+    let deadline = at(rt, alloc, "09:06:00.000")?;
+    let ask = ask(rt, "INV2", "BONDA0000001", Side::Buy, 2_000_000, deadline);
+    let moment = at(rt, alloc, "09:00:01.000")?;
+    let number = desk.show(ask, moment)?;
+    assert!(rt; number == 2);
+    Ok(())
 }
 
 /// The checks in their order: what makes [`QUOTE`] meet the condition, and the reason (300) given for it.
 /// The two limits are the desk's, which then has one quote or an exposure of 3,999,999.
-const CHECKS: [(&str, &str, &str); 12] = [
+const CHECKS: &[(&str, &str, &str)] = &[
     ("131=R2|", "131=R3|", "99"),
     ("09:00:20.000|", "09:06:00.000|", "4"),
     ("48=BONDA0000001|", "48=BONDB0000002|", "1"),
@@ -85,82 +77,138 @@ const USED_UP: &str = "the day's quotes are used up";
 const EXPOSED: &str = "the exposure is passed by one";
 
 /// The quote as it meets a check.
-fn meeting(alloc: Global, text: &str, check: (&str, &str, &str)) -> Result<String, Fail> {
+fn meeting(
+    rt: &impl Abort,
+    alloc: Global,
+    text: &str,
+    check: (&str, &str, &str),
+) -> Result<String, Fail> {
     let (part, form, _) = check;
     if part == USED_UP || part == EXPOSED {
         let text = String::from_str(alloc, text)?;
         return Ok(text);
     }
-    changed(alloc, text, part, form)
+    changed(rt, alloc, text, part, form)
 }
 
-/// Which request a text of a quote names, and with which QuoteID.
-fn named(text: &str) -> (&str, &str) {
-    let request = if text.split_once("131=R1|").is_some() {
+/// Which request a text of a quote names.
+fn request_of(text: &str) -> &'static str {
+    if text.contains("131=R1|") {
         "R1"
-    } else if text.split_once("131=R3|").is_some() {
+    } else if text.contains("131=R3|") {
         "R3"
     } else {
         "R2"
-    };
-    let id = if text.split_once("117=a1|").is_some() {
-        "a1"
-    } else {
-        "a2"
-    };
-    (request, id)
+    }
+}
+
+/// Which QuoteID a text of a quote bears.
+fn id_of(text: &str) -> &'static str {
+    if text.contains("117=a1|") { "a1" } else { "a2" }
+}
+
+/// How the refusal of a quote for a reason is written.
+fn refusal(alloc: Global, text: &str, reason: &str) -> Result<String, Fail> {
+    let request = request_of(text);
+    let id = id_of(text);
+    let answer = format!(in alloc; "AI 131={request}|117={id}|297=5|300={reason}|")?;
+    Ok(answer)
 }
 
 /// Each check alone, and any two together: the earlier one gives the reason. A refused quote uses up its
 /// number and not its QuoteID.
 #[test]
 fn the_first_check_refuses(rt: HostRuntime) -> Result<(), Fail> {
-    let alloc = rt.alloc();
-    for (i, first) in CHECKS.iter().enumerate() {
-        for (j, second) in CHECKS.iter().enumerate() {
-            // a quote names one request
-            if j < i || (i == 0 && j == 11) {
-                continue;
-            }
-            let most_quotes = if i == 9 || j == 9 { 1 } else { 4 };
-            let exposure = if i == 10 || j == 10 {
-                3_999_999
-            } else {
-                4_000_000
-            };
-            let mut desk = quoted_desk(&rt, alloc, most_quotes, exposure)?;
-            let mut text = meeting(alloc, QUOTE, *first)?;
-            if j != i {
-                text = meeting(alloc, text.as_str(), *second)?;
-            }
-            // the exposure leaves out the quote that stands on the same request
-            let reason = if i == 10 && j == 11 { "4" } else { first.2 };
-            let (request, id) = named(text.as_str());
-            let answer = format!(in alloc; "AI 131={request}|117={id}|297=5|300={reason}|")?;
-            quotes(
-                &rt,
-                alloc,
-                &mut desk,
-                text.as_str(),
-                answer.as_str(),
-                2_000_000,
-            )?;
-            let text = changed(alloc, QUOTE, "34=2|", "34=3|")?;
-            if most_quotes == 4 && exposure == 4_000_000 {
-                let answer = "AI 131=R2|117=a2|297=0|";
-                quotes(&rt, alloc, &mut desk, text.as_str(), answer, 4_000_000)?;
-            } else {
-                let answer = "AI 131=R2|117=a2|297=5|300=3|";
-                quotes(&rt, alloc, &mut desk, text.as_str(), answer, 2_000_000)?;
-            }
+    for (place, first) in CHECKS.iter().enumerate() {
+        first_refuses(&rt, rt.alloc(), place, *first)?;
+    }
+    Ok(())
+}
+
+/// A check refuses alone, and with each one behind it.
+fn first_refuses(
+    rt: &impl Abort,
+    alloc: Global,
+    place: usize,
+    first: (&str, &str, &str),
+) -> Result<(), Fail> {
+    for second in CHECKS.iter().skip(place) {
+        // a quote names one request
+        if !(first.1 == "131=R3|" && second.1 == "131=R1|") {
+            two_checks(rt, alloc, first, *second)?;
         }
     }
     Ok(())
 }
 
+/// A quote that meets two checks, or one where they are the same, is refused by the first, and the next
+/// quote meets neither but the limits of the desk.
+fn two_checks(
+    rt: &impl Abort,
+    alloc: Global,
+    first: (&str, &str, &str),
+    second: (&str, &str, &str),
+) -> Result<(), Fail> {
+    let is_used_up = is_one(USED_UP, first, second);
+    let is_exposed = is_one(EXPOSED, first, second);
+    let most_quotes = if is_used_up { 1 } else { 4 };
+    let exposure = if is_exposed { 3_999_999 } else { 4_000_000 };
+    let mut desk = quoted_desk(rt, alloc, most_quotes, exposure)?;
+    let text = meeting_two(rt, alloc, first, second)?;
+    let answer = refusal(alloc, text.as_str(), reason_of(first, second))?;
+    let text = text.as_str();
+    quotes(rt, alloc, &mut desk, text, answer.as_str(), 2_000_000)?;
+    quotes_next(rt, alloc, &mut desk, is_used_up || is_exposed)
+}
+
+/// Whether one of two checks is that of a limit.
+fn is_one(limit: &str, first: (&str, &str, &str), second: (&str, &str, &str)) -> bool {
+    first.0 == limit || second.0 == limit
+}
+
+/// The reason for which a quote that meets two checks is refused: the first's, but that the exposure leaves
+/// out the quote that stands on the same request.
+fn reason_of<'a>(first: (&'a str, &'a str, &'a str), second: (&str, &str, &str)) -> &'a str {
+    if first.0 == EXPOSED && second.1 == "131=R1|" {
+        "4"
+    } else {
+        first.2
+    }
+}
+
+/// [`QUOTE`] as it meets two checks, or one where they are the same.
+fn meeting_two(
+    rt: &impl Abort,
+    alloc: Global,
+    first: (&str, &str, &str),
+    second: (&str, &str, &str),
+) -> Result<String, Fail> {
+    let text = meeting(rt, alloc, QUOTE, first)?;
+    if first.0 == second.0 && first.1 == second.1 {
+        return Ok(text);
+    }
+    meeting(rt, alloc, text.as_str(), second)
+}
+
+/// [`QUOTE`] with the next number, which a desk at its limit refuses and another one accepts.
+fn quotes_next(
+    rt: &impl Abort,
+    alloc: Global,
+    desk: &mut DealerDesk,
+    is_at_limit: bool,
+) -> Result<(), Fail> {
+    let text = changed(rt, alloc, QUOTE, "34=2|", "34=3|")?;
+    let (answer, exposure) = if is_at_limit {
+        ("AI 131=R2|117=a2|297=5|300=3|", 2_000_000)
+    } else {
+        ("AI 131=R2|117=a2|297=0|", 4_000_000)
+    };
+    quotes(rt, alloc, desk, text.as_str(), answer, exposure)
+}
+
 /// Answers that hang on one byte or on one millisecond, at a fresh desk of [`QUOTE`] each: a change of the
 /// quote, and the answer.
-const EDGES: [(&str, &str, &str); 34] = [
+const EDGES: &[(&str, &str, &str)] = &[
     // the deadline of R2
     ("09:00:20.000|", "09:05:59.999|", "AI 131=R2|117=a2|297=0|"),
     (
@@ -239,78 +287,103 @@ const EDGES: [(&str, &str, &str); 34] = [
 
 #[test]
 fn answers_at_the_edges(rt: HostRuntime) -> Result<(), Fail> {
-    let alloc = rt.alloc();
-    for (part, form, answer) in EDGES {
-        let mut desk = quoted_desk(&rt, alloc, 4, 4_000_000)?;
-        let text = changed(alloc, QUOTE, part, form)?;
-        let exposure = if answer.ends_with("297=0|") {
-            4_000_000
-        } else {
-            2_000_000
-        };
-        quotes(&rt, alloc, &mut desk, text.as_str(), answer, exposure)?;
+    for &(part, form, answer) in EDGES {
+        is_answered(&rt, rt.alloc(), part, form, answer)?;
     }
     Ok(())
 }
+
+/// [`QUOTE`] with a part in another form has this answer.
+fn is_answered(
+    rt: &impl Abort,
+    alloc: Global,
+    part: &str,
+    form: &str,
+    answer: &str,
+) -> Result<(), Fail> {
+    let mut desk = quoted_desk(rt, alloc, 4, 4_000_000)?;
+    let text = changed(rt, alloc, QUOTE, part, form)?;
+    let exposure = if answer.ends_with("297=0|") {
+        4_000_000
+    } else {
+        2_000_000
+    };
+    quotes(rt, alloc, &mut desk, text.as_str(), answer, exposure)
+}
+
+/// Quotes on a request that asks to sell 7, their answers, and the exposure after each.
+const BIDS: &[(&str, &str, u64)] = &[
+    (
+        "09:00:10.000|34=1|117=a1|131=R1|48=BONDA0000001|22=4|133=99|",
+        "AI 131=R1|117=a1|297=5|300=8|",
+        0,
+    ),
+    (
+        "09:00:10.000|34=2|117=a1|131=R1|48=BONDA0000001|22=4|132=99|133=99|",
+        "AI 131=R1|117=a1|297=5|300=8|",
+        0,
+    ),
+    (
+        "09:00:10.000|34=3|117=a1|131=R1|48=BONDA0000001|22=4|",
+        "AI 131=R1|117=a1|297=5|300=8|",
+        0,
+    ),
+    (
+        "09:00:10.000|34=4|117=a1|131=R1|48=BONDA0000001|22=4|132=1000|",
+        "AI 131=R1|117=a1|297=5|300=8|",
+        0,
+    ),
+    (
+        "09:00:10.000|34=5|117=a1|131=R1|48=BONDA0000001|22=4|132=99|",
+        "AI 131=R1|117=a1|297=0|",
+        7,
+    ),
+];
 
 /// A seller is answered by a bid alone.
 #[test]
 fn bids_to_a_seller(rt: HostRuntime) -> Result<(), Fail> {
     let alloc = rt.alloc();
-    let mut desk = desk(alloc, 4, 10_000_000)?;
-    let ask = ask(alloc, "INV1", "BONDA0000001", Side::Sell, 7, "09:05:00.000")?;
-    assert_eq!(rt; desk.show(ask, at(alloc, "09:00:00.000")?)?, 1);
-    for (text, answer, exposure) in [
-        (
-            "09:00:10.000|34=1|117=a1|131=R1|48=BONDA0000001|22=4|133=99|",
-            "AI 131=R1|117=a1|297=5|300=8|",
-            0,
-        ),
-        (
-            "09:00:10.000|34=2|117=a1|131=R1|48=BONDA0000001|22=4|132=99|133=99|",
-            "AI 131=R1|117=a1|297=5|300=8|",
-            0,
-        ),
-        (
-            "09:00:10.000|34=3|117=a1|131=R1|48=BONDA0000001|22=4|",
-            "AI 131=R1|117=a1|297=5|300=8|",
-            0,
-        ),
-        (
-            "09:00:10.000|34=4|117=a1|131=R1|48=BONDA0000001|22=4|132=1000|",
-            "AI 131=R1|117=a1|297=5|300=8|",
-            0,
-        ),
-        (
-            "09:00:10.000|34=5|117=a1|131=R1|48=BONDA0000001|22=4|132=99|",
-            "AI 131=R1|117=a1|297=0|",
-            7,
-        ),
-    ] {
+    let mut desk = selling_desk(&rt, alloc)?;
+    for &(text, answer, exposure) in BIDS {
         quotes(&rt, alloc, &mut desk, text, answer, exposure)?;
     }
     Ok(())
 }
+
+/// The desk at which INV1 asks to sell 7 of BONDA0000001 until 09:05.
+fn selling_desk(rt: &impl Abort, alloc: Global) -> Result<DealerDesk, Fail> {
+    let mut desk = desk(rt, alloc, 4, 10_000_000)?;
+    let deadline = at(rt, alloc, "09:05:00.000")?;
+    let ask = ask(rt, "INV1", "BONDA0000001", Side::Sell, 7, deadline);
+    let moment = at(rt, alloc, "09:00:00.000")?;
+    let number = desk.show(ask, moment)?;
+    assert!(rt; number == 1);
+    Ok(desk)
+}
+
+/// Quotes at a desk whose one quote of the day was made, and their answers.
+const BEYOND: &[(&str, &str)] = &[
+    (
+        "09:00:30.000|34=2|117=a2|131=R1|48=BONDA0000001|22=4|133=99|",
+        "AI 131=R1|117=a2|297=5|300=3|",
+    ),
+    (
+        "09:00:31.000|34=3|117=a2|131=R2|48=BONDA0000001|22=4|133=99|",
+        "AI 131=R2|117=a2|297=5|300=3|",
+    ),
+    (
+        "09:00:32.000|34=4|117=a1|131=R2|48=BONDA0000001|22=4|133=99|",
+        "AI 131=R2|117=a1|297=5|300=6|",
+    ),
+];
 
 /// A day with one quote: the second is refused, on this request and on another.
 #[test]
 fn the_quotes_of_a_day(rt: HostRuntime) -> Result<(), Fail> {
     let alloc = rt.alloc();
     let mut desk = quoted_desk(&rt, alloc, 1, 10_000_000)?;
-    for (text, answer) in [
-        (
-            "09:00:30.000|34=2|117=a2|131=R1|48=BONDA0000001|22=4|133=99|",
-            "AI 131=R1|117=a2|297=5|300=3|",
-        ),
-        (
-            "09:00:31.000|34=3|117=a2|131=R2|48=BONDA0000001|22=4|133=99|",
-            "AI 131=R2|117=a2|297=5|300=3|",
-        ),
-        (
-            "09:00:32.000|34=4|117=a1|131=R2|48=BONDA0000001|22=4|133=99|",
-            "AI 131=R2|117=a1|297=5|300=6|",
-        ),
-    ] {
+    for &(text, answer) in BEYOND {
         quotes(&rt, alloc, &mut desk, text, answer, 2_000_000)?;
     }
     Ok(())
@@ -320,43 +393,52 @@ fn the_quotes_of_a_day(rt: HostRuntime) -> Result<(), Fail> {
 #[test]
 fn the_exposure_is_reached(rt: HostRuntime) -> Result<(), Fail> {
     let alloc = rt.alloc();
-    let mut desk = desk(alloc, 1001, DealerRow::MOST_EXPOSURE)?;
+    let mut desk = desk(&rt, alloc, 1001, DealerRow::MOST_EXPOSURE)?;
     let mut exposure: u64 = 0;
-    for n in 1..=1001 {
-        let ask = ask(
-            alloc,
-            "INV1",
-            "BONDA0000001",
-            Side::Buy,
-            Quantity::MOST,
-            "09:05:00.000",
-        )?;
-        assert_eq!(rt; desk.show(ask, at(alloc, "09:00:00.000")?)?, n);
-        let text = format!(in alloc;
-            "09:00:10.000|34={n}|117=a{n}|131=R{n}|48=BONDA0000001|22=4|133=99|"
-        )?;
-        if n == 1001 {
-            let answer = "AI 131=R1001|117=a1001|297=5|300=3|";
-            quotes(
-                &rt,
-                alloc,
-                &mut desk,
-                text.as_str(),
-                answer,
-                1_000_000_000_000_000,
-            )?;
-        } else {
-            exposure = exposure.wrapping_add(Quantity::MOST);
-            let answer = format!(in alloc; "AI 131=R{n}|117=a{n}|297=0|")?;
-            quotes(
-                &rt,
-                alloc,
-                &mut desk,
-                text.as_str(),
-                answer.as_str(),
-                exposure,
-            )?;
-        }
+    for n in 1..=1000 {
+        exposure = exposure.wrapping_add(Quantity::MOST);
+        quotes_most(&rt, alloc, &mut desk, n, "297=0|", exposure)?;
     }
+    quotes_most(
+        &rt,
+        alloc,
+        &mut desk,
+        1001,
+        "297=5|300=3|",
+        1_000_000_000_000_000,
+    )
+}
+
+/// The nth request asks for the greatest quantity, and the nth quote, on it, has this answer.
+fn quotes_most(
+    rt: &impl Abort,
+    alloc: Global,
+    desk: &mut DealerDesk,
+    n: u64,
+    answer: &str,
+    exposure: u64,
+) -> Result<(), Fail> {
+    shows_most(rt, alloc, desk, n)?;
+    let text = format!(in alloc;
+        "09:00:10.000|34={n}|117=a{n}|131=R{n}|48=BONDA0000001|22=4|133=99|"
+    )?;
+    let answer = format!(in alloc; "AI 131=R{n}|117=a{n}|{answer}")?;
+    quotes(rt, alloc, desk, text.as_str(), answer.as_str(), exposure)
+}
+
+/// A desk shows a request for the greatest quantity as the nth.
+fn shows_most(rt: &impl Abort, alloc: Global, desk: &mut DealerDesk, n: u64) -> Result<(), Fail> {
+    let deadline = at(rt, alloc, "09:05:00.000")?;
+    let ask = ask(
+        rt,
+        "INV1",
+        "BONDA0000001",
+        Side::Buy,
+        Quantity::MOST,
+        deadline,
+    );
+    let moment = at(rt, alloc, "09:00:00.000")?;
+    let number = desk.show(ask, moment)?;
+    assert!(rt; number == n);
     Ok(())
 }

@@ -4,7 +4,7 @@ use Rattle.std.specs.List.{list_all}
 use Rattle.std.specs.Char.{is_ascii_digit}
 use Rattle.std.proofs.lemmas.Bool.Decides.{nat_tests}
 use Rattle.dealer_desk.proofs.NumberLemmas.{digits_parse}
-use Rattle.dealer_desk.proofs.numbers.read_number.Goals as goal
+use Rattle.dealer_desk.proofs.numbers.read_digits.Goals as goal
 
 pub returns : goal.returns
 returns c =
