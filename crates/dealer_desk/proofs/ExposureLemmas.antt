@@ -1,116 +1,112 @@
--- No verdict takes the exposure past its limit.
-use Rattle.std.proofs.Common.{◌≡◌, ℕ, ◌+◌, ◌<◌, ◌≤◌, Bool, true, false, ◌==◌, nat_lt, nat_le, cond, ◌||◌, List, [], ◌∷◌, ◌++◌, Option, Some, None, Result, Ok, Err, arith, refl, ap, sym, ◌∙◌, rules}
+-- What facts that are added do to the exposure: a quote that was live before may be live no more, and only a new quote adds.
+use Rattle.std.proofs.Common.{◌≡◌, ℕ, ◌+◌, ◌≤◌, ◌==◌, Bool, true, false, not, ◌&&◌, ◌||◌, cond, List, [], ◌∷◌, ◌++◌, Option, Some, arith, refl, ap, ◌∙◌, lit≤}
 use Rattle.std.specs.List.{sum_by, list_any}
 use Rattle.std.proofs.lemmas.List.Sums.{sum_by-cons, sum_by-append}
+use Rattle.std.proofs.lemmas.List.Folds.{list_any-append}
 use Rattle.std.proofs.lemmas.Bool.Decides.{nat_tests}
-use Rattle.fix_fields.specs.Frame.{Field, frame_of}
-use Rattle.dealer_desk.specs.DealerFacts.{exposure_of, exposure_beside, exposure_in, exposure_in_beside, is_live_on, has_live_quote, expected_number, request_named}
-use Rattle.dealer_desk.specs.DealerRules.{first_refusal, quote_checks, quote_refusal, quote_answer, quote_on, quote_kept, quote_verdict, message_verdict, sequence_verdict, sequence_number, frame_verdict, dealer_verdict, out_of_sequence, reject_of}
-use Rattle.dealer_desk.specs.DealerOutput.{verdict_facts}
-use Rattle.dealer_desk.specs.SessionChecks.{session_verdict}
-use Rattle.dealer_desk.specs.declared.dealer_rows.DealerRow.{DealerRow}
-use Rattle.dealer_desk.specs.declared.asks.Ask.{Ask}
-use Rattle.dealer_desk.specs.declared.facts.AcceptedQuote.{AcceptedQuote}
+use Rattle.dealer_desk.specs.DealerFacts.{exposure_of, exposure_beside, exposure_in, exposure_in_beside, is_quote_number, live_quantity, is_withdrawal_of, is_notice_of}
 use Rattle.dealer_desk.specs.declared.facts.DealerFact.{DealerFact}
-use Rattle.dealer_desk.specs.declared.facts.DealerFact.TheVariants.{Came, Shown, Quoted}
-use Rattle.dealer_desk.specs.declared.out_messages.Request.{Request}
-use Rattle.dealer_desk.specs.declared.quotes.Quote.{Quote}
-use Rattle.dealer_desk.specs.declared.quotes.DealerMessage.{DealerMessage}
-use Rattle.dealer_desk.specs.declared.quotes.DealerMessage.TheVariants.{Quote as AQuote}
-use Rattle.dealer_desk.specs.declared.session_faults.SessionFault.{SessionFault}
-use Rattle.dealer_desk.specs.declared.reject_reasons.QuoteRejectReason.{QuoteRejectReason}
-use Rattle.dealer_desk.specs.declared.verdicts.DealerVerdict.{DealerVerdict}
-use Rattle.std.specs.Str.Parse.{digits_value}
-use Rattle.dealer_desk.specs.declared.verdicts.DealerVerdict.TheVariants.{Dropped, OutOfSequence, Rejected, QuoteRefused, QuoteAccepted}
+use Rattle.dealer_desk.specs.declared.facts.DealerFact.TheVariants.{Quoted}
+use Rattle.dealer_desk.specs.declared.facts.AcceptedQuote.{AcceptedQuote}
 
--- the facts that a verdict adds keep the exposure within the limit
-pub record Fits (row : DealerRow) (facts : List DealerFact) (verdict : DealerVerdict) : Type 0 where
-  pub within : exposure_of (facts ++ verdict_facts verdict) ≤ row.exposure
+-- none of a number is no more than all of it
+none_of : (b : Bool) (n : ℕ) → cond b 0 n ≤ n
+none_of true n = omega arith
+none_of false n = omega arith
 
--- no condition of the checks holds
-abbrev NoneHolds : List (Bool × QuoteRejectReason) → Type 0
-NoneHolds [] = Unit {0}
-NoneHolds (check ∷ checks) = (check.0 ≡ false) × NoneHolds checks
+all_of : (b : Bool) (n : ℕ) → cond b n 0 ≤ n
+all_of true n = omega arith
+all_of false n = omega arith
 
-chosen : (b : Bool) (reason : QuoteRejectReason) (rest : Option QuoteRejectReason) → cond b (Some reason) rest ≡ None → (b ≡ false) × (rest ≡ None)
-chosen true reason rest h = cc
-chosen false reason rest h = (refl, h)
+-- what some facts add beside a quote is no more than what they add
+beside_le : (facts : List DealerFact) (replaced : Option ℕ) (some : List DealerFact) → sum_by (exposure_in_beside facts replaced) some ≤ sum_by (exposure_in facts) some
+beside_le facts replaced [] = lit≤ tt
+beside_le facts replaced (fact ∷ some) =
+    let here = none_of (is_quote_number replaced fact) (exposure_in facts fact) in
+    let rest = beside_le facts replaced some in
+    rw (sum_by-cons (exposure_in_beside facts replaced) fact some, sum_by-cons (exposure_in facts) fact some) (omega arith)
 
-none_holds : (checks : List (Bool × QuoteRejectReason)) → first_refusal checks ≡ None → NoneHolds checks
-none_holds [] h = tt
-none_holds (check ∷ checks) h =
-    let parts = chosen check.0 check.1 (first_refusal checks) h in
-    (parts.0, none_holds checks parts.1)
+-- the exposure beside a quote is no more than the exposure
+pub exposure_beside_le : (facts : List DealerFact) (replaced : Option ℕ) → exposure_beside facts replaced ≤ exposure_of facts
+exposure_beside_le facts replaced = beside_le facts replaced facts
 
-either_false : (a b : Bool) → (a || b) ≡ false → (a ≡ false) × (b ≡ false)
-either_false true b h = cc
-either_false false b h = (refl, h)
+-- what a fact adds at most
+abbrev pub quantity_in : DealerFact → ℕ
+quantity_in (Quoted quote) = quote.quantity
+quantity_in fact = 0
 
--- where no quote stands on a request, the exposure beside it is the exposure
-beside_none : (facts : List DealerFact) (request : ℕ) → has_live_quote facts request ≡ false → exposure_beside facts request ≡ exposure_of facts
-beside_none [] request h = refl
-beside_none (fact ∷ facts) request h =
-    let parts = either_false (is_live_on request fact) (has_live_quote facts request) h in
-    let rest = beside_none facts request parts.1 in
-    let here : exposure_in_beside request fact ≡ exposure_in fact = rw parts.0 in
-    rw (sum_by-cons (exposure_in_beside request) fact facts, sum_by-cons exposure_in fact facts, here, rest)
+in_at_most : (facts : List DealerFact) (fact : DealerFact) → exposure_in facts fact ≤ quantity_in fact
+in_at_most facts (Quoted quote) = all_of _ quote.quantity
+in_at_most facts fact = lit≤ tt
 
--- a fact that is no quote adds nothing
-came_fits : (facts : List DealerFact) (in_sequence : Bool) (most : ℕ) → exposure_of facts ≤ most → exposure_of (facts ++ Came in_sequence ∷ []) ≤ most
-came_fits facts in_sequence most h = rw (sum_by-append exposure_in facts (Came in_sequence ∷ []), sum_by-cons exposure_in (Came in_sequence) []) (omega arith)
+sum_at_most : (facts some : List DealerFact) → sum_by (exposure_in facts) some ≤ sum_by quantity_in some
+sum_at_most facts [] = lit≤ tt
+sum_at_most facts (fact ∷ some) =
+    let here = in_at_most facts fact in
+    let rest = sum_at_most facts some in
+    rw (sum_by-cons (exposure_in facts) fact some, sum_by-cons quantity_in fact some) (omega arith)
 
--- an accepted quote adds its quantity
-quoted_fits : (facts : List DealerFact) (quote : AcceptedQuote) (most : ℕ) → quote.quantity + exposure_of facts ≤ most → exposure_of (facts ++ Came true ∷ Quoted quote ∷ []) ≤ most
-quoted_fits facts quote most h =
-    rw (sum_by-append exposure_in facts (Came true ∷ Quoted quote ∷ []), sum_by-cons exposure_in (Came true) (Quoted quote ∷ []), sum_by-cons exposure_in (Quoted quote) [])
-    (omega arith)
+-- a quote with more against it is live no more often
+fewer : (a b c d : Bool) (n : ℕ) → cond (not (a || b) && not (c || d)) n 0 ≤ cond (not a && not c) n 0
+fewer true b c d n = lit≤ tt
+fewer false true c d n = omega arith
+fewer false false true d n = lit≤ tt
+fewer false false false true n = omega arith
+fewer false false false false n = omega arith
 
--- what the last two checks of an accepted quote say together
-room_left : (row : DealerRow) (facts : List DealerFact) (moment : ℕ) (quote : Quote) (request : Request) → NoneHolds (quote_checks row facts moment quote request) → request.ask.quantity + exposure_of facts ≤ row.exposure
-room_left row facts moment quote request holds =
-    let exposed : nat_lt row.exposure (request.ask.quantity + exposure_beside facts request.number) ≡ false = holds.1.1.1.1.1.1.1.1.1.0 in
-    let alone = beside_none facts request.number holds.1.1.1.1.1.1.1.1.1.1.0 in
-    let fits : request.ask.quantity + exposure_beside facts request.number ≤ row.exposure = grind (arith, nat_tests) in
-    rw (← alone) fits
+live_less : (facts added : List DealerFact) (quote : AcceptedQuote) → live_quantity (facts ++ added) quote ≤ live_quantity facts quote
+live_less facts added quote =
+    rw (list_any-append (is_withdrawal_of quote.number) facts added, list_any-append (is_notice_of quote.request) facts added)
+    (fewer (list_any (is_withdrawal_of quote.number) facts) (list_any (is_withdrawal_of quote.number) added) (list_any (is_notice_of quote.request) facts) (list_any (is_notice_of quote.request) added) quote.quantity)
 
-answer_fits : (row : DealerRow) (facts : List DealerFact) (moment : ℕ) (quote : Quote) (request : Request) (answer : Option QuoteRejectReason) → exposure_of facts ≤ row.exposure → quote_refusal row facts moment quote request ≡ answer → Fits row facts (quote_answer moment quote request answer)
-unfolding quote_refusal
-answer_fits row facts moment quote request (Some reason) within is = record { within = came_fits facts true row.exposure within }
-answer_fits row facts moment quote request None within is =
-    let holds = none_holds (quote_checks row facts moment quote request) is in
-    record { within = quoted_fits facts (quote_kept moment quote request) row.exposure (room_left row facts moment quote request holds) }
+in_less : (facts added : List DealerFact) (fact : DealerFact) → exposure_in (facts ++ added) fact ≤ exposure_in facts fact
+in_less facts added (Quoted quote) = live_less facts added quote
+in_less facts added fact = lit≤ tt
 
-on_fits : (row : DealerRow) (facts : List DealerFact) (moment : ℕ) (quote : Quote) (request : Option Request) → exposure_of facts ≤ row.exposure → Fits row facts (quote_on row facts moment quote request)
-on_fits row facts moment quote None within = record { within = came_fits facts true row.exposure within }
-on_fits row facts moment quote (Some request) within = answer_fits row facts moment quote request (quote_refusal row facts moment quote request) within refl
+sum_less : (facts added some : List DealerFact) → sum_by (exposure_in (facts ++ added)) some ≤ sum_by (exposure_in facts) some
+sum_less facts added [] = lit≤ tt
+sum_less facts added (fact ∷ some) =
+    let here = in_less facts added fact in
+    let rest = sum_less facts added some in
+    rw (sum_by-cons (exposure_in (facts ++ added)) fact some, sum_by-cons (exposure_in facts) fact some) (omega arith)
 
-message_fits : (row : DealerRow) (facts : List DealerFact) (moment : ℕ) (fields : List Field) (number : List ℕ) (message : Result DealerMessage SessionFault) → exposure_of facts ≤ row.exposure → Fits row facts (message_verdict row facts moment fields number message)
-unfolding quote_verdict
-message_fits row facts moment fields number (Err fault) within = record { within = came_fits facts true row.exposure within }
-message_fits row facts moment fields number (Ok (AQuote quote)) within = on_fits row facts moment quote (request_named facts quote.request) within
+-- a quote that is withdrawn by what is added counts no more
+gone : (a c : Bool) (n : ℕ) → cond (not (a || true) && c) n 0 ≤ 0
+gone true c n = lit≤ tt
+gone false c n = lit≤ tt
 
--- either of two verdicts fits
-either_fits : (row : DealerRow) (facts : List DealerFact) (b : Bool) (one other : DealerVerdict) → Fits row facts one → Fits row facts other → Fits row facts (cond b one other)
-either_fits row facts true one other p q = p
-either_fits row facts false one other p q = q
+live_gone : (facts added : List DealerFact) (quote : AcceptedQuote) → list_any (is_withdrawal_of quote.number) added ≡ true → live_quantity (facts ++ added) quote ≤ 0
+live_gone facts added quote h =
+    rw (list_any-append (is_withdrawal_of quote.number) facts added, h)
+    (gone (list_any (is_withdrawal_of quote.number) facts) (not (list_any (is_notice_of quote.request) (facts ++ added))) quote.quantity)
 
-sequence_fits : (date : List ℕ) (row : DealerRow) (facts : List DealerFact) (moment : ℕ) (fields : List Field) (number : Option (List ℕ)) → exposure_of facts ≤ row.exposure → Fits row facts (sequence_verdict date row facts moment fields number)
-sequence_fits date row facts moment fields None within = record { within = came_fits facts false row.exposure within }
-sequence_fits date row facts moment fields (Some number) within =
-    either_fits row facts (digits_value 10 number == expected_number facts)
-    (message_verdict row facts moment fields number (session_verdict date row fields)) (OutOfSequence (reject_of fields number out_of_sequence))
-    (message_fits row facts moment fields number (session_verdict date row fields) within)
-    (record { within = came_fits facts false row.exposure within })
+live_beside : (facts added : List DealerFact) (number : ℕ) → list_any (is_withdrawal_of number) added ≡ true → (quote : AcceptedQuote) (same : Bool) → (quote.number == number) ≡ same → live_quantity (facts ++ added) quote ≤ cond same 0 (live_quantity facts quote)
+live_beside facts added number h quote true e =
+    let is : quote.number ≡ number = grind (arith, nat_tests) in
+    live_gone facts added quote (ap (λ own. list_any (is_withdrawal_of own) added) is ∙ h)
+live_beside facts added number h quote false e = live_less facts added quote
 
-frame_fits : (date : List ℕ) (row : DealerRow) (facts : List DealerFact) (moment : ℕ) (fields : Option (List Field)) → exposure_of facts ≤ row.exposure → Fits row facts (frame_verdict date row facts moment fields)
-frame_fits date row facts moment None within = record { within = came_fits facts false row.exposure within }
-frame_fits date row facts moment (Some fields) within = sequence_fits date row facts moment fields (sequence_number fields) within
+in_beside : (facts added : List DealerFact) (number : ℕ) → list_any (is_withdrawal_of number) added ≡ true → (fact : DealerFact) → exposure_in (facts ++ added) fact ≤ exposure_in_beside facts (Some number) fact
+in_beside facts added number h (Quoted quote) = live_beside facts added number h quote (quote.number == number) refl
+in_beside facts added number h fact = lit≤ tt
 
--- the verdict on a message keeps the exposure within the limit
-pub verdict_fits : (date : List ℕ) (row : DealerRow) (facts : List DealerFact) (moment : ℕ) (bytes : List ℕ) → exposure_of facts ≤ row.exposure → Fits row facts (dealer_verdict date row facts moment bytes)
-unfolding dealer_verdict
-verdict_fits date row facts moment bytes within = frame_fits date row facts moment (frame_of bytes) within
+sum_beside : (facts added : List DealerFact) (number : ℕ) → list_any (is_withdrawal_of number) added ≡ true → (some : List DealerFact) → sum_by (exposure_in (facts ++ added)) some ≤ sum_by (exposure_in_beside facts (Some number)) some
+sum_beside facts added number h [] = lit≤ tt
+sum_beside facts added number h (fact ∷ some) =
+    let here = in_beside facts added number h fact in
+    let rest = sum_beside facts added number h some in
+    rw (sum_by-cons (exposure_in (facts ++ added)) fact some, sum_by-cons (exposure_in_beside facts (Some number)) fact some) (omega arith)
 
--- a request that is shown adds nothing
-pub shown_fits : (facts : List DealerFact) (ask : Ask) (moment most : ℕ) → exposure_of facts ≤ most → exposure_of (facts ++ Shown ask moment ∷ []) ≤ most
-shown_fits facts ask moment most h = rw (sum_by-append exposure_in facts (Shown ask moment ∷ []), sum_by-cons exposure_in (Shown ask moment) []) (omega arith)
+-- the exposure with more facts: no more than it was, and what the new quotes add
+pub exposure_with : (facts added : List DealerFact) → exposure_of (facts ++ added) ≤ exposure_of facts + sum_by quantity_in added
+exposure_with facts added =
+    let old = sum_less facts added facts in
+    let new = sum_at_most (facts ++ added) added in
+    rw (sum_by-append (exposure_in (facts ++ added)) facts added) (omega arith)
+
+-- the same where they withdraw a quote: that one counts no more
+pub exposure_replacing : (facts added : List DealerFact) (number : ℕ) → list_any (is_withdrawal_of number) added ≡ true → exposure_of (facts ++ added) ≤ exposure_beside facts (Some number) + sum_by quantity_in added
+exposure_replacing facts added number h =
+    let old = sum_beside facts added number h facts in
+    let new = sum_at_most (facts ++ added) added in
+    rw (sum_by-append (exposure_in (facts ++ added)) facts added) (omega arith)

@@ -1,8 +1,4 @@
-pub mod TextLemmas
-pub mod NumberLemmas
-pub mod CountLemmas
-pub mod WritingLemmas
-pub mod DeskLemmas
-pub mod SessionLemmas
 pub mod RefusalLemmas
 pub mod ExposureLemmas
+pub mod VerdictLemmas
+pub mod DeskLemmas

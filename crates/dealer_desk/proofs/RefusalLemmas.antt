@@ -1,16 +1,50 @@
 -- The first refusal of two lists of checks, one behind the other.
 use Rattle.std.proofs.Common.{◌≡◌, Bool, true, false, List, [], ◌∷◌, ◌++◌, Option, Some, None, cond, refl}
 use Rattle.dealer_desk.specs.DealerRules.{first_refusal}
-use Rattle.dealer_desk.specs.declared.reject_reasons.QuoteRejectReason.{QuoteRejectReason}
+use Rattle.quote_messages.specs.declared.reject_reasons.QuoteRejectReason.{QuoteRejectReason}
 
-abbrev Checks : Type 0
+abbrev pub Checks : Type 0
 Checks = List (Bool × QuoteRejectReason)
 
+-- what some checks refuse for a reason, they refuse with more behind them
 one_refuses : (b : Bool) (at reason : QuoteRejectReason) (checks more : Checks) → (first_refusal checks ≡ Some reason → first_refusal (checks ++ more) ≡ Some reason) → cond b (Some at) (first_refusal checks) ≡ Some reason → cond b (Some at) (first_refusal (checks ++ more)) ≡ Some reason
 one_refuses true at reason checks more rest h = h
 one_refuses false at reason checks more rest h = rest h
 
--- what the first list refuses is refused for that reason
 pub refused_first : (checks more : Checks) (reason : QuoteRejectReason) → first_refusal checks ≡ Some reason → first_refusal (checks ++ more) ≡ Some reason
 refused_first [] more reason h = cc
 refused_first (check ∷ checks) more reason h = one_refuses check.0 check.1 reason checks more (refused_first checks more reason) h
+
+-- where some checks refuse nothing, those behind them decide
+one_passes : (b : Bool) (at : QuoteRejectReason) (checks more : Checks) → (first_refusal checks ≡ None → first_refusal (checks ++ more) ≡ first_refusal more) → cond b (Some at) (first_refusal checks) ≡ None → cond b (Some at) (first_refusal (checks ++ more)) ≡ first_refusal more
+one_passes true at checks more rest h = cc
+one_passes false at checks more rest h = rest h
+
+pub passed_first : (checks more : Checks) → first_refusal checks ≡ None → first_refusal (checks ++ more) ≡ first_refusal more
+passed_first [] more h = refl
+passed_first (check ∷ checks) more h = one_passes check.0 check.1 checks more (passed_first checks more) h
+
+-- two lists of checks refuse nothing together where neither does
+one_of_both : (b : Bool) (at : QuoteRejectReason) (checks more : Checks) → (first_refusal (checks ++ more) ≡ None → (first_refusal checks ≡ None) × (first_refusal more ≡ None)) → cond b (Some at) (first_refusal (checks ++ more)) ≡ None → (cond b (Some at) (first_refusal checks) ≡ None) × (first_refusal more ≡ None)
+one_of_both true at checks more rest h = cc
+one_of_both false at checks more rest h = rest h
+
+pub both_pass : (checks more : Checks) → first_refusal (checks ++ more) ≡ None → (first_refusal checks ≡ None) × (first_refusal more ≡ None)
+both_pass [] more h = (refl, h)
+both_pass (check ∷ checks) more h = one_of_both check.0 check.1 checks more (both_pass checks more) h
+
+-- no condition of the checks holds
+abbrev pub NoneHolds : Checks → Type 0
+NoneHolds [] = Unit {0}
+NoneHolds (check ∷ checks) = (check.0 ≡ false) × NoneHolds checks
+
+not_chosen : (b : Bool) (reason : QuoteRejectReason) (rest : Option QuoteRejectReason) → cond b (Some reason) rest ≡ None → (b ≡ false) × (rest ≡ None)
+not_chosen true reason rest h = cc
+not_chosen false reason rest h = (refl, h)
+
+-- checks that refuse nothing have no condition that holds
+pub none_holds : (checks : Checks) → first_refusal checks ≡ None → NoneHolds checks
+none_holds [] h = tt
+none_holds (check ∷ checks) h =
+    let parts = not_chosen check.0 check.1 (first_refusal checks) h in
+    (parts.0, none_holds checks parts.1)

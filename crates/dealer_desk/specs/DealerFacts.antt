@@ -1,100 +1,184 @@
--- What follows from the facts of a dealer's desk: numbers, requests, live quotes, exposure.
-use Rattle.std.specs.Prelude.{ℕ, ◌+◌, Bool, true, false, ◌==◌, not, List, [], ◌∷◌, length, count_by, Option, Some, None, find, if◌then◌else◌}
+-- What follows from the facts of a dealer's desk: its numbers, the requests that it was shown, its quotes and what
+-- became of them, and its exposure.
+use Rattle.std.specs.Prelude.{ℕ, ◌+◌, Bool, true, false, ◌&&◌, ◌==◌, not, List, [], ◌∷◌, count_by, Option, Some, None, find, if◌then◌else◌}
 use Rattle.std.specs.List.{filter_map, list_any, sum_by}
-use Rattle.dealer_desk.specs.Texts.{same_text}
-use Rattle.dealer_desk.specs.Written.{request_name}
-use Rattle.dealer_desk.specs.declared.asks.Ask.{Ask}
-use Rattle.dealer_desk.specs.declared.out_messages.Request.{Request}
+use Rattle.std.specs.Option.{option_map}
+use Rattle.venue_config.specs.Texts.{same_text}
+use Rattle.quote_messages.specs.Written.{request_name}
+use Rattle.quote_messages.specs.declared.asks.Ask.{Ask}
+use Rattle.dealer_desk.specs.declared.shown.ShownRequest.{ShownRequest}
+use Rattle.quote_messages.specs.declared.rooms.RoomRef.{RoomRef}
+use Rattle.dealer_desk.specs.declared.facts.AcceptedQuote.{AcceptedQuote}
 use Rattle.dealer_desk.specs.declared.facts.DealerFact.{DealerFact}
-use Rattle.dealer_desk.specs.declared.facts.DealerFact.TheVariants.{Came, Shown, Quoted}
+use Rattle.dealer_desk.specs.declared.facts.DealerFact.TheVariants.{Came, Shown, Quoted, Withdrawn, Late, Declined, Told}
+
+-- Numbers.
 
 -- whether a message used up the number that was expected
 abbrev pub used_number : DealerFact → Bool
 used_number (Came in_sequence) = in_sequence
-used_number (Shown ask moment) = false
-used_number (Quoted quote) = false
+used_number fact = false
 
 -- the MsgSeqNum (34) that the desk expects next
 abbrev pub expected_number : List DealerFact → ℕ
 expected_number facts = 1 + count_by used_number facts
 
--- what a fact says was asked for
-abbrev pub shown_ask : DealerFact → Option Ask
-shown_ask (Came in_sequence) = None
-shown_ask (Shown ask moment) = Some ask
-shown_ask (Quoted quote) = None
+-- Requests.
+
+-- a request that a fact says was shown: its room, and what is asked for
+abbrev pub shown_request : DealerFact → Option (RoomRef × Ask)
+shown_request (Shown room ask moment) = Some (room, ask)
+shown_request fact = None
 
 -- whether a fact is a request that was shown
 abbrev pub is_request : DealerFact → Bool
-is_request (Came in_sequence) = false
-is_request (Shown ask moment) = true
-is_request (Quoted quote) = false
+is_request (Shown room ask moment) = true
+is_request fact = false
 
 -- how many requests were shown
 abbrev pub requests_shown : List DealerFact → ℕ
 requests_shown facts = count_by is_request facts
 
--- what the requests that were shown ask for, the first one first
-abbrev pub asks_shown : List DealerFact → List Ask
-asks_shown facts = filter_map shown_ask facts
-
--- asks as requests, numbered onward from a number
-abbrev pub numbered_after : ℕ → List Ask → List Request
+-- requests numbered onward from a number
+abbrev pub numbered_after : ℕ → List (RoomRef × Ask) → List ShownRequest
 numbered_after number [] = []
-numbered_after number (ask ∷ asks) = record { number = number + 1; ask = ask } ∷ numbered_after (number + 1) asks
+numbered_after number (shown ∷ more) =
+    record { room = shown.0; request = record { number = number + 1; ask = shown.1 } } ∷ numbered_after (number + 1) more
 
 -- the requests that were shown, numbered from 1
-abbrev pub requests_of : List DealerFact → List Request
-requests_of facts = numbered_after 0 (asks_shown facts)
+abbrev pub requests_of : List DealerFact → List ShownRequest
+requests_of facts = numbered_after 0 (filter_map shown_request facts)
 
 -- the request that a QuoteReqID (131) names
-unfoldable pub request_named : List DealerFact → List ℕ → Option Request
-request_named facts name = find (λ request. same_text (request_name request.number) name) (requests_of facts)
+unfoldable pub request_named : List DealerFact → List ℕ → Option ShownRequest
+request_named facts name = find (λ shown. same_text (request_name shown.request.number) name) (requests_of facts)
+
+-- the request with this number
+unfoldable pub request_numbered : List DealerFact → ℕ → Option ShownRequest
+request_numbered facts number = find (λ shown. shown.request.number == number) (requests_of facts)
+
+abbrev pub is_same_room : RoomRef → RoomRef → Bool
+is_same_room one other = (one.investor == other.investor) && (one.n == other.n)
+
+-- the request that was shown in a room
+unfoldable pub request_in : List DealerFact → RoomRef → Option ShownRequest
+request_in facts room = find (λ shown. is_same_room shown.room room) (requests_of facts)
+
+-- whether a fact is a decline of this request
+abbrev pub is_decline_of : ℕ → DealerFact → Bool
+is_decline_of number (Declined request) = request == number
+is_decline_of number fact = false
+
+-- whether the dealer declined a request
+abbrev pub is_declined : List DealerFact → ℕ → Bool
+is_declined facts request = list_any (is_decline_of request) facts
+
+-- whether a fact is the closing notice of this request
+abbrev pub is_notice_of : ℕ → DealerFact → Bool
+is_notice_of number (Told request close moment) = request == number
+is_notice_of number fact = false
+
+-- whether the closing notice of a request was sent
+abbrev pub is_told : List DealerFact → ℕ → Bool
+is_told facts request = list_any (is_notice_of request) facts
+
+-- whether a fact is a closing notice
+abbrev pub is_notice : DealerFact → Bool
+is_notice (Told request close moment) = true
+is_notice fact = false
+
+-- how many closing notices were sent
+abbrev pub notices_told : List DealerFact → ℕ
+notices_told facts = count_by is_notice facts
+
+-- Quotes.
 
 -- whether a fact is an accepted quote
 abbrev pub is_quote : DealerFact → Bool
-is_quote (Came in_sequence) = false
-is_quote (Shown ask moment) = false
 is_quote (Quoted quote) = true
+is_quote fact = false
 
 -- how many quotes were accepted in the day
 abbrev pub quotes_accepted : List DealerFact → ℕ
 quotes_accepted facts = count_by is_quote facts
 
--- whether a fact is an accepted quote with this QuoteID (117)
-abbrev pub is_quote_with_id : List ℕ → DealerFact → Bool
-is_quote_with_id id (Came in_sequence) = false
-is_quote_with_id id (Shown ask moment) = false
-is_quote_with_id id (Quoted quote) = same_text quote.id id
+-- the quote that a fact says was accepted
+abbrev pub accepted_quote : DealerFact → Option AcceptedQuote
+accepted_quote (Quoted quote) = Some quote
+accepted_quote fact = None
 
-abbrev pub is_used_id : List DealerFact → List ℕ → Bool
-is_used_id facts id = list_any (is_quote_with_id id) facts
+-- the quotes that were accepted, the first one first
+abbrev pub quotes_of : List DealerFact → List AcceptedQuote
+quotes_of facts = filter_map accepted_quote facts
 
--- Each accepted quote stands for the rest of the day, since none can be withdrawn yet.
+-- the accepted quote with this QuoteID (117)
+unfoldable pub quote_with_id : List DealerFact → List ℕ → Option AcceptedQuote
+quote_with_id facts id = find (λ quote. same_text quote.id id) (quotes_of facts)
 
--- whether a fact is a quote that stands on this request
-abbrev pub is_live_on : ℕ → DealerFact → Bool
-is_live_on request (Came in_sequence) = false
-is_live_on request (Shown ask moment) = false
-is_live_on request (Quoted quote) = quote.request == request
+-- whether a fact is the withdrawal of this quote
+abbrev pub is_withdrawal_of : ℕ → DealerFact → Bool
+is_withdrawal_of number (Withdrawn quote) = quote == number
+is_withdrawal_of number fact = false
 
-abbrev pub has_live_quote : List DealerFact → ℕ → Bool
-has_live_quote facts request = list_any (is_live_on request) facts
+-- whether a quote was withdrawn, by a cancel or by its replacement
+abbrev pub is_withdrawn : List DealerFact → ℕ → Bool
+is_withdrawn facts quote = list_any (is_withdrawal_of quote) facts
 
--- what a fact adds to the exposure: the quantity of a quote that stands
-abbrev pub exposure_in : DealerFact → ℕ
-exposure_in (Came in_sequence) = 0
-exposure_in (Shown ask moment) = 0
-exposure_in (Quoted quote) = quote.quantity
+-- whether a fact says that a message asked the word of this quote and found it lifted
+abbrev pub is_late_for : ℕ → DealerFact → Bool
+is_late_for number (Late quote) = quote == number
+is_late_for number fact = false
 
--- the exposure: the sum of the quantities of the quotes that stand
+-- whether a quote is known to be lifted
+abbrev pub is_known_lifted : List DealerFact → ℕ → Bool
+is_known_lifted facts quote = list_any (is_late_for quote) facts
+
+-- whether a fact is a quote on this request that is known to be lifted
+abbrev pub is_lifted_on : List DealerFact → ℕ → DealerFact → Bool
+is_lifted_on facts request (Quoted quote) = (quote.request == request) && is_known_lifted facts quote.number
+is_lifted_on facts request fact = false
+
+-- whether a quote on this request is known to be lifted
+abbrev pub has_lifted_quote : List DealerFact → ℕ → Bool
+has_lifted_quote facts request = list_any (is_lifted_on facts request) facts
+
+-- a quote is live until it is withdrawn or its request's closing notice was sent
+abbrev pub is_live : List DealerFact → AcceptedQuote → Bool
+is_live facts quote = not (is_withdrawn facts quote.number) && not (is_told facts quote.request)
+
+-- the dealer's live quote on a request
+unfoldable pub live_quote_on : List DealerFact → ℕ → Option AcceptedQuote
+live_quote_on facts request = find (λ quote. (quote.request == request) && is_live facts quote) (quotes_of facts)
+
+-- the own number of the dealer's live quote on a request
+abbrev pub live_number_on : List DealerFact → ℕ → Option ℕ
+live_number_on facts request = option_map (λ quote. quote.number) (live_quote_on facts request)
+
+-- Exposure.
+
+-- the quantity of a quote while it is live
+abbrev pub live_quantity : List DealerFact → AcceptedQuote → ℕ
+live_quantity facts quote = if is_live facts quote then quote.quantity else 0
+
+-- what a fact adds to the exposure
+abbrev pub exposure_in : List DealerFact → DealerFact → ℕ
+exposure_in facts (Quoted quote) = live_quantity facts quote
+exposure_in facts fact = 0
+
+-- the exposure: the sum of the quantities of the live quotes
 abbrev pub exposure_of : List DealerFact → ℕ
-exposure_of facts = sum_by exposure_in facts
+exposure_of facts = sum_by (exposure_in facts) facts
 
--- what a fact adds to the exposure beside one request
-abbrev pub exposure_in_beside : ℕ → DealerFact → ℕ
-exposure_in_beside request fact = if is_live_on request fact then 0 else exposure_in fact
+-- whether a fact is a quote with this own number
+abbrev pub is_quote_number : Option ℕ → DealerFact → Bool
+is_quote_number (Some number) (Quoted quote) = quote.number == number
+is_quote_number (Some number) fact = false
+is_quote_number None fact = false
 
--- the exposure beside one request: without the quote that stands on it
-abbrev pub exposure_beside : List DealerFact → ℕ → ℕ
-exposure_beside facts request = sum_by (exposure_in_beside request) facts
+-- what a fact adds to the exposure beside a quote that is to be replaced
+abbrev pub exposure_in_beside : List DealerFact → Option ℕ → DealerFact → ℕ
+exposure_in_beside facts replaced fact = if is_quote_number replaced fact then 0 else exposure_in facts fact
+
+-- the exposure beside a quote that is to be replaced: the sum of the quantities of the other live quotes
+abbrev pub exposure_beside : List DealerFact → Option ℕ → ℕ
+exposure_beside facts replaced = sum_by (exposure_in_beside facts replaced) facts

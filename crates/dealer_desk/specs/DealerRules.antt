@@ -1,28 +1,32 @@
 -- The rules of the market for a dealer: what becomes of a message that came to its desk.
-use Rattle.std.specs.Prelude.{ℕ, ◌+◌, Bool, true, false, ◌==◌, ◌&&◌, ◌||◌, not, nat_lt, nat_le, List, [], ◌∷◌, ◌++◌, length, Option, Some, None, unwrap_or, is_none, is_some, Result, Ok, Err, if◌then◌else◌, option_and_then}
+use Rattle.std.specs.Prelude.{ℕ, ◌+◌, Bool, false, ◌==◌, ◌||◌, not, nat_lt, nat_le, List, [], ◌∷◌, ◌++◌, Option, Some, None, unwrap_or, is_none, is_some, Result, Ok, Err, if◌then◌else◌, option_and_then}
 use Rattle.std.specs.Str.Parse.{digits_value}
 use Rattle.bond_prices.specs.declared.fault.PriceFault.{PriceFault}
 use Rattle.fix_fields.specs.Frame.{Field, frame_of, times_of, value_of}
-use Rattle.dealer_desk.specs.Texts.{same_text, text_if, is_msg_type, is_sequence_number}
-use Rattle.dealer_desk.specs.SessionChecks.{session_verdict, text_at}
-use Rattle.dealer_desk.specs.DealerFacts.{expected_number, request_named, quotes_accepted, is_used_id, has_live_quote, exposure_beside}
-use Rattle.dealer_desk.specs.declared.sides.Side.{Side}
-use Rattle.dealer_desk.specs.declared.sides.Side.TheVariants.{Buy, Sell}
-use Rattle.dealer_desk.specs.declared.asks.Ask.{Ask}
-use Rattle.dealer_desk.specs.declared.out_messages.Request.{Request}
-use Rattle.dealer_desk.specs.declared.out_messages.Reject.{Reject}
-use Rattle.dealer_desk.specs.declared.dealer_rows.DealerRow.{DealerRow}
+use Rattle.venue_config.specs.Texts.{same_text, text_if}
+use Rattle.quote_messages.specs.Texts.{is_msg_type, is_sequence_number}
+use Rattle.quote_messages.specs.SessionChecks.{session_verdict, text_at}
+use Rattle.dealer_desk.specs.DealerFacts.{expected_number, request_named, quotes_accepted, quote_with_id, live_number_on, exposure_beside, is_declined, is_told, is_withdrawn, is_known_lifted, has_lifted_quote}
+use Rattle.quote_messages.specs.declared.sides.Side.{Side}
+use Rattle.quote_messages.specs.declared.sides.Side.TheVariants.{Buy, Sell}
+use Rattle.quote_messages.specs.declared.asks.Ask.{Ask}
+use Rattle.quote_messages.specs.declared.out_messages.Request.{Request}
+use Rattle.quote_messages.specs.declared.out_messages.Reject.{Reject}
+use Rattle.venue_config.specs.declared.dealer_rows.DealerRow.{DealerRow}
+use Rattle.dealer_desk.specs.declared.shown.ShownRequest.{ShownRequest}
 use Rattle.dealer_desk.specs.declared.facts.AcceptedQuote.{AcceptedQuote}
 use Rattle.dealer_desk.specs.declared.facts.DealerFact.{DealerFact}
-use Rattle.dealer_desk.specs.declared.session_faults.SessionFault.{SessionFault}
-use Rattle.dealer_desk.specs.declared.session_faults.SessionRejectReason.TheVariants.{ValueIncorrect}
-use Rattle.dealer_desk.specs.declared.quotes.Quote.{Quote}
-use Rattle.dealer_desk.specs.declared.quotes.DealerMessage.{DealerMessage}
-use Rattle.dealer_desk.specs.declared.quotes.DealerMessage.TheVariants.{Quote as AQuote}
-use Rattle.dealer_desk.specs.declared.reject_reasons.QuoteRejectReason.{QuoteRejectReason}
-use Rattle.dealer_desk.specs.declared.reject_reasons.QuoteRejectReason.TheVariants.{UnknownSymbol, ExceedsLimit, TooLate, DuplicateQuote, InvalidPrice, Other}
+use Rattle.quote_messages.specs.declared.session_faults.SessionFault.{SessionFault}
+use Rattle.quote_messages.specs.declared.session_faults.SessionRejectReason.TheVariants.{ValueIncorrect}
+use Rattle.quote_messages.specs.declared.quotes.Quote.{Quote}
+use Rattle.quote_messages.specs.declared.quotes.QuoteCancel.{QuoteCancel}
+use Rattle.quote_messages.specs.declared.quotes.Decline.{Decline}
+use Rattle.quote_messages.specs.declared.quotes.DealerMessage.{DealerMessage}
+use Rattle.quote_messages.specs.declared.quotes.DealerMessage.TheVariants.{Quote as AQuote, Cancel as ACancel, Decline as ADecline}
+use Rattle.quote_messages.specs.declared.reject_reasons.QuoteRejectReason.{QuoteRejectReason}
+use Rattle.quote_messages.specs.declared.reject_reasons.QuoteRejectReason.TheVariants.{UnknownSymbol, ExceedsLimit, TooLate, DuplicateQuote, InvalidPrice, Other}
 use Rattle.dealer_desk.specs.declared.verdicts.DealerVerdict.{DealerVerdict}
-use Rattle.dealer_desk.specs.declared.verdicts.DealerVerdict.TheVariants.{Dropped, OutOfSequence, Rejected, QuoteRefused, QuoteAccepted}
+use Rattle.dealer_desk.specs.declared.verdicts.DealerVerdict.TheVariants.{Dropped, OutOfSequence, Rejected, QuoteRefused, QuoteAccepted, QuoteReplaces, CancelRefused, CancelUnknown, CancelAsks, DeclineRefused, DeclineAccepted}
 
 -- Prices: a buyer asks for an offer, a seller for a bid.
 
@@ -58,9 +62,16 @@ abbrev pub is_not_after : ℕ → Option ℕ → Bool
 is_not_after moment None = false
 is_not_after moment (Some until) = nat_le until moment
 
--- The checks of a quote on a request that was shown, in their order: a condition, and the reason that it gives.
+-- The checks of the market, in their order: a condition, and the reason that it gives.
 
--- what the quote says, beside the request
+-- a quote on a request: whether the request takes quotes of this dealer at all
+abbrev pub standing_checks : List DealerFact → ℕ → List (Bool × QuoteRejectReason)
+standing_checks facts request =
+    (is_declined facts request, Other)
+    ∷ (is_told facts request || has_lifted_quote facts request, TooLate)
+    ∷ []
+
+-- what the quote says, beside what is asked for
 abbrev pub terms_checks : ℕ → Quote → Ask → List (Bool × QuoteRejectReason)
 terms_checks moment quote ask =
     (is_past ask.deadline moment, TooLate)
@@ -74,28 +85,48 @@ terms_checks moment quote ask =
 -- what the dealer's day leaves room for
 abbrev pub day_checks : DealerRow → List DealerFact → ℕ → Quote → Request → List (Bool × QuoteRejectReason)
 day_checks row facts moment quote request =
-    (is_used_id facts quote.id, DuplicateQuote)
+    (is_some (quote_with_id facts quote.id), DuplicateQuote)
     ∷ (is_not_after moment quote.valid_until, Other)
     ∷ (nat_le row.quotes (quotes_accepted facts), ExceedsLimit)
-    ∷ (nat_lt row.exposure (request.ask.quantity + exposure_beside facts request.number), ExceedsLimit)
-    ∷ (has_live_quote facts request.number, TooLate)
+    ∷ (nat_lt row.exposure (request.ask.quantity + exposure_beside facts (live_number_on facts request.number)), ExceedsLimit)
     ∷ []
 
 abbrev pub quote_checks : DealerRow → List DealerFact → ℕ → Quote → Request → List (Bool × QuoteRejectReason)
-quote_checks row facts moment quote request = terms_checks moment quote request.ask ++ day_checks row facts moment quote request
+quote_checks row facts moment quote request =
+    standing_checks facts request.number
+    ++ terms_checks moment quote request.ask
+    ++ day_checks row facts moment quote request
+
+-- a cancel of a quote that was accepted
+abbrev pub cancel_checks : List DealerFact → AcceptedQuote → List (Bool × QuoteRejectReason)
+cancel_checks facts quote =
+    (is_withdrawn facts quote.number, Other)
+    ∷ (is_told facts quote.request || is_known_lifted facts quote.number, TooLate)
+    ∷ []
+
+-- a decline of a request that was shown
+abbrev pub decline_checks : List DealerFact → ℕ → List (Bool × QuoteRejectReason)
+decline_checks facts request =
+    (is_declined facts request, Other)
+    ∷ (is_told facts request, TooLate)
+    ∷ (is_some (live_number_on facts request), Other)
+    ∷ []
 
 -- the reason of the first check whose condition holds
 abbrev pub first_refusal : List (Bool × QuoteRejectReason) → Option QuoteRejectReason
 first_refusal [] = None
 first_refusal (check ∷ checks) = if check.0 then Some check.1 else first_refusal checks
 
+-- Quotes.
+
 -- why a quote on a request that was shown is refused, if it is
 unfoldable pub quote_refusal : DealerRow → List DealerFact → ℕ → Quote → Request → Option QuoteRejectReason
 quote_refusal row facts moment quote request = first_refusal (quote_checks row facts moment quote request)
 
 -- what is kept of an accepted quote
-abbrev pub quote_kept : ℕ → Quote → Request → AcceptedQuote
-quote_kept moment quote request = record {
+abbrev pub quote_kept : List DealerFact → ℕ → Quote → Request → AcceptedQuote
+quote_kept facts moment quote request = record {
+  number = quotes_accepted facts + 1;
   id = quote.id;
   request = request.number;
   quantity = request.ask.quantity;
@@ -104,18 +135,58 @@ quote_kept moment quote request = record {
   moment = moment;
 }
 
+-- a quote that no check refuses is accepted, and replaces the dealer's live quote on the request where there is one
+abbrev pub replacing : Quote → AcceptedQuote → Option ℕ → DealerVerdict
+replacing quote kept None = QuoteAccepted quote.request quote.id kept
+replacing quote kept (Some replaced) = QuoteReplaces quote.request quote.id kept replaced
+
 -- a refusal, or else the quote is accepted
-abbrev pub quote_answer : ℕ → Quote → Request → Option QuoteRejectReason → DealerVerdict
-quote_answer moment quote request (Some reason) = QuoteRefused quote.request quote.id reason
-quote_answer moment quote request None = QuoteAccepted quote.request quote.id (quote_kept moment quote request)
+abbrev pub quote_answer : List DealerFact → ℕ → Quote → Request → Option QuoteRejectReason → DealerVerdict
+quote_answer facts moment quote request (Some reason) = QuoteRefused quote.request quote.id reason
+quote_answer facts moment quote request None = replacing quote (quote_kept facts moment quote request) (live_number_on facts request.number)
 
 -- a quote on no request that was shown is refused before all else
-abbrev pub quote_on : DealerRow → List DealerFact → ℕ → Quote → Option Request → DealerVerdict
+abbrev pub quote_on : DealerRow → List DealerFact → ℕ → Quote → Option ShownRequest → DealerVerdict
 quote_on row facts moment quote None = QuoteRefused quote.request quote.id Other
-quote_on row facts moment quote (Some request) = quote_answer moment quote request (quote_refusal row facts moment quote request)
+quote_on row facts moment quote (Some shown) = quote_answer facts moment quote shown.request (quote_refusal row facts moment quote shown.request)
 
 unfoldable pub quote_verdict : DealerRow → List DealerFact → ℕ → Quote → DealerVerdict
 quote_verdict row facts moment quote = quote_on row facts moment quote (request_named facts quote.request)
+
+-- Cancels.
+
+-- a refusal, or else the word of the quote is asked
+abbrev pub cancel_answer : List ℕ → AcceptedQuote → Option QuoteRejectReason → DealerVerdict
+cancel_answer id quote (Some reason) = CancelRefused (Some id) reason
+cancel_answer id quote None = CancelAsks id quote.number quote.request
+
+-- a cancel of a QuoteID that no accepted quote has is told so
+abbrev pub cancel_of : List DealerFact → List ℕ → Option AcceptedQuote → DealerVerdict
+cancel_of facts id None = CancelUnknown id
+cancel_of facts id (Some quote) = cancel_answer id quote (first_refusal (cancel_checks facts quote))
+
+abbrev pub cancel_named : List DealerFact → Option (List ℕ) → DealerVerdict
+cancel_named facts None = CancelRefused None Other
+cancel_named facts (Some id) = cancel_of facts id (quote_with_id facts id)
+
+-- QuoteCancelType (298) 5 cancels the quote that QuoteID (117) names; every other type is refused
+unfoldable pub cancel_verdict : List DealerFact → QuoteCancel → DealerVerdict
+cancel_verdict facts cancel = if cancel.cancel_type == 5 then cancel_named facts cancel.id else CancelRefused cancel.id Other
+
+-- Declines.
+
+-- a refusal, or else the decline is accepted
+abbrev pub decline_answer : List ℕ → ℕ → Option QuoteRejectReason → DealerVerdict
+decline_answer name number (Some reason) = DeclineRefused name reason
+decline_answer name number None = DeclineAccepted name number
+
+-- a decline of no request that was shown is refused before all else
+abbrev pub decline_of : List DealerFact → List ℕ → Option ShownRequest → DealerVerdict
+decline_of facts name None = DeclineRefused name Other
+decline_of facts name (Some shown) = decline_answer name shown.request.number (first_refusal (decline_checks facts shown.request.number))
+
+unfoldable pub decline_verdict : List DealerFact → Decline → DealerVerdict
+decline_verdict facts decline = decline_of facts decline.request (request_named facts decline.request)
 
 -- The session.
 
@@ -139,6 +210,8 @@ out_of_sequence = record { tag = 34; reason = ValueIncorrect }
 abbrev pub message_verdict : DealerRow → List DealerFact → ℕ → List Field → List ℕ → Result DealerMessage SessionFault → DealerVerdict
 message_verdict row facts moment fields number (Err fault) = Rejected (reject_of fields number fault)
 message_verdict row facts moment fields number (Ok (AQuote quote)) = quote_verdict row facts moment quote
+message_verdict row facts moment fields number (Ok (ACancel cancel)) = cancel_verdict facts cancel
+message_verdict row facts moment fields number (Ok (ADecline decline)) = decline_verdict facts decline
 
 -- a frame with this MsgSeqNum
 abbrev pub sequence_verdict : List ℕ → DealerRow → List DealerFact → ℕ → List Field → Option (List ℕ) → DealerVerdict

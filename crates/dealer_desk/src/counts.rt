@@ -1,12 +1,13 @@
 //! Counts and searches over the facts of a desk. Each goes over the facts anew.
-ghost use Rattle.std.specs.Prelude.{◌≡◌, ◌==◌, ◌+◌, ◌<◌, ◌^◌, option_map};
-ghost use Rattle.dealer_desk.specs.Texts.{same_text};
-ghost use Rattle.dealer_desk.specs.Written.{request_name};
-ghost use Rattle.dealer_desk.specs.DealerFacts.{expected_number, request_named, quotes_accepted, is_used_id, has_live_quote, exposure_of, exposure_beside, requests_shown, is_request, used_number, shown_ask, is_quote, is_quote_with_id, is_live_on, exposure_in, exposure_in_beside};
+ghost use Rattle.std.specs.Prelude.{◌≡◌, ◌==◌, ◌+◌, ◌<◌, ◌≤◌, ◌^◌, ◌&&◌, option_map};
+ghost use Rattle.venue_config.specs.Texts.{same_text};
+ghost use Rattle.quote_messages.specs.Written.{request_name};
+ghost use Rattle.dealer_desk.specs.DealerFacts.{expected_number, used_number, requests_shown, is_request, shown_request, request_named, request_numbered, request_in, is_same_room, is_declined, is_decline_of, is_told, is_notice_of, notices_told, is_notice};
 
 use crate::characters::same_text;
-use crate::{Ask, DealerFact, Request};
+use crate::{DealerFact, ShownRequest};
 use itoa::Buffer;
+use quote_messages::{Ask, Request, RoomRef};
 
 /// The MsgSeqNum (34) that is expected next: one more than the messages that used one up.
 pub(crate) fn expected_number(facts: &[DealerFact]) -> u64
@@ -22,8 +23,7 @@ fn used_number(fact: &DealerFact) -> bool
 {
     match fact {
         DealerFact::Came { in_sequence } => *in_sequence,
-        DealerFact::Shown { .. } => false,
-        DealerFact::Quoted(_) => false,
+        _ => false,
     }
 }
 
@@ -39,40 +39,82 @@ fn is_request(fact: &DealerFact) -> bool
     ensures { result ≡ is_request fact.now }
 {
     match fact {
-        DealerFact::Came { .. } => false,
         DealerFact::Shown { .. } => true,
-        DealerFact::Quoted(_) => false,
+        _ => false,
     }
+}
+
+/// The room of a request that a fact says was shown, and what is asked for.
+fn shown_request(fact: &DealerFact) -> Option<(RoomRef, &Ask)>
+    ensures { option_map (λ shown. (shown.0, shown.1.now)) result ≡ shown_request fact.now }
+{
+    match fact {
+        DealerFact::Shown { room, ask, .. } => Some((*room, ask)),
+        _ => None,
+    }
+}
+
+/// A request with its number.
+fn numbered(room: RoomRef, number: u64, ask: &Ask) -> ShownRequest
+    ensures { result ≡ record { room = room; request = record { number = number; ask = ask.now } } }
+{
+    let ask = ask.copy();
+    let request = Request { number, ask };
+    ShownRequest { room, request }
 }
 
 /// The request that a QuoteReqID (131) names.
 #[tactic(auto, unfolding(crate::specs::DealerFacts::request_named))]
-pub(crate) fn request_named(facts: &[DealerFact], name: &[u8]) -> Option<Request>
+pub(crate) fn request_named(facts: &[DealerFact], name: &[u8]) -> Option<ShownRequest>
     ensures { result ≡ request_named facts.now name.now }
 {
     let mut number = 0;
     for fact in facts {
-        let Some(ask) = shown_ask(fact) else {
+        let Some((room, ask)) = shown_request(fact) else {
             continue;
         };
         number += 1;
         if is_request_name(name, number) {
-            let ask = ask.copy();
-            return Some(Request { number, ask });
+            return Some(numbered(room, number, ask));
         }
     }
     None
 }
 
-/// What a fact says was asked for.
-fn shown_ask(fact: &DealerFact) -> Option<&Ask>
-    ensures { option_map (λ ask. ask.now) result ≡ shown_ask fact.now }
+/// The request with this number.
+#[tactic(auto, unfolding(crate::specs::DealerFacts::request_numbered))]
+pub(crate) fn request_numbered(facts: &[DealerFact], wanted: u64) -> Option<ShownRequest>
+    ensures { result ≡ request_numbered facts.now wanted }
 {
-    match fact {
-        DealerFact::Came { .. } => None,
-        DealerFact::Shown { ask, .. } => Some(ask),
-        DealerFact::Quoted(_) => None,
+    let mut number = 0;
+    for fact in facts {
+        let Some((room, ask)) = shown_request(fact) else {
+            continue;
+        };
+        number += 1;
+        if number == wanted {
+            return Some(numbered(room, number, ask));
+        }
     }
+    None
+}
+
+/// The request that was shown in a room.
+#[tactic(auto, unfolding(crate::specs::DealerFacts::request_in))]
+pub(crate) fn request_in(facts: &[DealerFact], wanted: RoomRef) -> Option<ShownRequest>
+    ensures { result ≡ request_in facts.now wanted }
+{
+    let mut number = 0;
+    for fact in facts {
+        let Some((room, ask)) = shown_request(fact) else {
+            continue;
+        };
+        number += 1;
+        if is_same_room(room, wanted) {
+            return Some(numbered(room, number, ask));
+        }
+    }
+    None
 }
 
 /// Whether a QuoteReqID (131) is `R` and this number.
@@ -90,96 +132,63 @@ fn is_request_name(name: &[u8], number: u64) -> bool
     same_text(digits, rest)
 }
 
-/// How many quotes were accepted.
-pub(crate) fn quotes_accepted(facts: &[DealerFact]) -> usize
-    ensures { result ≡ quotes_accepted facts.now }
+/// Whether two rooms are the same.
+fn is_same_room(one: RoomRef, other: RoomRef) -> bool
+    ensures { result ≡ is_same_room one other }
 {
-    facts.iter().filter(|fact| is_quote(fact)).count()
+    if one.investor != other.investor {
+        return false;
+    }
+    one.n == other.n
 }
 
-/// Whether a fact is an accepted quote.
-fn is_quote(fact: &DealerFact) -> bool
-    ensures { result ≡ is_quote fact.now }
+/// Whether the dealer declined a request.
+pub(crate) fn is_declined(facts: &[DealerFact], request: u64) -> bool
+    ensures { result ≡ is_declined facts.now request }
+{
+    facts.iter().any(|fact| is_decline_of(fact, request))
+}
+
+/// Whether a fact is a decline of this request.
+fn is_decline_of(fact: &DealerFact, number: u64) -> bool
+    ensures { result ≡ is_decline_of number fact.now }
 {
     match fact {
-        DealerFact::Came { .. } => false,
-        DealerFact::Shown { .. } => false,
-        DealerFact::Quoted(_) => true,
+        DealerFact::Declined { request } => *request == number,
+        _ => false,
     }
 }
 
-/// Whether an accepted quote has this QuoteID (117).
-pub(crate) fn is_used_id(facts: &[DealerFact], id: &[u8]) -> bool
-    ensures { result ≡ is_used_id facts.now id.now }
+/// Whether the closing notice of a request was sent.
+pub(crate) fn is_told(facts: &[DealerFact], request: u64) -> bool
+    ensures { result ≡ is_told facts.now request }
 {
-    facts.iter().any(|fact| is_quote_with_id(fact, id))
+    facts.iter().any(|fact| is_notice_of(fact, request))
 }
 
-/// Whether a fact is an accepted quote with this QuoteID (117).
-fn is_quote_with_id(fact: &DealerFact, id: &[u8]) -> bool
-    ensures { result ≡ is_quote_with_id id.now fact.now }
+/// Whether a fact is the closing notice of this request.
+fn is_notice_of(fact: &DealerFact, number: u64) -> bool
+    ensures { result ≡ is_notice_of number fact.now }
 {
     match fact {
-        DealerFact::Came { .. } => false,
-        DealerFact::Shown { .. } => false,
-        DealerFact::Quoted(quote) => same_text(quote.id.as_bytes(), id),
+        DealerFact::Told { request, .. } => *request == number,
+        _ => false,
     }
 }
 
-/// Whether a quote on this request stands.
-pub(crate) fn has_live_quote(facts: &[DealerFact], request: u64) -> bool
-    ensures { result ≡ has_live_quote facts.now request }
+/// How many closing notices were sent.
+pub(crate) fn notices_told(facts: &[DealerFact]) -> u64
+    ensures { result ≡ notices_told facts.now }
 {
-    facts.iter().any(|fact| is_live_on(fact, request))
+    facts.iter().filter(|fact| is_notice(fact)).count() as u64
 }
 
-/// Whether a fact is a quote that stands on this request.
-fn is_live_on(fact: &DealerFact, request: u64) -> bool
-    ensures { result ≡ is_live_on request fact.now }
+/// Whether a fact is a closing notice.
+fn is_notice(fact: &DealerFact) -> bool
+    ensures { result ≡ is_notice fact.now }
 {
     match fact {
-        DealerFact::Came { .. } => false,
-        DealerFact::Shown { .. } => false,
-        DealerFact::Quoted(quote) => quote.request == request,
+        DealerFact::Told { .. } => true,
+        _ => false,
     }
-}
-
-/// The sum of the quantities of the quotes that stand.
-pub(crate) fn exposure_of(facts: &[DealerFact]) -> u64
-    requires { exposure_of facts.now < 2 ^ 64 }
-    ensures { result ≡ exposure_of facts.now }
-{
-    facts.iter().map(|fact| exposure_in(fact)).sum()
-}
-
-/// What a fact adds to the exposure.
-fn exposure_in(fact: &DealerFact) -> u64
-    ensures { result ≡ exposure_in fact.now }
-{
-    match fact {
-        DealerFact::Came { .. } => 0,
-        DealerFact::Shown { .. } => 0,
-        DealerFact::Quoted(quote) => quote.quantity.get(),
-    }
-}
-
-/// The exposure without the quote that stands on this request.
-pub(crate) fn exposure_beside(facts: &[DealerFact], request: u64) -> u64
-    requires { exposure_beside facts.now request < 2 ^ 64 }
-    ensures { result ≡ exposure_beside facts.now request }
-{
-    facts
-        .iter()
-        .map(|fact| exposure_in_beside(fact, request))
-        .sum()
-}
-
-/// What a fact adds to the exposure beside this request.
-fn exposure_in_beside(fact: &DealerFact, request: u64) -> u64
-    ensures { result ≡ exposure_in_beside request fact.now }
-{
-    if is_live_on(fact, request) {
-        return 0;
-    }
-    exposure_in(fact)
 }

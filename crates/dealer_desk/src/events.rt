@@ -1,7 +1,8 @@
 //! The events at a dealer's desk.
 
-use crate::{Ask, Message};
 use fix_fields::Moment;
+use quote_messages::{Ask, Close, Message, RoomRef};
+use quote_word::Settled;
 
 /// What comes to a desk, in the order in which it came.
 #[derive(Drop)]
@@ -12,12 +13,25 @@ pub enum DealerEvent {
         moment: Moment,
         /// Its bytes, whatever they are.
         message: Message,
+        /// What the word that it asked is from then on, where it asked one.
+        answer: Option<Settled>,
     },
     /// A request is shown to the dealer.
     Shown {
+        /// The room of the request.
+        room: RoomRef,
         /// What is asked for.
         ask: Ask,
         /// The moment at which it is shown.
+        moment: Moment,
+    },
+    /// The dealer is told how a request ended.
+    Told {
+        /// Which of the requests shown to the dealer it is, from 1.
+        request: u64,
+        /// How it ended.
+        close: Close,
+        /// The moment of the notice.
         moment: Moment,
     },
 }

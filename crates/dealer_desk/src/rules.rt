@@ -1,19 +1,22 @@
 //! The rules of the market for a dealer, over the facts of its desk. Each function goes over the facts anew.
 ghost use Rattle.std.specs.Prelude.{◌≡◌, ◌+◌, ◌<◌, ◌≤◌, Some, None, MatchResult};
-ghost use Rattle.dealer_desk.specs.DealerRules.{dealer_verdict, quote_verdict, quote_refusal, first_refusal, terms_checks, day_checks, price_for, reject_of, sequence_number, differs_from, is_not_after, quote_kept, lone_price};
-ghost use Rattle.dealer_desk.specs.DealerFacts.{exposure_of};
+ghost use Rattle.dealer_desk.specs.DealerRules.{dealer_verdict, quote_verdict, quote_refusal, first_refusal, standing_checks, terms_checks, day_checks, price_for, reject_of, sequence_number, differs_from, is_not_after, quote_kept, lone_price, replacing};
+ghost use Rattle.dealer_desk.specs.DealerFacts.{exposure_of, live_number_on, quotes_accepted};
 
+use crate::cancels::{cancel_verdict, decline_verdict};
 use crate::characters::same_text;
-use crate::counts::{
-    expected_number, exposure_beside, has_live_quote, is_used_id, quotes_accepted, request_named,
+use crate::counts::{expected_number, is_declined, is_told, request_named};
+use crate::quotes::{
+    exposure_beside, has_lifted_quote, live_number_on, quote_with_id, quotes_accepted,
 };
-use crate::{
-    AcceptedQuote, Ask, DealerFact, DealerMessage, DealerRow, DealerVerdict, MsgType, Quantity,
-    Quote, QuoteId, QuoteRejectReason, Reject, Request, SeqNum, SessionFault, SessionRejectReason,
-    Side, read_dealer,
-};
+use crate::{AcceptedQuote, DealerFact, DealerVerdict};
 use bond_prices::{PriceFault, Ticks};
 use fix_fields::{Date, Frame, Moment, read_frame};
+use quote_messages::{
+    Ask, DealerMessage, MsgType, Quantity, Quote, QuoteId, QuoteRejectReason, Reject, Request,
+    SeqNum, SessionFault, SessionRejectReason, Side, read_dealer,
+};
+use venue_config::DealerRow;
 
 /// The verdict on bytes that came at a moment, by the facts that stand.
 #[tactic(auto, unfolding(crate::specs::DealerRules::dealer_verdict))]
@@ -43,6 +46,8 @@ pub(crate) fn dealer_verdict<'a>(
     match read_dealer(date, row, &frame) {
         Err(fault) => DealerVerdict::Rejected(reject_of(&frame, number, fault)),
         Ok(DealerMessage::Quote(quote)) => quote_verdict(row, facts, moment, quote),
+        Ok(DealerMessage::Cancel(cancel)) => cancel_verdict(facts, cancel),
+        Ok(DealerMessage::Decline(decline)) => decline_verdict(facts, decline),
     }
 }
 
@@ -80,37 +85,57 @@ fn quote_verdict<'a>(
     requires { exposure_of facts.now ≤ 1000000000000000 }
     ensures { result ≡ quote_verdict row.now facts.now moment quote.entry }
 {
-    let Some(request) = request_named(facts, quote.request.as_bytes()) else {
+    let Some(shown) = request_named(facts, quote.request.as_bytes()) else {
         return refused(quote, QuoteRejectReason::Other);
     };
-    match quote_refusal(row, facts, moment, &quote, &request) {
+    let live = live_number_on(facts, shown.request.number);
+    match check_quote(row, facts, moment, &quote, &shown.request, live) {
         Err(reason) => refused(quote, reason),
-        Ok(price) => accepted(quote, &request, price, moment),
+        Ok(kept) => replacing(quote, kept, live),
     }
 }
 
-/// The price of a quote that no check refuses, or the reason of the first check that does.
+/// What the desk keeps of a quote that no check refuses, or the reason of the first check that does. `live` is the
+/// own number of the dealer's live quote on the request.
 #[tactic(auto, unfolding(crate::specs::DealerRules::quote_refusal))]
-fn quote_refusal(
+fn check_quote(
     row: &DealerRow,
     facts: &[DealerFact],
     moment: Moment,
     quote: &Quote,
     request: &Request,
-) -> Result<Ticks, QuoteRejectReason>
-    requires { exposure_of facts.now ≤ 1000000000000000 }
+    live: Option<u32>,
+) -> Result<AcceptedQuote, QuoteRejectReason>
+    requires most { exposure_of facts.now ≤ 1000000000000000 }
+    requires live { live ≡ live_number_on facts.now request.now.number }
     ensures { MatchResult result
-        (λ price. (quote_refusal row.now facts.now moment quote.now request.now ≡ None) × (price_for request.now.ask quote.now ≡ Some price))
+        (λ kept. (quote_refusal row.now facts.now moment quote.now request.now ≡ None) × (kept ≡ quote_kept facts.now moment quote.now request.now))
         (λ reason. quote_refusal row.now facts.now moment quote.now request.now ≡ Some reason) }
 {
+    if let Some(reason) = standing_refusal(facts, request.number) {
+        return Err(reason);
+    }
     let price = match price_by_terms(moment, quote, &request.ask) {
         Ok(price) => price,
         Err(reason) => return Err(reason),
     };
-    match day_refusal(row, facts, moment, quote, request) {
-        Some(reason) => Err(reason),
-        None => Ok(price),
+    match number_in_day(row, facts, moment, quote, request, live) {
+        Ok(number) => Ok(kept(number, quote, request, price, moment)),
+        Err(reason) => Err(reason),
     }
+}
+
+/// Why a request takes no quote of this dealer at all, if it does not.
+fn standing_refusal(facts: &[DealerFact], request: u64) -> Option<QuoteRejectReason>
+    ensures { result ≡ first_refusal (standing_checks facts.now request) }
+{
+    if is_declined(facts, request) {
+        return Some(QuoteRejectReason::Other);
+    }
+    if is_told(facts, request) || has_lifted_quote(facts, request) {
+        return Some(QuoteRejectReason::TooLate);
+    }
+    None
 }
 
 /// The price of a quote whose terms answer the ask, or the reason of the first of these checks that refuses it.
@@ -141,34 +166,37 @@ fn price_by_terms(moment: Moment, quote: &Quote, ask: &Ask) -> Result<Ticks, Quo
     Ok(price)
 }
 
-/// The reason of the first check that finds no room for a quote in the dealer's day.
-#[tactic(auto, using(crate::proofs::CountLemmas::exposure_beside_le))]
-fn day_refusal(
+/// The own number of a quote that the dealer's day leaves room for, or the reason of the first of these checks that
+/// refuses it.
+#[tactic(auto, using(crate::proofs::ExposureLemmas::exposure_beside_le))]
+fn number_in_day(
     row: &DealerRow,
     facts: &[DealerFact],
     moment: Moment,
     quote: &Quote,
     request: &Request,
-) -> Option<QuoteRejectReason>
-    requires { exposure_of facts.now ≤ 1000000000000000 }
-    ensures { result ≡ first_refusal (day_checks row.now facts.now moment quote.now request.now) }
+    live: Option<u32>,
+) -> Result<u32, QuoteRejectReason>
+    requires most { exposure_of facts.now ≤ 1000000000000000 }
+    requires live { live ≡ live_number_on facts.now request.now.number }
+    ensures { MatchResult result
+        (λ number. (first_refusal (day_checks row.now facts.now moment quote.now request.now) ≡ None) × (number ≡ quotes_accepted facts.now + 1))
+        (λ reason. first_refusal (day_checks row.now facts.now moment quote.now request.now) ≡ Some reason) }
 {
-    if is_used_id(facts, quote.id.as_bytes()) {
-        return Some(QuoteRejectReason::DuplicateQuote);
+    if quote_with_id(facts, quote.id.as_bytes()).is_some() {
+        return Err(QuoteRejectReason::DuplicateQuote);
     }
     if is_not_after(moment, quote.valid_until) {
-        return Some(QuoteRejectReason::Other);
+        return Err(QuoteRejectReason::Other);
     }
-    if row.quotes as usize <= quotes_accepted(facts) {
-        return Some(QuoteRejectReason::ExceedsLimit);
+    let accepted = quotes_accepted(facts);
+    if row.quotes as usize <= accepted {
+        return Err(QuoteRejectReason::ExceedsLimit);
     }
-    if row.exposure < request.ask.quantity.get() + exposure_beside(facts, request.number) {
-        return Some(QuoteRejectReason::ExceedsLimit);
+    if row.exposure < request.ask.quantity.get() + exposure_beside(facts, live) {
+        return Err(QuoteRejectReason::ExceedsLimit);
     }
-    if has_live_quote(facts, request.number) {
-        return Some(QuoteRejectReason::TooLate);
-    }
-    None
+    Ok(accepted as u32 + 1)
 }
 
 /// QuoteType (537) of a quote that can be hit.
@@ -239,27 +267,50 @@ fn refused(quote: Quote<'_>, reason: QuoteRejectReason) -> DealerVerdict<'_>
     }
 }
 
-/// The acceptance of a quote on a request, at a price.
-fn accepted<'a>(
-    quote: Quote<'a>,
+/// What the desk keeps of a quote on a request, at a price.
+fn kept(
+    number: u32,
+    quote: &Quote,
     request: &Request,
     price: Ticks,
     moment: Moment,
-) -> DealerVerdict<'a>
-    requires { price_for request.now.ask quote ≡ Some price }
-    ensures { result ≡ DealerVerdict.QuoteAccepted quote.entry.request quote.entry.id (quote_kept moment quote.entry request.now) }
+) -> AcceptedQuote
+    ensures { result ≡ record {
+      number = number;
+      id = quote.now.id;
+      request = request.now.number;
+      quantity = request.now.ask.quantity;
+      price = price;
+      valid_until = quote.now.valid_until;
+      moment = moment;
+    } }
 {
-    let kept = AcceptedQuote {
+    AcceptedQuote {
+        number,
         id: QuoteId::of(&quote.id),
         request: request.number,
         quantity: request.ask.quantity,
         price,
         valid_until: quote.valid_until,
         moment,
+    }
+}
+
+/// The acceptance of a quote that replaces the dealer's live quote on the request, where there is one.
+fn replacing<'a>(quote: Quote<'a>, kept: AcceptedQuote, live: Option<u32>) -> DealerVerdict<'a>
+    ensures { result ≡ replacing quote.entry kept live }
+{
+    let Some(replaced) = live else {
+        return DealerVerdict::QuoteAccepted {
+            request: quote.request,
+            id: quote.id,
+            quote: kept,
+        };
     };
-    DealerVerdict::QuoteAccepted {
+    DealerVerdict::QuoteReplaces {
         request: quote.request,
         id: quote.id,
         quote: kept,
+        replaced,
     }
 }

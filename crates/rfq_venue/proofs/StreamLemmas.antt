@@ -1,10 +1,9 @@
 -- What readers and writers hold, where they tell it.
-use Rattle.std.proofs.Common.{◌≡◌, ◌≢◌, ℕ, ◌+◌, ◌-◌, ◌<◌, ◌≤◌, List, [], ◌∷◌, ◌++◌, length, take, drop, sym, ap, ◌∙◌, subst, refl, arith, Option, Some, None, append_assoc, Bool, true, false, nat_lt, inl, inr, Result, Ok, Err}
-use Rattle.std.specs.Io.KnownBytes.{Appends, Keeps, Consumes}
+use Rattle.std.proofs.Common.{◌≡◌, ◌≢◌, ℕ, ◌-◌, ◌<◌, ◌≤◌, List, [], ◌∷◌, ◌++◌, length, take, drop, sym, ap, ◌∙◌, subst, refl, arith, Option, Some, None, append_assoc, Bool, true, nat_lt, inl, inr, Result, Ok, Err}
+use Rattle.std.specs.Io.KnownBytes.{Appends, Keeps}
 use Rattle.std.proofs.lemmas.List.{append-nil, take-append-drop, take_all, length-drop, length-append}
 use Rattle.std.proofs.Math.Seq.{take-append_seam}
-use Rattle.rfq_venue.specs.ProgramText.{AppendsPrefix, IsReadOf, IsPrinted, first_fault, fault_of_reading, HasPrinted, HasPrintedPart, FaultLeaves}
-use Rattle.rfq_venue.specs.DueText.{due_text_of}
+use Rattle.rfq_venue.specs.ProgramText.{AppendsPrefix, IsReadOf, IsPrinted, first_fault, HasPrinted, HasPrintedPart, FaultLeaves}
 use Rattle.rfq_venue.specs.declared.faults.ProgramFault.{ProgramFault}
 use Rattle.rfq_venue.specs.declared.faults.ProgramFault.TheVariants.{Read, Input, Parts, Form, Memory, Write}
 use Rattle.std.proofs.lemmas.Bool.{cases_Bool}

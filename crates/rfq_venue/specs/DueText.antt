@@ -1,11 +1,13 @@
 -- Due text, line by line: what its bytes spell, or its first fault.
-use Rattle.std.specs.Prelude.{ℕ, ◌+◌, Bool, true, false, ◌&&◌, List, [], ◌∷◌, ◌++◌, length, nat_le, nat_lt, not, codes, Option, Some, None, Result, Ok, Err, if◌then◌else◌, ◌==◌, slice_index, ◌-◌}
+use Rattle.std.specs.Prelude.{ℕ, ◌+◌, Bool, ◌&&◌, List, [], ◌∷◌, ◌++◌, map, length, nat_le, nat_lt, not, codes, Option, Some, None, Result, Ok, Err, if◌then◌else◌, ◌==◌, slice_index, ◌-◌}
 use Rattle.std.specs.Option.{option_map, option_and_then}
 use Rattle.fix_fields.specs.UtcTimestamp.{is_date}
-use Rattle.dealer_desk.specs.Texts.{is_name, is_bond_id, is_quantity, is_among, number_up_to, same_text, text_if}
-use Rattle.dealer_desk.specs.declared.asks.Ask.{Ask}
-use Rattle.dealer_desk.specs.declared.sides.Side.{Side}
-use Rattle.dealer_desk.specs.declared.dealer_rows.DealerRow.{DealerRow}
+use Rattle.venue_config.specs.Texts.{is_name, is_bond_id, is_among, same_text, text_if}
+use Rattle.quote_messages.specs.Texts.{is_quantity, number_of, number_up_to}
+use Rattle.quote_messages.specs.declared.sides.Side.{Side}
+use Rattle.quote_messages.specs.declared.closes.Close.{Close}
+use Rattle.quote_messages.specs.declared.closes.Close.TheVariants.{Hit, Expired, Cover, DoneAway, Pass}
+use Rattle.venue_config.specs.declared.dealer_rows.DealerRow.{DealerRow}
 use Rattle.rfq_venue.specs.declared.due.Due.{Due}
 use Rattle.rfq_venue.specs.declared.due.Due.TheVariants as due
 use Rattle.rfq_venue.specs.declared.faults.ProgramFault.{ProgramFault}
@@ -121,11 +123,57 @@ abbrev pub own_of : List ℕ → List ℕ → ℕ → Option Said → Option (Du
 own_of date firm number None = None
 own_of date firm number (Some said) = own_with number said (said_message date firm number said)
 
+-- a byte of FRAME: SOH for a vertical bar
+abbrev pub soh_for_bar : ℕ → ℕ
+soh_for_bar c = if c == 124 then 1 else c
+
+-- what stands behind the word `own`: TIME FRAME, where FRAME is the rest of the line and not empty
+abbrev pub framed_with : Option ℕ → List ℕ → Option Due
+framed_with None frame = None
+framed_with (Some moment) frame = if length frame == 0 then None else Some (due.Own moment (map soh_for_bar frame))
+
+unfoldable pub framed_of : List ℕ → List ℕ → Option Due
+framed_of date text = framed_with (time_of date (first_word text)) (behind_word text)
+
+-- what stands behind the word `lifted`: the number of a quote
+abbrev pub lifted_of : List ℕ → Option Due
+lifted_of text = option_map (λ quote. due.Lifted quote) (number_of text)
+
+-- how a request ended: the digit of QuoteRespType (694)
+abbrev pub close_of : List ℕ → Option Close
+close_of text =
+    if same_text text (codes "1") then Some Hit
+    else if same_text text (codes "3") then Some Expired
+    else if same_text text (codes "4") then Some Cover
+    else if same_text text (codes "5") then Some DoneAway
+    else if same_text text (codes "6") then Some Pass
+    else None
+
+-- what stands behind the word `closed`: the number of a request, how it ended, TIME
+abbrev pub closed_with : Option ℕ → Option Close → Option ℕ → Option Due
+closed_with None close moment = None
+closed_with (Some number) None moment = None
+closed_with (Some number) (Some close) None = None
+closed_with (Some number) (Some close) (Some moment) = Some (due.Closed number close moment)
+
+unfoldable pub closed_of : List ℕ → List ℕ → Option Due
+closed_of date text =
+    let behind_number = behind_word text in
+    closed_with (number_of (first_word text)) (close_of (first_word behind_number)) (time_of date (behind_word behind_number))
+
+-- what a line other than `say` makes due, by its first word
+abbrev pub mark_of : List ℕ → List ℕ → List ℕ → Option Due
+mark_of date keyword text =
+    if same_text keyword (codes "shown") then shown_of date text
+    else if same_text keyword (codes "own") then framed_of date text
+    else if same_text keyword (codes "lifted") then lifted_of text
+    else if same_text keyword (codes "closed") then closed_of date text
+    else None
+
 abbrev pub due_of : List ℕ → List ℕ → ℕ → List ℕ → Option (Due × ℕ)
 due_of date firm number line =
     if same_text (first_word line) (codes "say") then own_of date firm number (said_of date (behind_word line))
-    else if same_text (first_word line) (codes "shown") then option_map (λ due. (due, number)) (shown_of date (behind_word line))
-    else None
+    else option_map (λ due. (due, number)) (mark_of date (first_word line) (behind_word line))
 
 -- one item more before others, where they could be read
 abbrev pub before_dues : Due → Result (List Due) ProgramFault → Result (List Due) ProgramFault

@@ -1,10 +1,10 @@
 -- The dealer's own messages as a `say` line spells them: `say TRADER TIME TYPE BODY`.
-use Rattle.std.specs.Prelude.{ℕ, ◌+◌, ◌<◌, Bool, true, false, ◌&&◌, ◌||◌, ◌==◌, not, List, [], ◌∷◌, ◌++◌, length, nat_le, nat_lt, codes, decimal, Option, Some, None, if◌then◌else◌}
+use Rattle.std.specs.Prelude.{ℕ, Bool, false, ◌&&◌, ◌||◌, ◌==◌, not, List, [], ◌∷◌, ◌++◌, length, nat_le, codes, decimal, Option, Some, None, if◌then◌else◌}
 use Rattle.std.specs.Option.{option_map, option_and_then}
 use Rattle.std.specs.List.{list_all, list_any, before_first, after_first}
 use Rattle.fix_fields.specs.Frame.{Field, frame_text, fields_len}
 use Rattle.fix_fields.specs.UtcTimestamp.{timestamp_text}
-use Rattle.dealer_desk.specs.Texts.{number_of}
+use Rattle.quote_messages.specs.Texts.{number_of}
 use Rattle.rfq_venue.specs.Words.{parts_of, first_word, behind_word, time_of}
 
 -- a tag may not begin with the digit 0

@@ -1,12 +1,12 @@
 -- The lines of due text, their words, and what single words spell. A line feed is the byte 10, a space
 -- 32, `#` 35, a dash 45, an equals sign 61 and a vertical bar 124.
-use Rattle.std.specs.Prelude.{ℕ, ◌+◌, Bool, true, false, ◌||◌, ◌==◌, List, [], ◌∷◌, ◌++◌, length, nat_le, codes, Option, Some, None, if◌then◌else◌}
+use Rattle.std.specs.Prelude.{ℕ, ◌+◌, Bool, true, ◌||◌, ◌==◌, List, [], ◌∷◌, ◌++◌, length, nat_le, codes, Option, Some, None, if◌then◌else◌}
 use Rattle.std.specs.List.{list_any, before_first, after_first, onto_first}
 use Rattle.std.specs.Result.{result_ok}
 use Rattle.fix_fields.specs.UtcTimestamp.{moment_of}
-use Rattle.dealer_desk.specs.Texts.{is_name, text_if, same_text}
-use Rattle.dealer_desk.specs.declared.sides.Side.{Side}
-use Rattle.dealer_desk.specs.declared.sides.Side.TheVariants.{Buy, Sell}
+use Rattle.venue_config.specs.Texts.{is_name, text_if, same_text}
+use Rattle.quote_messages.specs.declared.sides.Side.{Side}
+use Rattle.quote_messages.specs.declared.sides.Side.TheVariants.{Buy, Sell}
 
 -- the parts of a text that a byte ends, the last one also without it
 abbrev pub parts_of : ℕ → List ℕ → List (List ℕ)

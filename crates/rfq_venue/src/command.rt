@@ -34,6 +34,10 @@ Standard input is due text, one line for each of:
 and then, in the order in which it happens,
   shown INVESTOR BOND SIDE QUANTITY DEADLINE TIME   a request that the dealer is shown
   say TRADER TIME TYPE BODY                         a message of the dealer's own
+  own TIME FRAME                                    the same byte by byte, a vertical bar for each SOH
+  lifted N                                          the dealer's quote N is lifted
+  closed N KIND TIME                                the dealer is told how its request N ended:
+                                                    1 hit, 3 expired, 4 cover, 5 done away, 6 passed
 Empty lines and lines that begin with # are skipped. No words at all mean `alone`.
 
 Example:

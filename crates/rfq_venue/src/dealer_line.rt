@@ -5,8 +5,9 @@ ghost use Rattle.rfq_venue.specs.DueText.{date_of, row_of, values_of, quotes_of,
 
 use crate::lines::Parts;
 use crate::words::{cut_word, is_word, read_firm};
-use dealer_desk::{DealerRow, Name, Traders, read_long_number, read_number};
 use fix_fields::Date;
+use quote_messages::{read_long_number, read_number};
+use venue_config::{DealerRow, Name, Traders};
 
 /// The date that a date line gives.
 pub(crate) fn read_date(line: &[u8]) -> Option<Date>

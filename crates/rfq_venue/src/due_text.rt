@@ -1,7 +1,7 @@
 //! Due text: a date, a dealer, and what is due to the dealer, line by line.
 ghost use Rattle.std.specs.Prelude.{◌≡◌, ◌≢◌, ◌≤◌, ◌+◌, length, Ok, Err, IfOk, IfErr, IfSome};
 ghost use Rattle.std.specs.Option.{option_map};
-ghost use Rattle.rfq_venue.specs.DueText.{date_of, row_of, values_of, due_of, own_of, dues_from, due_text_of};
+ghost use Rattle.rfq_venue.specs.DueText.{date_of, row_of, values_of, due_of, mark_of, own_of, dues_from, due_text_of};
 ghost use Rattle.rfq_venue.specs.SayLine.{said_of};
 ghost use Rattle.rfq_venue.specs.Words.{one_past};
 
@@ -9,12 +9,14 @@ use crate::dealer_line::{read_date, read_dealer_row};
 use crate::due::Due;
 use crate::faults::ProgramFault;
 use crate::lines::{SpokenLines, has_divider, one_past};
+use crate::mark_lines::{read_closed, read_lifted};
+use crate::own_line::read_framed;
 use crate::say_line::Said;
 use crate::shown_line::read_shown;
 use crate::words::{cut_word, is_word};
-use dealer_desk::{DealerRow, Name};
 use fix_fields::{Date, Memory};
 use std::alloc::Global;
+use venue_config::{DealerRow, Name};
 
 /// What due text spells.
 #[derive(Drop)]
@@ -104,13 +106,29 @@ fn read_due(
     if is_word(keyword, b"say") {
         return read_own(alloc, date, firm, number, text);
     }
-    if !is_word(keyword, b"shown") {
-        return Ok(None);
-    }
-    let Some(due) = read_shown(date, text) else {
+    let Some(due) = read_mark(alloc, date, keyword, text)? else {
         return Ok(None);
     };
     Ok(Some((due, number)))
+}
+
+/// What a line other than `say` makes due, by its first word.
+fn read_mark(alloc: Global, date: &Date, keyword: &[u8], text: &[u8]) -> Result<Option<Due>, Memory>
+    ensures { IfOk result (λ due. due ≡ mark_of date.now keyword.now text.now) }
+{
+    if is_word(keyword, b"shown") {
+        return Ok(read_shown(date, text));
+    }
+    if is_word(keyword, b"own") {
+        return read_framed(alloc, date, text);
+    }
+    if is_word(keyword, b"lifted") {
+        return Ok(read_lifted(text));
+    }
+    if is_word(keyword, b"closed") {
+        return Ok(read_closed(date, text));
+    }
+    Ok(None)
 }
 
 /// The message that a `say` line makes due, and the number of the next one.

@@ -6,8 +6,8 @@ ghost use Rattle.rfq_venue.specs.SayLine.{said_field, said_fields, tag_of, begin
 
 use crate::lines::Parts;
 use crate::words::cut_at;
-use dealer_desk::read_number;
 use fix_fields::Memory;
+use quote_messages::read_number;
 use std::alloc::Global;
 use std::marker::Model;
 

@@ -1,8 +1,9 @@
 //! The program of a blind multi-dealer RFQ venue for bonds, in its first form: the command `alone`.
 //!
 //! `alone` reads one dealer's day, called due text: the date, the dealer's row of the configuration,
-//! and in order what is due to the dealer, which is each message of its own and each request that it
-//! is shown. It prints every message that the venue sends to that dealer.
+//! and in order what is due to the dealer: each message of its own, each request that it is shown, each
+//! lifting of a quote of its own, and each notice of how a request ended. It prints every message that the
+//! venue sends to that dealer.
 //!
 //! What is promised, and by which function:
 //! - [`alone`]: the messages are the dealer view of the list, and nothing else goes into them;
@@ -19,8 +20,10 @@ mod faults;
 mod fields;
 mod input;
 mod lines;
+mod mark_lines;
 mod message_lines;
 mod output;
+mod own_line;
 mod program;
 mod say_line;
 mod shown_line;

@@ -2,10 +2,11 @@
 ghost use Rattle.std.specs.Prelude.{◌≡◌, ◌++◌, drop, IfOk, OnOk};
 ghost use Rattle.rfq_venue.specs.ProgramText.{messages_text, line_of, frame_line, message_line, header_text, fields_text_behind, fields_behind_header};
 
-use dealer_desk::{Message, Name};
 use fix_fields::{Fields, Frame, Memory, read_frame};
 use itoa::Buffer;
+use quote_messages::Message;
 use std::alloc::Global;
+use venue_config::Name;
 
 /// How many fields stand in front of those that a message line shows as BODY: MsgType (35),
 /// SenderCompID (49), TargetCompID (56), MsgSeqNum (34) and SendingTime (52).

@@ -7,11 +7,12 @@ ghost use Rattle.rfq_venue.specs.SayLine.{said_of, said_message, has_tag, own_fi
 
 use crate::fields::{Field, read_fields};
 use crate::words::{cut_word, read_time};
-use dealer_desk::{Message, Name};
 use fix_fields::{Date, FrameWriter, Memory, Moment, decimal_len, moment_text};
 use itoa::Buffer;
+use quote_messages::Message;
 use std::alloc::Global;
 use std::marker::Model;
+use venue_config::Name;
 
 /// What a `say` line says.
 #[derive(Drop)]

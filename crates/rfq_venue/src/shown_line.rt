@@ -4,8 +4,9 @@ ghost use Rattle.rfq_venue.specs.DueText.{shown_of};
 
 use crate::due::Due;
 use crate::words::{cut_word, read_firm, read_side, read_time};
-use dealer_desk::{Ask, BondId, Quantity, read_long_number};
 use fix_fields::Date;
+use quote_messages::{Ask, Quantity, read_long_number};
+use venue_config::BondId;
 
 /// What stands behind the word `shown`, or none where that is not of its form.
 #[tactic(auto, unfolding(crate::specs::DueText::shown_of))]

@@ -1,9 +1,32 @@
 //! Whole runs of the program, with a reader and writers in memory.
+//!
+//! What is wanted is written down beforehand: by hand, and the frames' lengths and checksums by a program of their own.
 use crate::run_program;
 use std::alloc::Global;
 use std::io;
 use std::io::{Read, Write};
 use std::process::Abort;
+use std::test::Fail;
+
+mod days;
+mod forms;
+mod marks;
+
+/// The day and the dealer of most tests.
+const HEAD: &str = "date 20250314
+dealer DLR1 4 10000000 T1
+";
+
+/// A request, and a quote on it.
+const SHOWN: &str = "shown INV1 BONDA0000001 1 2000000 09:05:00 09:00:00\n";
+
+const QUOTE: &str = "say T1 09:00:10 S 117=a1|131=R1|48=BONDA0000001|22=4|133=99.50390625\n";
+
+/// The message that shows the request, and the acceptance of the quote.
+const REQUEST: &str =
+    "DLR1 1 09:00:00.000 R 131=R1|146=1|55=[N/A]|48=BONDA0000001|22=4|54=1|38=2000000|126=20250314-09:05:00.000|453=1|448=INV1|447=D|452=13\n";
+
+const ACCEPTED: &str = "DLR1 2 09:00:10.000 AI 131=R1|117=a1|297=0\n";
 
 const FIRST_QUOTE: &[u8] =
     b"date 20250314\ndealer DLR1 4 10000000 T1\nshown INV1 BONDA0000001 1 2000000 09:05:00 09:00:00\nsay T1 09:00:10 S 117=a1|131=R1|48=BONDA0000001|22=4|133=99.50390625\n";
@@ -90,6 +113,43 @@ fn ran<T: AllocGlobal>(rt: &T, words: &[&str], mut input: &[u8]) -> (u8, Vec<u8>
     (status, out, err)
 }
 
+/// Asserts that a run of these words over an input is done, and what it prints.
+fn assert_prints<T: Abort + AllocGlobal>(rt: &T, words: &[&str], input: &str, lines: &str) {
+    let (status, out, err) = ran(rt, words, input.as_bytes());
+    assert_eq!(rt; status, 0, "{input}");
+    assert!(rt; err.is_empty());
+    assert!(rt; out.as_slice() == lines.as_bytes(), "{input}");
+}
+
+/// Asserts what is printed of a day of these lines.
+fn assert_from_start<T: Abort + AllocGlobal>(rt: &T, dues: &str, lines: &str) -> Result<(), Fail> {
+    let input = format!(in rt.alloc(); "{HEAD}{dues}")?;
+    assert_prints(rt, &["alone"], input.as_str(), lines);
+    Ok(())
+}
+
+/// Asserts what is printed where these lines stand behind the request, and these messages behind its own.
+fn assert_shown_first<T: Abort + AllocGlobal>(rt: &T, dues: &str, lines: &str) -> Result<(), Fail> {
+    let dues = format!(in rt.alloc(); "{SHOWN}{dues}")?;
+    let lines = format!(in rt.alloc(); "{REQUEST}{lines}")?;
+    assert_from_start(rt, dues.as_str(), lines.as_str())
+}
+
+/// Asserts what is printed where these lines stand behind the quote, and these messages behind its acceptance.
+fn assert_goes_on<T: Abort + AllocGlobal>(rt: &T, dues: &str, lines: &str) -> Result<(), Fail> {
+    let dues = format!(in rt.alloc(); "{QUOTE}{dues}")?;
+    let lines = format!(in rt.alloc(); "{ACCEPTED}{lines}")?;
+    assert_shown_first(rt, dues.as_str(), lines.as_str())
+}
+
+/// The same of each pair of lines and messages.
+fn assert_all_go_on<T: Abort + AllocGlobal>(rt: &T, days: &[(&str, &str)]) -> Result<(), Fail> {
+    for (dues, lines) in days {
+        assert_goes_on(rt, dues, lines)?;
+    }
+    Ok(())
+}
+
 #[test]
 fn nothing_due_prints_nothing(rt: HostRuntime) {
     let (status, out, err) = ran(
@@ -143,7 +203,7 @@ fn first_fault_is_told(rt: HostRuntime) {
     );
     assert_fault(
         &rt,
-        b"date 20250314\ndealer DLR1 4 1 T1\n\nown 09:00:00 x\n",
+        b"date 20250314\ndealer DLR1 4 1 T1\n\nowned 09:00:00 x\n",
         b"line 4: form\n",
     );
     assert_fault(

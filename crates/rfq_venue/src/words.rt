@@ -1,13 +1,14 @@
 //! The words of a line.
 ghost use Rattle.std.specs.Prelude.{◌≡◌, ◌<◌, ◌==◌, length, if◌then◌else◌, Some, None};
 ghost use Rattle.std.specs.List.{before_first, after_first};
-ghost use Rattle.dealer_desk.specs.Texts.{same_text};
+ghost use Rattle.venue_config.specs.Texts.{same_text};
 ghost use Rattle.rfq_venue.specs.Words.{firm_of, side_of, time_of};
 
 use arrayvec::ArrayVec;
-use dealer_desk::{Name, Side};
 use fix_fields::{Date, Moment, read_moment};
 use memchr::memchr;
+use quote_messages::Side;
+use venue_config::Name;
 
 /// What stands before the first `byte` of a text, and what stands behind it: all of the text and
 /// nothing where it has none.

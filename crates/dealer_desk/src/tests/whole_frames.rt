@@ -15,9 +15,17 @@ const SENT: &[&str] = &[
     // the day's quotes are used up
     "8=FIXT.1.1|9=79|35=AI|49=VENUE|56=DLR1|34=3|52=20250314-09:00:30.000|131=R1|117=a2|297=5|300=3|10=226|",
     // a type that a dealer does not send
-    "8=FIXT.1.1|9=77|35=3|49=VENUE|56=DLR1|34=4|52=20250314-09:00:31.000|45=3|371=35|372=Z|373=11|10=062|",
+    "8=FIXT.1.1|9=77|35=3|49=VENUE|56=DLR1|34=4|52=20250314-09:00:31.000|45=3|371=35|372=R|373=11|10=054|",
     // no type at all, with a number that has leading zeros
     "8=FIXT.1.1|9=74|35=3|49=VENUE|56=DLR1|34=5|52=20250314-09:00:32.000|45=00004|371=35|373=4|10=156|",
+    // a cancel of no quote
+    "8=FIXT.1.1|9=66|35=AI|49=VENUE|56=DLR1|34=6|52=20250314-09:00:33.000|117=a2|297=9|10=142|",
+    // a decline beside a live quote
+    "8=FIXT.1.1|9=73|35=AI|49=VENUE|56=DLR1|34=7|52=20250314-09:00:34.000|131=R1|297=5|300=99|10=185|",
+    // a cancel of a quote that is lifted
+    "8=FIXT.1.1|9=72|35=AI|49=VENUE|56=DLR1|34=8|52=20250314-09:00:35.000|117=a1|297=5|300=4|10=143|",
+    // the closing notice
+    "8=FIXT.1.1|9=142|35=AJ|49=VENUE|56=DLR1|34=9|52=20250314-09:01:00.000|693=N1|131=R1|117=a1|694=1|55=[N/A]|48=BONDA0000001|22=4|54=1|38=2000000|133=99.50390625|10=158|",
 ];
 
 /// The messages behind the quote: when, and the body.
@@ -28,48 +36,61 @@ const SAID: &[(&str, &str)] = &[
     ),
     (
         "09:00:31.000",
-        "35=Z|49=DLR1|56=VENUE|34=3|52=20250314-09:00:31.000|50=T1|298=5|117=a1|",
+        "35=R|49=DLR1|56=VENUE|34=3|52=20250314-09:00:31.000|50=T1|298=5|117=a1|",
     ),
     (
         "09:00:32.000",
         "35=|49=DLR1|56=VENUE|34=00004|52=20250314-09:00:32.000|50=T1|298=5|117=a1|",
+    ),
+    (
+        "09:00:33.000",
+        "35=Z|49=DLR1|56=VENUE|34=5|52=20250314-09:00:33.000|50=T1|298=5|117=a2|",
+    ),
+    (
+        "09:00:34.000",
+        "35=AG|49=DLR1|56=VENUE|34=6|52=20250314-09:00:34.000|50=T1|131=R1|658=10|",
+    ),
+    (
+        "09:00:35.000",
+        "35=Z|49=DLR1|56=VENUE|34=7|52=20250314-09:00:35.000|50=T1|298=5|117=a1|",
     ),
 ];
 
 #[test]
 fn each_message_byte_by_byte(rt: HostRuntime) -> Result<(), Fail> {
     let alloc = rt.alloc();
-    let mut desk = asked_desk(&rt, alloc, 1, 10_000_000)?;
+    let mut desk = asked_desk(&rt, alloc, 1)?;
     takes_quote(&rt, alloc, &mut desk)?;
     for &(time, body) in SAID {
         let bytes = frame(alloc, body)?;
-        desk.take(at(&rt, alloc, time)?, bytes.as_slice())?;
+        takes(&mut desk, at(&rt, alloc, time)?, bytes.as_slice(), 1)?;
     }
-    assert_sent(&rt, alloc, desk.sent())?;
-    assert_number(&rt, desk.exposure(), 2_000_000, "the exposure", "");
-    Ok(())
+    assert!(rt; desk.tell(room(1), Close::Hit, at(&rt, alloc, "09:01:00.000")?)?);
+    is_all_sent(&rt, alloc, desk.into_sent().as_slice())
+}
+
+/// A desk at which INV1's request was shown.
+fn asked_desk(rt: &impl Abort, alloc: Global, quotes: u32) -> Result<DealerDesk, Fail> {
+    let mut day = day_of(rt, alloc, quotes, 10_000_000)?;
+    let moment = at(rt, alloc, "09:00:00.000")?;
+    day.desk.show(room(1), request(rt, alloc, 1)?, moment)?;
+    Ok(day.desk)
 }
 
 /// A desk takes [`QUOTE`].
 fn takes_quote(rt: &impl Abort, alloc: Global, desk: &mut DealerDesk) -> Result<(), Fail> {
     let moment = at(rt, alloc, "09:00:10.000")?;
     let quote = with_soh(alloc, QUOTE)?;
-    desk.take(moment, quote.as_slice())?;
+    takes(desk, moment, quote.as_slice(), 0)?;
     Ok(())
 }
 
 /// Asserts that the messages are those of [`SENT`].
-fn assert_sent(rt: &impl Abort, alloc: Global, sent: &[Message]) -> Result<(), Fail> {
-    assert_count(rt, sent.len(), 5, "the messages", "");
+fn is_all_sent(rt: &impl Abort, alloc: Global, sent: &[Message]) -> Result<(), Fail> {
+    assert_eq!(rt; sent.len(), 9, "the messages");
     for (message, text) in sent.iter().zip(SENT) {
         let bytes = with_soh(alloc, text)?;
-        assert_bytes(
-            rt,
-            message.as_bytes(),
-            bytes.as_slice(),
-            "the message",
-            text,
-        );
+        assert_eq!(rt; message.as_bytes(), bytes.as_slice(), "{text}");
     }
     Ok(())
 }
@@ -82,13 +103,7 @@ const QUOTE_BODY: &str =
 fn frames_are_framed(rt: HostRuntime) -> Result<(), Fail> {
     let quote = with_soh(rt.alloc(), QUOTE)?;
     let framed = frame(rt.alloc(), QUOTE_BODY)?;
-    assert_bytes(
-        &rt,
-        quote.as_slice(),
-        framed.as_slice(),
-        "the frame of",
-        QUOTE_BODY,
-    );
+    assert_eq!(rt; quote.as_slice(), framed.as_slice());
     Ok(())
 }
 
@@ -96,17 +111,17 @@ fn frames_are_framed(rt: HostRuntime) -> Result<(), Fail> {
 #[test]
 fn what_is_no_frame_is_dropped(rt: HostRuntime) -> Result<(), Fail> {
     let alloc = rt.alloc();
-    let mut desk = asked_desk(&rt, alloc, 4, 10_000_000)?;
+    let mut desk = asked_desk(&rt, alloc, 4)?;
     let moment = at(&rt, alloc, "09:00:10.000")?;
     let quote = with_soh(alloc, QUOTE)?;
     assert!(rt; quote.len() == 133);
     for n in 0..133 {
-        desk.take(moment, &quote[..n])?;
+        takes(&mut desk, moment, &quote[..n], 0)?;
         takes_forged(&rt, alloc, &mut desk, moment, quote.as_slice(), n)?;
     }
-    assert_count(&rt, desk.events().len(), 1 + 133 * 9, "the events", "");
-    assert_count(&rt, desk.sent().len(), 1, "the messages", "");
-    assert_number(&rt, desk.exposure(), 0, "the exposure", "");
+    assert_eq!(rt; desk.events().len(), 1 + 133 * 9, "the events");
+    assert_eq!(rt; desk.sent().len(), 1, "the messages");
+    assert_eq!(rt; desk.exposure(), 0, "the exposure");
     accepts_quote(&rt, alloc, &mut desk)
 }
 
@@ -124,7 +139,7 @@ fn takes_forged(
     assert!(rt; forged.len() == quote.len());
     for bit in [1, 2, 4, 8, 16, 32, 64, 128] {
         forged[n] = quote[n] ^ bit;
-        desk.take(moment, forged.as_slice())?;
+        takes(desk, moment, forged.as_slice(), 0)?;
     }
     Ok(())
 }
@@ -132,65 +147,10 @@ fn takes_forged(
 /// A desk that sent one message takes [`QUOTE`] and accepts it.
 fn accepts_quote(rt: &impl Abort, alloc: Global, desk: &mut DealerDesk) -> Result<(), Fail> {
     takes_quote(rt, alloc, desk)?;
-    assert_count(rt, desk.sent().len(), 2, "the messages", "");
+    assert_eq!(rt; desk.sent().len(), 2, "the messages");
     let accepted = with_soh(alloc, ACCEPTED)?;
-    assert_count(rt, accepted.len(), 96, "the bytes of", ACCEPTED);
-    assert_last(rt, desk.sent(), accepted.as_slice(), "the answer", ACCEPTED);
+    assert_eq!(rt; accepted.len(), 96, "the bytes of the answer");
+    let last = desk.sent().last().expect(rt, "an answer");
+    assert_eq!(rt; last.as_bytes(), accepted.as_slice());
     Ok(())
-}
-
-const REQUEST: &str =
-    "R 131=R2|146=1|55=[N/A]|48=BONDB0000002|22=4|54=2|38=1000000000000|126=20250314-23:59:59.999|453=1|448=INV2|447=D|452=13|";
-
-/// Requests are numbered by themselves, and messages by all that was sent.
-#[test]
-fn requests_are_counted(rt: HostRuntime) -> Result<(), Fail> {
-    let alloc = rt.alloc();
-    let mut desk = asked_desk(&rt, alloc, 4, 10_000_000)?;
-    takes_quote(&rt, alloc, &mut desk)?;
-    shows_second(&rt, alloc, &mut desk)?;
-    assert_count(&rt, desk.sent().len(), 3, "the messages", "");
-    let request = sent_frame(&rt, alloc, 3, "08:00:00.001", REQUEST)?;
-    assert_last(&rt, desk.sent(), request.as_slice(), "the request", REQUEST);
-    assert_number(&rt, desk.exposure(), 2_000_000, "the exposure", "");
-    Ok(())
-}
-
-/// A desk shows INV2's request as the second, and it is the third event.
-fn shows_second(rt: &impl Abort, alloc: Global, desk: &mut DealerDesk) -> Result<(), Fail> {
-    let deadline = at(rt, alloc, "23:59:59.999")?;
-    let moment = at(rt, alloc, "08:00:00.001")?;
-    let quantity = 1_000_000_000_000;
-    let ask = ask(rt, "INV2", "BONDB0000002", Side::Sell, quantity, deadline);
-    let number = desk.show(ask, moment)?;
-    assert_number(rt, number, 2, "the number of the request", "");
-    assert_count(rt, desk.events().len(), 3, "the events", "");
-    assert_last_shown(rt, desk.events(), deadline, moment);
-    Ok(())
-}
-
-/// Asserts that the last event is INV2's request.
-fn assert_last_shown(rt: &impl Abort, events: &[DealerEvent], deadline: Moment, shown_at: Moment) {
-    match events.last() {
-        Some(DealerEvent::Shown { ask, moment }) => {
-            assert_ask(rt, ask, deadline);
-            assert!(rt; *moment == shown_at);
-        }
-        _ => assert!(rt; false, "the last event is no request"),
-    }
-}
-
-/// Asserts that an ask is INV2's.
-fn assert_ask(rt: &impl Abort, ask: &Ask, deadline: Moment) {
-    assert_bytes(rt, ask.investor.as_bytes(), b"INV2", "the investor", "");
-    assert_bytes(rt, ask.bond.as_bytes(), b"BONDB0000002", "the bond", "");
-    assert!(rt; ask.side == Side::Sell);
-    assert_number(
-        rt,
-        ask.quantity.get(),
-        1_000_000_000_000,
-        "the quantity",
-        "",
-    );
-    assert!(rt; ask.deadline == deadline);
 }

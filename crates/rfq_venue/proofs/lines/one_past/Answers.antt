@@ -1,4 +1,4 @@
-use Rattle.std.proofs.Common.{inl, arith, rules, length, ap}
+use Rattle.std.proofs.Common.{inl, arith, length, ap}
 use Rattle.rfq_venue.proofs.CutLemmas.{length-parts_of}
 use Rattle.rfq_venue.proofs.lines.one_past.Goals as goal
 

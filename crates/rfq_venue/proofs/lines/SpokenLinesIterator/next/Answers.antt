@@ -1,4 +1,4 @@
-use Rattle.std.proofs.Common.{length, ap, rules, arith}
+use Rattle.std.proofs.Common.{length, ap, rules}
 use Rattle.rfq_venue.proofs.CutLemmas.{spoken_first, spoken_next}
 use Rattle.rfq_venue.proofs.lines.SpokenLinesIterator.next.Goals as goal
 

@@ -1,0 +1,65 @@
+-- What is written fits, and has no SOH.
+use Rattle.std.proofs.Common.{◌≢◌, ℕ, ◌<◌, ◌≤◌, ◌^◌, Bool, true, false, List, [], ◌∷◌, ◌++◌, Option, Some, None, arith, lit≤, cond, decimal, nat_lt}
+use Rattle.std.specs.Char.{digit_value}
+use Rattle.std.specs.Str.Parse.{AllDigits}
+use Rattle.std.proofs.lemmas.Bool.Decides.{nat_tests}
+use Rattle.std.proofs.lemmas.Fmt.{decimal_is_IsNumeral}
+use Rattle.fix_fields.specs.Frame.{decimal_len, IsValue}
+use Rattle.bond_prices.specs.Price.{IsShortest, sign_text, point_text, behind_point}
+use Rattle.quote_messages.specs.Written.{request_name, notice_name}
+
+-- a choice of two is at most what both are at most
+at_most : (b : Bool) (m n most : ℕ) → m ≤ most → n ≤ most → cond b m n ≤ most
+at_most true m n most p q = p
+at_most false m n most p q = q
+
+-- a number has at most 20 digits
+pub decimal_len_le : (n : ℕ) → decimal_len n ≤ 20
+decimal_len_le n =
+    at_most (nat_lt n 10) _ _ 20 (lit≤ tt) (at_most (nat_lt n 100) _ _ 20 (lit≤ tt) (at_most (nat_lt n 1000) _ _ 20 (lit≤ tt)
+    (at_most (nat_lt n 10000) _ _ 20 (lit≤ tt) (at_most (nat_lt n 100000) _ _ 20 (lit≤ tt) (at_most (nat_lt n 1000000) _ _ 20 (lit≤ tt)
+    (at_most (nat_lt n 10000000) _ _ 20 (lit≤ tt) (at_most (nat_lt n 100000000) _ _ 20 (lit≤ tt) (at_most (nat_lt n 1000000000) _ _ 20 (lit≤ tt)
+    (at_most (nat_lt n 10000000000) _ _ 20 (lit≤ tt) (at_most (nat_lt n 100000000000) _ _ 20 (lit≤ tt) (at_most (nat_lt n 1000000000000) _ _ 20 (lit≤ tt)
+    (at_most (nat_lt n 10000000000000) _ _ 20 (lit≤ tt) (at_most (nat_lt n 100000000000000) _ _ 20 (lit≤ tt) (at_most (nat_lt n 1000000000000000) _ _ 20 (lit≤ tt)
+    (at_most (nat_lt n 10000000000000000) _ _ 20 (lit≤ tt) (at_most (nat_lt n 100000000000000000) _ _ 20 (lit≤ tt) (at_most (nat_lt n 1000000000000000000) _ _ 20 (lit≤ tt)
+    (at_most (nat_lt n 10000000000000000000) _ _ 20 (lit≤ tt) (lit≤ tt)))))))))))))))))))
+
+not_soh : (c : ℕ) → digit_value c < 10 → c ≢ 1
+not_soh c h = λ e. grind (arith, nat_tests)
+
+digits_are_value : (text : List ℕ) → AllDigits 10 text → IsValue text
+digits_are_value [] h = tt
+digits_are_value (c ∷ text) h = (not_soh c h.0, digits_are_value text h.1)
+
+-- the name of a request may stand as the value of a field
+pub request_name_is_value : (n : ℕ) → n < 2 ^ 64 → IsValue (request_name n)
+request_name_is_value n h = (λ e. cc, digits_are_value (decimal n) ((decimal_is_IsNumeral n h).0).1)
+
+-- the name of a closing notice may too
+pub notice_name_is_value : (n : ℕ) → n < 2 ^ 64 → IsValue (notice_name n)
+notice_name_is_value n h = (λ e. cc, digits_are_value (decimal n) ((decimal_is_IsNumeral n h).0).1)
+
+-- what is built of two values is one, and its parts are
+value-append : (a b : List ℕ) → IsValue a → IsValue b → IsValue (a ++ b)
+value-append [] b p q = q
+value-append (c ∷ a) b p q = (p.0, value-append a b p.1 q)
+
+digits-append : (a b : List ℕ) → AllDigits 10 (a ++ b) → AllDigits 10 a × AllDigits 10 b
+digits-append [] b h = (tt, h)
+digits-append (c ∷ a) b h = let parts = digits-append a b h.1 in ((h.0, parts.0), parts.1)
+
+sign_is_value : (negative : Bool) → IsValue (sign_text negative)
+sign_is_value true = (λ e. cc, tt)
+sign_is_value false = tt
+
+point_is_value : (decimals : Option (List ℕ)) → AllDigits 10 (behind_point decimals) → IsValue (point_text decimals)
+point_is_value None h = tt
+point_is_value (Some digits) h = (λ e. cc, digits_are_value digits h)
+
+-- a printed price may
+pub price_is_value : (text : List ℕ) (n : ℕ) → IsShortest text n → IsValue text
+price_is_value text n h =
+    let parts = h.read.parts in
+    let digits = digits-append parts.whole (behind_point parts.decimals) h.read.lawful.all_digits in
+    let whole = value-append parts.whole (point_text parts.decimals) (digits_are_value parts.whole digits.0) (point_is_value parts.decimals digits.1) in
+    rw h.read.built (value-append (sign_text parts.is_negative) (parts.whole ++ point_text parts.decimals) (sign_is_value parts.is_negative) whole)

@@ -1,0 +1,4 @@
+pub mod SessionChecks
+pub mod TagReading
+pub mod Texts
+pub mod Written

@@ -1,0 +1,80 @@
+//! The messages of a blind multi-dealer RFQ venue, typed: what a firm's frame says, or the fault for which the
+//! session rejects it, and the frame of each message that a dealer is sent.
+//!
+//! A message comes as a frame of `fix_fields`, a list of tags and values. This crate reads the three types that
+//! a dealer sends: a Quote (35=S), a QuoteCancel (35=Z), and a QuoteRequestReject (35=AG), by which it declines a
+//! request. What the venue answers is a decision of the market and is not made here: a desk makes it, as an
+//! [`OutMessage`], and this crate writes it. The types that a desk, a room and an investor share stand here too:
+//! [`Ask`], [`Side`], [`Close`], [`Duty`], [`RoomRef`], [`Reply`].
+//!
+//! # Example
+//!
+//! ```
+//! let frame = read_frame(bytes)?;
+//! let answer = match read_dealer(&date, &row, &frame) {
+//!     // A cancel that names no quote of this dealer.
+//!     Ok(DealerMessage::Cancel(QuoteCancel { id: Some(id), .. })) => OutMessage::CancelUnknown { id },
+//!     // A message at fault: the Reject names the tag and the reason.
+//!     Err(fault) => OutMessage::Reject(Reject { number, fault, msg_type }),
+//!     ..
+//! };
+//! let message = write_out(alloc, &head, &answer)?;
+//! send(message.as_bytes());
+//! ```
+//!
+//! # What is promised
+//!
+//! - [`read_dealer`] is `session_verdict` of the day, the dealer's row and the frame's fields: the first fault in
+//!   the order of the tables of `SessionChecks`, or the message, each field absent or as its form reads it. The
+//!   header's table comes first, then that of the message's type; of one tag it is looked at, in this order,
+//!   whether it is missing, stands more than once, is empty, has another form, or has another value than it may.
+//!   Nothing else of the message matters: not the order of its fields, and no field that the tables lack.
+//! - A price out of range or off the grid is no fault of the session: the [`Quote`] carries it as it is.
+//! - [`write_out`] is `written`: the frame of the fields of that message, in their order, for the head's firm,
+//!   number and moment. It fails for nothing but memory, since whatever can be asked for fits into a frame.
+//! - A closing notice bears a QuoteID (117) and a price only where the dealer's own quote was hit, whatever its
+//!   [`ClosingNotice::quote`] is.
+//! - An [`Id`], a [`QuoteId`], a [`SeqNum`], a [`MsgType`] and a [`Quantity`] are never anything but what their
+//!   forms allow, so what is written of them needs no check.
+//!
+//! No call has a condition, each returns, and only [`write_out`] and [`Message::copy_of`] take memory.
+#![tactic(auto)]
+
+mod asks;
+mod characters;
+mod closes;
+mod duties;
+mod ids;
+mod messages;
+mod numbers;
+mod out_messages;
+mod quantities;
+mod quotes;
+mod received;
+mod reject_reasons;
+mod replies;
+mod rooms;
+mod session_checks;
+mod session_faults;
+mod sides;
+#[cfg(test)]
+mod tests;
+mod writing;
+
+pub use asks::Ask;
+pub use closes::Close;
+pub use duties::Duty;
+pub use ids::{Id, QuoteId};
+pub use messages::Message;
+pub use numbers::{read_long_number, read_number};
+pub use out_messages::{ClosingNotice, Head, OutMessage, QuotedPrice, Reject, Request};
+pub use quantities::{Quantity, read_quantity};
+pub use quotes::{DealerMessage, Decline, Quote, QuoteCancel};
+pub use received::{MsgType, SeqNum};
+pub use reject_reasons::QuoteRejectReason;
+pub use replies::{HitRefusal, Reply};
+pub use rooms::RoomRef;
+pub use session_checks::read_dealer;
+pub use session_faults::{SessionFault, SessionRejectReason};
+pub use sides::Side;
+pub use writing::write_out;

@@ -1,0 +1,106 @@
+//! Quantities.
+ghost use Rattle.std.specs.Prelude.{◌≡◌, ◌==◌, ℕ, ◌+◌, ◌≤◌, length, Some, None, if◌then◌else◌};
+ghost use Rattle.std.specs.List.{list_all, position, before_first, after_first};
+ghost use Rattle.quote_messages.specs.Texts.{is_quantity, is_point};
+ghost use Rattle.quote_messages.specs.SessionChecks.{quantity_of};
+
+use crate::numbers::are_digits;
+use crate::{SessionRejectReason, read_long_number};
+use std::marker::Model;
+
+/// A quantity of a bond (OrderQty 38, BidSize 134, OfferSize 135): a whole number from 1 to 1,000,000,000,000.
+#[derive(Clone, Copy)]
+pub struct Quantity {
+    units: u64,
+}
+
+impl Model for Quantity {
+    ghost use Rattle.std.specs.Prelude.{ℕ, ◌≤◌};
+
+    ghost Value = { ℕ };
+
+    ghost view = { λ q. q.units };
+
+    ghost invariant = { λ q. (1 ≤ q.units) × (q.units ≤ 1000000000000) };
+
+    ghost inverse = { λ units. record { units = units } };
+}
+
+impl Quantity {
+    /// The greatest quantity.
+    pub const MOST: u64 = 1_000_000_000_000;
+
+    /// That many units, or none for 0 and for more than [`Quantity::MOST`].
+    pub fn new(units: u64) -> Option<Self>
+        ensures { result ≡ (if is_quantity units then Some units else None) }
+    {
+        if units < 1 || units > Self::MOST {
+            return None;
+        }
+        Some(Quantity { units })
+    }
+
+    /// The number of units.
+    pub fn get(self) -> u64
+        ensures value { result ≡ self }
+        ensures least { 1 ≤ result }
+        ensures most { result ≤ 1000000000000 }
+    {
+        self.units
+    }
+}
+
+/// The quantity that 1 to 15 digits with at most one point write: of wrong form, not whole or out of its
+/// limits is the reason given.
+#[tactic(auto, unfolding(crate::specs::SessionChecks::quantity_of))]
+pub fn read_quantity(text: &[u8]) -> Result<Quantity, SessionRejectReason>
+    ensures { result ≡ quantity_of text.now }
+{
+    let (whole, decimals) = cut_at_point(text);
+    let digits = whole.len() + decimals.len();
+    if digits < 1 || digits > 15 || !are_digits(whole) || !are_digits(decimals) {
+        return Err(SessionRejectReason::IncorrectDataFormat);
+    }
+    if !are_zeros(decimals) {
+        return Err(SessionRejectReason::ValueIncorrect);
+    }
+    let units = read_long_number(whole).unwrap_or(0);
+    let Some(quantity) = Quantity::new(units) else {
+        return Err(SessionRejectReason::ValueIncorrect);
+    };
+    Ok(quantity)
+}
+
+/// What stands before the first point of a text and what stands behind it, nothing where it has no point.
+#[tactic(auto, using(crate::proofs::TextLemmas::cut_at, crate::proofs::TextLemmas::cut_nowhere))]
+fn cut_at_point(text: &[u8]) -> (&[u8], &[u8])
+    ensures whole { result.0.now ≡ before_first is_point text.now }
+    ensures decimals { result.1.now ≡ after_first is_point text.now }
+    ensures shorter { length result.0.now + length result.1.now ≤ length text.now }
+{
+    let Some(point) = point_in(text) else {
+        return (text, &[]);
+    };
+    (&text[..point], &text[point + 1..])
+}
+
+/// Whether each byte is the digit 0.
+fn are_zeros(text: &[u8]) -> bool
+    ensures { result ≡ list_all (λ c. c == 48) text.now }
+{
+    text.iter().all(|c| *c == b'0')
+}
+
+/// Where the first point of a text stands.
+fn point_in(text: &[u8]) -> Option<usize>
+    ensures { result ≡ position is_point text.now }
+{
+    text.iter().position(|c| is_point(*c))
+}
+
+/// Whether a byte is the point.
+fn is_point(c: u8) -> bool
+    ensures { result ≡ is_point c }
+{
+    c == b'.'
+}

@@ -1,0 +1,38 @@
+//! Why a quote is refused.
+
+/// QuoteRejectReason (300) of a QuoteStatusReport that refuses (297=5).
+#[derive(Clone, Copy, PartialEq, Eq)]
+pub enum QuoteRejectReason {
+    /// 1: the bond is not the request's.
+    UnknownSymbol,
+    /// 3: a limit of the day or the exposure would be passed.
+    ExceedsLimit,
+    /// 4: the request takes no quote any more.
+    TooLate,
+    /// 6: the QuoteID was used by an earlier accepted quote.
+    DuplicateQuote,
+    /// 8: the price is on the wrong side, missing, out of range or off the grid.
+    InvalidPrice,
+    /// 99: any other reason.
+    Other,
+}
+
+impl QuoteRejectReason {
+    ghost use Rattle.std.specs.Prelude.{◌≡◌, ◌<◌};
+    ghost use Rattle.quote_messages.specs.Written.{quote_reject_code};
+
+    /// The number that stands in the field 300.
+    pub fn code(self) -> u64
+        ensures code { result ≡ quote_reject_code self }
+        ensures short { result < 100 }
+    {
+        match self {
+            QuoteRejectReason::UnknownSymbol => 1,
+            QuoteRejectReason::ExceedsLimit => 3,
+            QuoteRejectReason::TooLate => 4,
+            QuoteRejectReason::DuplicateQuote => 6,
+            QuoteRejectReason::InvalidPrice => 8,
+            QuoteRejectReason::Other => 99,
+        }
+    }
+}

@@ -1,0 +1,50 @@
+//! Why a message is rejected at the session level.
+
+/// SessionRejectReason (373) of a Reject (35=3).
+#[derive(Clone, Copy, PartialEq, Eq)]
+pub enum SessionRejectReason {
+    /// 1: the tag is required and does not stand.
+    RequiredTagMissing,
+    /// 4: the tag stands without a value.
+    TagWithoutValue,
+    /// 5: the value is not one that the tag may have here.
+    ValueIncorrect,
+    /// 6: the value is not of the tag's form.
+    IncorrectDataFormat,
+    /// 9: SenderCompID (49) or TargetCompID (56) names another firm.
+    CompIdProblem,
+    /// 11: MsgType (35) is none that the firm may send.
+    InvalidMsgType,
+    /// 13: the tag stands more than once.
+    TagMoreThanOnce,
+}
+
+impl SessionRejectReason {
+    ghost use Rattle.std.specs.Prelude.{◌≡◌, ◌<◌};
+    ghost use Rattle.quote_messages.specs.Written.{session_reject_code};
+
+    /// The number that stands in the field 373.
+    pub fn code(self) -> u64
+        ensures code { result ≡ session_reject_code self }
+        ensures short { result < 100 }
+    {
+        match self {
+            SessionRejectReason::RequiredTagMissing => 1,
+            SessionRejectReason::TagWithoutValue => 4,
+            SessionRejectReason::ValueIncorrect => 5,
+            SessionRejectReason::IncorrectDataFormat => 6,
+            SessionRejectReason::CompIdProblem => 9,
+            SessionRejectReason::InvalidMsgType => 11,
+            SessionRejectReason::TagMoreThanOnce => 13,
+        }
+    }
+}
+
+/// The first fault of a message at the session level.
+#[derive(Clone, Copy, PartialEq, Eq)]
+pub struct SessionFault {
+    /// The tag at fault, RefTagID (371).
+    pub tag: u32,
+    /// What is wrong with it, SessionRejectReason (373).
+    pub reason: SessionRejectReason,
+}

@@ -1,0 +1,7 @@
+pub mod ConfigLemmas
+pub mod FaultLemmas
+pub mod FirmLemmas
+pub mod LimitLemmas
+pub mod RowLemmas
+pub mod TextLemmas
+pub mod ValueLemmas

@@ -1,0 +1,52 @@
+-- The names of rows.
+use Rattle.std.proofs.Common.{◌≡◌, ℕ, Bool, true, false, Ok, Err, ◌||◌, List, [], ◌∷◌, ◌++◌, map, refl, ap, sym, ◌∙◌}
+use Rattle.std.specs.List.{list_any}
+use Rattle.std.proofs.lemmas.List.Folds.{list_any-append}
+use Rattle.venue_config.specs.Texts.{is_among, same_text}
+use Rattle.venue_config.specs.Rows.{dealer_values, investor_values}
+use Rattle.toml.specs.Data.{Data}
+use Rattle.venue_config.specs.Keys.{name_key}
+use Rattle.venue_config.specs.Values.{text_at}
+use Rattle.venue_config.specs.declared.faults.ConfigFault.TheVariants.{Twice}
+use Rattle.venue_config.specs.Config.{dealer_names, investor_names, firm_name_of}
+use Rattle.venue_config.specs.declared.dealer_rows.DealerRow.{DealerRow}
+use Rattle.venue_config.specs.declared.investor_rows.InvestorRow.{InvestorRow}
+
+-- a name is among the values of rows where it is among the rows
+pub is_among_dealers : (rows : List DealerRow) (name : List ℕ) → list_any (λ (row : DealerRow). same_text row.name name) rows ≡ is_among (dealer_names (map dealer_values rows)) name
+is_among_dealers [] name = refl
+is_among_dealers (row ∷ rows) name = ap (λ b. same_text row.name name || b) (is_among_dealers rows name)
+
+pub is_among_investors : (rows : List InvestorRow) (name : List ℕ) → list_any (λ (row : InvestorRow). same_text row.name name) rows ≡ is_among (investor_names (map investor_values rows)) name
+is_among_investors [] name = refl
+is_among_investors (row ∷ rows) name = ap (λ b. same_text row.name name || b) (is_among_investors rows name)
+
+-- a text is among two lists where it is in the one or in the other
+pub is_among_both : (xs ys : List (List ℕ)) (name : List ℕ) → is_among (xs ++ ys) name ≡ (is_among xs name || is_among ys name)
+is_among_both xs ys name = list_any-append (λ own. same_text own name) xs ys
+
+-- a name that a dealer has, and one that no dealer has
+pub found_in_front : (dealers : List DealerRow) (investors : List InvestorRow) (name : List ℕ) (found : Bool) → found ≡ list_any (λ (row : DealerRow). same_text row.name name) dealers → found ≡ true
+    → found ≡ is_among (dealer_names (map dealer_values dealers) ++ investor_names (map investor_values investors)) name
+found_in_front dealers investors name found is taken =
+    let behind = is_among (investor_names (map investor_values investors)) name in
+    taken ∙ sym (is_among_both (dealer_names (map dealer_values dealers)) (investor_names (map investor_values investors)) name
+    ∙ ap (λ b. b || behind) (sym (is_among_dealers dealers name) ∙ sym is ∙ taken))
+
+pub found_behind : (dealers : List DealerRow) (investors : List InvestorRow) (name : List ℕ) (found also : Bool) → found ≡ list_any (λ (row : DealerRow). same_text row.name name) dealers → found ≡ false
+    → also ≡ list_any (λ (row : InvestorRow). same_text row.name name) investors
+    → also ≡ is_among (dealer_names (map dealer_values dealers) ++ investor_names (map investor_values investors)) name
+found_behind dealers investors name found also is free then =
+    let behind = is_among (investor_names (map investor_values investors)) name in
+    then ∙ is_among_investors investors name
+    ∙ sym (is_among_both (dealer_names (map dealer_values dealers)) (investor_names (map investor_values investors)) name
+    ∙ ap (λ b. b || behind) (sym (is_among_dealers dealers name) ∙ sym is ∙ free))
+
+-- a name that was read, and that a firm has already or has not
+pub named_twice : (firms : List (List ℕ)) (row : Data) (name : List ℕ) → Ok name ≡ text_at name_key row → is_among firms name ≡ true → Err Twice ≡ firm_name_of firms row
+unfolding firm_name_of
+named_twice firms row name was taken = rw (← was, taken)
+
+pub named_first : (firms : List (List ℕ)) (row : Data) (name : List ℕ) → Ok name ≡ text_at name_key row → is_among firms name ≡ false → Ok name ≡ firm_name_of firms row
+unfolding firm_name_of
+named_first firms row name was free = rw (← was, free)

@@ -1,0 +1,11 @@
+use Rattle.std.proofs.Common.{◌≡◌, [], drop, map, length}
+use Rattle.toml.specs.View.{items_view}
+use Rattle.venue_config.specs.Values.{read_all}
+use Rattle.venue_config.specs.Rows.{dealer_values}
+use Rattle.venue_config.specs.Config.{dealer_of}
+use Rattle.venue_config.proofs.rows.read_dealers.Given as goal
+
+abbrev pub invariant-loop-row : goal.invariant-loop-row
+invariant-loop-row l =
+    (read_all dealer_of [] (items_view l.rows) ≡ read_all dealer_of (map dealer_values l.dealers.items) (items_view (drop l.row-index l.rows)))
+    × (length l.dealers.items ≡ l.row-index)

@@ -1,0 +1,90 @@
+-- Which configuration a text spells, or its first fault: the keys in their order, row by row, and the sums last.
+use Rattle.std.specs.Prelude.{ℕ, Bool, ◌&&◌, List, [], ◌++◌, map, nat_le, sum_by, Option, Some, None, Result, Ok, Err, if◌then◌else◌}
+use Rattle.toml.specs.Data.{Data, Members, table}
+use Rattle.toml.specs.Parse.{parse_document}
+use Rattle.venue_config.specs.Keys.{version_key, date_key, bonds_key, id_key, dealers_key, investors_key, name_key, quotes_key, exposure_key, requests_key, open_key, quantity_key, most_quotes, most_requests}
+use Rattle.venue_config.specs.Values.{◌>>=◌, number_at, text_at, unnamed, rows_at, read_all, traders_at}
+use Rattle.venue_config.specs.Rows.{DealerValues, InvestorValues, ConfigValues}
+use Rattle.venue_config.specs.declared.faults.ConfigFault.{ConfigFault}
+use Rattle.venue_config.specs.declared.faults.ConfigFault.TheVariants.{Toml, Limit}
+
+-- a bond, of which no two have one identifier
+unfoldable pub bond_of : List (List ℕ) → Data → Result (List ℕ) ConfigFault
+bond_of bonds row = text_at id_key row >>= unnamed bonds
+
+-- the names of dealers, and of investors
+abbrev pub dealer_names : List DealerValues → List (List ℕ)
+dealer_names dealers = map (λ (row : DealerValues). row.name) dealers
+
+abbrev pub investor_names : List InvestorValues → List (List ℕ)
+investor_names investors = map (λ (row : InvestorValues). row.name) investors
+
+-- the name of a firm, of which no two have one name, be they dealers or investors
+unfoldable pub firm_name_of : List (List ℕ) → Data → Result (List ℕ) ConfigFault
+firm_name_of firms row = text_at name_key row >>= unnamed firms
+
+-- a dealer, behind the dealers before it
+unfoldable pub dealer_of : List DealerValues → Data → Result DealerValues ConfigFault
+dealer_of dealers row = do
+  name ← firm_name_of (dealer_names dealers) row
+  traders ← traders_at row
+  quotes ← number_at quotes_key row
+  exposure ← number_at exposure_key row
+  Ok (record { name = name; traders = traders; quotes = quotes; exposure = exposure })
+
+-- an investor, behind all dealers and the investors before it
+unfoldable pub investor_of : List DealerValues → List InvestorValues → Data → Result InvestorValues ConfigFault
+investor_of dealers investors row = do
+  name ← firm_name_of (dealer_names dealers ++ investor_names investors) row
+  traders ← traders_at row
+  requests ← number_at requests_key row
+  open_limit ← number_at open_key row
+  quantity ← number_at quantity_key row
+  Ok (record { name = name; traders = traders; requests = requests; open_limit = open_limit; quantity = quantity })
+
+-- the rows of a document
+unfoldable pub bonds_in : Data → Result (List (List ℕ)) ConfigFault
+bonds_in document = rows_at bonds_key document >>= read_all bond_of []
+
+unfoldable pub dealers_in : Data → Result (List DealerValues) ConfigFault
+dealers_in document = rows_at dealers_key document >>= read_all dealer_of []
+
+unfoldable pub investors_in : List DealerValues → Data → Result (List InvestorValues) ConfigFault
+investors_in dealers document = rows_at investors_key document >>= read_all (investor_of dealers) []
+
+-- how many quotes and requests a day may have in all
+abbrev pub quotes_in_all : List DealerValues → ℕ
+quotes_in_all dealers = sum_by (λ row. row.quotes) dealers
+
+abbrev pub requests_in_all : List InvestorValues → ℕ
+requests_in_all investors = sum_by (λ row. row.requests) investors
+
+-- whether both sums are within their limits
+abbrev pub sums_fit : List DealerValues → List InvestorValues → Bool
+sums_fit dealers investors =
+    nat_le (quotes_in_all dealers) most_quotes && nat_le (requests_in_all investors) most_requests
+
+abbrev pub with_sums : ConfigValues → Result ConfigValues ConfigFault
+with_sums config = if sums_fit config.dealers config.investors then Ok config else Err Limit
+
+-- the configuration of a document
+unfoldable pub config_in : Data → Result ConfigValues ConfigFault
+config_in document = do
+  version ← number_at version_key document
+  date ← text_at date_key document
+  bonds ← bonds_in document
+  dealers ← dealers_in document
+  investors ← investors_in dealers document
+  with_sums (record { date = date; bonds = bonds; dealers = dealers; investors = investors })
+
+-- the document that a text of TOML spells
+abbrev pub document_from : Option Members → Result Data ConfigFault
+document_from None = Err Toml
+document_from (Some members) = Ok (table members)
+
+unfoldable pub document_of : List ℕ → Result Data ConfigFault
+document_of text = document_from (parse_document text)
+
+-- the configuration that a text spells
+unfoldable pub config_of : List ℕ → Result ConfigValues ConfigFault
+config_of text = document_of text >>= config_in

@@ -1,0 +1,6 @@
+pub mod Config
+pub mod Faults
+pub mod Keys
+pub mod Rows
+pub mod Texts
+pub mod Values

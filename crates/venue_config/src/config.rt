@@ -1,0 +1,232 @@
+//! The configuration of a venue, as a whole.
+ghost use Rattle.std.specs.Prelude.{◌≡◌, ◌≢◌, ◌≤◌, ◌++◌, Ok, Err, IfOk, IfErr, map, length, position, sum_by};
+ghost use Rattle.toml.specs.Parse.{parse_document};
+ghost use Rattle.toml.specs.View.{view};
+ghost use Rattle.venue_config.specs.Texts.{same_text};
+ghost use Rattle.venue_config.specs.Rows.{dealer_values, investor_values, values_of, firm_number, firm_names, has_room, KeepsLimits};
+ghost use Rattle.venue_config.specs.Config.{config_in, config_of, document_of, sums_fit};
+
+use crate::characters::same_text;
+use crate::faults::ConfigFault;
+use crate::rows::{read_bonds, read_dealers, read_investors};
+use crate::values::{number_at, read_date};
+use crate::{BondId, DealerRow, InvestorRow};
+use fix_fields::Date;
+use std::alloc::Global;
+use std::marker::Model;
+use toml::Value;
+
+/// What a venue is configured with for one day: its date, its bonds, its dealers and its investors.
+///
+/// No two bonds are the same, no two firms have one name, be they dealers or investors, and no firm
+/// names a trader twice. There are at most 1,024 bonds, 64 dealers and 64 investors; all dealers
+/// together have at most 65,536 quotes in a day, and all investors at most 4,096 requests.
+#[derive(Drop)]
+pub struct VenueConfig {
+    date: Date,
+    bonds: Vec<BondId>,
+    dealers: Vec<DealerRow>,
+    investors: Vec<InvestorRow>,
+}
+
+impl Model for VenueConfig {
+    ghost use Rattle.venue_config.specs.Rows.{Configuration, KeepsLimits};
+
+    ghost Value = { Configuration };
+
+    ghost view = { λ c. record { date = c.date; bonds = c.bonds.items; dealers = c.dealers.items; investors = c.investors.items } };
+
+    ghost invariant = { λ c. KeepsLimits (record { date = c.date; bonds = c.bonds.items; dealers = c.dealers.items; investors = c.investors.items }) };
+}
+
+impl VenueConfig {
+    /// The version of the form of a configuration.
+    const VERSION: u64 = 1;
+
+    /// The day, which the moments of its messages bear.
+    pub fn date(&self) -> &Date
+        ensures { result.now ≡ self.now.date }
+    {
+        &self.date
+    }
+
+    /// The bonds that may be asked for (SecurityID 48), in the order of their rows.
+    pub fn bonds(&self) -> &[BondId]
+        ensures value { result.now ≡ self.now.bonds }
+        ensures limits { KeepsLimits self.now }
+    {
+        self.bonds.as_slice()
+    }
+
+    /// The dealers, in the order of their rows: each is the firm with the number of its place, from 0.
+    pub fn dealers(&self) -> &[DealerRow]
+        ensures value { result.now ≡ self.now.dealers }
+        ensures limits { KeepsLimits self.now }
+    {
+        self.dealers.as_slice()
+    }
+
+    /// The investors, in the order of their rows: their numbers as firms go on behind the dealers'.
+    pub fn investors(&self) -> &[InvestorRow]
+        ensures value { result.now ≡ self.now.investors }
+        ensures limits { KeepsLimits self.now }
+    {
+        self.investors.as_slice()
+    }
+
+    /// The number of the firm with this name, or none where no firm has it: the dealers are numbered
+    /// from 0 in their order, and the investors behind them.
+    pub fn firm(&self, name: &str) -> Option<u16>
+        ensures { result ≡ firm_number self.now name.now }
+    {
+        firm_number(self.dealers(), self.investors(), name.as_bytes())
+    }
+
+    /// Whether there is a room for the request with this number of the firm with that number: whether
+    /// the firm is an investor, and the number is one of its requests of the day, 1 to `requests`.
+    pub fn has_room(&self, firm: u16, number: u32) -> bool
+        ensures { result ≡ has_room self.now firm number }
+    {
+        let firm = usize::from(firm);
+        if firm < self.dealers.len() {
+            return false;
+        }
+        let Some(row) = self.investors.get(firm - self.dealers.len()) else {
+            return false;
+        };
+        number >= 1 && number <= row.requests
+    }
+}
+
+/// The number of the firm with this name.
+fn firm_number(dealers: &[DealerRow], investors: &[InvestorRow], name: &[u8]) -> Option<u16>
+    requires dealers_most { length dealers.now ≤ 64 }
+    requires investors_most { length investors.now ≤ 64 }
+    ensures { result ≡ position (λ own. same_text own name.now)
+        (map (λ row. row.name) dealers.now ++ map (λ row. row.name) investors.now) }
+{
+    if let Some(place) = place_of_dealer(dealers, name) {
+        return Some(place as u16);
+    }
+    let place = place_of_investor(investors, name)?;
+    Some((dealers.len() + place) as u16)
+}
+
+/// The place of the dealer with this name.
+fn place_of_dealer(dealers: &[DealerRow], name: &[u8]) -> Option<usize>
+    ensures { result ≡ position (λ row. same_text row.name name.now) dealers.now }
+{
+    dealers
+        .iter()
+        .position(|row| same_text(row.name.as_bytes(), name))
+}
+
+/// The place of the investor with this name.
+fn place_of_investor(investors: &[InvestorRow], name: &[u8]) -> Option<usize>
+    ensures { result ≡ position (λ row. same_text row.name name.now) investors.now }
+{
+    investors
+        .iter()
+        .position(|row| same_text(row.name.as_bytes(), name))
+}
+
+/// How many quotes all dealers may have in a day.
+const MOST_QUOTES: u64 = 65_536;
+
+/// How many requests all investors may have in a day.
+const MOST_REQUESTS: u64 = 4_096;
+
+/// Whether the quotes of all dealers and the requests of all investors are within their limits.
+#[tactic(auto, using(crate::proofs::ConfigLemmas::quotes_of_values, crate::proofs::ConfigLemmas::requests_of_values))]
+fn sums_fit(dealers: &[DealerRow], investors: &[InvestorRow]) -> bool
+    requires dealers_most { length dealers.now ≤ 64 }
+    requires investors_most { length investors.now ≤ 64 }
+    ensures { result ≡ sums_fit (map dealer_values dealers.now) (map investor_values investors.now) }
+{
+    quotes_in_all(dealers) <= MOST_QUOTES && requests_in_all(investors) <= MOST_REQUESTS
+}
+
+/// The quotes of all dealers together.
+fn quotes_in_all(dealers: &[DealerRow]) -> u64
+    requires { length dealers.now ≤ 64 }
+    ensures { result ≡ sum_by (λ row. row.quotes) dealers.now }
+{
+    let mut total = 0;
+    for row in dealers {
+        total += row.quotes as u64;
+    }
+    total
+}
+
+/// The requests of all investors together.
+fn requests_in_all(investors: &[InvestorRow]) -> u64
+    requires { length investors.now ≤ 64 }
+    ensures { result ≡ sum_by (λ row. row.requests) investors.now }
+{
+    let mut total = 0;
+    for row in investors {
+        total += row.requests as u64;
+    }
+    total
+}
+
+/// Reads the configuration that a text spells: TOML with the keys of `specs/Keys.antt`. Other keys are
+/// ignored, and arrays of tables that are absent are empty.
+///
+/// `Toml` is answered exactly where `toml` refuses the text for another cause than memory. Then the
+/// values are looked at in the order of their keys, row by row, and the two sums last; the first fault
+/// is the answer. Of one value the faults come in this order: `Missing` where it is absent or of
+/// another kind, `Name` where it is not of its form, `Limit` where it is out of its limits, `Twice`
+/// where it was named before. An array with too many elements is `Limit` before its elements are looked
+/// at. `Memory` may be answered at any point, and only then is the fault not the first one.
+#[tactic(auto, unfolding(crate::specs::Config::config_of))]
+pub fn read_config(alloc: Global, text: &str) -> Result<VenueConfig, ConfigFault>
+    ensures ok { IfOk result (λ config. config_of text.now ≡ Ok (values_of config)) }
+    ensures err { IfErr result (λ fault. fault ≢ ConfigFault.Memory → config_of text.now ≡ Err fault) }
+    ensures toml { IfErr result (λ fault. fault ≡ ConfigFault.Toml → parse_document text.now ≡ None) }
+    ensures limits { IfOk result (λ config. KeepsLimits config) }
+{
+    let document = read_toml(alloc, text)?;
+    let config = read_document(alloc, &document)?;
+    Ok(config)
+}
+
+/// Reads a text of TOML.
+#[tactic(auto, unfolding(crate::specs::Config::document_of))]
+fn read_toml(alloc: Global, text: &str) -> Result<Value, ConfigFault>
+    ensures ok { IfOk result (λ document. document_of text.now ≡ Ok (view document)) }
+    ensures err { IfErr result (λ fault. fault ≢ ConfigFault.Memory → document_of text.now ≡ Err fault) }
+    ensures toml { IfErr result (λ fault. fault ≡ ConfigFault.Toml → parse_document text.now ≡ None) }
+{
+    let error = match toml::table_from_str(alloc, text) {
+        Ok(table) => return Ok(Value::Table(table)),
+        Err(error) => error,
+    };
+    if error.is_memory() {
+        return Err(ConfigFault::Memory);
+    }
+    Err(ConfigFault::Toml)
+}
+
+/// Reads the configuration of a document.
+#[tactic(auto, unfolding(crate::specs::Config::config_in))]
+fn read_document(alloc: Global, document: &Value) -> Result<VenueConfig, ConfigFault>
+    ensures ok { IfOk result (λ config. config_in (view document.now) ≡ Ok (values_of config)) }
+    ensures err { IfErr result (λ fault. fault ≢ ConfigFault.Memory → config_in (view document.now) ≡ Err fault) }
+    ensures limits { IfOk result (λ config. KeepsLimits config) }
+{
+    number_at(document, "version", VenueConfig::VERSION)?;
+    let date = read_date(document)?;
+    let bonds = read_bonds(alloc, document)?;
+    let dealers = read_dealers(alloc, document)?;
+    let investors = read_investors(alloc, dealers.as_slice(), document)?;
+    if !sums_fit(dealers.as_slice(), investors.as_slice()) {
+        return Err(ConfigFault::Limit);
+    }
+    Ok(VenueConfig {
+        date,
+        bonds,
+        dealers,
+        investors,
+    })
+}

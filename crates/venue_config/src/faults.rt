@@ -1,0 +1,61 @@
+//! Why a text is no configuration.
+ghost use Rattle.std.specs.Prelude.{◌≡◌};
+ghost use Rattle.venue_config.specs.declared.faults.ConfigFault.TheVariants.{Memory};
+
+use std::alloc::AllocFailed;
+use thiserror::Error;
+
+/// The first fault of a configuration.
+///
+/// `Toml` comes before all others. Then the values are looked at in their order, and each may be
+/// `Missing`, then `Name`, then `Limit`, then `Twice`; the sums come last. `Memory` may come at any
+/// point. The text of a fault is its name.
+#[derive(Clone, Copy, Debug, PartialEq, Eq, Error)]
+pub enum ConfigFault {
+    /// The text is no TOML.
+    #[error("Toml")]
+    Toml,
+    /// A key is absent, or its value is of another kind than it has to be.
+    #[error("Missing")]
+    Missing,
+    /// A date, an identifier of a bond or a name is not of its form, or a firm is named `VENUE` or
+    /// `CLOCK`.
+    #[error("Name")]
+    Name,
+    /// A bond, a firm or a trader of one firm was named before.
+    #[error("Twice")]
+    Twice,
+    /// A number or a sum is out of its limits, or an array has too many elements, or no trader.
+    #[error("Limit")]
+    Limit,
+    /// Memory was refused.
+    #[error("Memory")]
+    Memory,
+}
+
+impl ConfigFault {
+    ghost use Rattle.std.specs.Prelude.{◌≡◌};
+    ghost use Rattle.venue_config.specs.Faults.{fault_name};
+
+    /// The name of the fault.
+    pub fn name(&self) -> &'static str
+        ensures { result.now ≡ fault_name self.now }
+    {
+        match self {
+            ConfigFault::Toml => "Toml",
+            ConfigFault::Missing => "Missing",
+            ConfigFault::Name => "Name",
+            ConfigFault::Twice => "Twice",
+            ConfigFault::Limit => "Limit",
+            ConfigFault::Memory => "Memory",
+        }
+    }
+}
+
+impl<T: Drop> From<AllocFailed<T>> for ConfigFault {
+    ghost from_gives = { λ _ fault. fault ≡ Memory };
+
+    fn from(_error: AllocFailed<T>) -> ConfigFault {
+        ConfigFault::Memory
+    }
+}

@@ -1,0 +1,76 @@
+//! Names of firms and of traders.
+ghost use Rattle.std.specs.Prelude.{◌≡◌, ℕ, List, IsTrue};
+ghost use Rattle.fix_fields.specs.Frame.{IsValue};
+ghost use Rattle.venue_config.specs.Texts.{is_name, text_if};
+
+use crate::characters::are_capitals_or_digits;
+use arrayvec::ArrayString;
+use std::marker::Model;
+use std::str;
+
+/// The name of a firm (SenderCompID 49, TargetCompID 56, PartyID 448) or of a trader (SenderSubID 50):
+/// 1 to 8 capital letters and digits, the first a letter.
+#[derive(Drop)]
+pub struct Name {
+    text: ArrayString<8>,
+}
+
+impl Model for Name {
+    ghost Value = { List ℕ };
+
+    ghost view = { λ n. n.text.bytes };
+
+    ghost invariant = { λ n. IsTrue (is_name n.text.bytes) };
+}
+
+impl Name {
+    /// The name that these bytes spell, or none where they spell no name.
+    #[tactic(auto, using(crate::proofs::TextLemmas::name_is_utf8))]
+    pub fn new(text: &[u8]) -> Option<Self>
+        ensures { result ≡ text_if is_name text.now }
+    {
+        if !is_name(text) {
+            return None;
+        }
+        let text = str::from_utf8(text).ok()?;
+        let text = ArrayString::from(text).ok()?;
+        Some(Name { text })
+    }
+
+    /// The characters of the name.
+    #[tactic(auto, using(crate::proofs::TextLemmas::name_is_value))]
+    pub fn as_bytes(&self) -> &[u8]
+        ensures value { result.now ≡ self.now }
+        ensures named { IsTrue (is_name self.now) }
+        ensures field { IsValue self.now }
+    {
+        self.text.as_bytes()
+    }
+
+    /// The characters as a text of fixed room.
+    pub(crate) fn text(&self) -> ArrayString<8>
+        ensures { result.bytes ≡ self.now }
+    {
+        self.text
+    }
+
+    /// The same name once more. It takes no memory.
+    pub fn copy(&self) -> Self
+        ensures { result ≡ self.now }
+    {
+        Name { text: self.text }
+    }
+}
+
+/// Whether the bytes spell a name.
+fn is_name(text: &[u8]) -> bool
+    ensures { result ≡ is_name text.now }
+{
+    let Some((first, rest)) = text.split_first() else {
+        return false;
+    };
+    if !first.is_ascii_uppercase() || rest.len() > 7 {
+        return false;
+    }
+    are_capitals_or_digits(rest)
+}

@@ -1,0 +1,78 @@
+//! The traders of a firm.
+ghost use Rattle.std.specs.Prelude.{◌≡◌, ℕ, ◌≤◌, List, [], length, map};
+ghost use Rattle.std.specs.List.{list_any};
+ghost use Rattle.venue_config.specs.Texts.{is_among, same_text, trader_added};
+
+use crate::Name;
+use crate::characters::same_text;
+use arrayvec::{ArrayString, ArrayVec};
+use std::marker::Model;
+
+/// The traders of a firm (SenderSubID 50) in their order: at most 16 names.
+#[derive(Drop)]
+pub struct Traders {
+    names: ArrayVec<ArrayString<8>, 16>,
+}
+
+impl Model for Traders {
+    ghost use Rattle.std.specs.Prelude.{ℕ, ◌≤◌, List, length, map};
+
+    ghost Value = { List (List ℕ) };
+
+    ghost view = { λ t. map (λ name. name.bytes) t.names.items };
+}
+
+impl Traders {
+    /// How many traders a firm has at most.
+    pub const MOST: usize = 16;
+
+    /// No trader yet.
+    pub fn new() -> Self
+        ensures { result ≡ [] }
+    {
+        Traders {
+            names: ArrayVec::new(),
+        }
+    }
+
+    /// How many there are.
+    pub fn len(&self) -> usize
+        ensures value { result ≡ length self.now }
+        ensures most { result ≤ 16 }
+    {
+        self.names.len()
+    }
+
+    /// Whether one of them has this name.
+    pub fn contains(&self, name: &[u8]) -> bool
+        ensures { result ≡ is_among self.now name.now }
+    {
+        has_name(self.names.as_slice(), name)
+    }
+
+    /// Adds a trader behind the others, or answers false and changes nothing where there are 16 already.
+    pub fn push(&mut self, name: &Name) -> bool
+        ensures { (self.new, result) ≡ trader_added self.old name.now }
+    {
+        if self.names.len() == Self::MOST {
+            return false;
+        }
+        self.names.push(name.text());
+        true
+    }
+
+    /// The same traders once more. It takes no memory.
+    pub fn copy(&self) -> Self
+        ensures { result ≡ self.now }
+    {
+        let names = ArrayVec::try_from(self.names.as_slice()).unwrap();
+        Traders { names }
+    }
+}
+
+/// Whether one of the texts is this one.
+fn has_name(names: &[ArrayString<8>], name: &[u8]) -> bool
+    ensures { result ≡ list_any (λ own. same_text own.bytes name.now) names.now }
+{
+    names.iter().any(|own| same_text(own.as_bytes(), name))
+}

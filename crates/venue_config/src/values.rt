@@ -1,0 +1,148 @@
+//! What stands at the keys of a table.
+ghost use Rattle.std.specs.Prelude.{◌≡◌, ◌≤◌, IfOk, length};
+ghost use Rattle.std.specs.Option.{option_map, option_and_then};
+ghost use Rattle.std.specs.Result.{result_map_both};
+ghost use Rattle.toml.specs.Data.{get, as_str, as_array};
+ghost use Rattle.toml.specs.View.{view, items_view};
+ghost use Rattle.venue_config.specs.Keys.{date_key, id_key};
+ghost use Rattle.venue_config.specs.Values.{number_at, number_within, text_at, elements_in, rows_at, trader_of, traders_at};
+
+use crate::faults::ConfigFault;
+use crate::{BondId, Name, Traders};
+use fix_fields::Date;
+use toml::Value;
+
+/// The integer at a key, from 1 to `most`.
+#[tactic(auto, unfolding(crate::specs::Values::number_at))]
+pub(crate) fn number_at(table: &Value, key: &str, most: u64) -> Result<u64, ConfigFault>
+    ensures value { result ≡ number_at (record { key = key.now; most = most }) (view table.now) }
+    ensures limits { IfOk result (λ number. (1 ≤ number) × (number ≤ most)) }
+{
+    let Some(value) = table.get(key) else {
+        return Err(ConfigFault::Missing);
+    };
+    let Some(number) = value.as_integer() else {
+        return Err(ConfigFault::Missing);
+    };
+    number_within(number, most)
+}
+
+/// An integer from 1 to `most`.
+fn number_within(number: i64, most: u64) -> Result<u64, ConfigFault>
+    ensures value { result ≡ number_within most number }
+    ensures limits { IfOk result (λ number. (1 ≤ number) × (number ≤ most)) }
+{
+    let Ok(number) = u64::try_from(number) else {
+        return Err(ConfigFault::Limit);
+    };
+    if number < 1 || number > most {
+        return Err(ConfigFault::Limit);
+    }
+    Ok(number)
+}
+
+/// The text at a key, or none where it is absent or of another kind.
+pub(crate) fn text_at<'a>(table: &'a Value, key: &str) -> Option<&'a str>
+    ensures { option_map (λ text. text.now) result ≡ option_and_then as_str (get key.now (view table.now)) }
+{
+    match table.get(key) {
+        Some(value) => value.as_str(),
+        None => None,
+    }
+}
+
+/// The date of a configuration.
+#[tactic(auto, unfolding(crate::specs::Values::text_at))]
+pub(crate) fn read_date(document: &Value) -> Result<Date, ConfigFault>
+    ensures { result ≡ text_at date_key (view document.now) }
+{
+    let Some(text) = text_at(document, "date") else {
+        return Err(ConfigFault::Missing);
+    };
+    let Some(date) = Date::new(text.as_bytes()) else {
+        return Err(ConfigFault::Name);
+    };
+    Ok(date)
+}
+
+/// The identifier of a bond.
+#[tactic(auto, unfolding(crate::specs::Values::text_at))]
+pub(crate) fn read_id(row: &Value) -> Result<BondId, ConfigFault>
+    ensures { result ≡ text_at id_key (view row.now) }
+{
+    let Some(text) = text_at(row, "id") else {
+        return Err(ConfigFault::Missing);
+    };
+    let Some(id) = BondId::new(text.as_bytes()) else {
+        return Err(ConfigFault::Name);
+    };
+    Ok(id)
+}
+
+/// The elements of an array that has at least `least` and at most `most`.
+#[tactic(auto, using(crate::proofs::ValueLemmas::item_count_view))]
+pub(crate) fn elements_of(array: &Value, least: usize, most: usize) -> Result<&[Value], ConfigFault>
+    ensures value { result_map_both (λ elements. items_view elements.now) (λ fault. fault) result
+        ≡ elements_in least most (as_array (view array.now)) }
+    ensures limits { IfOk result (λ elements. (least ≤ length elements.now) × (length elements.now ≤ most)) }
+{
+    let Some(elements) = array.as_array() else {
+        return Err(ConfigFault::Missing);
+    };
+    if elements.len() < least || elements.len() > most {
+        return Err(ConfigFault::Limit);
+    }
+    Ok(elements.as_slice())
+}
+
+/// The rows of an array of tables with at most `most`: none where it is absent.
+#[tactic(auto, unfolding(crate::specs::Values::rows_at))]
+pub(crate) fn rows_at<'a>(
+    document: &'a Value,
+    key: &str,
+    most: usize,
+) -> Result<&'a [Value], ConfigFault>
+    ensures value { result_map_both (λ rows. items_view rows.now) (λ fault. fault) result
+        ≡ rows_at (record { key = key.now; least = 0; most = most }) (view document.now) }
+    ensures limits { IfOk result (λ rows. length rows.now ≤ most) }
+{
+    let Some(rows) = document.get(key) else {
+        return Ok(&[]);
+    };
+    elements_of(rows, 0, most)
+}
+
+/// The traders of a firm.
+#[tactic(auto, using(crate::proofs::ValueLemmas::read_all_ok, crate::proofs::ValueLemmas::read_all_err, crate::proofs::ValueLemmas::read_all_end), unfolding(crate::specs::Values::traders_at, crate::specs::Values::elements_at))]
+pub(crate) fn read_traders(row: &Value) -> Result<Traders, ConfigFault>
+    ensures value { result ≡ traders_at (view row.now) }
+    ensures some { IfOk result (λ traders. 1 ≤ length traders) }
+{
+    let Some(array) = row.get("traders") else {
+        return Err(ConfigFault::Missing);
+    };
+    let elements = elements_of(array, 1, Traders::MOST)?;
+    let mut traders = Traders::new();
+    for element in elements {
+        let trader = read_trader(&traders, element)?;
+        traders.push(&trader);
+    }
+    Ok(traders)
+}
+
+/// A trader of a firm, behind those before it.
+#[tactic(auto, unfolding(crate::specs::Values::trader_of))]
+fn read_trader(before: &Traders, element: &Value) -> Result<Name, ConfigFault>
+    ensures { result ≡ trader_of before.now (view element.now) }
+{
+    let Some(text) = element.as_str() else {
+        return Err(ConfigFault::Missing);
+    };
+    let Some(trader) = Name::new(text.as_bytes()) else {
+        return Err(ConfigFault::Name);
+    };
+    if before.contains(text.as_bytes()) {
+        return Err(ConfigFault::Twice);
+    }
+    Ok(trader)
+}
