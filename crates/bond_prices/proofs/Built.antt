@@ -1,13 +1,13 @@
 -- A text and its parts are one thing: cut, each text gives its parts, and lawful parts are found again in their text.
 use Rattle.std.proofs.Common.{◌≡◌, ◌≢◌, ℕ, ◌<◌, Bool, true, false, List, [], ◌∷◌, ◌++◌, length, Option, Some, None, refl, sym, ◌∙◌, ap, arith, ◌&&◌}
-use Rattle.std.proofs.lemmas.Bool.{ne_eqb, eqb-true, le-leb, leb-true}
+use Rattle.std.proofs.lemmas.Bool.{and_parts, ne_eqb, eqb-true, le-leb, leb-true}
 use Rattle.std.specs.Prelude.{◌==◌, nat_le}
 use Rattle.std.specs.Str.Parse.{AllDigits}
 use Rattle.std.specs.Char.{is_digit, digit_value}
 use Rattle.std.specs.List.{list_all}
 use Rattle.bond_prices.specs.Price.{Parts, text_of, sign_text, point_text, behind_point, digits_of, cut_at_point, parts_of, are_lawful, IsLawful}
 use Rattle.bond_prices.proofs.PriceOf.{cut_at_point-unsigned}
-use Rattle.bond_prices.proofs.DigitTests.{and_true, digits_test, digits_from_test}
+use Rattle.bond_prices.proofs.DigitTests.{digits_test, digits_from_test}
 
 -- the test of the form
 pub lawful_test : (p : Parts) → IsLawful p → are_lawful (digits_of p) ≡ true
@@ -15,8 +15,8 @@ lawful_test p h = rw (digits_test (digits_of p) h.all_digits, le-leb 1 (length (
 
 pub lawful_from_test : (p : Parts) → are_lawful (digits_of p) ≡ true → IsLawful p
 lawful_from_test p h =
-    let digits = and_true (list_all (λ c. is_digit c 10) (digits_of p)) (nat_le 1 (length (digits_of p)) && nat_le (length (digits_of p)) 15) h in
-    let counts = and_true (nat_le 1 (length (digits_of p))) (nat_le (length (digits_of p)) 15) digits.1 in
+    let digits = and_parts (list_all (λ c. is_digit c 10) (digits_of p)) (nat_le 1 (length (digits_of p)) && nat_le (length (digits_of p)) 15) h in
+    let counts = and_parts (nat_le 1 (length (digits_of p))) (nat_le (length (digits_of p)) 15) digits.1 in
     record { all_digits = digits_from_test (digits_of p) digits.0; at_least_one = leb-true 1 (length (digits_of p)) counts.0; at_most = leb-true (length (digits_of p)) 15 counts.1 }
 
 -- the front of digits

@@ -1,14 +1,9 @@
 -- What the tests of the definitions tell.
 use Rattle.std.proofs.Common.{◌≡◌, ℕ, Bool, true, false, List, [], ◌∷◌, refl, ◌&&◌}
-use Rattle.std.proofs.lemmas.Bool.{lt-ltb, ltb-true}
+use Rattle.std.proofs.lemmas.Bool.{and_parts, lt-ltb, ltb-true}
 use Rattle.std.specs.Str.Parse.{AllDigits}
 use Rattle.std.specs.Char.{is_digit, digit_value}
 use Rattle.std.specs.List.{list_all}
-
--- both of two tests
-pub and_true : (a b : Bool) → (a && b) ≡ true → (a ≡ true) × (b ≡ true)
-and_true true b e = (refl, e)
-and_true false b e = absurd cc
 
 -- the test of digits
 pub digits_test : (digits : List ℕ) → AllDigits 10 digits → list_all (λ c. is_digit c 10) digits ≡ true
@@ -18,5 +13,5 @@ digits_test (c ∷ digits) h = rw (lt-ltb (digit_value c) 10 h.0) (digits_test d
 pub digits_from_test : (digits : List ℕ) → list_all (λ c. is_digit c 10) digits ≡ true → AllDigits 10 digits
 digits_from_test [] h = tt
 digits_from_test (c ∷ digits) h =
-    let both = and_true (is_digit c 10) (list_all (λ c. is_digit c 10) digits) h in
+    let both = and_parts (is_digit c 10) (list_all (λ c. is_digit c 10) digits) h in
     (ltb-true (digit_value c) 10 both.0, digits_from_test digits both.1)

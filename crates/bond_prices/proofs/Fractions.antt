@@ -1,6 +1,6 @@
 -- The decimals of each of the 256 fractions: what holds of them all is computed for each.
 use Rattle.std.proofs.Common.{◌≡◌, ◌≢◌, ℕ, zero, suc, ◌+◌, ◌-◌, ◌*◌, ◌/◌, ◌%◌, ◌^◌, ◌<◌, ◌≤◌, Bool, true, List, [], ◌∷◌, ◌++◌, length, refl, arith, if◌then◌else◌, ◌&&◌, append_assoc}
-use Rattle.std.proofs.lemmas.Bool.{ne_eqb, eqb-true, leb-true}
+use Rattle.std.proofs.lemmas.Bool.{and_parts, ne_eqb, eqb-true, leb-true}
 use Rattle.std.proofs.lemmas.Bool.Decides.{Decides-below_and}
 use Rattle.std.proofs.lemmas.Slice.Eq.{bytes_eq-Decides}
 use Rattle.std.specs.Str.{bytes_eq}
@@ -9,7 +9,7 @@ use Rattle.std.specs.Str.Parse.{AllDigits, digits_value}
 use Rattle.std.specs.Char.{is_digit}
 use Rattle.std.specs.List.{list_all}
 use Rattle.bond_prices.specs.Price.{fraction_digits}
-use Rattle.bond_prices.proofs.DigitTests.{and_true, digits_from_test}
+use Rattle.bond_prices.proofs.DigitTests.{digits_from_test}
 
 -- the digits of r 256ths, by long division
 abbrev pub divided : ℕ → ℕ → List ℕ
@@ -43,7 +43,7 @@ right_at r below = (Decides-below_and is_right (λ k. is_right k ≡ true) all_r
 
 -- the long division gives the decimals
 pub divided_is : (r : ℕ) → r < 256 → divided 8 r ≡ fraction_digits r
-divided_is r below = (bytes_eq-Decides (divided 8 r) (fraction_digits r)).0 ((and_true _ _ (right_at r below)).0)
+divided_is r below = (bytes_eq-Decides (divided 8 r) (fraction_digits r)).0 ((and_parts _ _ (right_at r below)).0)
 
 -- before the first digit
 pub divided-start : (text : List ℕ) (r : ℕ) → text ≡ [] → r < 256 → text ++ divided 8 r ≡ fraction_digits r
@@ -64,15 +64,15 @@ pub record AreDecimals (r : ℕ) (digits : List ℕ) : Type 0 where
 pub fraction_digits-decimals : (r : ℕ) → 1 ≤ r → r < 256 → AreDecimals r (fraction_digits r)
 fraction_digits-decimals r some below =
     let ds : List ℕ = fraction_digits r in
-    let right : ((r == 0) || are_decimals r ds) ≡ true = (and_true (bytes_eq (divided 8 r) ds) ((r == 0) || are_decimals r ds) (right_at r below)).1 in
+    let right : ((r == 0) || are_decimals r ds) ≡ true = (and_parts (bytes_eq (divided 8 r) ds) ((r == 0) || are_decimals r ds) (right_at r below)).1 in
     let decimals : are_decimals r ds ≡ true = rw (ne_eqb r 0 (omega arith)) at right in
     from_test r ds decimals
   where
     from_test : (r : ℕ) (ds : List ℕ) → are_decimals r ds ≡ true → AreDecimals r ds
     from_test r ds e =
-        let digits = and_true (list_all (λ c. is_digit c 10) ds) ((256 * digits_value 10 ds == r * 10 ^ length ds) && (nat_le 1 (length ds) && nat_le (length ds) 8)) e in
-        let value = and_true (256 * digits_value 10 ds == r * 10 ^ length ds) (nat_le 1 (length ds) && nat_le (length ds) 8) digits.1 in
-        let counts = and_true (nat_le 1 (length ds)) (nat_le (length ds) 8) value.1 in
+        let digits = and_parts (list_all (λ c. is_digit c 10) ds) ((256 * digits_value 10 ds == r * 10 ^ length ds) && (nat_le 1 (length ds) && nat_le (length ds) 8)) e in
+        let value = and_parts (256 * digits_value 10 ds == r * 10 ^ length ds) (nat_le 1 (length ds) && nat_le (length ds) 8) digits.1 in
+        let counts = and_parts (nat_le 1 (length ds)) (nat_le (length ds) 8) value.1 in
         record {
           all_digits = digits_from_test ds digits.0;
           exact = eqb-true (256 * digits_value 10 ds) (r * 10 ^ length ds) value.0;

@@ -1,11 +1,12 @@
 -- What every verdict keeps: the exposure within its limit, own numbers within the day's quotes, and a word that is asked
 -- is that of one of these.
-use Rattle.std.proofs.Common.{◌≡◌, ℕ, ◌+◌, ◌≤◌, Bool, true, false, ◌==◌, ◌&&◌, nat_lt, nat_le, cond, List, [], ◌∷◌, ◌++◌, Option, Some, None, Result, Ok, Err, IfSome, find, arith, refl}
+use Rattle.std.proofs.Common.{◌≡◌, ℕ, ◌+◌, ◌≤◌, Bool, true, false, ◌==◌, ◌&&◌, nat_lt, nat_le, cond, List, [], ◌∷◌, ◌++◌, Option, Some, None, Result, Ok, Err, IfSome, find, arith, refl, sym}
 use Rattle.std.specs.List.{sum_by, list_all}
 use Rattle.std.specs.Option.{option_map}
 use Rattle.std.specs.Str.Parse.{digits_value}
 use Rattle.std.proofs.lemmas.List.Folds.{list_all-append}
 use Rattle.std.proofs.lemmas.List.Elements.{filter_map-append}
+use Rattle.std.proofs.lemmas.Bool.{and_parts}
 use Rattle.std.proofs.lemmas.Bool.Decides.{nat_tests}
 use Rattle.fix_fields.specs.Frame.{Field, frame_of}
 use Rattle.quote_messages.specs.SessionChecks.{session_verdict}
@@ -18,7 +19,7 @@ use Rattle.quote_messages.specs.declared.reject_reasons.QuoteRejectReason.{Quote
 use Rattle.quote_word.specs.declared.settled.Settled.{Settled}
 use Rattle.quote_word.specs.declared.settled.Settled.TheVariants.{Withdrawn as IsWithdrawn, Lifted as IsLifted}
 use Rattle.venue_config.specs.declared.dealer_rows.DealerRow.{DealerRow}
-use Rattle.dealer_desk.specs.DealerFacts.{exposure_of, exposure_beside, quotes_of, accepted_quote, quotes_accepted, quote_with_id, live_quote_on, live_number_on, request_named, expected_number}
+use Rattle.dealer_desk.specs.DealerFacts.{exposure_of, exposure_beside, quotes_of, accepted_quote, quotes_accepted, quote_with_id, is_live, live_quote_on, live_number_on, request_named, expected_number}
 use Rattle.dealer_desk.specs.DealerRules.{first_refusal, standing_checks, terms_checks, day_checks, cancel_checks, decline_checks, quote_refusal, quote_answer, quote_on, quote_kept, quote_verdict, replacing, cancel_verdict, cancel_named, cancel_of, cancel_answer, decline_verdict, decline_of, decline_answer, message_verdict, sequence_verdict, sequence_number, frame_verdict, dealer_verdict, out_of_sequence, reject_of}
 use Rattle.dealer_desk.specs.DealerOutput.{verdict_facts, word_asked, is_numbered_within}
 use Rattle.dealer_desk.specs.declared.facts.AcceptedQuote.{AcceptedQuote}
@@ -27,7 +28,7 @@ use Rattle.dealer_desk.specs.declared.facts.DealerFact.TheVariants.{Came, Quoted
 use Rattle.dealer_desk.specs.declared.shown.ShownRequest.{ShownRequest}
 use Rattle.dealer_desk.specs.declared.verdicts.DealerVerdict.{DealerVerdict}
 use Rattle.dealer_desk.specs.declared.verdicts.DealerVerdict.TheVariants.{OutOfSequence, QuoteRefused, QuoteAccepted, QuoteReplaces, CancelRefused, CancelAsks}
-use Rattle.dealer_desk.proofs.ExposureLemmas.{quantity_in, exposure_with, exposure_replacing}
+use Rattle.dealer_desk.proofs.ExposureLemmas.{beside_nothing, find_among_live, quantity_in, exposure_with, exposure_replacing}
 use Rattle.dealer_desk.proofs.RefusalLemmas.{both_pass, none_holds}
 
 -- what stands at a desk
@@ -79,17 +80,13 @@ refusal_keeps row facts stands request id reason = record { stands = λ answer. 
 
 -- Numbers of quotes that are found.
 
-and_left : (a b : Bool) → (a && b) ≡ true → (a ≡ true) × (b ≡ true)
-and_left true b h = (refl, h)
-and_left false b h = cc
-
 chosen : (b : Bool) (x : AcceptedQuote) (rest : Option AcceptedQuote) (P : AcceptedQuote → Type 0) → P x → IfSome rest P → IfSome (cond b (Some x) rest) P
 chosen true x rest P here there = here
 chosen false x rest P here there = there
 
 within_bounds : (row : DealerRow) (quote : AcceptedQuote) → is_numbered_within row.quotes quote ≡ true → (1 ≤ quote.number) × (quote.number ≤ row.quotes)
 within_bounds row quote h =
-    let parts = and_left (nat_le 1 quote.number) (nat_le quote.number row.quotes) h in
+    let parts = and_parts (nat_le 1 quote.number) (nat_le quote.number row.quotes) h in
     let least : nat_le 1 quote.number ≡ true = parts.0 in
     let most : nat_le quote.number row.quotes ≡ true = parts.1 in
     (grind (arith, nat_tests), grind (arith, nat_tests))
@@ -97,7 +94,7 @@ within_bounds row quote h =
 found_within : (row : DealerRow) (p : AcceptedQuote → Bool) (quotes : List AcceptedQuote) → list_all (is_numbered_within row.quotes) quotes ≡ true → IfSome (find p quotes) (λ quote. (1 ≤ quote.number) × (quote.number ≤ row.quotes))
 found_within row p [] h = tt
 found_within row p (quote ∷ quotes) h =
-    let parts = and_left (is_numbered_within row.quotes quote) (list_all (is_numbered_within row.quotes) quotes) h in
+    let parts = and_parts (is_numbered_within row.quotes quote) (list_all (is_numbered_within row.quotes) quotes) h in
     chosen (p quote) quote (find p quotes) (λ own. (1 ≤ own.number) × (own.number ≤ row.quotes)) (within_bounds row quote parts.0) (found_within row p quotes parts.1)
 
 -- Quotes.
@@ -127,7 +124,7 @@ accepted_keeps row facts moment quote request stands room =
     let kept = quote_kept facts moment quote request in
     let added = Came true ∷ Quoted kept ∷ [] in
     let less : exposure_of (facts ++ added) ≤ exposure_of facts + (0 + request.ask.quantity) = exposure_with facts added in
-    let fits : request.ask.quantity + exposure_of facts ≤ row.exposure = room.exposure in
+    let fits : request.ask.quantity + exposure_of facts ≤ row.exposure = rw (sym (beside_nothing facts)) room.exposure in
     record {
       stands = λ answer. record {
         numbered = numbered_with row facts added stands.numbered (rw (numbered_next row (quotes_accepted facts) room.number) refl);
@@ -171,7 +168,8 @@ number_of_found row (Some quote) h = h
 
 live_within : (row : DealerRow) (facts : List DealerFact) (request : ℕ) → Stands row facts → IfSome (live_number_on facts request) (λ number. (1 ≤ number) × (number ≤ row.quotes))
 unfolding live_quote_on
-live_within row facts request stands = number_of_found row (live_quote_on facts request) (found_within row _ (quotes_of facts) stands.numbered)
+live_within row facts request stands =
+    number_of_found row (live_quote_on facts request) (rw (find_among_live (λ quote. quote.request == request) (is_live facts) (quotes_of facts)) (found_within row _ (quotes_of facts) stands.numbered))
 
 answer_keeps : (row : DealerRow) (facts : List DealerFact) (moment : ℕ) (quote : Quote) (request : Request) (refusal : Option QuoteRejectReason) → Stands row facts → quote_refusal row facts moment quote request ≡ refusal → Keeps row facts (quote_answer facts moment quote request refusal)
 answer_keeps row facts moment quote request (Some reason) stands is = refusal_keeps row facts stands quote.request quote.id reason

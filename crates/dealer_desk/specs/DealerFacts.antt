@@ -1,6 +1,6 @@
 -- What follows from the facts of a dealer's desk: its numbers, the requests that it was shown, its quotes and what
 -- became of them, and its exposure.
-use Rattle.std.specs.Prelude.{ℕ, ◌+◌, Bool, true, false, ◌&&◌, ◌==◌, not, List, [], ◌∷◌, count_by, Option, Some, None, find, if◌then◌else◌}
+use Rattle.std.specs.Prelude.{ℕ, ◌+◌, Bool, true, false, ◌&&◌, ◌==◌, not, List, [], ◌∷◌, count_by, filter, Option, Some, None, find, if◌then◌else◌}
 use Rattle.std.specs.List.{filter_map, list_any, sum_by}
 use Rattle.std.specs.Option.{option_map}
 use Rattle.venue_config.specs.Texts.{same_text}
@@ -146,9 +146,13 @@ has_lifted_quote facts request = list_any (is_lifted_on facts request) facts
 abbrev pub is_live : List DealerFact → AcceptedQuote → Bool
 is_live facts quote = not (is_withdrawn facts quote.number) && not (is_told facts quote.request)
 
+-- the live quotes, the first one first
+abbrev pub live_quotes : List DealerFact → List AcceptedQuote
+live_quotes facts = filter (is_live facts) (quotes_of facts)
+
 -- the dealer's live quote on a request
 unfoldable pub live_quote_on : List DealerFact → ℕ → Option AcceptedQuote
-live_quote_on facts request = find (λ quote. (quote.request == request) && is_live facts quote) (quotes_of facts)
+live_quote_on facts request = find (λ quote. quote.request == request) (live_quotes facts)
 
 -- the own number of the dealer's live quote on a request
 abbrev pub live_number_on : List DealerFact → ℕ → Option ℕ
@@ -156,29 +160,15 @@ live_number_on facts request = option_map (λ quote. quote.number) (live_quote_o
 
 -- Exposure.
 
--- the quantity of a quote while it is live
-abbrev pub live_quantity : List DealerFact → AcceptedQuote → ℕ
-live_quantity facts quote = if is_live facts quote then quote.quantity else 0
-
--- what a fact adds to the exposure
-abbrev pub exposure_in : List DealerFact → DealerFact → ℕ
-exposure_in facts (Quoted quote) = live_quantity facts quote
-exposure_in facts fact = 0
-
 -- the exposure: the sum of the quantities of the live quotes
 abbrev pub exposure_of : List DealerFact → ℕ
-exposure_of facts = sum_by (exposure_in facts) facts
+exposure_of facts = sum_by (λ quote. quote.quantity) (live_quotes facts)
 
--- whether a fact is a quote with this own number
-abbrev pub is_quote_number : Option ℕ → DealerFact → Bool
-is_quote_number (Some number) (Quoted quote) = quote.number == number
-is_quote_number (Some number) fact = false
-is_quote_number None fact = false
-
--- what a fact adds to the exposure beside a quote that is to be replaced
-abbrev pub exposure_in_beside : List DealerFact → Option ℕ → DealerFact → ℕ
-exposure_in_beside facts replaced fact = if is_quote_number replaced fact then 0 else exposure_in facts fact
+-- whether a quote stands beside one that is to be replaced, where one is
+abbrev pub stands_beside : Option ℕ → AcceptedQuote → Bool
+stands_beside (Some replaced) quote = not (quote.number == replaced)
+stands_beside None quote = true
 
 -- the exposure beside a quote that is to be replaced: the sum of the quantities of the other live quotes
 abbrev pub exposure_beside : List DealerFact → Option ℕ → ℕ
-exposure_beside facts replaced = sum_by (exposure_in_beside facts replaced) facts
+exposure_beside facts replaced = sum_by (λ quote. quote.quantity) (filter (stands_beside replaced) (live_quotes facts))

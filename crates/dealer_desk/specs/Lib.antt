@@ -1,3 +1,4 @@
 pub mod DealerFacts
 pub mod DealerOutput
 pub mod DealerRules
+pub mod FactScans

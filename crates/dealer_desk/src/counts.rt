@@ -1,10 +1,11 @@
 //! Counts and searches over the facts of a desk. Each goes over the facts anew.
-ghost use Rattle.std.specs.Prelude.{◌≡◌, ◌==◌, ◌+◌, ◌<◌, ◌≤◌, ◌^◌, ◌&&◌, option_map};
+ghost use Rattle.std.specs.Prelude.{◌≡◌, ◌==◌, ◌+◌, ◌<◌, ◌≤◌, ◌^◌, ◌&&◌, option_map, find};
 ghost use Rattle.venue_config.specs.Texts.{same_text};
 ghost use Rattle.quote_messages.specs.Written.{request_name};
-ghost use Rattle.dealer_desk.specs.DealerFacts.{expected_number, used_number, requests_shown, is_request, shown_request, request_named, request_numbered, request_in, is_same_room, is_declined, is_decline_of, is_told, is_notice_of, notices_told, is_notice};
+ghost use Rattle.dealer_desk.specs.DealerFacts.{expected_number, used_number, requests_shown, is_request, shown_request, requests_of, request_named, request_numbered, request_in, is_same_room, is_declined, is_decline_of, is_told, is_notice_of, notices_told, is_notice};
+ghost use Rattle.dealer_desk.specs.FactScans.{is_wanted, is_wanted_request};
 
-use crate::characters::same_text;
+use crate::wanted::Wanted;
 use crate::{DealerFact, ShownRequest};
 use itoa::Buffer;
 use quote_messages::{Ask, Request, RoomRef};
@@ -68,23 +69,28 @@ fn numbered(room: RoomRef, number: u64, ask: &Ask) -> ShownRequest
 pub(crate) fn request_named(facts: &[DealerFact], name: &[u8]) -> Option<ShownRequest>
     ensures { result ≡ request_named facts.now name.now }
 {
-    let mut number = 0;
-    for fact in facts {
-        let Some((room, ask)) = shown_request(fact) else {
-            continue;
-        };
-        number += 1;
-        if is_request_name(name, number) {
-            return Some(numbered(room, number, ask));
-        }
-    }
-    None
+    find_request(facts, Wanted::Named(name))
 }
 
 /// The request with this number.
 #[tactic(auto, unfolding(crate::specs::DealerFacts::request_numbered))]
-pub(crate) fn request_numbered(facts: &[DealerFact], wanted: u64) -> Option<ShownRequest>
-    ensures { result ≡ request_numbered facts.now wanted }
+pub(crate) fn request_numbered(facts: &[DealerFact], number: u64) -> Option<ShownRequest>
+    ensures { result ≡ request_numbered facts.now number }
+{
+    find_request(facts, Wanted::Numbered(number))
+}
+
+/// The request that was shown in a room.
+#[tactic(auto, unfolding(crate::specs::DealerFacts::request_in))]
+pub(crate) fn request_in(facts: &[DealerFact], room: RoomRef) -> Option<ShownRequest>
+    ensures { result ≡ request_in facts.now room }
+{
+    find_request(facts, Wanted::In(room))
+}
+
+/// The first of the requests that were shown that is the one wanted.
+fn find_request(facts: &[DealerFact], wanted: Wanted<'_>) -> Option<ShownRequest>
+    ensures { result ≡ find (is_wanted_request wanted.entry) (requests_of facts.now) }
 {
     let mut number = 0;
     for fact in facts {
@@ -92,29 +98,22 @@ pub(crate) fn request_numbered(facts: &[DealerFact], wanted: u64) -> Option<Show
             continue;
         };
         number += 1;
-        if number == wanted {
+        if is_wanted(wanted, room, number) {
             return Some(numbered(room, number, ask));
         }
     }
     None
 }
 
-/// The request that was shown in a room.
-#[tactic(auto, unfolding(crate::specs::DealerFacts::request_in))]
-pub(crate) fn request_in(facts: &[DealerFact], wanted: RoomRef) -> Option<ShownRequest>
-    ensures { result ≡ request_in facts.now wanted }
+/// Whether a request is the one wanted.
+fn is_wanted(wanted: Wanted<'_>, room: RoomRef, number: u64) -> bool
+    ensures { result ≡ is_wanted wanted.entry room number }
 {
-    let mut number = 0;
-    for fact in facts {
-        let Some((room, ask)) = shown_request(fact) else {
-            continue;
-        };
-        number += 1;
-        if is_same_room(room, wanted) {
-            return Some(numbered(room, number, ask));
-        }
+    match wanted {
+        Wanted::Named(name) => is_request_name(name, number),
+        Wanted::Numbered(wanted) => number == wanted,
+        Wanted::In(wanted) => is_same_room(room, wanted),
     }
-    None
 }
 
 /// Whether a QuoteReqID (131) is `R` and this number.
@@ -129,7 +128,7 @@ fn is_request_name(name: &[u8], number: u64) -> bool
     if *first != b'R' {
         return false;
     }
-    same_text(digits, rest)
+    digits == rest
 }
 
 /// Whether two rooms are the same.

@@ -220,6 +220,7 @@ impl DealerDesk {
     }
 
     /// The sum of the quantities of the dealer's live quotes, never above the limit of its row.
+    #[tactic(auto, using(crate::proofs::ExposureLemmas::exposure_is_by_fact))]
     pub fn exposure(&self) -> u64
         ensures sum { result ≡ exposure_of (facts_at self.now) }
         ensures within { result ≤ self.now.row.exposure }

@@ -49,7 +49,6 @@
 #![tactic(auto)]
 
 mod cancels;
-mod characters;
 mod counts;
 mod desks;
 mod events;
@@ -62,6 +61,7 @@ mod shown;
 #[cfg(test)]
 mod tests;
 mod verdicts;
+mod wanted;
 
 pub use desks::DealerDesk;
 pub use events::DealerEvent;

@@ -1,8 +1,8 @@
 //! The dealer's quotes over the facts of its desk, and the exposure. Each function goes over the facts anew.
 ghost use Rattle.std.specs.Prelude.{◌≡◌, ◌<◌, ◌^◌, option_map};
-ghost use Rattle.dealer_desk.specs.DealerFacts.{is_quote, quotes_accepted, accepted_quote, quote_with_id, is_withdrawn, is_withdrawal_of, is_known_lifted, is_late_for, is_lifted_on, has_lifted_quote, is_live, live_quote_on, live_number_on, live_quantity, exposure_in, exposure_of, is_quote_number, exposure_in_beside, exposure_beside};
+ghost use Rattle.dealer_desk.specs.DealerFacts.{is_quote, quotes_accepted, accepted_quote, quote_with_id, is_withdrawn, is_withdrawal_of, is_known_lifted, is_late_for, is_lifted_on, has_lifted_quote, is_live, live_quote_on, live_number_on};
+ghost use Rattle.dealer_desk.specs.FactScans.{live_quantity, exposure_in, exposure_by_fact, is_quote_number, exposure_in_beside, exposure_beside_by_fact};
 
-use crate::characters::same_text;
 use crate::counts::is_told;
 use crate::{AcceptedQuote, DealerFact};
 
@@ -42,7 +42,7 @@ pub(crate) fn quote_with_id<'a>(facts: &'a [DealerFact], id: &[u8]) -> Option<&'
         let Some(quote) = accepted_quote(fact) else {
             continue;
         };
-        if same_text(quote.id.as_bytes(), id) {
+        if quote.id.as_bytes() == id {
             return Some(quote);
         }
     }
@@ -112,7 +112,7 @@ fn is_live(facts: &[DealerFact], quote: &AcceptedQuote) -> bool
 }
 
 /// The dealer's live quote on a request.
-#[tactic(auto, unfolding(crate::specs::DealerFacts::live_quote_on))]
+#[tactic(auto, using(crate::proofs::ExposureLemmas::find_among_live), unfolding(crate::specs::DealerFacts::live_quote_on))]
 pub(crate) fn live_quote_on(facts: &[DealerFact], request: u64) -> Option<&AcceptedQuote>
     ensures { option_map (λ quote. quote.now) result ≡ live_quote_on facts.now request }
 {
@@ -137,8 +137,8 @@ pub(crate) fn live_number_on(facts: &[DealerFact], request: u64) -> Option<u32>
 
 /// The sum of the quantities of the live quotes.
 pub(crate) fn exposure_of(facts: &[DealerFact]) -> u64
-    requires { exposure_of facts.now < 2 ^ 64 }
-    ensures { result ≡ exposure_of facts.now }
+    requires { exposure_by_fact facts.now < 2 ^ 64 }
+    ensures { result ≡ exposure_by_fact facts.now }
 {
     facts.iter().map(|fact| exposure_in(facts, fact)).sum()
 }
@@ -165,8 +165,8 @@ fn live_quantity(facts: &[DealerFact], quote: &AcceptedQuote) -> u64
 
 /// The sum of the quantities of the live quotes but for one that is to be replaced.
 pub(crate) fn exposure_beside(facts: &[DealerFact], replaced: Option<u32>) -> u64
-    requires { exposure_beside facts.now replaced < 2 ^ 64 }
-    ensures { result ≡ exposure_beside facts.now replaced }
+    requires { exposure_beside_by_fact facts.now replaced < 2 ^ 64 }
+    ensures { result ≡ exposure_beside_by_fact facts.now replaced }
 {
     facts
         .iter()

@@ -4,7 +4,6 @@ ghost use Rattle.dealer_desk.specs.DealerRules.{dealer_verdict, quote_verdict, q
 ghost use Rattle.dealer_desk.specs.DealerFacts.{exposure_of, live_number_on, quotes_accepted};
 
 use crate::cancels::{cancel_verdict, decline_verdict};
-use crate::characters::same_text;
 use crate::counts::{expected_number, is_declined, is_told, request_named};
 use crate::quotes::{
     exposure_beside, has_lifted_quote, live_number_on, quote_with_id, quotes_accepted,
@@ -147,7 +146,7 @@ fn price_by_terms(moment: Moment, quote: &Quote, ask: &Ask) -> Result<Ticks, Quo
     if ask.deadline <= moment {
         return Err(QuoteRejectReason::TooLate);
     }
-    if !same_text(quote.bond.as_bytes(), ask.bond.as_bytes()) {
+    if quote.bond.as_bytes() != ask.bond.as_bytes() {
         return Err(QuoteRejectReason::UnknownSymbol);
     }
     let Some(price) = price_for(ask, quote) else {
@@ -168,7 +167,7 @@ fn price_by_terms(moment: Moment, quote: &Quote, ask: &Ask) -> Result<Ticks, Quo
 
 /// The own number of a quote that the dealer's day leaves room for, or the reason of the first of these checks that
 /// refuses it.
-#[tactic(auto, using(crate::proofs::ExposureLemmas::exposure_beside_le))]
+#[tactic(auto, using(crate::proofs::ExposureLemmas::exposure_beside_le, crate::proofs::ExposureLemmas::exposure_beside_is_by_fact))]
 fn number_in_day(
     row: &DealerRow,
     facts: &[DealerFact],

@@ -175,7 +175,3 @@ pushed body new value fields tag view text lawful room is =
       fields_are = own;
       left = (let after = left_of-body new new_text in omega (arith, ap length is));
     }
-
--- the digits of a number are a value
-pub digits_are_value : (n : ℕ) → n < 2 ^ 64 → IsValue (decimal n)
-digits_are_value n small = free_digits 1 (decimal n) (inl (omega arith)) (digits_decimal plain n small)

@@ -2,4 +2,5 @@ pub mod Frame
 pub mod Clock
 pub mod Garbled
 pub mod Scan
+pub mod TextLaws
 pub mod UtcTimestamp

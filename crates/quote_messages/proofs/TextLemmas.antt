@@ -5,41 +5,24 @@ use Rattle.std.proofs.lemmas.List.{take_all, drop_all}
 use Rattle.std.specs.Char.{is_ascii_digit, is_ascii_alphanumeric}
 use Rattle.std.specs.Str.Parse.{digits_value}
 use Rattle.fix_fields.specs.Frame.{IsValue}
-use Rattle.std.specs.Str.{IsAscii, IsUtf8}
-use Rattle.std.proofs.lemmas.Str.{IsUtf8-from_ascii}
+use Rattle.fix_fields.specs.TextLaws.{utf8_if_all, value_if_all}
+use Rattle.std.specs.Str.{IsUtf8}
+use Rattle.std.proofs.lemmas.Bool.{and_parts}
 use Rattle.std.proofs.lemmas.Bool.Decides.{nat_tests}
 use Rattle.quote_messages.specs.Texts.{is_id, is_id_character, is_sequence_number, is_msg_type, is_point}
-
--- a conjunction's two sides
-pub both_true : (a b : Bool) → (a && b) ≡ true → (a ≡ true) × (b ≡ true)
-both_true true b h = (refl, h)
-both_true false b h = cc
-
--- a text of characters below 128 is ASCII
-pub ascii-from_all : (p : ℕ → Bool) → ((c : ℕ) → p c ≡ true → c < 128) → (text : List ℕ) → list_all p text ≡ true → IsAscii text
-ascii-from_all p low [] h i = lit< tt
-ascii-from_all p low (c ∷ text) h zero = low c (both_true (p c) (list_all p text) h).0
-ascii-from_all p low (c ∷ text) h (suc i) = ascii-from_all p low text (both_true (p c) (list_all p text) h).1 i
 
 pub id_character-low : (c : ℕ) → is_id_character c ≡ true → c < 128
 id_character-low c h = grind (arith, nat_tests)
 
 pub id_is_utf8 : (text : List ℕ) → is_id text ≡ true → IsUtf8 text
-id_is_utf8 text h = IsUtf8-from_ascii text (ascii-from_all is_id_character id_character-low text (both_true (nat_le 1 (length text) && nat_le (length text) 40) (list_all is_id_character text) h).1)
+id_is_utf8 text h = utf8_if_all is_id_character id_character-low text (and_parts (nat_le 1 (length text) && nat_le (length text) 40) (list_all is_id_character text) h).1
 
 -- digits are UTF-8
 pub digits_are_utf8 : (text : List ℕ) → list_all is_ascii_digit text ≡ true → IsUtf8 text
-digits_are_utf8 text h = IsUtf8-from_ascii text (ascii-from_all is_ascii_digit (λ c e. grind (arith, nat_tests)) text h)
+digits_are_utf8 text h = utf8_if_all is_ascii_digit (λ c e. grind (arith, nat_tests)) text h
 
 pub id_is_short : (text : List ℕ) → is_id text ≡ true → length text ≤ 40
-id_is_short text h = grind (arith, nat_tests, both_true)
-
--- a text of characters other than SOH may stand as the value of a field
-value-from_all : (p : ℕ → Bool) → ((c : ℕ) → p c ≡ true → c ≢ 1) → (text : List ℕ) → list_all p text ≡ true → IsValue text
-value-from_all p apart [] h = tt
-value-from_all p apart (c ∷ text) h =
-    let parts = both_true (p c) (list_all p text) h in
-    (apart c parts.0, value-from_all p apart text parts.1)
+id_is_short text h = grind (arith, nat_tests, and_parts)
 
 id_character-apart : (c : ℕ) → is_id_character c ≡ true → c ≢ 1
 id_character-apart c h = λ e. grind (arith, nat_tests)
@@ -51,15 +34,15 @@ alphanumeric-apart : (c : ℕ) → is_ascii_alphanumeric c ≡ true → c ≢ 1
 alphanumeric-apart c h = λ e. grind (arith, nat_tests)
 
 pub id_is_value : (text : List ℕ) → is_id text ≡ true → IsValue text
-id_is_value text h = value-from_all is_id_character id_character-apart text (both_true (nat_le 1 (length text) && nat_le (length text) 40) (list_all is_id_character text) h).1
+id_is_value text h = value_if_all is_id_character id_character-apart text (and_parts (nat_le 1 (length text) && nat_le (length text) 40) (list_all is_id_character text) h).1
 
 pub sequence_number_is_value : (text : List ℕ) → is_sequence_number text ≡ true → IsValue text
 sequence_number_is_value text h =
-    let digits = both_true ((nat_le 1 (length text) && nat_le (length text) 9) && list_all is_ascii_digit text) (nat_le 1 (digits_value 10 text)) h in
-    value-from_all is_ascii_digit digit-apart text (both_true (nat_le 1 (length text) && nat_le (length text) 9) (list_all is_ascii_digit text) digits.0).1
+    let digits = and_parts ((nat_le 1 (length text) && nat_le (length text) 9) && list_all is_ascii_digit text) (nat_le 1 (digits_value 10 text)) h in
+    value_if_all is_ascii_digit digit-apart text (and_parts (nat_le 1 (length text) && nat_le (length text) 9) (list_all is_ascii_digit text) digits.0).1
 
 pub msg_type_is_value : (text : List ℕ) → is_msg_type text ≡ true → IsValue text
-msg_type_is_value text h = value-from_all is_ascii_alphanumeric alphanumeric-apart text (both_true (nat_le 1 (length text) && nat_le (length text) 4) (list_all is_ascii_alphanumeric text) h).1
+msg_type_is_value text h = value_if_all is_ascii_alphanumeric alphanumeric-apart text (and_parts (nat_le 1 (length text) && nat_le (length text) 4) (list_all is_ascii_alphanumeric text) h).1
 
 chosen_some : (b : Bool) (n at : ℕ) → cond b (Some n) None ≡ Some at → n ≡ at
 chosen_some true n at h = cc
@@ -82,4 +65,4 @@ cut_nowhere text h =
     (sym (take_all (position_or_len is_point text) text within), sym (drop_all (position_or_len is_point text + 1) text (omega arith)))
 
 pub sequence_number_is_short : (text : List ℕ) → is_sequence_number text ≡ true → length text ≤ 9
-sequence_number_is_short text h = grind (arith, nat_tests, both_true)
+sequence_number_is_short text h = grind (arith, nat_tests, and_parts)

@@ -1,10 +1,9 @@
 -- What is written fits, and has no SOH.
 use Rattle.std.proofs.Common.{◌≢◌, ℕ, ◌<◌, ◌≤◌, ◌^◌, Bool, true, false, List, [], ◌∷◌, ◌++◌, Option, Some, None, arith, lit≤, cond, decimal, nat_lt}
-use Rattle.std.specs.Char.{digit_value}
 use Rattle.std.specs.Str.Parse.{AllDigits}
 use Rattle.std.proofs.lemmas.Bool.Decides.{nat_tests}
-use Rattle.std.proofs.lemmas.Fmt.{decimal_is_IsNumeral}
 use Rattle.fix_fields.specs.Frame.{decimal_len, IsValue}
+use Rattle.fix_fields.specs.TextLaws.{digits_are_value, number_is_value}
 use Rattle.bond_prices.specs.Price.{IsShortest, sign_text, point_text, behind_point}
 use Rattle.quote_messages.specs.Written.{request_name, notice_name}
 
@@ -24,20 +23,13 @@ decimal_len_le n =
     (at_most (nat_lt n 10000000000000000) _ _ 20 (lit≤ tt) (at_most (nat_lt n 100000000000000000) _ _ 20 (lit≤ tt) (at_most (nat_lt n 1000000000000000000) _ _ 20 (lit≤ tt)
     (at_most (nat_lt n 10000000000000000000) _ _ 20 (lit≤ tt) (lit≤ tt)))))))))))))))))))
 
-not_soh : (c : ℕ) → digit_value c < 10 → c ≢ 1
-not_soh c h = λ e. grind (arith, nat_tests)
-
-digits_are_value : (text : List ℕ) → AllDigits 10 text → IsValue text
-digits_are_value [] h = tt
-digits_are_value (c ∷ text) h = (not_soh c h.0, digits_are_value text h.1)
-
 -- the name of a request may stand as the value of a field
 pub request_name_is_value : (n : ℕ) → n < 2 ^ 64 → IsValue (request_name n)
-request_name_is_value n h = (λ e. cc, digits_are_value (decimal n) ((decimal_is_IsNumeral n h).0).1)
+request_name_is_value n h = (λ e. cc, number_is_value n h)
 
 -- the name of a closing notice may too
 pub notice_name_is_value : (n : ℕ) → n < 2 ^ 64 → IsValue (notice_name n)
-notice_name_is_value n h = (λ e. cc, digits_are_value (decimal n) ((decimal_is_IsNumeral n h).0).1)
+notice_name_is_value n h = (λ e. cc, number_is_value n h)
 
 -- what is built of two values is one, and its parts are
 value-append : (a b : List ℕ) → IsValue a → IsValue b → IsValue (a ++ b)

@@ -2,7 +2,6 @@
 ghost use Rattle.std.specs.Prelude.{◌≡◌};
 ghost use Rattle.std.specs.List.{list_all};
 ghost use Rattle.std.specs.Char.{is_ascii_alphanumeric};
-ghost use Rattle.venue_config.specs.Texts.{same_text};
 ghost use Rattle.quote_messages.specs.Texts.{is_id_character};
 
 /// Whether each byte may stand in an identifier.
@@ -24,11 +23,4 @@ pub(crate) fn are_letters_or_digits(text: &[u8]) -> bool
     ensures { result ≡ list_all is_ascii_alphanumeric text.now }
 {
     text.iter().all(|c| c.is_ascii_alphanumeric())
-}
-
-/// Whether two texts are the same, byte by byte.
-pub(crate) fn same_text(a: &[u8], b: &[u8]) -> bool
-    ensures { result ≡ same_text a.now b.now }
-{
-    a == b
 }

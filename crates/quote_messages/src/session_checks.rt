@@ -7,7 +7,6 @@ ghost use Rattle.fix_fields.specs.UtcTimestamp.{moment_of};
 ghost use Rattle.quote_messages.specs.TagReading.{Reads, StandsOnce, HasFault, HasFaultWhereRequired};
 ghost use Rattle.quote_messages.specs.SessionChecks.{required, optional, required_where, AnId, ANumber, APrice, AQuantity, AMoment, OneOf, NumberIs, tag_fault, quantity_of, moment_fault, first_fault, quote_rules, cancel_rules, decline_rules, dealer_tables, verdict_by, unless_fault, session_verdict, quote_of, cancel_of, decline_of, text_at, number_at};
 
-use crate::characters::same_text;
 use crate::quantities::read_quantity;
 use crate::{
     DealerMessage, Decline, Id, Quantity, Quote, QuoteCancel, SessionFault, SessionRejectReason,
@@ -47,15 +46,15 @@ fn read_typed<'a>(date: &Date, frame: &Frame<'a>) -> Result<DealerMessage<'a>, S
         (verdict_by (dealer_tables date.now frame.now) date.now frame.now) }
 {
     let msg_type = required_value(frame, 35)?;
-    if same_text(b"S", msg_type) {
+    if b"S".as_slice() == msg_type {
         let quote = read_quote(date, frame)?;
         return Ok(DealerMessage::Quote(quote));
     }
-    if same_text(b"Z", msg_type) {
+    if b"Z".as_slice() == msg_type {
         let cancel = read_cancel(date, frame)?;
         return Ok(DealerMessage::Cancel(cancel));
     }
-    if same_text(b"AG", msg_type) {
+    if b"AG".as_slice() == msg_type {
         let decline = read_decline(date, frame)?;
         return Ok(DealerMessage::Decline(decline));
     }
@@ -118,7 +117,7 @@ fn check_text(
     ensures { (date : List ℕ) → Reads date frame.now (required tag (OneOf (text.now ∷ []) reason)) result (λ _. Unit {0}) }
 {
     let value = required_value(frame, tag)?;
-    if !same_text(text, value) {
+    if text != value {
         return Err(fault(tag, reason));
     }
     Ok(())

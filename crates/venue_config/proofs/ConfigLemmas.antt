@@ -13,7 +13,7 @@ use Rattle.venue_config.specs.Rows.{Configuration, DealerValues, InvestorValues,
 use Rattle.venue_config.specs.Config.{bonds_in, dealers_in, investors_in, dealer_names, investor_names, quotes_in_all, requests_in_all, sums_fit, document_of}
 use Rattle.venue_config.specs.declared.dealer_rows.DealerRow.{DealerRow}
 use Rattle.venue_config.specs.declared.investor_rows.InvestorRow.{InvestorRow}
-use Rattle.venue_config.proofs.TextLemmas.{both_true}
+use Rattle.std.proofs.lemmas.Bool.{and_parts}
 use Rattle.venue_config.proofs.LimitLemmas.{bonds_distinct, dealers_kept, investors_kept}
 
 -- a table that was read is the document of its text
@@ -64,7 +64,7 @@ pub limits_read : (document : Data) (config : Configuration)
     → sums_fit (map dealer_values config.dealers) (map investor_values config.investors) ≡ true
     → KeepsLimits config
 limits_read document config bonds_are dealers_are investors_are bonds dealers investors fit =
-    let sums = both_true (nat_le (quotes_in_all (map dealer_values config.dealers)) most_quotes) (nat_le (requests_in_all (map investor_values config.investors)) most_requests) fit in
+    let sums = and_parts (nat_le (quotes_in_all (map dealer_values config.dealers)) most_quotes) (nat_le (requests_in_all (map investor_values config.investors)) most_requests) fit in
     let quotes = rw (quotes_of_values config.dealers) at sums.0 in
     let requests = rw (requests_of_values config.investors) at sums.1 in
     let own_dealers = dealers_kept document (map dealer_values config.dealers) dealers_are in

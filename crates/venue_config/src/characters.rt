@@ -1,7 +1,7 @@
 //! Which characters may stand where.
 ghost use Rattle.std.specs.Prelude.{◌≡◌};
 ghost use Rattle.std.specs.List.{list_all};
-ghost use Rattle.venue_config.specs.Texts.{is_capital_or_digit, same_text};
+ghost use Rattle.venue_config.specs.Texts.{is_capital_or_digit};
 
 /// Whether each byte is a capital letter or a digit.
 pub(crate) fn are_capitals_or_digits(text: &[u8]) -> bool
@@ -9,11 +9,4 @@ pub(crate) fn are_capitals_or_digits(text: &[u8]) -> bool
 {
     text.iter()
         .all(|c| c.is_ascii_uppercase() || c.is_ascii_digit())
-}
-
-/// Whether two texts are the same, byte by byte.
-pub(crate) fn same_text(a: &[u8], b: &[u8]) -> bool
-    ensures { result ≡ same_text a.now b.now }
-{
-    a == b
 }

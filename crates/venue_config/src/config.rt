@@ -6,7 +6,6 @@ ghost use Rattle.venue_config.specs.Texts.{same_text};
 ghost use Rattle.venue_config.specs.Rows.{dealer_values, investor_values, values_of, firm_number, firm_names, has_room, KeepsLimits};
 ghost use Rattle.venue_config.specs.Config.{config_in, config_of, document_of, sums_fit};
 
-use crate::characters::same_text;
 use crate::faults::ConfigFault;
 use crate::rows::{read_bonds, read_dealers, read_investors};
 use crate::values::{number_at, read_date};
@@ -118,7 +117,7 @@ fn place_of_dealer(dealers: &[DealerRow], name: &[u8]) -> Option<usize>
 {
     dealers
         .iter()
-        .position(|row| same_text(row.name.as_bytes(), name))
+        .position(|row| row.name.as_bytes() == name)
 }
 
 /// The place of the investor with this name.
@@ -127,7 +126,7 @@ fn place_of_investor(investors: &[InvestorRow], name: &[u8]) -> Option<usize>
 {
     investors
         .iter()
-        .position(|row| same_text(row.name.as_bytes(), name))
+        .position(|row| row.name.as_bytes() == name)
 }
 
 /// How many quotes all dealers may have in a day.

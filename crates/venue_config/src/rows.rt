@@ -9,7 +9,6 @@ ghost use Rattle.venue_config.specs.Values.{text_at};
 ghost use Rattle.venue_config.specs.Rows.{dealer_values, investor_values};
 ghost use Rattle.venue_config.specs.Config.{bond_of, firm_name_of, dealer_of, investor_of, bonds_in, dealers_in, investors_in, dealer_names, investor_names};
 
-use crate::characters::same_text;
 use crate::faults::ConfigFault;
 use crate::values::{number_at, read_id, read_traders, rows_at, text_at};
 use crate::{BondId, DealerRow, InvestorRow, Name};
@@ -56,7 +55,7 @@ fn has_bond(bonds: &[BondId], bond: &BondId) -> bool
 {
     bonds
         .iter()
-        .any(|own| same_text(own.as_bytes(), bond.as_bytes()))
+        .any(|own| own.as_bytes() == bond.as_bytes())
 }
 
 /// The name of a firm, which may be another firm's too.
@@ -80,7 +79,7 @@ fn read_name(row: &Value) -> Result<Name, ConfigFault>
 fn is_reserved(text: &[u8]) -> bool
     ensures { result ≡ is_among reserved_names text.now }
 {
-    same_text(b"VENUE", text) || same_text(b"CLOCK", text)
+    b"VENUE".as_slice() == text || b"CLOCK".as_slice() == text
 }
 
 /// The dealers of a configuration.
@@ -135,7 +134,7 @@ fn has_dealer(dealers: &[DealerRow], name: &Name) -> bool
 {
     dealers
         .iter()
-        .any(|row| same_text(row.name.as_bytes(), name.as_bytes()))
+        .any(|row| row.name.as_bytes() == name.as_bytes())
 }
 
 /// The investors of a configuration.
@@ -218,5 +217,5 @@ fn has_investor(investors: &[InvestorRow], name: &Name) -> bool
 {
     investors
         .iter()
-        .any(|row| same_text(row.name.as_bytes(), name.as_bytes()))
+        .any(|row| row.name.as_bytes() == name.as_bytes())
 }

@@ -4,7 +4,6 @@ ghost use Rattle.std.specs.List.{list_any};
 ghost use Rattle.venue_config.specs.Texts.{is_among, same_text, trader_added};
 
 use crate::Name;
-use crate::characters::same_text;
 use arrayvec::{ArrayString, ArrayVec};
 use std::marker::Model;
 
@@ -74,5 +73,5 @@ impl Traders {
 fn has_name(names: &[ArrayString<8>], name: &[u8]) -> bool
     ensures { result ≡ list_any (λ own. same_text own.bytes name.now) names.now }
 {
-    names.iter().any(|own| same_text(own.as_bytes(), name))
+    names.iter().any(|own| own.as_bytes() == name)
 }

@@ -1,7 +1,8 @@
 use Rattle.std.proofs.Common.{◌≡◌, ◌+◌, ◌≤◌, ◌++◌, sym, ap, ◌∙◌, subst, rules}
 use Rattle.std.specs.Prelude.{decimal}
 use Rattle.fix_fields.specs.Frame.{field_text, field_len, left_of, fields_of}
-use Rattle.fix_fields.proofs.WriterLemmas.{IsPushed, pushed, length-decimal, digits_are_value}
+use Rattle.fix_fields.specs.TextLaws.{number_is_value}
+use Rattle.fix_fields.proofs.WriterLemmas.{IsPushed, pushed, length-decimal}
 use Rattle.fix_fields.proofs.writer.FrameWriter.number.Goals as goal
 
 after : (c : goal.In_ok-push_field) → IsPushed c.args.self.now c.args.tag (decimal c.args.value) c.push_field.new.body.items
@@ -9,7 +10,7 @@ after c =
     let digits : c.as_bytes-digits.result.now ≡ decimal c.args.value = c.as_bytes-digits.ensures.value ∙ c.format.ensures.text in
     let long = length-decimal c.args.value (search rules) in
     pushed c.self.inside.body.items c.push_field.new.body.items (decimal c.args.value) c.args.self.now c.args.tag c.self.view_is c.self.invariant
-    (c.requires.tag, digits_are_value c.args.value (search rules))
+    (c.requires.tag, number_is_value c.args.value (search rules))
     (subst (λ n. field_len c.args.tag n ≤ left_of c.args.self.now) (sym long) c.requires.room)
     (c.in_ok-push_field.ensures.ok ∙ ap (λ d. c.self.inside.body.items ++ field_text (c.args.tag, d)) digits)
 

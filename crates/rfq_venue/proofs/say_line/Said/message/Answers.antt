@@ -1,6 +1,6 @@
 use Rattle.std.proofs.Common.{ap, ◌∙◌, rules}
 use Rattle.rfq_venue.proofs.SpellLemmas.{said_message_is}
-use Rattle.rfq_venue.proofs.TagLemmas.{number_is_value}
+use Rattle.fix_fields.specs.TextLaws.{number_is_value}
 use Rattle.rfq_venue.proofs.say_line.Said.message.Goals as goal
 
 pub with_own-requires-3-clause-value : goal.with_own-requires-3-clause-value
