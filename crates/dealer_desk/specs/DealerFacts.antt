@@ -57,6 +57,7 @@ request_named facts name = find (λ shown. same_text (request_name shown.request
 unfoldable pub request_numbered : List DealerFact → ℕ → Option ShownRequest
 request_numbered facts number = find (λ shown. shown.request.number == number) (requests_of facts)
 
+-- whether two rooms are one: that of the same request of the same investor
 abbrev pub is_same_room : RoomRef → RoomRef → Bool
 is_same_room one other = (one.investor == other.investor) && (one.n == other.n)
 

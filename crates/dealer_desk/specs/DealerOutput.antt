@@ -226,6 +226,7 @@ abbrev pub may_close_in : DeskEvents → Option ℕ → Bool
 may_close_in desk None = false
 may_close_in desk (Some request) = may_close desk request
 
+-- a desk to which a notice of that request came, where the room was shown
 abbrev pub with_notice_in : DeskEvents → Option ℕ → Close → ℕ → DeskEvents
 with_notice_in desk None close moment = desk
 with_notice_in desk (Some request) close moment = with_notice desk request close moment

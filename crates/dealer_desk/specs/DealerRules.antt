@@ -30,10 +30,12 @@ use Rattle.dealer_desk.specs.declared.verdicts.DealerVerdict.TheVariants.{Droppe
 
 -- Prices: a buyer asks for an offer, a seller for a bid.
 
+-- the price on the side that is asked for
 abbrev pub asked_price : Side → Quote → Option (Result ℕ PriceFault)
 asked_price Buy quote = quote.offer
 asked_price Sell quote = quote.bid
 
+-- the price on the other side
 abbrev pub other_price : Side → Quote → Option (Result ℕ PriceFault)
 other_price Buy quote = quote.bid
 other_price Sell quote = quote.offer
@@ -51,13 +53,16 @@ price_for ask quote = lone_price (asked_price ask.side quote) (other_price ask.s
 
 -- The conditions of the checks.
 
+-- whether a moment is at or past a deadline
 abbrev pub is_past : ℕ → ℕ → Bool
 is_past deadline moment = nat_le deadline moment
 
+-- whether a value stands and is not the one that is wanted
 abbrev pub differs_from : ℕ → Option ℕ → Bool
 differs_from wanted None = false
 differs_from wanted (Some found) = not (found == wanted)
 
+-- whether a quote is given until a moment that is not after this one
 abbrev pub is_not_after : ℕ → Option ℕ → Bool
 is_not_after moment None = false
 is_not_after moment (Some until) = nat_le until moment
@@ -91,6 +96,7 @@ day_checks row facts moment quote request =
     ∷ (nat_lt row.exposure (request.ask.quantity + exposure_beside facts (live_number_on facts request.number)), ExceedsLimit)
     ∷ []
 
+-- all checks of a quote on a request that was shown, but for the word of a quote that it replaces
 abbrev pub quote_checks : DealerRow → List DealerFact → ℕ → Quote → Request → List (Bool × QuoteRejectReason)
 quote_checks row facts moment quote request =
     standing_checks facts request.number
@@ -150,6 +156,7 @@ abbrev pub quote_on : DealerRow → List DealerFact → ℕ → Quote → Option
 quote_on row facts moment quote None = QuoteRefused quote.request quote.id Other
 quote_on row facts moment quote (Some shown) = quote_answer facts moment quote shown.request (quote_refusal row facts moment quote shown.request)
 
+-- the verdict on a quote: QuoteReqID (131) names its request
 unfoldable pub quote_verdict : DealerRow → List DealerFact → ℕ → Quote → DealerVerdict
 quote_verdict row facts moment quote = quote_on row facts moment quote (request_named facts quote.request)
 
@@ -165,6 +172,7 @@ abbrev pub cancel_of : List DealerFact → List ℕ → Option AcceptedQuote →
 cancel_of facts id None = CancelUnknown id
 cancel_of facts id (Some quote) = cancel_answer id quote (first_refusal (cancel_checks facts quote))
 
+-- a cancel names a quote by its QuoteID (117)
 abbrev pub cancel_named : List DealerFact → Option (List ℕ) → DealerVerdict
 cancel_named facts None = CancelRefused None Other
 cancel_named facts (Some id) = cancel_of facts id (quote_with_id facts id)
@@ -185,6 +193,7 @@ abbrev pub decline_of : List DealerFact → List ℕ → Option ShownRequest →
 decline_of facts name None = DeclineRefused name Other
 decline_of facts name (Some shown) = decline_answer name shown.request.number (first_refusal (decline_checks facts shown.request.number))
 
+-- the verdict on a decline: QuoteReqID (131) names its request
 unfoldable pub decline_verdict : List DealerFact → Decline → DealerVerdict
 decline_verdict facts decline = decline_of facts decline.request (request_named facts decline.request)
 
@@ -221,6 +230,7 @@ sequence_verdict date row facts moment fields (Some number) =
     then message_verdict row facts moment fields number (session_verdict date row fields)
     else OutOfSequence (reject_of fields number out_of_sequence)
 
+-- bytes that are no frame are dropped
 abbrev pub frame_verdict : List ℕ → DealerRow → List DealerFact → ℕ → Option (List Field) → DealerVerdict
 frame_verdict date row facts moment None = Dropped
 frame_verdict date row facts moment (Some fields) = sequence_verdict date row facts moment fields (sequence_number fields)

@@ -2,16 +2,18 @@
 //!
 //! In every text of a message a vertical bar stands for SOH. A day is a table of steps.
 use crate::{DealerDesk, DealerEvent};
-use fix_fields::{Date, Memory, Moment, read_moment};
-use quote_messages::{Ask, Close, Duty, Message, Quantity, RoomRef, Side};
+use fix_fields::{Memory, Moment};
+use quote_messages::{Ask, Close, Duty, Message, Side};
 use quote_word::Settled;
 use std::alloc::Global;
 use std::process::Abort;
 use std::test::Fail;
-use venue_config::{BondId, DealerRow, Name, Traders};
 
 mod cancels;
 mod declines;
+mod duties;
+mod frames;
+mod inputs;
 mod lifted;
 mod limits;
 mod memory;
@@ -20,6 +22,10 @@ mod quotes;
 mod session;
 mod whole_frames;
 mod worked_days;
+
+use duties::left_text;
+use frames::{changed, frame, sent_frame, sum, with_soh};
+use inputs::{ask, at, date, name, request, room, row};
 
 /// One step of a day: what is done, what the dealer is then sent, and what else is answered. What is done is one of:
 ///
@@ -32,6 +38,18 @@ mod worked_days;
 /// - `close 1 3 09:05:00.000`: the same by the number of the request.
 /// - `lift 1`: the word of the quote with this own number is lifted from here on, and that of no other.
 type Step = (&'static str, &'static str, &'static str);
+
+/// What the dealer is sent of the first of the three requests, as `R1`.
+const FIRST: &str =
+    "R 131=R1|146=1|55=[N/A]|48=BONDA0000001|22=4|54=1|38=2000000|126=20250314-09:05:00.000|453=1|448=INV1|447=D|452=13|";
+
+/// What it is sent of the second one, as `R2`.
+const SECOND: &str =
+    "R 131=R2|146=1|55=[N/A]|48=BONDB0000002|22=4|54=2|38=2000000|126=20250314-09:06:00.000|453=1|448=INV2|447=D|452=13|";
+
+/// What it is sent of the third one, which is for 1, as `R2`.
+const FOR_ONE: &str =
+    "R 131=R2|146=1|55=[N/A]|48=BONDA0000001|22=4|54=1|38=1|126=20250314-09:05:00.000|453=1|448=INV1|447=D|452=13|";
 
 /// A desk in the middle of a day.
 #[derive(Drop)]
@@ -166,71 +184,6 @@ fn last_answer(
     }
 }
 
-/// A duty as a text: the room, the own number of the quote, its price in 256ths, until when it is valid, and the
-/// moment.
-fn left_text(alloc: Global, left: &Option<Duty>) -> Result<String, Fail> {
-    match left {
-        None => nothing_text(alloc),
-        Some(
-            Duty::Post {
-                room,
-                quote,
-                price,
-                valid_until,
-                moment,
-            },
-        ) => {
-            let until = match valid_until {
-                Some(until) => until.get(),
-                None => 0,
-            };
-            post_text(alloc, *room, *quote, price.get(), until, moment.get())
-        }
-        Some(
-            Duty::Unpost {
-                room,
-                quote,
-                moment,
-            },
-        ) => { unpost_text(alloc, *room, *quote, moment.get()) }
-        Some(Duty::Decline { room, moment }) => decline_text(alloc, *room, moment.get()),
-    }
-}
-
-/// The text where nothing is left to be done.
-fn nothing_text(alloc: Global) -> Result<String, Fail> {
-    let text = String::from_str(alloc, "-")?;
-    Ok(text)
-}
-
-/// The text of the posting of a quote.
-fn post_text(
-    alloc: Global,
-    room: RoomRef,
-    quote: u32,
-    price: u32,
-    until: u32,
-    moment: u32,
-) -> Result<String, Fail> {
-    let (investor, n) = (room.investor, room.n);
-    let text = format!(in alloc; "post {investor}.{n} {quote} {price} {until} {moment}")?;
-    Ok(text)
-}
-
-/// The text of the taking out of a quote.
-fn unpost_text(alloc: Global, room: RoomRef, quote: u32, moment: u32) -> Result<String, Fail> {
-    let (investor, n) = (room.investor, room.n);
-    let text = format!(in alloc; "unpost {investor}.{n} {quote} {moment}")?;
-    Ok(text)
-}
-
-/// The text of a decline.
-fn decline_text(alloc: Global, room: RoomRef, moment: u32) -> Result<String, Fail> {
-    let (investor, n) = (room.investor, room.n);
-    let text = format!(in alloc; "decline {investor}.{n} {moment}")?;
-    Ok(text)
-}
-
 /// A request is shown: the moment, and the number that is answered.
 fn shows<'a>(
     rt: &impl Abort,
@@ -303,46 +256,6 @@ fn digit(rt: &impl Abort, text: &str) -> u32 {
     }
 }
 
-/// The room of one of the three requests: two of them are one investor's, and two have one number.
-fn room(which: u32) -> RoomRef {
-    match which {
-        1 => RoomRef { investor: 7, n: 1 },
-        2 => RoomRef { investor: 8, n: 1 },
-        _ => RoomRef { investor: 7, n: 2 },
-    }
-}
-
-/// One of the three requests: INV1 buys 2,000,000 of BONDA0000001 until 09:05, INV2 sells 2,000,000 of BONDB0000002
-/// until 09:06, INV1 buys 1 of BONDA0000001 until 09:05.
-fn request(rt: &impl Abort, alloc: Global, which: u32) -> Result<Ask, Fail> {
-    let five = at(rt, alloc, "09:05:00.000")?;
-    let six = at(rt, alloc, "09:06:00.000")?;
-    let ask = match which {
-        1 => ask(rt, "INV1", "BONDA0000001", Side::Buy, 2_000_000, five),
-        2 => ask(rt, "INV2", "BONDB0000002", Side::Sell, 2_000_000, six),
-        _ => ask(rt, "INV1", "BONDA0000001", Side::Buy, 1, five),
-    };
-    Ok(ask)
-}
-
-/// What an investor asks for.
-fn ask(
-    rt: &impl Abort,
-    investor: &str,
-    bond: &str,
-    side: Side,
-    quantity: u64,
-    deadline: Moment,
-) -> Ask {
-    Ask {
-        investor: name(rt, investor),
-        bond: BondId::new(bond.as_bytes()).expect(rt, "a bond"),
-        side,
-        quantity: Quantity::new(quantity).expect(rt, "a quantity"),
-        deadline,
-    }
-}
-
 /// Asserts what was sent behind the first `before` messages: this message, or nothing where the text is empty.
 fn assert_sent(
     rt: &impl Abort,
@@ -363,93 +276,4 @@ fn assert_sent(
     let last = sent.last().expect(rt, "a message that was sent");
     assert_eq!(rt; last.as_bytes(), bytes.as_slice(), "{line}");
     Ok(())
-}
-
-/// The frame of a message that DLR1 is sent.
-fn sent_frame(
-    rt: &impl Abort,
-    alloc: Global,
-    number: usize,
-    time: &str,
-    text: &str,
-) -> Result<Vec<u8>, Fail> {
-    let (msg_type, fields) = text.split_once(" ").expect(rt, "a type");
-    let body = format!(in alloc;
-        "35={msg_type}|49=VENUE|56=DLR1|34={number}|52=20250314-{time}|{fields}"
-    )?;
-    frame(alloc, body.as_str())
-}
-
-/// The frame of a body: BeginString (8) and BodyLength (9) in front of it, and CheckSum (10) behind it.
-fn frame(alloc: Global, body: &str) -> Result<Vec<u8>, Fail> {
-    let start = format!(in alloc; "8=FIXT.1.1|9={}|{body}", body.len())?;
-    let mut bytes = with_soh(alloc, start.as_str())?;
-    let end = format!(in alloc; "10={:03}|", sum(bytes.as_slice()) % 256)?;
-    let end = with_soh(alloc, end.as_str())?;
-    bytes.extend_from_slice(end.as_slice())?;
-    Ok(bytes)
-}
-
-/// The sum of bytes.
-fn sum(bytes: &[u8]) -> u32 {
-    let mut sum: u32 = 0;
-    for c in bytes {
-        sum = sum.wrapping_add(u32::from(*c));
-    }
-    sum
-}
-
-/// The bytes of a text, with SOH for each vertical bar.
-fn with_soh(alloc: Global, text: &str) -> Result<Vec<u8>, Fail> {
-    let mut bytes = Vec::new(alloc);
-    for c in text.bytes() {
-        bytes.push(if c == b'|' { 1 } else { c })?;
-    }
-    Ok(bytes)
-}
-
-/// A text with a part of it, where it stands first, in another form.
-fn changed(
-    rt: &impl Abort,
-    alloc: Global,
-    text: &str,
-    part: &str,
-    form: &str,
-) -> Result<String, Fail> {
-    let (front, back) = text.split_once(part).expect(rt, "the text has the part");
-    let text = format!(in alloc; "{front}{form}{back}")?;
-    Ok(text)
-}
-
-/// The day of the tests.
-fn date(rt: &impl Abort) -> Date {
-    Date::new(b"20250314").expect(rt, "a date")
-}
-
-/// A moment of that day, from its text `HH:MM:SS.sss`.
-fn at(rt: &impl Abort, alloc: Global, time: &str) -> Result<Moment, Fail> {
-    let text = format!(in alloc; "20250314-{time}")?;
-    let moment = read_moment(&date(rt), text.as_str().as_bytes());
-    Ok(moment.ok().expect(rt, "a moment"))
-}
-
-/// The row of DLR1 with the traders T1 and T2.
-fn row(rt: &impl Abort, quotes: u32, exposure: u64) -> DealerRow {
-    let mut traders = Traders::new();
-    assert!(rt; traders.push(&name(rt, "T1")), "no room for T1");
-    assert!(rt; traders.push(&name(rt, "T2")), "no room for T2");
-    assert!(rt; traders.len() >= 1);
-    assert!(rt; quotes >= 1 && quotes <= DealerRow::MOST_QUOTES);
-    assert!(rt; exposure >= 1 && exposure <= DealerRow::MOST_EXPOSURE);
-    DealerRow {
-        name: name(rt, "DLR1"),
-        traders,
-        quotes,
-        exposure,
-    }
-}
-
-/// The name that a text spells.
-fn name(rt: &impl Abort, text: &str) -> Name {
-    Name::new(text.as_bytes()).expect(rt, "a name")
 }

@@ -133,23 +133,30 @@ unfoldable pub fields_of : List ℕ → List Field
 fields_of body = map field_of (pieces_of body)
 
 -- The tests of what the facts above say, as answers.
+
+-- of a tag
 abbrev pub is_tag : ℕ → Bool
 is_tag tag = nat_lt 0 tag && nat_lt tag 1000000000 && not (tag == 8) && not (tag == 9) && not (tag == 10)
 
+-- of a value
 abbrev pub is_value : List ℕ → Bool
 is_value value = list_all (λ byte. not (byte == 1)) value
 
+-- of a field
 abbrev pub is_field : Field → Bool
 is_field field = is_tag field.0 && is_value field.1
 
+-- of the fields of a body
 abbrev pub are_body : List Field → Bool
 are_body [] = false
 are_body (field ∷ fields) = (field.0 == 35) && list_all is_field (field ∷ fields)
 
+-- of the digits of BodyLength (9): 1 to 6 that write this length
 abbrev pub are_length_digits : List ℕ → ℕ → Bool
 are_length_digits digits n =
     all_ascii_digits digits && nat_lt 0 (length digits) && nat_le (length digits) 6 && (digits_value 10 digits == n)
 
+-- of the digits of CheckSum (10): three that write this sum
 abbrev pub are_sum_digits : List ℕ → ℕ → Bool
 are_sum_digits digits n = all_ascii_digits digits && (length digits == 3) && (digits_value 10 digits == n)
 
@@ -161,13 +168,15 @@ builds bytes length_digits sum_digits fields =
     && are_sum_digits sum_digits (sum front % 256) && bytes_eq bytes (front ++ end_text sum_digits)
     && nat_le (length bytes) 4096
 
--- where the digits of BodyLength, the body and the digits of CheckSum would stand
+-- where the digits of BodyLength would stand
 unfoldable pub length_digits_of : List ℕ → List ℕ
 length_digits_of bytes = before_first (λ byte. byte == 1) (drop 13 bytes)
 
+-- where the body would stand: behind BodyLength, up to the last seven bytes
 unfoldable pub body_of : List ℕ → List ℕ
 body_of bytes = let behind = after_first (λ byte. byte == 1) (drop 13 bytes) in take (length behind - 7) behind
 
+-- where the digits of CheckSum would stand
 unfoldable pub sum_digits_of : List ℕ → List ℕ
 sum_digits_of bytes = take 3 (drop (length bytes - 4) bytes)
 

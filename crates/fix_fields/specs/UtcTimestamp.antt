@@ -47,6 +47,7 @@ timestamp_text date n = seconds_text date n ++ (46 ∷ three_digits (n % 1000))
 abbrev pub IsSpelling : List ℕ → ℕ → List ℕ → Type 0
 IsSpelling date n text = (text ≡ timestamp_text date n) ⊎ ((n % 1000 ≡ 0) × (text ≡ seconds_text date n))
 
+-- A text spells a moment of a date, as FIX's UTCTimestamp.
 pub record UtcTimestamp (date : List ℕ) (n : ℕ) (text : List ℕ) : Type 0 where
   pub date_is : IsDate date
   pub moment : n < 86400000

@@ -39,12 +39,15 @@ pub record TagRule : Type 0 where
   pub is_required : Bool
   pub value : ValueRule
 
+-- a tag that has to stand
 abbrev pub required : ℕ → ValueRule → TagRule
 required tag value = record { tag = tag; is_required = true; value = value }
 
+-- a tag that may be absent
 abbrev pub optional : ℕ → ValueRule → TagRule
 optional tag value = record { tag = tag; is_required = false; value = value }
 
+-- a tag that has to stand where the rest of the message says so
 abbrev pub required_where : Bool → ℕ → ValueRule → TagRule
 required_where is_required tag value = record { tag = tag; is_required = is_required; value = value }
 
@@ -123,11 +126,13 @@ price_fault (Err PriceForm) = Some IncorrectDataFormat
 price_fault (Err Range) = None
 price_fault (Err Grid) = None
 
+-- a moment of another form, and one of another day
 abbrev pub moment_fault : Result ℕ MomentFault → Option SessionRejectReason
 moment_fault (Ok moment) = None
 moment_fault (Err MomentForm) = Some IncorrectDataFormat
 moment_fault (Err OtherDay) = Some ValueIncorrect
 
+-- a quantity of another form, and one that is not whole or out of its limits
 abbrev pub quantity_fault : Result ℕ SessionRejectReason → Option SessionRejectReason
 quantity_fault (Ok units) = None
 quantity_fault (Err reason) = Some reason

@@ -12,10 +12,11 @@ use Rattle.venue_config.specs.declared.faults.ConfigFault.TheVariants.{Toml, Lim
 unfoldable pub bond_of : List (List ℕ) → Data → Result (List ℕ) ConfigFault
 bond_of bonds row = text_at id_key row >>= unnamed bonds
 
--- the names of dealers, and of investors
+-- the names of dealers
 abbrev pub dealer_names : List DealerValues → List (List ℕ)
 dealer_names dealers = map (λ (row : DealerValues). row.name) dealers
 
+-- the names of investors
 abbrev pub investor_names : List InvestorValues → List (List ℕ)
 investor_names investors = map (λ (row : InvestorValues). row.name) investors
 
@@ -42,20 +43,23 @@ investor_of dealers investors row = do
   quantity ← number_at quantity_key row
   Ok (record { name = name; traders = traders; requests = requests; open_limit = open_limit; quantity = quantity })
 
--- the rows of a document
+-- the bonds of a document, in their order
 unfoldable pub bonds_in : Data → Result (List (List ℕ)) ConfigFault
 bonds_in document = rows_at bonds_key document >>= read_all bond_of []
 
+-- the dealers of a document, in their order
 unfoldable pub dealers_in : Data → Result (List DealerValues) ConfigFault
 dealers_in document = rows_at dealers_key document >>= read_all dealer_of []
 
+-- the investors of a document, behind all dealers
 unfoldable pub investors_in : List DealerValues → Data → Result (List InvestorValues) ConfigFault
 investors_in dealers document = rows_at investors_key document >>= read_all (investor_of dealers) []
 
--- how many quotes and requests a day may have in all
+-- how many quotes a day may have in all
 abbrev pub quotes_in_all : List DealerValues → ℕ
 quotes_in_all dealers = sum_by (λ row. row.quotes) dealers
 
+-- how many requests a day may have in all
 abbrev pub requests_in_all : List InvestorValues → ℕ
 requests_in_all investors = sum_by (λ row. row.requests) investors
 
@@ -64,6 +68,7 @@ abbrev pub sums_fit : List DealerValues → List InvestorValues → Bool
 sums_fit dealers investors =
     nat_le (quotes_in_all dealers) most_quotes && nat_le (requests_in_all investors) most_requests
 
+-- a configuration whose sums are within their limits
 abbrev pub with_sums : ConfigValues → Result ConfigValues ConfigFault
 with_sums config = if sums_fit config.dealers config.investors then Ok config else Err Limit
 
@@ -82,6 +87,7 @@ abbrev pub document_from : Option Members → Result Data ConfigFault
 document_from None = Err Toml
 document_from (Some members) = Ok (table members)
 
+-- the document of a text
 unfoldable pub document_of : List ℕ → Result Data ConfigFault
 document_of text = document_from (parse_document text)
 

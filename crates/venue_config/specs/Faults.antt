@@ -3,6 +3,7 @@ use Rattle.std.specs.Prelude.{ℕ, List, codes}
 use Rattle.venue_config.specs.declared.faults.ConfigFault.{ConfigFault}
 use Rattle.venue_config.specs.declared.faults.ConfigFault.TheVariants.{Toml, Missing, Name, Twice, Limit, Memory}
 
+-- the name of a fault
 abbrev pub fault_name : ConfigFault → List ℕ
 fault_name Toml = codes "Toml"
 fault_name Missing = codes "Missing"

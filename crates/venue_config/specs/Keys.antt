@@ -28,53 +28,74 @@ reserved_names = codes "VENUE" ∷ codes "CLOCK" ∷ []
 abbrev pub is_firm_name : List ℕ → Bool
 is_firm_name text = is_name text && not (is_among reserved_names text)
 
--- of the document: there is one version, 1
+-- Keys of the document.
+
+-- the version of the format: there is one, 1
 abbrev pub version_key : NumberKey
 version_key = record { key = codes "version"; most = 1 }
 
+-- the trading day
 abbrev pub date_key : TextKey
 date_key = record { key = codes "date"; form = is_date }
 
+-- the bonds
 abbrev pub bonds_key : ArrayKey
 bonds_key = record { key = codes "bond"; least = 0; most = 1024 }
 
+-- the dealers
 abbrev pub dealers_key : ArrayKey
 dealers_key = record { key = codes "dealer"; least = 0; most = 64 }
 
+-- the investors
 abbrev pub investors_key : ArrayKey
 investors_key = record { key = codes "investor"; least = 0; most = 64 }
 
--- of a bond
+-- The key of a bond.
+
+-- its identifier
 abbrev pub id_key : TextKey
 id_key = record { key = codes "id"; form = is_bond_id }
 
--- of a dealer and of an investor
+-- Keys of a dealer and of an investor.
+
+-- the name of the firm
 abbrev pub name_key : TextKey
 name_key = record { key = codes "name"; form = is_firm_name }
 
+-- its traders
 abbrev pub traders_key : ArrayKey
 traders_key = record { key = codes "traders"; least = 1; most = 16 }
 
--- of a dealer
+-- Keys of a dealer.
+
+-- the most quotes that it may have accepted in the day
 abbrev pub quotes_key : NumberKey
 quotes_key = record { key = codes "quotes"; most = 4096 }
 
+-- the most that its live quotes may come to
 abbrev pub exposure_key : NumberKey
 exposure_key = record { key = codes "exposure"; most = 1000000000000000 }
 
--- of an investor
+-- Keys of an investor.
+
+-- the most requests that it may have accepted in the day
 abbrev pub requests_key : NumberKey
 requests_key = record { key = codes "requests"; most = 1024 }
 
+-- the most requests that may be open at once
 abbrev pub open_key : NumberKey
 open_key = record { key = codes "open"; most = 1024 }
 
+-- the greatest quantity of a request
 abbrev pub quantity_key : NumberKey
 quantity_key = record { key = codes "quantity"; most = 1000000000000 }
 
--- the most quotes of all dealers together, and the most requests of all investors together
+-- Sums.
+
+-- the most quotes of all dealers together
 abbrev pub most_quotes : ℕ
 most_quotes = 65536
 
+-- the most requests of all investors together
 abbrev pub most_requests : ℕ
 most_requests = 4096

@@ -34,14 +34,16 @@ pub record Configuration : Type 0 where
   pub dealers : List DealerRow
   pub investors : List InvestorRow
 
--- the values of rows and of a configuration
+-- the values of a dealer
 abbrev pub dealer_values : DealerRow → DealerValues
 dealer_values row = record { name = row.name; traders = row.traders; quotes = row.quotes; exposure = row.exposure }
 
+-- the values of an investor
 abbrev pub investor_values : InvestorRow → InvestorValues
 investor_values row =
     record { name = row.name; traders = row.traders; requests = row.requests; open_limit = row.open_limit; quantity = row.quantity }
 
+-- the values of a configuration
 abbrev pub values_of : Configuration → ConfigValues
 values_of config = record {
   date = config.date;

@@ -4,6 +4,7 @@ use Rattle.std.specs.List.{list_all, list_any}
 use Rattle.std.specs.Cmp.Lexicographic.{pointwise}
 use Rattle.std.specs.Char.{is_ascii_uppercase, is_ascii_digit}
 
+-- a capital letter or a digit
 abbrev pub is_capital_or_digit : ℕ → Bool
 is_capital_or_digit c = is_ascii_uppercase c || is_ascii_digit c
 

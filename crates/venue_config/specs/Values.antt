@@ -18,10 +18,12 @@ abbrev pub number_within : ℕ → ℤ → Result ℕ ConfigFault
 number_within most (pos number) = if nat_le 1 number && nat_le number most then Ok number else Err Limit
 number_within most (negsuc number) = Err Limit
 
+-- an integer within its limits, where one stands
 abbrev pub number_in : ℕ → Option ℤ → Result ℕ ConfigFault
 number_in most None = Err Missing
 number_in most (Some number) = number_within most number
 
+-- the number at a key
 unfoldable pub number_at : NumberKey → Data → Result ℕ ConfigFault
 number_at key holder = number_in key.most (option_and_then as_integer (get key.key holder))
 
@@ -30,6 +32,7 @@ abbrev pub text_in : (List ℕ → Bool) → Option (List ℕ) → Result (List 
 text_in form None = Err Missing
 text_in form (Some text) = if form text then Ok text else Err Name
 
+-- the text at a key
 unfoldable pub text_at : TextKey → Data → Result (List ℕ) ConfigFault
 text_at key holder = text_in key.form (option_and_then as_str (get key.key holder))
 
@@ -48,6 +51,7 @@ elements_in least most None = Err Missing
 elements_in least most (Some items) =
     if nat_le least (item_count items) && nat_le (item_count items) most then Ok items else Err Limit
 
+-- the elements of the array at a key
 unfoldable pub elements_at : ArrayKey → Data → Result Items ConfigFault
 elements_at key holder = elements_in key.least key.most (option_and_then as_array (get key.key holder))
 
@@ -56,6 +60,7 @@ abbrev pub rows_in : ArrayKey → Option Data → Result Items ConfigFault
 rows_in key None = Ok no_items
 rows_in key (Some value) = elements_in key.least key.most (as_array value)
 
+-- the rows of the array of tables at a key
 unfoldable pub rows_at : ArrayKey → Data → Result Items ConfigFault
 rows_at key document = rows_in key (get key.key document)
 

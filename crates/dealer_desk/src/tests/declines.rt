@@ -1,12 +1,6 @@
 //! The checks of a decline, each alone and in neighbouring pairs.
 use super::*;
 
-const FIRST: &str =
-    "R 131=R1|146=1|55=[N/A]|48=BONDA0000001|22=4|54=1|38=2000000|126=20250314-09:05:00.000|453=1|448=INV1|447=D|452=13|";
-
-const SECOND: &str =
-    "R 131=R2|146=1|55=[N/A]|48=BONDB0000002|22=4|54=2|38=2000000|126=20250314-09:06:00.000|453=1|448=INV2|447=D|452=13|";
-
 /// Declines of a request without a quote, before its notice and behind it.
 const DECLINED: &[Step] = &[
     // nothing is shown yet

@@ -1,12 +1,6 @@
 //! A quote that is known to be lifted.
 use super::*;
 
-const FIRST: &str =
-    "R 131=R1|146=1|55=[N/A]|48=BONDA0000001|22=4|54=1|38=2000000|126=20250314-09:05:00.000|453=1|448=INV1|447=D|452=13|";
-
-const SECOND: &str =
-    "R 131=R2|146=1|55=[N/A]|48=BONDB0000002|22=4|54=2|38=2000000|126=20250314-09:06:00.000|453=1|448=INV2|447=D|452=13|";
-
 /// The quote a1 on R1, whose word is lifted, beside R2.
 const LIFTED: &[Step] = &[
     ("show 1 09:00:00.000", FIRST, "1"),

@@ -1,13 +1,6 @@
 //! The day's quotes, the exposure, and replacement beside both.
 use super::*;
 
-const FIRST: &str =
-    "R 131=R1|146=1|55=[N/A]|48=BONDA0000001|22=4|54=1|38=2000000|126=20250314-09:05:00.000|453=1|448=INV1|447=D|452=13|";
-
-/// The request for 1, as the second one.
-const FOR_ONE: &str =
-    "R 131=R2|146=1|55=[N/A]|48=BONDA0000001|22=4|54=1|38=1|126=20250314-09:05:00.000|453=1|448=INV1|447=D|452=13|";
-
 /// The quotes a1 on R1 for 2,000,000.
 const QUOTED: &[Step] = &[
     ("show 1 09:00:00.000", FIRST, "1"),

@@ -72,7 +72,8 @@ fn a_refused_call_leaves_the_desk(rt: HostRuntime) -> Result<(), Fail> {
     takes_all(&rt, &mut desk)?;
     is_told(&rt, &mut desk, morning, 1, 2_000_000)?;
     is_told(&rt, &mut desk, morning, 3, 0)?;
-    assert!(rt; seen(&desk) == (12, 11, 0));
+    assert!(rt; desk.events().len() == 12 && desk.sent().len() == 11);
+    assert!(rt; desk.exposure() == 0);
     let last = desk.sent().last().expect(&rt, "a notice");
     assert!(rt; last.as_bytes() == NOTICE);
     Ok(())
@@ -82,9 +83,19 @@ fn a_refused_call_leaves_the_desk(rt: HostRuntime) -> Result<(), Fail> {
 const NOTICE: &[u8] =
     b"8=FIXT.1.1\x019=134\x0135=AJ\x0149=VENUE\x0156=DLR1\x0134=11\x0152=20250314-09:00:00.000\x01693=N2\x01131=R2\x01117=a3\x01694=1\x0155=[N/A]\x0148=BONDA0000001\x0122=4\x0154=1\x0138=2000000\x01133=99\x0110=255\x01";
 
-/// What the readers of a desk answer: how many events, how many messages, and the exposure.
-fn seen(desk: &DealerDesk) -> (usize, usize, u64) {
-    (desk.events().len(), desk.sent().len(), desk.exposure())
+/// What the readers of a desk answer: how many events, how many messages, the sum of the bytes of the messages, and
+/// the exposure.
+fn seen(desk: &DealerDesk) -> (usize, usize, u32, u64) {
+    let mut bytes: u32 = 0;
+    for message in desk.sent() {
+        bytes = bytes.wrapping_add(sum(message.as_bytes()));
+    }
+    (
+        desk.events().len(),
+        desk.sent().len(),
+        bytes,
+        desk.exposure(),
+    )
 }
 
 /// Takes each message of [`TAKEN`]. The word of the third quote is lifted.
@@ -106,10 +117,15 @@ fn takes_one(
     bytes: &[u8],
 ) -> Result<(u32, Option<Duty>), Fail> {
     let before = seen(desk);
+    let asked = desk.question(moment, bytes);
     if let Ok(taken) = takes(desk, moment, bytes, 3) {
         return Ok(taken);
     }
     assert!(rt; seen(desk) == before, "a refused take changed the desk");
+    assert!(rt;
+        desk.question(moment, bytes) == asked,
+        "a refused take changed its question"
+    );
     let taken = takes(desk, moment, bytes, 3)?;
     Ok(taken)
 }

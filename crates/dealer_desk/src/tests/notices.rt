@@ -1,12 +1,6 @@
 //! Closing notices: which of them are sent, and what they say.
 use super::*;
 
-const FIRST: &str =
-    "R 131=R1|146=1|55=[N/A]|48=BONDA0000001|22=4|54=1|38=2000000|126=20250314-09:05:00.000|453=1|448=INV1|447=D|452=13|";
-
-const SECOND: &str =
-    "R 131=R2|146=1|55=[N/A]|48=BONDB0000002|22=4|54=2|38=2000000|126=20250314-09:06:00.000|453=1|448=INV2|447=D|452=13|";
-
 /// The requests R1 and R2 with a quote on each.
 const QUOTED: &[Step] = &[
     ("show 1 09:00:00.000", FIRST, "1"),
@@ -153,11 +147,22 @@ fn events_and_rooms(rt: HostRuntime) -> Result<(), Fail> {
     );
     assert!(rt; day.desk.was_shown(room(2)), "a room that was told");
     assert_told(&rt, day.desk.events(), at(&rt, alloc, "09:01:00.000")?);
-    let messages = day.desk.sent().len();
-    assert!(rt; messages == 5);
-    assert!(rt; day.desk.into_sent().len() == 5);
+    assert!(rt; day.desk.sent().len() == 5);
+    let sent = day.desk.into_sent();
+    assert!(rt; sent.len() == 5);
+    let first = sent_frame(&rt, alloc, 1, "09:00:00.000", FIRST)?;
+    let notice = sent_frame(&rt, alloc, 5, "09:01:00.000", COVER)?;
+    let (Some(front), Some(back)) = (sent.first(), sent.last()) else {
+        assert!(rt; false, "messages that were sent");
+        return Ok(());
+    };
+    assert_eq!(rt; front.as_bytes(), first.as_slice());
+    assert_eq!(rt; back.as_bytes(), notice.as_slice());
     Ok(())
 }
+
+/// The notice that the second request was awarded to another dealer, and this dealer's quote is the cover.
+const COVER: &str = "AJ 693=N1|131=R2|694=4|55=[N/A]|48=BONDB0000002|22=4|54=2|38=2000000|";
 
 /// Asserts that the second event is INV2's request.
 fn assert_shown(rt: &impl Abort, events: &[DealerEvent]) {
