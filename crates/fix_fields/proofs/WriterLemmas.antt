@@ -12,7 +12,7 @@ use Rattle.std.proofs.lemmas.Fmt.{digits_decimal, digits_value-decimal, decimal_
 use Rattle.fix_fields.specs.Frame.{Field, IsTag, IsValue, IsField, AreBody, AreSumDigits, IsFrame, field_text, fields_text, front_text, end_text, three_digits, frame_text, decimal_len, field_len, fields_len, left_of, fields_of}
 use Rattle.fix_fields.specs.Scan.{IsBodyText, text_around}
 use Rattle.fix_fields.proofs.Digits.{plain}
-use Rattle.fix_fields.proofs.FieldLemmas.{fields_of-text, AreBody-lawful, free_digits}
+use Rattle.fix_fields.proofs.FieldLemmas.{fields_of-text, AreBody-lawful}
 
 -- a number from 10 ^ k on has more than k digits
 longer : (k n : ℕ) → n < 2 ^ 64 → 10 ^ k ≤ n → k < length (decimal n)

@@ -1,8 +1,8 @@
 -- What `parse` gives of a text of digits.
 use Rattle.std.proofs.Common.{◌≡◌, ℕ, ◌^◌, ◌<◌, ◌≤◌, ◌≢◌, true, List, [], ◌∷◌, length, nat_le, arith, lit<, get_or, ap, ◌∙◌, Some, Result, Ok, Err}
 use Rattle.std.specs.List.{list_all}
-use Rattle.std.specs.Char.{is_ascii_digit, digit_value}
-use Rattle.std.specs.Str.Parse.{AllDigits, IsNumeral, digits_value, without_leading_plus, ParsesUnsigned}
+use Rattle.std.specs.Char.{is_ascii_digit}
+use Rattle.std.specs.Str.Parse.{IsNumeral, digits_value, without_leading_plus, ParsesUnsigned}
 use Rattle.std.specs.Result.{result_ok}
 use Rattle.std.proofs.lemmas.Str.Parse.{without_leading_plus_none}
 use Rattle.std.proofs.lemmas.Int.Digits.{digits_value-lt}

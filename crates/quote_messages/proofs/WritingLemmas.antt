@@ -1,7 +1,6 @@
 -- What is written fits, and has no SOH.
-use Rattle.std.proofs.Common.{◌≢◌, ℕ, ◌<◌, ◌≤◌, ◌^◌, Bool, true, false, List, [], ◌∷◌, ◌++◌, Option, Some, None, arith, lit≤, cond, decimal, nat_lt}
+use Rattle.std.proofs.Common.{ℕ, ◌<◌, ◌≤◌, ◌^◌, Bool, true, false, List, [], ◌∷◌, ◌++◌, Option, Some, None, lit≤, cond, nat_lt}
 use Rattle.std.specs.Str.Parse.{AllDigits}
-use Rattle.std.proofs.lemmas.Bool.Decides.{nat_tests}
 use Rattle.fix_fields.specs.Frame.{decimal_len, IsValue}
 use Rattle.fix_fields.specs.TextLaws.{digits_are_value, number_is_value}
 use Rattle.bond_prices.specs.Price.{IsShortest, sign_text, point_text, behind_point}

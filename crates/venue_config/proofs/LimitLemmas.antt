@@ -9,8 +9,8 @@ use Rattle.std.proofs.lemmas.List.Folds.{list_any_at}
 use Rattle.std.proofs.lemmas.List.Quantifiers.{all_pairs_push}
 use Rattle.std.specs.Option.{option_and_then}
 use Rattle.toml.specs.Data.{Data, Items, no_items, item, as_array, as_str, get}
-use Rattle.venue_config.specs.Texts.{is_among, same_text}
-use Rattle.venue_config.specs.Keys.{is_firm_name, id_key, name_key, traders_key, bonds_key, dealers_key, investors_key, quotes_key, exposure_key, requests_key, open_key, quantity_key}
+use Rattle.venue_config.specs.Texts.{is_among, is_firm_name, same_text}
+use Rattle.venue_config.specs.Keys.{id_key, name_key, traders_key, bonds_key, dealers_key, investors_key, quotes_key, exposure_key, requests_key, open_key, quantity_key}
 use Rattle.venue_config.specs.Values.{◌>>=◌, text_in, text_at, unnamed, item_count, elements_in, elements_at, rows_at, read_all, trader_of, traders_at, number_at}
 use Rattle.venue_config.specs.Rows.{DealerValues, InvestorValues, AreTraders}
 use Rattle.venue_config.specs.Config.{bond_of, bonds_in, dealer_names, investor_names, firm_name_of, dealer_of, investor_of, dealers_in, investors_in}

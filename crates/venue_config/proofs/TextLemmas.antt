@@ -1,5 +1,5 @@
 -- What the forms of names imply: each is ASCII, so it is UTF-8, and has no SOH.
-use Rattle.std.proofs.Common.{◌≡◌, ◌≢◌, ◌==◌, ℕ, ◌<◌, Bool, true, false, List, [], ◌∷◌, length, ◌&&◌, nat_le, arith, lit<, refl, ap, map, ◌||◌, suc, zero}
+use Rattle.std.proofs.Common.{◌≡◌, ◌≢◌, ◌==◌, ℕ, ◌<◌, true, List, [], ◌∷◌, length, ◌&&◌, nat_le, arith, refl, ap, map, ◌||◌}
 use Rattle.std.specs.List.{list_all, list_any}
 use Rattle.arrayvec.specs.ArrayString.{ArrayString}
 use Rattle.std.specs.Char.{is_ascii_uppercase}

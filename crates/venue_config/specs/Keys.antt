@@ -1,8 +1,8 @@
 -- The keys of a configuration, as a table of data: where each stands, of which kind its value is, of which form
 -- and within which limits. Keys that stand in no line here are ignored.
-use Rattle.std.specs.Prelude.{ℕ, Bool, ◌&&◌, not, List, [], ◌∷◌, codes}
+use Rattle.std.specs.Prelude.{ℕ, Bool, List, codes}
 use Rattle.fix_fields.specs.UtcTimestamp.{is_date}
-use Rattle.venue_config.specs.Texts.{is_name, is_bond_id, is_among}
+use Rattle.venue_config.specs.Texts.{is_firm_name, is_bond_id}
 
 -- a key whose value is an integer, from 1 to a greatest
 pub record NumberKey : Type 0 where
@@ -19,14 +19,6 @@ pub record ArrayKey : Type 0 where
   pub key : List ℕ
   pub least : ℕ
   pub most : ℕ
-
--- the names that no firm has
-abbrev pub reserved_names : List (List ℕ)
-reserved_names = codes "VENUE" ∷ codes "CLOCK" ∷ []
-
--- the name of a firm
-abbrev pub is_firm_name : List ℕ → Bool
-is_firm_name text = is_name text && not (is_among reserved_names text)
 
 -- Keys of the document.
 

@@ -1,7 +1,7 @@
 -- What a configuration holds, and the limits that it keeps.
 use Rattle.std.specs.Prelude.{◌≢◌, ℕ, ◌-◌, ◌≤◌, Bool, false, ◌&&◌, IsTrue, List, ◌++◌, length, map, nat_le, position, slice_get, sum_by, All, AllPairs, Option, Some, None, if◌then◌else◌}
-use Rattle.venue_config.specs.Texts.{same_text}
-use Rattle.venue_config.specs.Keys.{is_firm_name, most_quotes, most_requests}
+use Rattle.venue_config.specs.Texts.{is_firm_name, same_text}
+use Rattle.venue_config.specs.Keys.{most_quotes, most_requests}
 use Rattle.venue_config.specs.declared.dealer_rows.DealerRow.{DealerRow}
 use Rattle.venue_config.specs.declared.investor_rows.InvestorRow.{InvestorRow}
 

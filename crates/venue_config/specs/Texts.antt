@@ -1,5 +1,5 @@
 -- The forms of the short texts of a configuration.
-use Rattle.std.specs.Prelude.{ℕ, Bool, true, false, ◌&&◌, ◌||◌, ◌==◌, List, [], ◌∷◌, ◌++◌, length, nat_le, nat_lt, nat_eq, Option, Some, None, if◌then◌else◌}
+use Rattle.std.specs.Prelude.{ℕ, Bool, true, false, ◌&&◌, ◌||◌, ◌==◌, List, [], ◌∷◌, ◌++◌, length, nat_le, nat_lt, nat_eq, not, codes, Option, Some, None, if◌then◌else◌}
 use Rattle.std.specs.List.{list_all, list_any}
 use Rattle.std.specs.Cmp.Lexicographic.{pointwise}
 use Rattle.std.specs.Char.{is_ascii_uppercase, is_ascii_digit}
@@ -28,6 +28,14 @@ same_text a b = pointwise nat_eq a b
 -- whether a text is one of these
 abbrev pub is_among : List (List ℕ) → List ℕ → Bool
 is_among texts text = list_any (λ own. same_text own text) texts
+
+-- the names that no firm has: that of the venue, and that of its clock
+abbrev pub reserved_names : List (List ℕ)
+reserved_names = codes "VENUE" ∷ codes "CLOCK" ∷ []
+
+-- the name of a firm: any name but those
+abbrev pub is_firm_name : List ℕ → Bool
+is_firm_name text = not (is_among reserved_names text) && is_name text
 
 -- a trader behind the others of a firm, and whether there was room for it: a firm has at most 16
 abbrev pub trader_added : List (List ℕ) → List ℕ → List (List ℕ) × Bool

@@ -115,18 +115,14 @@ fn firm_number(dealers: &[DealerRow], investors: &[InvestorRow], name: &[u8]) ->
 fn place_of_dealer(dealers: &[DealerRow], name: &[u8]) -> Option<usize>
     ensures { result ≡ position (λ row. same_text row.name name.now) dealers.now }
 {
-    dealers
-        .iter()
-        .position(|row| row.name.as_bytes() == name)
+    dealers.iter().position(|row| row.name.as_bytes() == name)
 }
 
 /// The place of the investor with this name.
 fn place_of_investor(investors: &[InvestorRow], name: &[u8]) -> Option<usize>
     ensures { result ≡ position (λ row. same_text row.name name.now) investors.now }
 {
-    investors
-        .iter()
-        .position(|row| row.name.as_bytes() == name)
+    investors.iter().position(|row| row.name.as_bytes() == name)
 }
 
 /// How many quotes all dealers may have in a day.

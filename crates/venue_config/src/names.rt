@@ -1,7 +1,7 @@
 //! Names of firms and of traders.
 ghost use Rattle.std.specs.Prelude.{◌≡◌, ℕ, List, IsTrue};
 ghost use Rattle.fix_fields.specs.Frame.{IsValue};
-ghost use Rattle.venue_config.specs.Texts.{is_name, text_if};
+ghost use Rattle.venue_config.specs.Texts.{is_name, is_firm_name, is_among, reserved_names, text_if};
 
 use crate::characters::are_capitals_or_digits;
 use arrayvec::ArrayString;
@@ -35,6 +35,17 @@ impl Name {
         let text = str::from_utf8(text).ok()?;
         let text = ArrayString::from(text).ok()?;
         Some(Name { text })
+    }
+
+    /// The name of a firm that these bytes spell: any name but `VENUE` and `CLOCK`, which are those of the venue itself
+    /// and of its clock.
+    pub fn of_firm(text: &[u8]) -> Option<Self>
+        ensures { result ≡ text_if is_firm_name text.now }
+    {
+        if is_reserved(text) {
+            return None;
+        }
+        Name::new(text)
     }
 
     /// The characters of the name.
@@ -73,4 +84,11 @@ fn is_name(text: &[u8]) -> bool
         return false;
     }
     are_capitals_or_digits(rest)
+}
+
+/// Whether a text is a name that no firm has.
+fn is_reserved(text: &[u8]) -> bool
+    ensures { result ≡ is_among reserved_names text.now }
+{
+    b"VENUE".as_slice() == text || b"CLOCK".as_slice() == text
 }

@@ -4,7 +4,7 @@ ghost use Rattle.std.specs.List.{list_any};
 ghost use Rattle.std.specs.Result.{result_map_both};
 ghost use Rattle.toml.specs.View.{view};
 ghost use Rattle.venue_config.specs.Texts.{is_among, same_text};
-ghost use Rattle.venue_config.specs.Keys.{name_key, reserved_names};
+ghost use Rattle.venue_config.specs.Keys.{name_key};
 ghost use Rattle.venue_config.specs.Values.{text_at};
 ghost use Rattle.venue_config.specs.Rows.{dealer_values, investor_values};
 ghost use Rattle.venue_config.specs.Config.{bond_of, firm_name_of, dealer_of, investor_of, bonds_in, dealers_in, investors_in, dealer_names, investor_names};
@@ -53,9 +53,7 @@ fn read_bond(bonds: &[BondId], row: &Value) -> Result<BondId, ConfigFault>
 fn has_bond(bonds: &[BondId], bond: &BondId) -> bool
     ensures { result ≡ is_among bonds.now bond.now }
 {
-    bonds
-        .iter()
-        .any(|own| own.as_bytes() == bond.as_bytes())
+    bonds.iter().any(|own| own.as_bytes() == bond.as_bytes())
 }
 
 /// The name of a firm, which may be another firm's too.
@@ -66,20 +64,10 @@ fn read_name(row: &Value) -> Result<Name, ConfigFault>
     let Some(text) = text_at(row, "name") else {
         return Err(ConfigFault::Missing);
     };
-    if is_reserved(text.as_bytes()) {
-        return Err(ConfigFault::Name);
-    }
-    let Some(name) = Name::new(text.as_bytes()) else {
+    let Some(name) = Name::of_firm(text.as_bytes()) else {
         return Err(ConfigFault::Name);
     };
     Ok(name)
-}
-
-/// Whether a text is a name that no firm has.
-fn is_reserved(text: &[u8]) -> bool
-    ensures { result ≡ is_among reserved_names text.now }
-{
-    b"VENUE".as_slice() == text || b"CLOCK".as_slice() == text
 }
 
 /// The dealers of a configuration.
