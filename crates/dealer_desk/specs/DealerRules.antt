@@ -5,6 +5,7 @@ use Rattle.bond_prices.specs.declared.fault.PriceFault.{PriceFault}
 use Rattle.fix_fields.specs.Frame.{Field, frame_of, times_of, value_of}
 use Rattle.venue_config.specs.Texts.{same_text, text_if}
 use Rattle.quote_messages.specs.Texts.{is_msg_type, is_sequence_number}
+use Rattle.quote_messages.specs.Checks.{first_refusal, is_not_after}
 use Rattle.quote_messages.specs.SessionChecks.{session_verdict, text_at}
 use Rattle.dealer_desk.specs.DealerFacts.{expected_number, request_named, quotes_accepted, quote_with_id, live_number_on, exposure_beside, is_declined, is_told, is_withdrawn, is_known_lifted, has_lifted_quote}
 use Rattle.quote_messages.specs.declared.sides.Side.{Side}
@@ -62,11 +63,6 @@ abbrev pub differs_from : ℕ → Option ℕ → Bool
 differs_from wanted None = false
 differs_from wanted (Some found) = not (found == wanted)
 
--- whether a quote is given until a moment that is not after this one
-abbrev pub is_not_after : ℕ → Option ℕ → Bool
-is_not_after moment None = false
-is_not_after moment (Some until) = nat_le until moment
-
 -- The checks of the market, in their order: a condition, and the reason that it gives.
 
 -- a quote on a request: whether the request takes quotes of this dealer at all
@@ -117,11 +113,6 @@ decline_checks facts request =
     ∷ (is_told facts request, TooLate)
     ∷ (is_some (live_number_on facts request), Other)
     ∷ []
-
--- the reason of the first check whose condition holds
-abbrev pub first_refusal : List (Bool × QuoteRejectReason) → Option QuoteRejectReason
-first_refusal [] = None
-first_refusal (check ∷ checks) = if check.0 then Some check.1 else first_refusal checks
 
 -- Quotes.
 

@@ -1,6 +1,7 @@
 //! The rules of the market for what a dealer takes back: cancels of quotes, and declines of requests.
 ghost use Rattle.std.specs.Prelude.{◌≡◌};
-ghost use Rattle.dealer_desk.specs.DealerRules.{cancel_verdict, cancel_checks, decline_verdict, decline_checks, first_refusal};
+ghost use Rattle.quote_messages.specs.Checks.{first_refusal};
+ghost use Rattle.dealer_desk.specs.DealerRules.{cancel_verdict, cancel_checks, decline_verdict, decline_checks};
 
 use crate::counts::{is_declined, is_told, request_named};
 use crate::quotes::{is_known_lifted, is_withdrawn, live_number_on, quote_with_id};

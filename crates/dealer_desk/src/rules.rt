@@ -1,6 +1,7 @@
 //! The rules of the market for a dealer, over the facts of its desk. Each function goes over the facts anew.
 ghost use Rattle.std.specs.Prelude.{◌≡◌, ◌+◌, ◌<◌, ◌≤◌, Some, None, MatchResult};
-ghost use Rattle.dealer_desk.specs.DealerRules.{dealer_verdict, quote_verdict, quote_refusal, first_refusal, standing_checks, terms_checks, day_checks, price_for, reject_of, sequence_number, differs_from, is_not_after, quote_kept, lone_price, replacing};
+ghost use Rattle.quote_messages.specs.Checks.{first_refusal, is_not_after};
+ghost use Rattle.dealer_desk.specs.DealerRules.{dealer_verdict, quote_verdict, quote_refusal, standing_checks, terms_checks, day_checks, price_for, reject_of, sequence_number, differs_from, quote_kept, lone_price, replacing};
 ghost use Rattle.dealer_desk.specs.DealerFacts.{exposure_of, live_number_on, quotes_accepted};
 
 use crate::cancels::{cancel_verdict, decline_verdict};

@@ -1,5 +1,5 @@
 -- What is written fits, and has no SOH.
-use Rattle.std.proofs.Common.{ℕ, ◌<◌, ◌≤◌, ◌^◌, Bool, true, false, List, [], ◌∷◌, ◌++◌, Option, Some, None, lit≤, cond, nat_lt}
+use Rattle.std.proofs.Common.{ℕ, ◌<◌, ◌≤◌, ◌^◌, Bool, true, false, List, [], ◌∷◌, ◌++◌, Option, Some, None, lit≤, cond, nat_lt, decimal}
 use Rattle.std.specs.Str.Parse.{AllDigits}
 use Rattle.fix_fields.specs.Frame.{decimal_len, IsValue}
 use Rattle.fix_fields.specs.TextLaws.{digits_are_value, number_is_value}
@@ -22,18 +22,14 @@ decimal_len_le n =
     (at_most (nat_lt n 10000000000000000) _ _ 20 (lit≤ tt) (at_most (nat_lt n 100000000000000000) _ _ 20 (lit≤ tt) (at_most (nat_lt n 1000000000000000000) _ _ 20 (lit≤ tt)
     (at_most (nat_lt n 10000000000000000000) _ _ 20 (lit≤ tt) (lit≤ tt)))))))))))))))))))
 
--- the name of a request may stand as the value of a field
-pub request_name_is_value : (n : ℕ) → n < 2 ^ 64 → IsValue (request_name n)
-request_name_is_value n h = (λ e. cc, number_is_value n h)
-
--- the name of a closing notice may too
-pub notice_name_is_value : (n : ℕ) → n < 2 ^ 64 → IsValue (notice_name n)
-notice_name_is_value n h = (λ e. cc, number_is_value n h)
-
 -- what is built of two values is one, and its parts are
 value-append : (a b : List ℕ) → IsValue a → IsValue b → IsValue (a ++ b)
 value-append [] b p q = q
 value-append (c ∷ a) b p q = (p.0, value-append a b p.1 q)
+
+-- a number behind a letter may stand as the value of a field
+pub numbered_is_value : (letter : List ℕ) (n : ℕ) → IsValue letter → n < 2 ^ 64 → IsValue (letter ++ decimal n)
+numbered_is_value letter n lawful small = value-append letter (decimal n) lawful (number_is_value n small)
 
 digits-append : (a b : List ℕ) → AllDigits 10 (a ++ b) → AllDigits 10 a × AllDigits 10 b
 digits-append [] b h = (tt, h)

@@ -1,3 +1,4 @@
+pub mod Checks
 pub mod SessionChecks
 pub mod TagReading
 pub mod Texts

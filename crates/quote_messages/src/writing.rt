@@ -133,15 +133,26 @@ fn put_investor(writer: &mut FrameWriter, investor: &Name) -> Result<(), Memory>
 }
 
 /// QuoteReqID (131) of a request shown to a dealer: `R` and its number.
-#[tactic(auto, using(crate::proofs::WritingLemmas::request_name_is_value))]
 fn request_name(number: u64) -> ArrayString<21>
     ensures name { result.bytes ≡ request_name number }
     ensures field { IsValue result.bytes }
     ensures short { length result.bytes ≤ 21 }
 {
+    numbered("R", number)
+}
+
+/// A number behind a letter.
+#[tactic(auto, using(crate::proofs::WritingLemmas::numbered_is_value))]
+fn numbered(letter: &str, number: u64) -> ArrayString<21>
+    requires short { length letter.now ≤ 1 }
+    requires value { IsValue letter.now }
+    ensures name { result.bytes ≡ letter.now ++ decimal number }
+    ensures field { IsValue result.bytes }
+    ensures short { length result.bytes ≤ 21 }
+{
     let mut buffer = Buffer::new();
     let mut name = ArrayString::new();
-    name.push('R');
+    name.push_str(letter);
     name.push_str(buffer.format(number));
     name
 }
@@ -330,15 +341,10 @@ fn price_value(price: Ticks) -> ArrayString<12>
 }
 
 /// QuoteRespID (693) of a closing notice: `N` and its number.
-#[tactic(auto, using(crate::proofs::WritingLemmas::notice_name_is_value))]
 fn notice_name(number: u64) -> ArrayString<21>
     ensures name { result.bytes ≡ notice_name number }
     ensures field { IsValue result.bytes }
     ensures short { length result.bytes ≤ 21 }
 {
-    let mut buffer = Buffer::new();
-    let mut name = ArrayString::new();
-    name.push('N');
-    name.push_str(buffer.format(number));
-    name
+    numbered("N", number)
 }
