@@ -1,3 +1,4 @@
+pub mod CommandLemmas
 pub mod CutLemmas
 pub mod TagLemmas
 pub mod SpellLemmas
