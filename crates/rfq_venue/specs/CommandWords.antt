@@ -1,5 +1,5 @@
 -- The words of the program's command: its flag and its subcommand as clap reads them, and what is wrong with other words.
-use Rattle.std.specs.Prelude.{◌≡◌, ◌<◌, ℕ, Bool, true, false, List, [], ◌∷◌, Option, Some, length, codes, string_bytes}
+use Rattle.std.specs.Prelude.{◌≡◌, ◌<◌, ◌⊎◌, ℕ, Bool, true, false, List, [], ◌∷◌, Option, Some, length, codes, string_bytes}
 use Rattle.std.specs.List.{list_any}
 use Rattle.std.specs.Option.{option_map_or}
 use Rattle.std.specs.Str.{bytes_eq}
@@ -27,6 +27,14 @@ venue_app = with_subcommand (on_top (λ s. record s { no_binary_name = true; sub
 -- What clap finds wrong with words, as the kinds that its error may have. Where there is none, the words are a command.
 unfoldable pub words_fault : List Text → Kinds
 words_fault words = fault_of venue_app words
+
+-- The words that are a command: `alone`, with `--frames` behind it or not, and with `--` behind that or not.
+abbrev pub IsCommand : List Text → Type 0
+IsCommand words =
+    (words ≡ codes "alone" ∷ [])
+    ⊎ ((words ≡ codes "alone" ∷ codes "--frames" ∷ [])
+    ⊎ ((words ≡ codes "alone" ∷ codes "--" ∷ [])
+    ⊎ (words ≡ codes "alone" ∷ codes "--frames" ∷ codes "--" ∷ [])))
 
 -- the text of a flag says that it is given
 abbrev pub is_given : Option Text → Bool

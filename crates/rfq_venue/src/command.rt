@@ -1,7 +1,7 @@
 //! The words of a command.
-ghost use Rattle.std.specs.Prelude.{◌≡◌, [], ◌∷◌, codes, map, IfOk, IfErr};
+ghost use Rattle.std.specs.Prelude.{◌≡◌, ◌↔◌, ℕ, List, [], ◌∷◌, false, true, codes, map, IfOk, IfErr};
 ghost use Rattle.clap.specs.Words.{HasKind, app_of, kind_of};
-ghost use Rattle.rfq_venue.specs.CommandWords.{IsToldOf, asks_for_frames, venue_app, words_fault};
+ghost use Rattle.rfq_venue.specs.CommandWords.{IsCommand, IsToldOf, asks_for_frames, venue_app, words_fault};
 
 use clap::error::ErrorKind;
 use clap::{Arg, ArgAction, Command, Error};
@@ -102,6 +102,14 @@ pub(crate) fn told_by(alloc: Global, error: &Error) -> Told
         _ => Told::Wrong(text),
     }
 }
+
+/// The words that are a command are `alone` and `alone --frames`, each with `--` behind it or not, and no others.
+pub fn these_words_are_commands()
+    ensures these { (words : List (List ℕ)) → (words_fault words ≡ []) ↔ IsCommand words }
+    ensures lines { (asks_for_frames (codes "alone" ∷ []) ≡ false) × (asks_for_frames (codes "alone" ∷ codes "--" ∷ []) ≡ false) }
+    ensures frames { (asks_for_frames (codes "alone" ∷ codes "--frames" ∷ []) ≡ true)
+        × (asks_for_frames (codes "alone" ∷ codes "--frames" ∷ codes "--" ∷ []) ≡ true) }
+{}
 
 /// What is wrong with some words that are no command: they ask for help, or there is a mistake in them.
 /// [`run_program`](crate::run_program) says how a run with such words ends.
