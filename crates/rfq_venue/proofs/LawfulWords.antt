@@ -1,9 +1,9 @@
 -- Which words are a command.
-use Rattle.std.proofs.Common.{◌≡◌, ◌∙◌, ◌⊎◌, ◌||◌, ◌&&◌, ◌==◌, refl, sym, ap, ap₂, subst, inl, inr, ℕ, Bool, zero, suc, true, false, List, [], ◌∷◌, ◌++◌, length, Option, Some, None, cond, not, codes, unwrap_or}
+use Rattle.std.proofs.Common.{◌≡◌, ◌∙◌, ◌⊎◌, ◌||◌, ◌&&◌, ◌==◌, refl, sym, ap, ap₂, subst, inl, inr, ℕ, Bool, zero, suc, true, false, List, [], ◌∷◌, length, Option, Some, None, cond, not, codes, unwrap_or}
 use Rattle.std.proofs.lemmas.Bool.{eqb-true, false≢true}
 use Rattle.std.proofs.lemmas.List.Sums.{take_while-cons}
 use Rattle.std.proofs.lemmas.Slice.Eq.{bytes_eq-Decides}
-use Rattle.std.specs.List.{before_first, list_any}
+use Rattle.std.specs.List.{before_first}
 use Rattle.std.specs.Option.{option_map_or}
 use Rattle.std.specs.Prelude.{if◌then◌else◌, option_and_then, option_map, slice_get}
 use Rattle.std.specs.Str.{bytes_eq, chars}
@@ -11,11 +11,11 @@ use Rattle.clap.specs.declared.builder.value_parser.Reading.TheVariants.{AsWritt
 use Rattle.clap.specs.declared.error.kind.ErrorKind.{ErrorKind}
 use Rattle.clap.specs.declared.error.kind.ErrorKind.TheVariants as kind
 use Rattle.clap.specs.declared.parser.matches.ValueSource.TheVariants.{CommandLine}
-use Rattle.clap.specs.Faults.{bundle_step_fault, entered_fault, flag_word_fault, flags_fault, level_fault, long_fault, other_fault, short_fault, step_fault, turn_fault, walk_fault}
+use Rattle.clap.specs.Faults.{bundle_step_fault, entered_fault, flag_word_fault, flags_fault, long_fault, other_fault, short_fault, step_fault, turn_fault, walk_fault}
 use Rattle.clap.specs.Kinds.{Kinds, or_else}
 use Rattle.clap.specs.Lexer.{has_byte, long_of, long_of_rest, name_and_value, short_of, strip_byte}
 use Rattle.clap.specs.Simple.{Shape, built, names_of, new_shape}
-use Rattle.clap.specs.Walk.{Held, Names, Row, Rule, Text, Walk, after_flag, bundle_met, bundle_step, has_row, idle, long_or_other, nothing_held, plain, short_or_plain, subcommand_or_other, trailing, walk_from, walked}
+use Rattle.clap.specs.Walk.{Held, Names, Row, Rule, Text, Walk, after_flag, bundle_met, bundle_step, has_row, idle, long_or_other, plain, short_or_plain, subcommand_or_other, trailing, walk_from, walked}
 use Rattle.clap.proofs.OnLiterals.{clap_on_literals}
 use Rattle.clap.proofs.WalkLemmas.{walk_stopped}
 use Rattle.rfq_venue.specs.CommandWords.{IsCommand, venue_app, words_fault}
@@ -223,9 +223,9 @@ behind_alone (word ∷ words) e =
     elim (turn [] word more.0) [
       | inl is ↦ inr (inr (inl (ap₂ (λ (w : Text) (ws : List Text). w ∷ ws) is (behind_dashes [] words (subst (λ (w : Text). walk_none [] w words) is more.1)))))
       | inr is ↦ elim (behind_frames words (frames_walked words (subst (λ (w : Text). walk_none [] w words) is.0 more.1))) [
-          | inl none ↦ inr (inl (ap₂ (λ (w : Text) (ws : List Text). w ∷ ws) is.0 none))
-          | inr some ↦ inr (inr (inr (ap₂ (λ (w : Text) (ws : List Text). w ∷ ws) is.0 some)))
-        ]
+        | inl none ↦ inr (inl (ap₂ (λ (w : Text) (ws : List Text). w ∷ ws) is.0 none))
+        | inr some ↦ inr (inr (inr (ap₂ (λ (w : Text) (ws : List Text). w ∷ ws) is.0 some)))
+      ]
     ]
 
 -- ---- the first word

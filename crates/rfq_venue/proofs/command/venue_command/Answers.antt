@@ -2,7 +2,7 @@ use Rattle.std.proofs.Common.{rules, true, ap, ap₂, codes, ◌≡◌, ◌∙�
 use Rattle.std.proofs.lemmas.Result.{IfOk-weaker}
 use Rattle.clap.specs.Simple.{app_of_fields, on_top}
 use Rattle.clap.specs.Words.{App, app_of, new_app, rule_of, with_rule, with_subcommand}
-use Rattle.rfq_venue.specs.CommandWords.{alone_app, frames_flag, venue_app}
+use Rattle.rfq_venue.specs.CommandWords.{alone_app, frames_flag}
 use Rattle.rfq_venue.proofs.command.venue_command.Goals as goal
 
 pub returns : goal.returns
