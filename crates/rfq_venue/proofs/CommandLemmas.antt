@@ -1,13 +1,13 @@
 -- How a run ends by its words.
-use Rattle.std.proofs.Common.{◌≡◌, ◌⊎◌, ◌||◌, refl, sym, subst, inl, inr, ℕ, Bool, true, false, List, [], ◌∷◌, Option, codes}
+use Rattle.std.proofs.Common.{◌≡◌, ◌⊎◌, ◌||◌, refl, sym, ap, subst, inl, inr, ℕ, Bool, true, false, List, [], ◌∷◌, Option, codes}
 use Rattle.std.proofs.lemmas.Bool.{false≢true}
 use Rattle.std.specs.List.{list_any}
 use Rattle.clap.specs.declared.error.Error.{Error}
 use Rattle.clap.specs.declared.error.kind.ErrorKind.{ErrorKind}
 use Rattle.clap.specs.declared.error.kind.ErrorKind.TheVariants.{OutOfMemory}
 use Rattle.clap.specs.Words.{HasKind, IsAmong, Kinds, Text, kind_of}
-use Rattle.clap.proofs.OnLiterals.{clap_on_literals}
-use Rattle.rfq_venue.specs.CommandWords.{asks_for_frames, is_help, is_mistake, may_be_help, may_be_mistake, words_fault}
+use Rattle.rfq_venue.proofs.LawfulWords.{command_is}
+use Rattle.rfq_venue.specs.CommandWords.{IsCommand, asks_for_frames, is_help, is_mistake, may_be_help, may_be_mistake, words_fault}
 use Rattle.rfq_venue.specs.declared.faults.ProgramFault.TheVariants.{Memory}
 use Rattle.rfq_venue.specs.ProgramText.{EndsAlone, EndsByFault, EndsByWords, EndsTold}
 
@@ -66,38 +66,23 @@ ends_alone words with_frames status input old new told_old told_new none is ends
     subst (λ (kinds : Kinds). EndsByFault kinds (asks_for_frames words) status input old new told_old told_new) (sym none)
     (subst (λ (b : Bool). EndsAlone b status input old new told_old told_new) is ends)
 
-alone_none : words_fault (codes "alone" ∷ []) ≡ []
-unfolding clap_on_literals words_fault
-alone_none = refl
-
-alone_lines : asks_for_frames (codes "alone" ∷ []) ≡ false
-unfolding clap_on_literals asks_for_frames
-alone_lines = refl
-
-frames_none : words_fault (codes "alone" ∷ codes "--frames" ∷ []) ≡ []
-unfolding clap_on_literals words_fault
-frames_none = refl
-
-frames_frames : asks_for_frames (codes "alone" ∷ codes "--frames" ∷ []) ≡ true
-unfolding clap_on_literals asks_for_frames
-frames_frames = refl
-
-by_literals : (words literals : List Text) (with_frames : Bool) (status : ℕ) (input old new told_old told_new : Option (List ℕ))
-    → words_fault literals ≡ [] → asks_for_frames literals ≡ with_frames → EndsByWords words status input old new told_old told_new → words ≡ literals
-    → EndsAlone with_frames status input old new told_old told_new
-by_literals words literals with_frames status input old new told_old told_new none is ends same =
-    subst (λ (b : Bool). EndsAlone b status input old new told_old told_new) is
-    (subst (λ (kinds : Kinds). EndsByFault kinds (asks_for_frames literals) status input old new told_old told_new) none
-    (subst (λ (ws : List Text). EndsByWords ws status input old new told_old told_new) same ends))
+-- where the words are a command, a run with them is one of `alone`
+pub command_ends : (words : List Text) (status : ℕ) (input old new told_old told_new : Option (List ℕ))
+    → EndsByWords words status input old new told_old told_new → IsCommand words
+    → EndsAlone (asks_for_frames words) status input old new told_old told_new
+command_ends words status input old new told_old told_new ends is =
+    subst (λ (kinds : Kinds). EndsByFault kinds (asks_for_frames words) status input old new told_old told_new) (command_is words is) ends
 
 pub alone_ends : (words : List Text) (status : ℕ) (input old new told_old told_new : Option (List ℕ))
     → EndsByWords words status input old new told_old told_new → words ≡ codes "alone" ∷ []
     → EndsAlone false status input old new told_old told_new
-alone_ends words status input old new told_old told_new =
-    by_literals words (codes "alone" ∷ []) false status input old new told_old told_new alone_none alone_lines
+alone_ends words status input old new told_old told_new ends same =
+    subst (λ (b : Bool). EndsAlone b status input old new told_old told_new) (ap asks_for_frames same)
+    (command_ends words status input old new told_old told_new ends (inl same))
 
 pub frames_ends : (words : List Text) (status : ℕ) (input old new told_old told_new : Option (List ℕ))
     → EndsByWords words status input old new told_old told_new → words ≡ codes "alone" ∷ codes "--frames" ∷ []
     → EndsAlone true status input old new told_old told_new
-frames_ends words status input old new told_old told_new =
-    by_literals words (codes "alone" ∷ codes "--frames" ∷ []) true status input old new told_old told_new frames_none frames_frames
+frames_ends words status input old new told_old told_new ends same =
+    subst (λ (b : Bool). EndsAlone b status input old new told_old told_new) (ap asks_for_frames same)
+    (command_ends words status input old new told_old told_new ends (inr (inl same)))

@@ -1,10 +1,9 @@
--- The words of the program's command: its flag and its subcommand as clap reads them, and what is wrong with other words.
-use Rattle.std.specs.Prelude.{◌≡◌, ◌<◌, ◌⊎◌, Bool, true, false, List, [], ◌∷◌, Option, Some, length, codes, string_bytes}
+-- The words of the program's command, and what is wrong with words that are no command.
+use Rattle.std.specs.Prelude.{◌≡◌, ◌<◌, ◌⊎◌, Bool, true, false, List, [], ◌∷◌, Some, length, codes, string_bytes}
 use Rattle.std.specs.List.{list_any}
-use Rattle.std.specs.Option.{option_map_or}
 use Rattle.std.specs.Str.{bytes_eq}
 use Rattle.clap.specs.Simple.{on_top}
-use Rattle.clap.specs.Words.{App, Kinds, Rule, Text, fault_of, new_app, new_rule, one_of, subcommand_of, with_rule, with_subcommand}
+use Rattle.clap.specs.Words.{App, Kinds, Rule, Text, fault_of, new_app, new_rule, with_rule, with_subcommand}
 use Rattle.clap.specs.declared.builder.action.ArgAction.TheVariants.{SetTrue}
 use Rattle.clap.specs.declared.error.kind.ErrorKind.{ErrorKind}
 use Rattle.clap.specs.declared.error.kind.ErrorKind.TheVariants as kind
@@ -24,7 +23,7 @@ abbrev pub venue_app : App
 venue_app = with_subcommand (on_top (λ s. record s { no_binary_name = true; subcommand_required = true }) (new_app (codes "rfq_venue")))
     alone_app.top
 
--- What clap finds wrong with words, as the kinds that its error may have. Where there is none, the words are a command.
+-- What clap finds wrong with words, as the kinds that its error may have.
 unfoldable pub words_fault : List Text → Kinds
 words_fault words = fault_of venue_app words
 
@@ -36,13 +35,9 @@ IsCommand words =
     ⊎ ((words ≡ codes "alone" ∷ codes "--" ∷ [])
     ⊎ (words ≡ codes "alone" ∷ codes "--frames" ∷ codes "--" ∷ [])))
 
--- the text of a flag says that it is given
-abbrev pub is_given : Option Text → Bool
-is_given text = option_map_or (λ t. bytes_eq t (codes "true")) text false
-
--- whether a command's words ask for whole frames: the command has the flag
-unfoldable pub asks_for_frames : List Text → Bool
-asks_for_frames words = option_map_or (λ alone. is_given (one_of (codes "frames") alone.1)) (subcommand_of venue_app words) false
+-- a command's words ask for whole frames: `--frames` is among them
+abbrev pub asks_for_frames : List Text → Bool
+asks_for_frames words = list_any (λ word. bytes_eq word (codes "--frames")) words
 
 -- the words ask for help, which clap tells as an error
 abbrev pub is_help : ErrorKind → Bool

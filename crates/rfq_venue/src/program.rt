@@ -2,6 +2,7 @@
 ghost use Rattle.std.specs.Prelude.{◌≡◌, ◌≢◌, ◌<◌, [], ◌∷◌, false, true, codes, length, map, Some, IfOk, IfErr, IfSome, OnOk, OnErr};
 ghost use Rattle.std.specs.Io.KnownBytes.{Appends, Keeps};
 ghost use Rattle.clap.specs.Words.{kind_of};
+ghost use Rattle.rfq_venue.specs.CommandWords.{IsCommand, asks_for_frames};
 ghost use Rattle.rfq_venue.specs.ProgramText.{IsPrinted, HasPrinted, AppendsPrefix, FaultLeaves, EndsAlone, EndsByWords, EndsInText, EndsTold, first_fault, fault_line};
 
 use crate::command::{Told, read_command, told_by};
@@ -32,13 +33,15 @@ pub fn run_program<H, S: AsStr, R: Read, W: Write, E: Write>(
     ensures no_words { length words.now ≡ 0 → EndsAlone false result (R.remaining input.old)
         (W.contents out.old) (W.contents out.new) (E.contents err.old) (E.contents err.new) }
 
-    // The words of the command.
+    // The words of a command, and two of them by name.
+    ensures commands { IsCommand (map S.text words.now) → EndsAlone (asks_for_frames (map S.text words.now)) result (R.remaining input.old)
+        (W.contents out.old) (W.contents out.new) (E.contents err.old) (E.contents err.new) }
     ensures alone { map S.text words.now ≡ codes "alone" ∷ [] → EndsAlone false result (R.remaining input.old)
         (W.contents out.old) (W.contents out.new) (E.contents err.old) (E.contents err.new) }
     ensures frames { map S.text words.now ≡ codes "alone" ∷ codes "--frames" ∷ [] → EndsAlone true result (R.remaining input.old)
         (W.contents out.old) (W.contents out.new) (E.contents err.old) (E.contents err.new) }
 
-    // All words: those of the command run `alone`, others print help or tell what is wrong with them.
+    // All words: those of a command run `alone`, others print help or tell what is wrong with them.
     ensures words { 0 < length words.now → EndsByWords (map S.text words.now) result (R.remaining input.old)
         (W.contents out.old) (W.contents out.new) (E.contents err.old) (E.contents err.new) }
 
