@@ -1,3 +1,5 @@
+pub mod CommandLemmas
+pub mod LawfulWords
 pub mod CutLemmas
 pub mod TagLemmas
 pub mod SpellLemmas

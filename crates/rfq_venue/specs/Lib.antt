@@ -1,3 +1,4 @@
+pub mod CommandWords
 pub mod DealerView
 pub mod DueText
 pub mod ProgramText

@@ -1,5 +1,5 @@
 -- What the program prints.
-use Rattle.std.specs.Prelude.{◌≡◌, ◌≤◌, ◌⊎◌, ℕ, Bool, ◌==◌, List, [], ◌∷◌, ◌++◌, length, map, drop, take, nat_lt, codes, decimal, unwrap_or, Option, Some, None, Result, Ok, Err, if◌then◌else◌}
+use Rattle.std.specs.Prelude.{◌≡◌, ◌<◌, ◌≤◌, ◌⊎◌, ℕ, Bool, true, ◌==◌, List, [], ◌∷◌, ◌++◌, length, map, drop, take, nat_lt, codes, decimal, unwrap_or, Option, Some, None, Result, Ok, Err, if◌then◌else◌}
 use Rattle.std.specs.List.{flat_map}
 use Rattle.std.specs.Option.{IfSome}
 use Rattle.std.specs.Io.KnownBytes.{Appends, Keeps}
@@ -8,6 +8,9 @@ use Rattle.venue_config.specs.declared.dealer_rows.DealerRow.{DealerRow}
 use Rattle.rfq_venue.specs.declared.due.Due.{Due}
 use Rattle.rfq_venue.specs.declared.faults.ProgramFault.{ProgramFault}
 use Rattle.rfq_venue.specs.declared.faults.ProgramFault.TheVariants.{Read, Input, Parts, Form, Memory, Write}
+use Rattle.clap.specs.Kinds.{Kinds}
+use Rattle.clap.specs.Walk.{Text}
+use Rattle.rfq_venue.specs.CommandWords.{asks_for_frames, may_be_help, may_be_mistake, words_fault}
 use Rattle.rfq_venue.specs.DealerView.{dealer_view}
 use Rattle.rfq_venue.specs.DueText.{Spelled, due_text_of, values_of}
 
@@ -134,3 +137,43 @@ abbrev pub EndsAlone : Bool → ℕ → Option (List ℕ) → Option (List ℕ) 
 EndsAlone with_frames status input old new told_old told_new =
     ((status ≡ 0) × IfSome input (λ all. HasPrinted with_frames all old new) × Keeps told_old told_new)
     ⊎ ((status ≡ 1) × EndsInFault with_frames input old new told_old told_new)
+
+-- How a run ends that prints one text: with status 0 and all of it, or, where the output refused a part, with status 1.
+abbrev pub EndsInText : List ℕ → ℕ → Option (List ℕ) → Option (List ℕ) → Option (List ℕ) → Option (List ℕ) → Type 0
+EndsInText text status old new told_old told_new =
+    ((status ≡ 0) × Appends old new text × Keeps told_old told_new)
+    ⊎ ((status ≡ 1) × AppendsPrefix old new text × AppendsPrefix told_old told_new (fault_line Write))
+
+-- help: a text that is not empty is printed
+pub record EndsInHelp (status : ℕ) (old new told_old told_new : Option (List ℕ)) : Type 0 where
+  pub text : List ℕ
+  pub filled : 0 < length text
+  pub ends : EndsInText text status old new told_old told_new
+
+-- wrong words: status 2, nothing is printed, and standard error has taken a text that is not empty, or a part of it
+pub record EndsInMistake (status : ℕ) (old new told_old told_new : Option (List ℕ)) : Type 0 where
+  pub text : List ℕ
+  pub filled : 0 < length text
+  pub code : status ≡ 2
+  pub left : Keeps old new
+  pub told : AppendsPrefix told_old told_new text
+
+-- memory was refused before anything was printed
+abbrev pub EndsInMemory : ℕ → Option (List ℕ) → Option (List ℕ) → Option (List ℕ) → Option (List ℕ) → Type 0
+EndsInMemory status old new told_old told_new =
+    (status ≡ 1) × Keeps old new × AppendsPrefix told_old told_new (fault_line Memory)
+
+-- How a run ends whose words are not those of a command, by what is wrong with them.
+abbrev pub EndsTold : Kinds → ℕ → Option (List ℕ) → Option (List ℕ) → Option (List ℕ) → Option (List ℕ) → Type 0
+EndsTold kinds status old new told_old told_new =
+    EndsInMemory status old new told_old told_new
+    ⊎ (((may_be_help kinds ≡ true) × EndsInHelp status old new told_old told_new)
+    ⊎ ((may_be_mistake kinds ≡ true) × EndsInMistake status old new told_old told_new))
+
+-- How a run with words ends: as `alone` where nothing is wrong with them, and else it tells what is.
+abbrev pub EndsByFault : Kinds → Bool → ℕ → Option (List ℕ) → Option (List ℕ) → Option (List ℕ) → Option (List ℕ) → Option (List ℕ) → Type 0
+EndsByFault [] with_frames status input old new told_old told_new = EndsAlone with_frames status input old new told_old told_new
+EndsByFault (k ∷ ks) with_frames status input old new told_old told_new = EndsTold (k ∷ ks) status old new told_old told_new
+
+abbrev pub EndsByWords : List Text → ℕ → Option (List ℕ) → Option (List ℕ) → Option (List ℕ) → Option (List ℕ) → Option (List ℕ) → Type 0
+EndsByWords words = EndsByFault (words_fault words) (asks_for_frames words)

@@ -1,5 +1,7 @@
 //! The words of a command.
-ghost use Rattle.std.specs.Prelude.{◌≡◌};
+ghost use Rattle.std.specs.Prelude.{◌≡◌, ◌↔◌, ℕ, List, [], ◌∷◌, codes, map, IfOk, IfErr};
+ghost use Rattle.clap.specs.Words.{HasKind, app_of, kind_of};
+ghost use Rattle.rfq_venue.specs.CommandWords.{IsCommand, IsToldOf, asks_for_frames, venue_app, words_fault};
 
 use clap::error::ErrorKind;
 use clap::{Arg, ArgAction, Command, Error};
@@ -49,8 +51,12 @@ prints
   DLR1 1 09:00:00.000 R 131=R1|146=1|55=[N/A]|48=BONDA0000001|22=4|54=1|38=2000000|126=20250314-09:05:00.000|453=1|448=INV1|447=D|452=13
   DLR1 2 09:00:10.000 AI 131=R1|117=a1|297=0";
 
-/// Whether the words of `alone` ask for frames.
-pub(crate) fn read_command<'a, S: AsStr>(alloc: Global, words: &'a [S]) -> Result<bool, Error> {
+/// Whether the words of `alone` ask for frames, or what is wrong with words that are not those of a command.
+pub(crate) fn read_command<'a, S: AsStr>(alloc: Global, words: &'a [S]) -> Result<bool, Error>
+    ensures none { IfOk result (λ _. words_fault (map S.text words.entry.now) ≡ []) }
+    ensures frames { IfOk result (λ with_frames. with_frames ≡ asks_for_frames (map S.text words.entry.now)) }
+    ensures err { IfErr result (HasKind (words_fault (map S.text words.entry.now))) }
+{
     let matches = venue_command(alloc)?.try_get_matches_from(words)?;
     let Some((_, alone)) = matches.subcommand() else {
         return Ok(false);
@@ -59,7 +65,9 @@ pub(crate) fn read_command<'a, S: AsStr>(alloc: Global, words: &'a [S]) -> Resul
 }
 
 /// The command and its subcommands.
-fn venue_command<'a>(alloc: Global) -> Result<Command<'a>, Memory> {
+fn venue_command<'a>(alloc: Global) -> Result<Command<'a>, Memory>
+    ensures { IfOk result (λ command. app_of command ≡ venue_app) }
+{
     let frames = Arg::new(alloc, "frames")
         .long("frames")
         .action(ArgAction::SetTrue)
@@ -77,19 +85,38 @@ fn venue_command<'a>(alloc: Global) -> Result<Command<'a>, Memory> {
 }
 
 /// What an error of the words is to tell.
-pub(crate) fn told_by(alloc: Global, error: &Error) -> Told {
-    let kind = error.kind();
-    if kind == ErrorKind::OutOfMemory {
-        return Told::Memory;
-    }
+pub(crate) fn told_by(alloc: Global, error: &Error) -> Told
+    ensures { IsToldOf (kind_of error.now) result }
+{
     let Ok(text) = error.to_string(alloc) else {
         return Told::Memory;
     };
-    if kind == ErrorKind::DisplayHelp || kind == ErrorKind::DisplayVersion {
-        return Told::Help(text);
+    // Clap promises nothing of a text that was made while memory was refused.
+    if text.is_empty() {
+        return Told::Memory;
     }
-    Told::Wrong(text)
+    match error.kind() {
+        ErrorKind::OutOfMemory => Told::Memory,
+        ErrorKind::DisplayHelp | ErrorKind::DisplayVersion => Told::Help(text),
+        _ => Told::Wrong(text),
+    }
 }
+
+/// The words that are a command are `alone` and `alone --frames`, each with `--` behind it or not, and no others.
+pub fn these_words_are_commands()
+    ensures { (words : List (List ℕ)) → (words_fault words ≡ []) ↔ IsCommand words }
+{}
+
+/// What is wrong with some words that are no command: they ask for help, or there is a mistake in them.
+/// [`run_program`](crate::run_program) says how a run with such words ends.
+pub fn words_have_these_faults()
+    ensures help { words_fault (codes "--help" ∷ []) ≡ ErrorKind.DisplayHelp ∷ [] }
+    ensures help_on_alone { words_fault (codes "alone" ∷ codes "--help" ∷ []) ≡ ErrorKind.DisplayHelp ∷ [] }
+    ensures frames_of_nothing { words_fault (codes "--frames" ∷ []) ≡ ErrorKind.UnknownArgument ∷ [] }
+    ensures frames_twice { words_fault (codes "alone" ∷ codes "--frames" ∷ codes "--frames" ∷ []) ≡ ErrorKind.ArgumentConflict ∷ [] }
+    ensures one_word_more { words_fault (codes "alone" ∷ codes "x" ∷ []) ≡ ErrorKind.UnknownArgument ∷ [] }
+    ensures no_command { words_fault (codes "replay" ∷ []) ≡ ErrorKind.UnknownArgument ∷ ErrorKind.InvalidSubcommand ∷ [] }
+{}
 
 /// The words behind the program's name.
 pub(crate) fn words_of_process<R: Env + AllocGlobal>(rt: &R) -> io::Result<Vec<String>> {

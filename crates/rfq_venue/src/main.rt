@@ -31,6 +31,7 @@ mod shown_line;
 mod tests;
 mod words;
 
+pub use command::{these_words_are_commands, words_have_these_faults};
 pub use due::{Due, alone, equal_lists_are_sent_equal_messages};
 pub use faults::ProgramFault;
 pub use program::{alone_text, run_program};

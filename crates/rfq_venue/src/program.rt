@@ -1,7 +1,9 @@
 //! A run of the program.
-ghost use Rattle.std.specs.Prelude.{◌≡◌, ◌≢◌, false, length, Some, IfOk, IfErr, IfSome, OnOk, OnErr};
+ghost use Rattle.std.specs.Prelude.{◌≡◌, ◌≢◌, ◌<◌, [], ◌∷◌, false, true, codes, length, map, Some, IfOk, IfErr, IfSome, OnOk, OnErr};
 ghost use Rattle.std.specs.Io.KnownBytes.{Appends, Keeps};
-ghost use Rattle.rfq_venue.specs.ProgramText.{IsPrinted, HasPrinted, AppendsPrefix, FaultLeaves, EndsAlone, first_fault, fault_line};
+ghost use Rattle.clap.specs.Words.{kind_of};
+ghost use Rattle.rfq_venue.specs.CommandWords.{IsCommand, asks_for_frames};
+ghost use Rattle.rfq_venue.specs.ProgramText.{IsPrinted, HasPrinted, AppendsPrefix, FaultLeaves, EndsAlone, EndsByWords, EndsInText, EndsTold, first_fault, fault_line};
 
 use crate::command::{Told, read_command, told_by};
 use crate::due::alone;
@@ -29,6 +31,18 @@ pub fn run_program<H, S: AsStr, R: Read, W: Write, E: Write>(
 ) -> u8
     // No words at all mean `alone`.
     ensures no_words { length words.now ≡ 0 → EndsAlone false result (R.remaining input.old)
+        (W.contents out.old) (W.contents out.new) (E.contents err.old) (E.contents err.new) }
+
+    // The words of a command, and two of them by name.
+    ensures commands { IsCommand (map S.text words.now) → EndsAlone (asks_for_frames (map S.text words.now)) result (R.remaining input.old)
+        (W.contents out.old) (W.contents out.new) (E.contents err.old) (E.contents err.new) }
+    ensures alone { map S.text words.now ≡ codes "alone" ∷ [] → EndsAlone false result (R.remaining input.old)
+        (W.contents out.old) (W.contents out.new) (E.contents err.old) (E.contents err.new) }
+    ensures frames { map S.text words.now ≡ codes "alone" ∷ codes "--frames" ∷ [] → EndsAlone true result (R.remaining input.old)
+        (W.contents out.old) (W.contents out.new) (E.contents err.old) (E.contents err.new) }
+
+    // All words: those of a command run `alone`, others print help or tell what is wrong with them.
+    ensures words { 0 < length words.now → EndsByWords (map S.text words.now) result (R.remaining input.old)
         (W.contents out.old) (W.contents out.new) (E.contents err.old) (E.contents err.new) }
 
     // Wrong words print nothing.
@@ -63,10 +77,11 @@ fn run_alone<R: Read, W: Write, E: Write>(
 
 /// Prints the help that the words ask for, or says on `err` why they are wrong.
 fn tell<W: Write, E: Write>(alloc: Global, error: &Error, out: &mut W, err: &mut E) -> u8
-    ensures { result ≡ 2 → Keeps (W.contents out.old) (W.contents out.new) }
+    ensures ends { EndsTold (kind_of error.now ∷ []) result
+        (W.contents out.old) (W.contents out.new) (E.contents err.old) (E.contents err.new) }
+    ensures wrong { result ≡ 2 → Keeps (W.contents out.old) (W.contents out.new) }
 {
-    let told = told_by(alloc, error);
-    match told {
+    match told_by(alloc, error) {
         Told::Help(text) => print_help(text.as_bytes(), out, err),
         Told::Wrong(text) => {
             write_text(err, text.as_bytes());
@@ -78,7 +93,9 @@ fn tell<W: Write, E: Write>(alloc: Global, error: &Error, out: &mut W, err: &mut
 
 /// Prints a help text.
 fn print_help<W: Write, E: Write>(text: &[u8], out: &mut W, err: &mut E) -> u8
-    ensures { result ≢ 2 }
+    ensures ends { EndsInText text.now result
+        (W.contents out.old) (W.contents out.new) (E.contents err.old) (E.contents err.new) }
+    ensures status { result ≢ 2 }
 {
     let Err(fault) = print_text(out, text) else {
         return 0;

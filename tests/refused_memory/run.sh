@@ -1,0 +1,79 @@
+#!/bin/sh
+# Runs the built program once for each of its allocations, with that one refused, and asserts how the run ends: with
+# status 1, `memory` on standard error and nothing printed, or with status 0 and all that it has to print.
+# README.md says more. usage: tests/refused_memory/run.sh
+set -eu
+
+here=$(cd "$(dirname "$0")" && pwd)
+root=$(cd "$here/../.." && pwd)
+program=$root/crates/rfq_venue/out/rfq_venue
+examples=$root/examples
+
+if [ ! -x "$program" ]; then
+    echo "there is no built program: run 'rt run' in crates/rfq_venue first" >&2
+    exit 2
+fi
+
+work=$(mktemp -d)
+trap 'rm -rf "$work"' EXIT
+library=$work/refuse.so
+"${CC:-cc}" -std=gnu11 -O2 -Wall -Wextra -shared -fPIC -o "$library" "$here/refuse.c"
+echo memory >"$work/memory"
+
+# fail CASE CALL WHY: says which refusal ended wrongly, and stops.
+fail() {
+    echo "FAILED: $1, call $2 refused: $3" >&2
+    echo "standard error was:" >&2
+    head -c 1000 "$work/err" >&2
+    exit 1
+}
+
+# count_calls CASE INPUT WANTED WORDS..: runs with nothing refused, and says how many calls ask for memory.
+count_calls() {
+    name=$1
+    input=$2
+    wanted=$3
+    shift 3
+    status=0
+    REFUSE_COUNT=$work/count LD_PRELOAD=$library "$program" "$@" <"$input" >"$work/out" 2>"$work/err" || status=$?
+    if [ "$status" != 0 ] || [ -s "$work/err" ] || ! cmp -s "$work/out" "$wanted"; then
+        fail "$name" none "the run with nothing refused ended with status $status, or printed something else"
+    fi
+    calls=$(cat "$work/count")
+}
+
+# refuse_each CASE INPUT WANTED WORDS..: refuses each call in turn.
+refuse_each() {
+    count_calls "$@"
+    shift 3
+    refused=0
+    whole=0
+    call=1
+    while [ "$call" -le "$calls" ]; do
+        status=0
+        REFUSE_CALL=$call LD_PRELOAD=$library "$program" "$@" <"$input" >"$work/out" 2>"$work/err" || status=$?
+        if [ "$status" = 1 ] && [ ! -s "$work/out" ] && cmp -s "$work/err" "$work/memory"; then
+            refused=$((refused + 1))
+        elif [ "$status" = 0 ] && [ ! -s "$work/err" ] && cmp -s "$work/out" "$wanted"; then
+            whole=$((whole + 1))
+        else
+            fail "$name" "$call" "status $status, $(wc -c <"$work/out") bytes printed"
+        fi
+        call=$((call + 1))
+    done
+    if [ "$refused" = 0 ]; then
+        fail "$name" any "no run ended with memory, so nothing was refused"
+    fi
+    echo "$name: $calls calls refused in turn, $refused runs ended with memory, $whole with the whole output"
+}
+
+# What frames and help have to be is what the program prints with all its memory.
+for day in first-quote replacement; do
+    "$program" alone --frames <"$examples/$day.due" >"$work/$day.frames"
+    refuse_each "$day, no words" "$examples/$day.due" "$examples/$day.out"
+    refuse_each "$day, alone" "$examples/$day.due" "$examples/$day.out" alone
+    refuse_each "$day, alone --frames" "$examples/$day.due" "$work/$day.frames" alone --frames
+done
+refuse_each "busy-morning, no words" "$examples/busy-morning.due" "$examples/busy-morning.out"
+"$program" --help </dev/null >"$work/help"
+refuse_each "--help" /dev/null "$work/help" --help
