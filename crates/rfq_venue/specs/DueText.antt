@@ -2,7 +2,7 @@
 use Rattle.std.specs.Prelude.{ℕ, ◌+◌, Bool, ◌&&◌, List, [], ◌∷◌, ◌++◌, map, length, nat_le, nat_lt, not, codes, Option, Some, None, Result, Ok, Err, if◌then◌else◌, ◌==◌, slice_index, ◌-◌}
 use Rattle.std.specs.Option.{option_map, option_and_then}
 use Rattle.fix_fields.specs.UtcTimestamp.{is_date}
-use Rattle.venue_config.specs.Texts.{is_name, is_bond_id, is_among, same_text, text_if}
+use Rattle.venue_config.specs.Texts.{is_name, is_firm_name, is_bond_id, is_among, same_text, text_if}
 use Rattle.quote_messages.specs.Texts.{is_quantity, number_of, number_up_to}
 use Rattle.quote_messages.specs.declared.sides.Side.{Side}
 use Rattle.quote_messages.specs.declared.closes.Close.{Close}
@@ -12,7 +12,7 @@ use Rattle.rfq_venue.specs.declared.due.Due.{Due}
 use Rattle.rfq_venue.specs.declared.due.Due.TheVariants as due
 use Rattle.rfq_venue.specs.declared.faults.ProgramFault.{ProgramFault}
 use Rattle.rfq_venue.specs.declared.faults.ProgramFault.TheVariants.{Parts, Form}
-use Rattle.rfq_venue.specs.Words.{parts_of, spoken_lines, one_past, has_divider, first_word, behind_word, firm_of, side_of, time_of}
+use Rattle.rfq_venue.specs.Words.{parts_of, spoken_lines, one_past, has_divider, first_word, behind_word, side_of, time_of}
 use Rattle.rfq_venue.specs.SayLine.{Said, said_of, said_message, has_tag}
 
 -- `date YYYYMMDD`
@@ -39,6 +39,7 @@ exposure_of text = within 1000000000000000 (number_up_to 16 text)
 abbrev pub may_join : List (List ℕ) → List ℕ → Bool
 may_join traders word = is_name word && nat_lt (length traders) 16 && not (is_among traders word)
 
+-- traders behind others, each a name that may join those before it
 abbrev pub traders_with : List (List ℕ) → List (List ℕ) → Option (List (List ℕ))
 traders_with traders [] = Some traders
 traders_with traders (word ∷ words) = if may_join traders word then traders_with (traders ++ word ∷ []) words else None
@@ -79,7 +80,7 @@ abbrev pub row_values : List ℕ → Option RowValues
 row_values text =
     let behind_name = behind_word text in
     let behind_quotes = behind_word behind_name in
-    row_with (firm_of (first_word text)) (quotes_of (first_word behind_name)) (exposure_of (first_word behind_quotes)) (traders_of (behind_word behind_quotes))
+    row_with (text_if is_firm_name (first_word text)) (quotes_of (first_word behind_name)) (exposure_of (first_word behind_quotes)) (traders_of (behind_word behind_quotes))
 
 -- `dealer NAME QUOTES EXPOSURE TRADER ..`
 abbrev pub row_of : List ℕ → Option RowValues
@@ -107,7 +108,7 @@ shown_of date text =
     let behind_bond = behind_word behind_investor in
     let behind_side = behind_word behind_bond in
     let behind_quantity = behind_word behind_side in
-    shown_with (firm_of (first_word text)) (text_if is_bond_id (first_word behind_investor)) (side_of (first_word behind_bond))
+    shown_with (text_if is_firm_name (first_word text)) (text_if is_bond_id (first_word behind_investor)) (side_of (first_word behind_bond))
     (asked_quantity (first_word behind_side)) (time_of date (first_word behind_quantity)) (time_of date (behind_word behind_quantity))
 
 -- What a line makes due, and the MsgSeqNum (34) that the program writes into the next message whose BODY has
@@ -115,10 +116,12 @@ shown_of date text =
 abbrev pub next_number : ℕ → Said → ℕ
 next_number number said = if has_tag said.fields 34 then number else number + 1
 
+-- the message of a `say` line, where it fits into a frame
 abbrev pub own_with : ℕ → Said → Option (List ℕ) → Option (Due × ℕ)
 own_with number said None = None
 own_with number said (Some message) = Some (due.Own said.moment message, next_number number said)
 
+-- what stands behind the word `say`: TRADER TIME TYPE BODY
 abbrev pub own_of : List ℕ → List ℕ → ℕ → Option Said → Option (Due × ℕ)
 own_of date firm number None = None
 own_of date firm number (Some said) = own_with number said (said_message date firm number said)
@@ -127,11 +130,12 @@ own_of date firm number (Some said) = own_with number said (said_message date fi
 abbrev pub soh_for_bar : ℕ → ℕ
 soh_for_bar c = if c == 124 then 1 else c
 
--- what stands behind the word `own`: TIME FRAME, where FRAME is the rest of the line and not empty
+-- a message that came byte by byte, which is not empty
 abbrev pub framed_with : Option ℕ → List ℕ → Option Due
 framed_with None frame = None
 framed_with (Some moment) frame = if length frame == 0 then None else Some (due.Own moment (map soh_for_bar frame))
 
+-- what stands behind the word `own`: TIME FRAME, where FRAME is the rest of the line
 unfoldable pub framed_of : List ℕ → List ℕ → Option Due
 framed_of date text = framed_with (time_of date (first_word text)) (behind_word text)
 
@@ -149,13 +153,14 @@ close_of text =
     else if same_text text (codes "6") then Some Pass
     else None
 
--- what stands behind the word `closed`: the number of a request, how it ended, TIME
+-- a closing notice, where each of its words is of its form
 abbrev pub closed_with : Option ℕ → Option Close → Option ℕ → Option Due
 closed_with None close moment = None
 closed_with (Some number) None moment = None
 closed_with (Some number) (Some close) None = None
 closed_with (Some number) (Some close) (Some moment) = Some (due.Closed number close moment)
 
+-- what stands behind the word `closed`: the number of a request, how it ended, TIME
 unfoldable pub closed_of : List ℕ → List ℕ → Option Due
 closed_of date text =
     let behind_number = behind_word text in
@@ -170,6 +175,7 @@ mark_of date keyword text =
     else if same_text keyword (codes "closed") then closed_of date text
     else None
 
+-- what a line makes due, and the number of the next `say` line
 abbrev pub due_of : List ℕ → List ℕ → ℕ → List ℕ → Option (Due × ℕ)
 due_of date firm number line =
     if same_text (first_word line) (codes "say") then own_of date firm number (said_of date (behind_word line))
@@ -195,6 +201,7 @@ pub record Spelled : Type 0 where
   pub row : RowValues
   pub dues : List Due
 
+-- what is spelled behind the date and the dealer's row
 abbrev pub spelled_with : List ℕ → RowValues → Result (List Due) ProgramFault → Result Spelled ProgramFault
 spelled_with date row (Err fault) = Err fault
 spelled_with date row (Ok dues) = Ok (record { date = date; row = row; dues = dues })
@@ -208,6 +215,7 @@ dealer_and_dues past date (line ∷ lines) =
       | Some row ↦ spelled_with date row (dues_from date row.name 1 lines)
     ]
 
+-- the date stands first
 abbrev pub date_and_rest : ℕ → List (ℕ × List ℕ) → Result Spelled ProgramFault
 date_and_rest past [] = Err (Form past)
 date_and_rest past (line ∷ lines) =

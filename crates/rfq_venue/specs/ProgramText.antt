@@ -4,6 +4,7 @@ use Rattle.std.specs.List.{flat_map}
 use Rattle.std.specs.Option.{IfSome}
 use Rattle.std.specs.Io.KnownBytes.{Appends, Keeps}
 use Rattle.fix_fields.specs.Frame.{Field, frame_of, value_of}
+use Rattle.quote_messages.specs.SessionChecks.{text_at}
 use Rattle.venue_config.specs.declared.dealer_rows.DealerRow.{DealerRow}
 use Rattle.rfq_venue.specs.declared.due.Due.{Due}
 use Rattle.rfq_venue.specs.declared.faults.ProgramFault.{ProgramFault}
@@ -37,15 +38,11 @@ fields_text_behind divider [] = []
 fields_text_behind divider (field ∷ fields) =
     (divider ∷ decimal field.0 ++ 61 ∷ field.1) ++ fields_text_behind 124 fields
 
--- the value of a field, or nothing where it is not there
-abbrev pub value_text : ℕ → List Field → List ℕ
-value_text tag fields = unwrap_or (value_of tag fields) []
-
 -- MsgSeqNum (34), the time of day of SendingTime (52) and MsgType (35), each behind a space. The time of day stands
 -- behind eight digits of the date and a dash.
 abbrev pub header_text : List Field → List ℕ
 header_text fields =
-    32 ∷ value_text 34 fields ++ 32 ∷ drop 9 (value_text 52 fields) ++ 32 ∷ value_text 35 fields
+    32 ∷ text_at 34 fields ++ 32 ∷ drop 9 (text_at 52 fields) ++ 32 ∷ text_at 35 fields
 
 -- the fields behind the header of a written message, which has five: 35, 49, 56, 34 and 52
 abbrev pub fields_behind_header : List Field → List Field
@@ -71,11 +68,12 @@ line_of with_frames firm message = if with_frames then frame_line firm message e
 abbrev pub messages_text : Bool → List ℕ → List (List ℕ) → List ℕ
 messages_text with_frames firm messages = flat_map (line_of with_frames firm) messages
 
--- the first fault of an input, if it has one
+-- the fault of what was read, if it has one
 abbrev pub fault_of_reading : Result Spelled ProgramFault → Option ProgramFault
 fault_of_reading (Ok spelled) = None
 fault_of_reading (Err fault) = Some fault
 
+-- the first fault of an input, if it has one
 abbrev pub first_fault : List ℕ → Option ProgramFault
 first_fault input = if nat_lt 16777216 (length input) then Some Input else fault_of_reading (due_text_of input)
 
@@ -175,5 +173,6 @@ abbrev pub EndsByFault : Kinds → Bool → ℕ → Option (List ℕ) → Option
 EndsByFault [] with_frames status input old new told_old told_new = EndsAlone with_frames status input old new told_old told_new
 EndsByFault (k ∷ ks) with_frames status input old new told_old told_new = EndsTold (k ∷ ks) status old new told_old told_new
 
+-- the same by the words themselves
 abbrev pub EndsByWords : List Text → ℕ → Option (List ℕ) → Option (List ℕ) → Option (List ℕ) → Option (List ℕ) → Option (List ℕ) → Type 0
 EndsByWords words = EndsByFault (words_fault words) (asks_for_frames words)

@@ -26,10 +26,11 @@ tag_of digits =
 abbrev pub is_plain_value : List ℕ → Bool
 is_plain_value value = list_all (λ c. not (c == 1)) value
 
--- what stands before the first equals sign, and behind it
+-- what stands before the first equals sign
 abbrev pub before_equals : List ℕ → List ℕ
 before_equals text = before_first (λ c. c == 61) text
 
+-- what stands behind it
 abbrev pub behind_equals : List ℕ → List ℕ
 behind_equals text = after_first (λ c. c == 61) text
 
@@ -54,10 +55,11 @@ fields_in (text ∷ texts) = before_fields (said_field text) (fields_in texts)
 abbrev pub said_fields : List ℕ → Option (List Field)
 said_fields body = fields_in (parts_of 124 body)
 
--- a trader or a type: a word without a vertical bar and SOH
+-- a character other than a vertical bar and SOH
 abbrev pub is_plain_character : ℕ → Bool
 is_plain_character c = not (c == 124) && not (c == 1)
 
+-- a trader or a type: a word of such characters, not empty
 abbrev pub is_plain_word : List ℕ → Bool
 is_plain_word word = not (length word == 0) && list_all is_plain_character word
 
@@ -77,6 +79,7 @@ said_with trader (Some moment) msg_type body (Some fields) =
     then Some (record { trader = trader; moment = moment; msg_type = msg_type; fields = fields })
     else None
 
+-- what stands behind the word `say`, where each of its words is of its form
 unfoldable pub said_of : List ℕ → List ℕ → Option Said
 said_of date text =
     let behind_trader = behind_word text in

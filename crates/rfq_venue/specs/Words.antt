@@ -4,7 +4,7 @@ use Rattle.std.specs.Prelude.{ℕ, ◌+◌, Bool, true, ◌||◌, ◌==◌, List
 use Rattle.std.specs.List.{list_any, before_first, after_first, onto_first}
 use Rattle.std.specs.Result.{result_ok}
 use Rattle.fix_fields.specs.UtcTimestamp.{moment_of}
-use Rattle.venue_config.specs.Texts.{is_name, text_if, same_text}
+use Rattle.venue_config.specs.Texts.{same_text}
 use Rattle.quote_messages.specs.declared.sides.Side.{Side}
 use Rattle.quote_messages.specs.declared.sides.Side.TheVariants.{Buy, Sell}
 
@@ -46,10 +46,6 @@ first_word text = before_first (λ c. c == 32) text
 -- what stands behind the first word and its space
 abbrev pub behind_word : List ℕ → List ℕ
 behind_word text = after_first (λ c. c == 32) text
-
--- the name of a firm: any name but those of the venue and of its clock
-abbrev pub firm_of : List ℕ → Option (List ℕ)
-firm_of text = if same_text text (codes "VENUE") || same_text text (codes "CLOCK") then None else text_if is_name text
 
 -- the side of the investor: `1` buys, `2` sells
 abbrev pub side_of : List ℕ → Option Side

@@ -4,7 +4,7 @@ ghost use Rattle.std.specs.Option.{option_map};
 ghost use Rattle.rfq_venue.specs.DueText.{date_of, row_of, values_of, quotes_of, exposure_of, traders_of};
 
 use crate::lines::Parts;
-use crate::words::{cut_word, is_word, read_firm};
+use crate::words::{cut_word, is_word};
 use fix_fields::Date;
 use quote_messages::{read_long_number, read_number};
 use venue_config::{DealerRow, Name, Traders};
@@ -31,7 +31,7 @@ pub(crate) fn read_dealer_row(line: &[u8]) -> Option<DealerRow>
     let (name, rest) = cut_word(rest);
     let (quotes, rest) = cut_word(rest);
     let (exposure, traders) = cut_word(rest);
-    let name = read_firm(name)?;
+    let name = Name::of_firm(name)?;
     let quotes = read_quotes(quotes)?;
     let exposure = read_exposure(exposure)?;
     let traders = read_traders(traders)?;

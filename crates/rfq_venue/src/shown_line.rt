@@ -3,10 +3,10 @@ ghost use Rattle.std.specs.Prelude.{◌≡◌};
 ghost use Rattle.rfq_venue.specs.DueText.{shown_of};
 
 use crate::due::Due;
-use crate::words::{cut_word, read_firm, read_side, read_time};
+use crate::words::{cut_word, read_side, read_time};
 use fix_fields::Date;
 use quote_messages::{Ask, Quantity, read_long_number};
-use venue_config::BondId;
+use venue_config::{BondId, Name};
 
 /// What stands behind the word `shown`, or none where that is not of its form.
 #[tactic(auto, unfolding(crate::specs::DueText::shown_of))]
@@ -19,7 +19,7 @@ pub(crate) fn read_shown(date: &Date, text: &[u8]) -> Option<Due>
     let (quantity, rest) = cut_word(rest);
     let (deadline, time) = cut_word(rest);
     let ask = Ask {
-        investor: read_firm(investor)?,
+        investor: Name::of_firm(investor)?,
         bond: BondId::new(bond)?,
         side: read_side(side)?,
         quantity: Quantity::new(read_long_number(quantity)?)?,

@@ -236,9 +236,8 @@ fn assert_status<T: Abort + AllocGlobal>(rt: &T, words: &[&str], wanted: u8) {
 #[test]
 fn words_are_those_of_a_command(rt: HostRuntime) {
     assert_status(&rt, &["alone"], 0);
-    assert_status(&rt, &["--help"], 0);
+    assert_status(&rt, &["alone", "--"], 0);
     assert_status(&rt, &["alone", "--frames", "--help"], 0);
-    assert_status(&rt, &["help", "alone"], 0);
     assert_status(&rt, &["--frames"], 2);
     assert_status(&rt, &["alone", "--frames", "--frames"], 2);
     assert_status(&rt, &["alone", "x"], 2);
@@ -246,9 +245,27 @@ fn words_are_those_of_a_command(rt: HostRuntime) {
     assert_status(&rt, &["x"], 2);
 }
 
+/// Asserts that words ask for help, which shows the example and its first quote.
+fn assert_help<T: Abort + AllocGlobal>(rt: &T, words: &[&str]) {
+    assert_status(rt, words, 0);
+    let (_, out, _) = ran(rt, words, b"");
+    let text = str::from_utf8(out.as_slice()).ok().expect(rt, "a text");
+    assert!(rt; text.contains("date 20250314"));
+    assert!(rt; text.contains("DLR1 2 09:00:10.000 AI 131=R1|117=a1|297=0"));
+}
+
+#[test]
+fn help_shows_the_example(rt: HostRuntime) {
+    assert_help(&rt, &["--help"]);
+    assert_help(&rt, &["-h"]);
+    assert_help(&rt, &["help"]);
+    assert_help(&rt, &["help", "alone"]);
+    assert_help(&rt, &["alone", "--help"]);
+}
+
 #[test]
 fn failing_reader_prints_nothing(rt: HostRuntime) {
-    for left in 0..FIRST_QUOTE.len() {
+    for left in 0..FIRST_QUOTE.len() + 1 {
         let mut input = Source {
             bytes: FIRST_QUOTE,
             left,

@@ -2,13 +2,12 @@
 ghost use Rattle.std.specs.Prelude.{◌≡◌, ◌<◌, ◌==◌, length, if◌then◌else◌, Some, None};
 ghost use Rattle.std.specs.List.{before_first, after_first};
 ghost use Rattle.venue_config.specs.Texts.{same_text};
-ghost use Rattle.rfq_venue.specs.Words.{firm_of, side_of, time_of};
+ghost use Rattle.rfq_venue.specs.Words.{side_of, time_of};
 
 use arrayvec::ArrayVec;
 use fix_fields::{Date, Moment, read_moment};
 use memchr::memchr;
 use quote_messages::Side;
-use venue_config::Name;
 
 /// What stands before the first `byte` of a text, and what stands behind it: all of the text and
 /// nothing where it has none.
@@ -36,16 +35,6 @@ pub(crate) fn is_word(text: &[u8], word: &[u8]) -> bool
     ensures { result ≡ same_text text.now word.now }
 {
     text == word
-}
-
-/// The name of a firm: any name but those of the venue and of its clock.
-pub(crate) fn read_firm(text: &[u8]) -> Option<Name>
-    ensures { result ≡ firm_of text.now }
-{
-    if is_word(text, b"VENUE") || is_word(text, b"CLOCK") {
-        return None;
-    }
-    Name::new(text)
 }
 
 /// The side of the investor: `1` buys, `2` sells.
