@@ -1,7 +1,7 @@
 #!/bin/sh
 # Runs the built program once for each of its allocations, with that one refused, and asserts how the run ends: with
-# status 1, `memory` on standard error and nothing printed, or with status 0 and all that it has to print.
-# README.md says more. usage: tests/refused_memory/run.sh
+# status 1, `memory` on standard error and nothing printed, or with status 0 and all that it has to print. Then it runs
+# tests of the crates in the same way. README.md says more. usage: tests/refused_memory/run.sh
 set -eu
 
 here=$(cd "$(dirname "$0")" && pwd)
@@ -67,6 +67,34 @@ refuse_each() {
     echo "$name: $calls calls refused in turn, $refused runs ended with memory, $whole with the whole output"
 }
 
+# refuse_in_test CRATE TEST PASSES: refuses each call of one built test in turn. It has to pass where PASSES is `always`:
+# such a test looks at what a refused call left, and makes the call again. Else it may end with an error of memory too.
+refuse_in_test() {
+    tests=$root/crates/$1/out/$1_tests
+    if [ ! -x "$tests" ]; then
+        echo "there are no built tests of $1: run 'rt test' in crates/$1 first" >&2
+        exit 2
+    fi
+    if ! REFUSE_COUNT=$work/count LD_PRELOAD=$library "$tests" "$2" >"$work/out" 2>"$work/err"; then
+        fail "$1, $2" none "the test fails with nothing refused"
+    fi
+    calls=$(cat "$work/count")
+    passed=0
+    call=1
+    while [ "$call" -le "$calls" ]; do
+        if REFUSE_CALL=$call LD_PRELOAD=$library "$tests" "$2" >"$work/out" 2>"$work/err"; then
+            passed=$((passed + 1))
+        elif [ "$3" = always ] || ! grep -qxE 'error: (AllocError|Memory)' "$work/err"; then
+            fail "$1, $2" "$call" "the test fails"
+        fi
+        call=$((call + 1))
+    done
+    if [ "$calls" = 0 ]; then
+        fail "$1, $2" any "the test takes no memory, so nothing was refused"
+    fi
+    echo "$1, $2: $calls calls refused in turn, $passed runs passed, $((calls - passed)) ended with an error of memory"
+}
+
 # What frames and help have to be is what the program prints with all its memory.
 for day in first-quote replacement; do
     "$program" alone --frames <"$examples/$day.due" >"$work/$day.frames"
@@ -77,3 +105,10 @@ done
 refuse_each "busy-morning, no words" "$examples/busy-morning.due" "$examples/busy-morning.out"
 "$program" --help </dev/null >"$work/help"
 refuse_each "--help" /dev/null "$work/help" --help
+
+refuse_in_test dealer_desk tests::memory::a_refused_call_leaves_the_desk always
+refuse_in_test quote_messages tests::written::refused_memory_changes_no_answer always
+refuse_in_test fix_fields tests::a_quote_is_written sometimes
+refuse_in_test fix_fields tests::the_longest_frame sometimes
+refuse_in_test quote_word plain::tests::a_word_is_settled_once sometimes
+refuse_in_test venue_config tests::the_example_has_its_rows sometimes

@@ -1,6 +1,6 @@
 -- What follows from the facts of a dealer's desk: its numbers, the requests that it was shown, its quotes and what
 -- became of them, and its exposure.
-use Rattle.std.specs.Prelude.{ℕ, ◌+◌, Bool, true, false, ◌&&◌, ◌==◌, not, List, [], ◌∷◌, count_by, filter, Option, Some, None, find, if◌then◌else◌}
+use Rattle.std.specs.Prelude.{ℕ, ◌+◌, Bool, true, false, ◌&&◌, ◌==◌, not, List, [], ◌∷◌, count_by, filter, Option, Some, None, find}
 use Rattle.std.specs.List.{filter_map, list_any, sum_by}
 use Rattle.std.specs.Option.{option_map}
 use Rattle.venue_config.specs.Texts.{same_text}

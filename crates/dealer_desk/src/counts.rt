@@ -1,5 +1,5 @@
 //! Counts and searches over the facts of a desk. Each goes over the facts anew.
-ghost use Rattle.std.specs.Prelude.{◌≡◌, ◌==◌, ◌+◌, ◌<◌, ◌≤◌, ◌^◌, ◌&&◌, option_map, find};
+ghost use Rattle.std.specs.Prelude.{◌≡◌, ◌==◌, ◌+◌, ◌<◌, option_map, find};
 ghost use Rattle.venue_config.specs.Texts.{same_text};
 ghost use Rattle.quote_messages.specs.Written.{request_name};
 ghost use Rattle.dealer_desk.specs.DealerFacts.{expected_number, used_number, requests_shown, is_request, shown_request, requests_of, request_named, request_numbered, request_in, is_same_room, is_declined, is_decline_of, is_told, is_notice_of, notices_told, is_notice};

@@ -1,9 +1,8 @@
 //! The desk of one dealer.
-ghost use Rattle.std.specs.Prelude.{◌≡◌, ◌+◌, ◌<◌, ◌≤◌, [], ◌∷◌, ◌++◌, is_some, vec_len, vec_capacity, IfOk, IfSome, OnOk, OnErr, IsOk, option_map};
+ghost use Rattle.std.specs.Prelude.{◌≡◌, ◌+◌, ◌<◌, ◌≤◌, [], ◌∷◌, ◌++◌, is_some, vec_len, vec_capacity, IfOk, IfSome, OnOk, OnErr, IsOk};
 ghost use Rattle.std.specs.Option.{option_to_list};
-ghost use Rattle.std.specs.List.{list_any};
 ghost use Rattle.dealer_desk.specs.DealerFacts.{requests_shown, exposure_of, live_quote_on, notices_told};
-ghost use Rattle.dealer_desk.specs.DealerOutput.{dealer_output, facts_at, with_event, with_notice, with_notice_in, number_in, may_close, may_close_in, verdict_at, word_asked, verdict_duty, next_message, sent_with, closable, notice_of, quoted_price, DeskEvents, desk_after, asked_words};
+ghost use Rattle.dealer_desk.specs.DealerOutput.{dealer_output, facts_at, with_event, with_notice, with_notice_in, number_in, may_close, may_close_in, verdict_at, word_asked, verdict_duty, next_message, sent_with, closable, notice_of, quoted_price, DeskEvents};
 
 use crate::counts::{is_told, notices_told, request_in, request_numbered, requests_shown};
 use crate::outcomes::{Outcome, duty_of, outcome_of, word_asked};

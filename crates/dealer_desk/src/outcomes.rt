@@ -1,5 +1,5 @@
 //! What a verdict leads to, once the word that it asks has answered.
-ghost use Rattle.std.specs.Prelude.{◌≡◌, Some, true, false, ◌∷◌, ◌++◌, [], if◌then◌else◌};
+ghost use Rattle.std.specs.Prelude.{◌≡◌, Some, true, false, ◌∷◌, ◌++◌, if◌then◌else◌};
 ghost use Rattle.std.specs.Option.{option_map, option_to_list};
 ghost use Rattle.dealer_desk.specs.DealerOutput.{word_asked, is_withdrawal, cancel_facts, cancel_reply, verdict_facts, verdict_answer, verdict_duty, room_of, post_of};
 

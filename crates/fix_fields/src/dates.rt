@@ -1,6 +1,5 @@
 //! Dates of eight digits.
-ghost use Rattle.std.specs.Prelude.{◌≡◌, ◌↔◌, ℕ, ◌+◌, ◌<◌, ◌≤◌, List, length, take, drop, SomeIff, Some, None, if◌then◌else◌};
-ghost use Rattle.std.specs.Str.Parse.{digits_value};
+ghost use Rattle.std.specs.Prelude.{◌≡◌, ℕ, ◌<◌, List, SomeIff, Some, None, if◌then◌else◌};
 ghost use Rattle.fix_fields.specs.UtcTimestamp.{IsDate, is_date};
 
 use crate::scan::leading_number;

@@ -1,9 +1,9 @@
 //! Frames that are read.
-ghost use Rattle.std.specs.Prelude.{◌≡◌, ℕ, ◌+◌, ◌<◌, ◌≤◌, ◌++◌, ◌%◌, ◌↔◌, List, Ok, Err, length, sum, MatchOption, MatchResult, IfOk, OnOk, IfSome, Some, None};
+ghost use Rattle.std.specs.Prelude.{◌≡◌, ℕ, ◌+◌, ◌<◌, ◌≤◌, ◌%◌, ◌↔◌, List, Ok, Err, length, sum, MatchOption, MatchResult, IfOk, OnOk, IfSome, Some, None};
 ghost use Rattle.std.specs.Option.{option_copied};
 ghost use Rattle.std.specs.Result.{result_ok};
 ghost use Rattle.std.specs.Str.Parse.{digits_value};
-ghost use Rattle.fix_fields.specs.Frame.{Field, IsValue, AreBody, IsFrame, frame_of, value_of, times_of, fields_text, fields_of, front_text, IsLength};
+ghost use Rattle.fix_fields.specs.Frame.{Field, IsValue, AreBody, IsFrame, frame_of, value_of, times_of, fields_text, fields_of};
 ghost use Rattle.fix_fields.specs.Garbled.{IsFault, IsCut};
 ghost use Rattle.fix_fields.specs.Scan.{IsEnd};
 

@@ -1,5 +1,5 @@
 //! Laws of frames and moments: each function does nothing, and its clauses hold of every list.
-ghost use Rattle.std.specs.Prelude.{◌≡◌, ◌↔◌, ◌<◌, ◌≤◌, ◌^◌, ℕ, List, Some, Ok, Err, length, decimal};
+ghost use Rattle.std.specs.Prelude.{◌≡◌, ◌↔◌, ◌<◌, ◌≤◌, ◌^◌, ℕ, List, Some, Ok, length, decimal};
 ghost use Rattle.fix_fields.specs.Frame.{Field, AreBody, IsFrame, decimal_len, fields_len, frame_of, frame_text};
 ghost use Rattle.fix_fields.specs.UtcTimestamp.{UtcTimestamp, IsDate, moment_of, timestamp_text};
 

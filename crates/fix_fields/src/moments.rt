@@ -1,7 +1,7 @@
 //! Moments of a day.
 ghost use Rattle.std.specs.Prelude.{◌≡◌, ◌≢◌, ◌↔◌, ℕ, ◌+◌, ◌-◌, ◌*◌, ◌<◌, ◌≤◌, List, Ok, Err, length, slice_index, SomeIff, MatchOption};
 ghost use Rattle.fix_fields.specs.Frame.{IsValue};
-ghost use Rattle.fix_fields.specs.UtcTimestamp.{IsDate, UtcTimestamp, moment_of, timestamp_text, two_digits};
+ghost use Rattle.fix_fields.specs.UtcTimestamp.{UtcTimestamp, moment_of, timestamp_text, two_digits};
 ghost use Rattle.fix_fields.specs.Clock.{IsClock, IsTwoDigits};
 ghost use Rattle.fix_fields.specs.declared.fault.MomentFault.TheVariants.{Form, OtherDay};
 

@@ -1,6 +1,6 @@
 //! Frames that are written.
-ghost use Rattle.std.specs.Prelude.{◌≡◌, ◌≢◌, ℕ, ◌+◌, ◌<◌, ◌≤◌, [], ◌∷◌, ◌++◌, length, decimal, IfOk, OnOk, OnErr, Some};
-ghost use Rattle.fix_fields.specs.Frame.{Field, IsTag, IsValue, IsFrame, AreBody, field_len, decimal_len, left_of, field_text, frame_text, frame_of};
+ghost use Rattle.std.specs.Prelude.{◌≡◌, ◌+◌, ◌<◌, ◌≤◌, [], ◌∷◌, ◌++◌, length, decimal, IfOk, OnOk, OnErr, Some};
+ghost use Rattle.fix_fields.specs.Frame.{Field, IsTag, IsValue, IsFrame, field_len, decimal_len, left_of, field_text, frame_text, frame_of};
 ghost use Rattle.fix_fields.specs.Scan.{text_around};
 
 use crate::Memory;

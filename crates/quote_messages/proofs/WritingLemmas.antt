@@ -4,7 +4,6 @@ use Rattle.std.specs.Str.Parse.{AllDigits}
 use Rattle.fix_fields.specs.Frame.{decimal_len, IsValue}
 use Rattle.fix_fields.specs.TextLaws.{digits_are_value, number_is_value}
 use Rattle.bond_prices.specs.Price.{IsShortest, sign_text, point_text, behind_point}
-use Rattle.quote_messages.specs.Written.{request_name, notice_name}
 
 -- a choice of two is at most what both are at most
 at_most : (b : Bool) (m n most : ℕ) → m ≤ most → n ≤ most → cond b m n ≤ most

@@ -1,6 +1,6 @@
 //! Words in a plain list.
-ghost use Rattle.std.specs.Prelude.{◌≡◌, ℕ, ◌<◌, ◌^◌, List, length, replicate, None, IfOk};
-ghost use Rattle.quote_word.specs.PlainWords.{entry_in, answer_of, after_exchange, Exchanges};
+ghost use Rattle.std.specs.Prelude.{◌≡◌, ◌<◌, ◌^◌, List, length, replicate, None, IfOk};
+ghost use Rattle.quote_word.specs.PlainWords.{entry_in, Exchanges};
 ghost use Rattle.quote_word.specs.PlainWordsLaws.{exchange_keeps_count, exchange_answers_entry, exchange_keeps_entries};
 
 use crate::{Settled, Words};

@@ -1,9 +1,9 @@
 -- What the program prints.
-use Rattle.std.specs.Prelude.{◌≡◌, ◌<◌, ◌≤◌, ◌⊎◌, ℕ, Bool, true, ◌==◌, List, [], ◌∷◌, ◌++◌, length, map, drop, take, nat_lt, codes, decimal, unwrap_or, Option, Some, None, Result, Ok, Err, if◌then◌else◌}
+use Rattle.std.specs.Prelude.{◌≡◌, ◌<◌, ◌≤◌, ◌⊎◌, ℕ, Bool, true, ◌==◌, List, [], ◌∷◌, ◌++◌, length, map, drop, take, nat_lt, codes, decimal, Option, Some, None, Result, Ok, Err, if◌then◌else◌}
 use Rattle.std.specs.List.{flat_map}
 use Rattle.std.specs.Option.{IfSome}
 use Rattle.std.specs.Io.KnownBytes.{Appends, Keeps}
-use Rattle.fix_fields.specs.Frame.{Field, frame_of, value_of}
+use Rattle.fix_fields.specs.Frame.{Field, frame_of}
 use Rattle.quote_messages.specs.SessionChecks.{text_at}
 use Rattle.venue_config.specs.declared.dealer_rows.DealerRow.{DealerRow}
 use Rattle.rfq_venue.specs.declared.due.Due.{Due}

@@ -1,6 +1,6 @@
 -- The lines of due text, their words, and what single words spell. A line feed is the byte 10, a space
 -- 32, `#` 35, a dash 45, an equals sign 61 and a vertical bar 124.
-use Rattle.std.specs.Prelude.{ℕ, ◌+◌, Bool, true, ◌||◌, ◌==◌, List, [], ◌∷◌, ◌++◌, length, nat_le, codes, Option, Some, None, if◌then◌else◌}
+use Rattle.std.specs.Prelude.{ℕ, ◌+◌, Bool, true, ◌==◌, List, [], ◌∷◌, ◌++◌, length, nat_le, codes, Option, Some, None, if◌then◌else◌}
 use Rattle.std.specs.List.{list_any, before_first, after_first, onto_first}
 use Rattle.std.specs.Result.{result_ok}
 use Rattle.fix_fields.specs.UtcTimestamp.{moment_of}

@@ -1,8 +1,8 @@
 //! What is due to one dealer, and what the dealer is sent for it.
-ghost use Rattle.std.specs.Prelude.{◌≡◌, ℕ, List, length, IfOk, OnOk, OnErr, option_map};
+ghost use Rattle.std.specs.Prelude.{◌≡◌, ℕ, List, length, IfOk, OnOk};
 ghost use Rattle.venue_config.specs.declared.dealer_rows.DealerRow.{DealerRow};
 ghost use Rattle.rfq_venue.specs.declared.due.Due.{Due};
-ghost use Rattle.rfq_venue.specs.DealerView.{dealer_view, after_due, after_own, with_mark, withdrawal_of};
+ghost use Rattle.rfq_venue.specs.DealerView.{dealer_view, after_due, after_own, with_mark};
 ghost use Rattle.dealer_desk.specs.DealerOutput.{verdict_at, word_asked};
 
 use dealer_desk::DealerDesk;

@@ -1,7 +1,6 @@
 //! Due text: a date, a dealer, and what is due to the dealer, line by line.
 ghost use Rattle.std.specs.Prelude.{◌≡◌, ◌≢◌, ◌≤◌, ◌+◌, length, Ok, Err, IfOk, IfErr, IfSome};
-ghost use Rattle.std.specs.Option.{option_map};
-ghost use Rattle.rfq_venue.specs.DueText.{date_of, row_of, values_of, due_of, mark_of, own_of, dues_from, due_text_of};
+ghost use Rattle.rfq_venue.specs.DueText.{values_of, due_of, mark_of, own_of, dues_from, due_text_of};
 ghost use Rattle.rfq_venue.specs.SayLine.{said_of};
 ghost use Rattle.rfq_venue.specs.Words.{one_past};
 

@@ -1,6 +1,5 @@
 //! The lines of a text, and the fields of a message's body.
-ghost use Rattle.std.specs.Prelude.{◌≡◌, ◌<◌, ◌≤◌, ◌+◌, ◌==◌, length, ◌||◌};
-ghost use Rattle.std.specs.List.{list_any};
+ghost use Rattle.std.specs.Prelude.{◌≡◌, ◌<◌, ◌≤◌, ◌+◌, ◌==◌, length};
 ghost use Rattle.rfq_venue.specs.Words.{parts_of, is_skipped, has_divider, one_past};
 
 use crate::words::{cut_at, is_word};
@@ -58,7 +57,7 @@ pub(crate) struct SpokenLines<'a> {
 }
 
 impl<'a> Model for SpokenLines<'a> {
-    ghost use Rattle.std.specs.Prelude.{ℕ, List, ◌+◌, ◌≤◌, ◌<◌, ◌^◌, length};
+    ghost use Rattle.std.specs.Prelude.{ℕ, List, ◌+◌, ◌≤◌, ◌<◌, length};
     ghost use Rattle.rfq_venue.specs.Words.{spoken_from, parts_of};
 
     ghost Value = { List (ℕ × List ℕ) };

@@ -1,6 +1,5 @@
 //! Lines of what others do that the dealer learns of: `lifted N` and `closed N KIND TIME`.
 ghost use Rattle.std.specs.Prelude.{◌≡◌};
-ghost use Rattle.std.specs.Option.{option_map};
 ghost use Rattle.rfq_venue.specs.DueText.{lifted_of, closed_of, close_of};
 
 use crate::due::Due;

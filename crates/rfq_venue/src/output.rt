@@ -1,5 +1,4 @@
 //! Writing to standard output and standard error.
-ghost use Rattle.std.specs.Prelude.{IsTrue};
 ghost use Rattle.std.specs.Io.KnownBytes.{Appends};
 ghost use Rattle.std.specs.Bool.{OnTrue};
 ghost use Rattle.rfq_venue.specs.ProgramText.{AppendsPrefix};

@@ -1,5 +1,5 @@
 //! The words of a line.
-ghost use Rattle.std.specs.Prelude.{◌≡◌, ◌<◌, ◌==◌, length, if◌then◌else◌, Some, None};
+ghost use Rattle.std.specs.Prelude.{◌≡◌, ◌<◌, ◌==◌, length, Some, None};
 ghost use Rattle.std.specs.List.{before_first, after_first};
 ghost use Rattle.venue_config.specs.Texts.{same_text};
 ghost use Rattle.rfq_venue.specs.Words.{side_of, time_of};

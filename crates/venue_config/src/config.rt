@@ -3,7 +3,7 @@ ghost use Rattle.std.specs.Prelude.{◌≡◌, ◌≢◌, ◌≤◌, ◌++◌, O
 ghost use Rattle.toml.specs.Parse.{parse_document};
 ghost use Rattle.toml.specs.View.{view};
 ghost use Rattle.venue_config.specs.Texts.{same_text};
-ghost use Rattle.venue_config.specs.Rows.{dealer_values, investor_values, values_of, firm_number, firm_names, has_room, KeepsLimits};
+ghost use Rattle.venue_config.specs.Rows.{dealer_values, investor_values, values_of, firm_number, has_room, KeepsLimits};
 ghost use Rattle.venue_config.specs.Config.{config_in, config_of, document_of, sums_fit};
 
 use crate::faults::ConfigFault;
