@@ -11,7 +11,8 @@ use Rattle.request_room.specs.declared.events.RoomEvent.TheVariants as event
 use Rattle.request_room.specs.declared.quotes.StandingQuote.{StandingQuote}
 use Rattle.request_room.specs.declared.requests.RoomRequest.{RoomRequest}
 use Rattle.request_room.specs.RoomFacts.{RoomFact, Opened, Readied, Posted, Unposted, Noted, Ended, ended_as, end_of, is_open, is_vacant, is_opening, takes_quotes, request_of}
-use Rattle.request_room.specs.Book.{IsEndOf, book_of, stands, quote_meant, cover_for, cover_of, is_past_deadline, is_expired, first_refusal, open_checks, hit_refusal, hit_settled, award_of, is_lift, passed, expired, may_expire, quote_posted, where_so, end_by, event_facts, after_event, room_after}
+use Rattle.quote_messages.specs.Checks.{first_refusal}
+use Rattle.request_room.specs.Book.{IsEndOf, book_of, stands, quote_meant, cover_for, cover_of, is_past_deadline, is_expired, open_checks, hit_refusal, hit_settled, award_of, is_lift, passed, expired, may_expire, quote_posted, where_so, end_by, event_facts, after_event, room_after}
 use Rattle.request_room.proofs.FactLemmas.{said_append}
 use Rattle.request_room.proofs.CoverLemmas.{cover_is_another}
 

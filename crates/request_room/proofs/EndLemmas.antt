@@ -10,7 +10,8 @@ use Rattle.request_room.specs.declared.ends.End.{End}
 use Rattle.request_room.specs.declared.events.RoomEvent.{RoomEvent}
 use Rattle.request_room.specs.declared.events.RoomEvent.TheVariants as event
 use Rattle.request_room.specs.RoomFacts.{RoomFact, Opened, Readied, Posted, Unposted, Noted, Ended, is_ended, is_ready, is_vacant, is_opening, is_open, takes_quotes, is_ending, is_award, is_awarded_kind, request_of}
-use Rattle.request_room.specs.Book.{book_of, stands, open_checks, first_refusal, hit_refusal, hit_settled, award_of, may_expire, is_past_deadline, passed, expired, quote_posted, where_so, end_by, event_facts, after_event, room_after}
+use Rattle.quote_messages.specs.Checks.{first_refusal}
+use Rattle.request_room.specs.Book.{book_of, stands, open_checks, hit_refusal, hit_settled, award_of, may_expire, is_past_deadline, passed, expired, quote_posted, where_so, end_by, event_facts, after_event, room_after}
 
 and_false : (b : Bool) → (b && false) ≡ false
 and_false true = refl

@@ -2,6 +2,7 @@
 use Rattle.std.specs.Prelude.{◌≡◌, ◌≢◌, ℕ, Bool, true, false, ◌&&◌, ◌==◌, not, nat_lt, nat_le, List, [], ◌∷◌, ◌++◌, Option, Some, None, IfSome, is_none, Result, Ok, Err, fold, find, filter, length, slice_index_or, if◌then◌else◌}
 use Rattle.std.specs.List.{list_any, IsFirstBest}
 use Rattle.std.specs.Option.{option_map}
+use Rattle.quote_messages.specs.Checks.{first_refusal, is_not_after}
 use Rattle.quote_messages.specs.declared.sides.Side.{Side}
 use Rattle.quote_messages.specs.declared.sides.Side.TheVariants.{Buy, Sell}
 use Rattle.quote_messages.specs.declared.replies.HitRefusal.{HitRefusal}
@@ -94,11 +95,6 @@ abbrev pub is_past_deadline : Option RoomRequest → ℕ → Bool
 is_past_deadline None moment = false
 is_past_deadline (Some request) moment = nat_le request.ask.deadline moment
 
--- whether a time is given that is at or before the moment
-abbrev pub is_not_after : ℕ → Option ℕ → Bool
-is_not_after moment None = false
-is_not_after moment (Some until) = nat_le until moment
-
 -- whether a quote's own validity has ended
 abbrev pub is_expired : Option StandingQuote → ℕ → Bool
 is_expired None moment = false
@@ -116,15 +112,11 @@ open_checks facts w moment =
 abbrev pub hit_checks : List RoomFact → ℕ → ℕ → List (Bool × HitRefusal)
 hit_checks facts w moment = (not (is_open facts), refusal.NotOpen) ∷ open_checks facts w moment
 
--- the refusal of the first check whose condition holds
-abbrev pub first_refusal : List (Bool × HitRefusal) → Option HitRefusal
-first_refusal [] = None
-first_refusal (check ∷ checks) = if check.0 then Some check.1 else first_refusal checks
-
 -- why a hit of this word at this moment is refused before the word is asked, if it is
 unfoldable pub hit_refusal : List RoomFact → ℕ → ℕ → Option HitRefusal
 hit_refusal facts w moment = first_refusal (hit_checks facts w moment)
 
+-- a word, or the refusal that stands before it
 abbrev pub word_or : ℕ → Option HitRefusal → Result ℕ HitRefusal
 word_or w None = Ok w
 word_or w (Some refused) = Err refused
@@ -163,10 +155,11 @@ reply_of (Err refused) = reply.Refused refused
 
 -- The room, event by event.
 
--- a pass or an expiry: nobody wins
+-- the end by a pass: nobody wins
 abbrev pub passed : End
 passed = record { kind = ends.Passed; winner = None; cover = None }
 
+-- the end by an expiry: nobody wins
 abbrev pub expired : End
 expired = record { kind = ends.Expired; winner = None; cover = None }
 
@@ -183,6 +176,7 @@ abbrev pub where_so : Bool → RoomFact → List RoomFact
 where_so true fact = fact ∷ []
 where_so false fact = []
 
+-- the end that a hit leads to, where it awards
 abbrev pub end_by : Result End HitRefusal → ℕ → List RoomFact
 end_by (Ok award) moment = Ended award moment ∷ []
 end_by (Err refused) moment = []

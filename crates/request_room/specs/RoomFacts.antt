@@ -38,6 +38,7 @@ abbrev pub ended_as : RoomFact → Option End
 ended_as (Ended end moment) = Some end
 ended_as fact = None
 
+-- whether a fact says that each named dealer was shown the request
 abbrev pub is_readied : RoomFact → Bool
 is_readied Readied = true
 is_readied fact = false
@@ -88,6 +89,7 @@ abbrev pub is_ending : RoomFact → Bool
 is_ending (Ended end moment) = true
 is_ending fact = false
 
+-- whether an end of this kind is an award
 abbrev pub is_awarded_kind : EndKind → Bool
 is_awarded_kind Awarded = true
 is_awarded_kind Passed = false
