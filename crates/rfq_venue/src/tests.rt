@@ -236,12 +236,17 @@ fn assert_status<T: Abort + AllocGlobal>(rt: &T, words: &[&str], wanted: u8) {
 #[test]
 fn words_are_those_of_a_command(rt: HostRuntime) {
     assert_status(&rt, &["alone"], 0);
+    assert_status(&rt, &["alone", "--"], 0);
+    assert_status(&rt, &["alone", "--frames", "--"], 0);
     assert_status(&rt, &["--help"], 0);
+    assert_status(&rt, &["-h"], 0);
     assert_status(&rt, &["alone", "--frames", "--help"], 0);
     assert_status(&rt, &["help", "alone"], 0);
     assert_status(&rt, &["--frames"], 2);
     assert_status(&rt, &["alone", "--frames", "--frames"], 2);
     assert_status(&rt, &["alone", "x"], 2);
+    assert_status(&rt, &["alone", "--", "x"], 2);
+    assert_status(&rt, &["--", "alone"], 2);
     assert_status(&rt, &["replay"], 2);
     assert_status(&rt, &["x"], 2);
 }
