@@ -241,6 +241,7 @@ fn words_are_those_of_a_command(rt: HostRuntime) {
     assert_status(&rt, &["--help"], 0);
     assert_status(&rt, &["-h"], 0);
     assert_status(&rt, &["alone", "--frames", "--help"], 0);
+    assert_status(&rt, &["help"], 0);
     assert_status(&rt, &["help", "alone"], 0);
     assert_status(&rt, &["--frames"], 2);
     assert_status(&rt, &["alone", "--frames", "--frames"], 2);
