@@ -52,10 +52,11 @@ is_mistake kind.DisplayVersion = false
 is_mistake kind.OutOfMemory = false
 is_mistake _ = true
 
--- some error that the words may have asks for help, or is a mistake
+-- some error that the words may have asks for help
 abbrev pub may_be_help : Kinds → Bool
 may_be_help kinds = list_any is_help kinds
 
+-- some error that the words may have is a mistake
 abbrev pub may_be_mistake : Kinds → Bool
 may_be_mistake kinds = list_any is_mistake kinds
 

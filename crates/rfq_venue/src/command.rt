@@ -111,6 +111,8 @@ pub fn these_words_are_commands()
 /// [`run_program`](crate::run_program) says how a run with such words ends.
 pub fn words_have_these_faults()
     ensures help { words_fault (codes "--help" ∷ []) ≡ ErrorKind.DisplayHelp ∷ [] }
+    ensures short_help { words_fault (codes "-h" ∷ []) ≡ ErrorKind.DisplayHelp ∷ [] }
+    ensures help_as_a_word { words_fault (codes "help" ∷ []) ≡ ErrorKind.DisplayHelp ∷ ErrorKind.InvalidSubcommand ∷ [] }
     ensures help_on_alone { words_fault (codes "alone" ∷ codes "--help" ∷ []) ≡ ErrorKind.DisplayHelp ∷ [] }
     ensures frames_of_nothing { words_fault (codes "--frames" ∷ []) ≡ ErrorKind.UnknownArgument ∷ [] }
     ensures frames_twice { words_fault (codes "alone" ∷ codes "--frames" ∷ codes "--frames" ∷ []) ≡ ErrorKind.ArgumentConflict ∷ [] }

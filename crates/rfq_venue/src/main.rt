@@ -9,7 +9,8 @@
 //! - [`alone`]: the messages are the dealer view of the list, and nothing else goes into them;
 //!   [`equal_lists_are_sent_equal_messages`] states it for two runs.
 //! - [`alone_text`]: what is printed is a function of the bytes that were read, each fault the first.
-//! - [`run_program`]: nothing is printed before the whole input is read and found lawful.
+//! - [`run_program`]: nothing is printed before the whole input is read and found lawful; words that are no command
+//!   print a help, or nothing. [`these_words_are_commands`] and [`words_have_these_faults`] say which words are which.
 #![tactic(auto)]
 
 mod command;

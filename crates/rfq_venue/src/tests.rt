@@ -237,10 +237,13 @@ fn assert_status<T: Abort + AllocGlobal>(rt: &T, words: &[&str], wanted: u8) {
 fn words_are_those_of_a_command(rt: HostRuntime) {
     assert_status(&rt, &["alone"], 0);
     assert_status(&rt, &["alone", "--"], 0);
+    assert_status(&rt, &["alone", "--frames", "--"], 0);
     assert_status(&rt, &["alone", "--frames", "--help"], 0);
     assert_status(&rt, &["--frames"], 2);
     assert_status(&rt, &["alone", "--frames", "--frames"], 2);
     assert_status(&rt, &["alone", "x"], 2);
+    assert_status(&rt, &["alone", "--", "x"], 2);
+    assert_status(&rt, &["--", "alone"], 2);
     assert_status(&rt, &["replay"], 2);
     assert_status(&rt, &["x"], 2);
 }

@@ -7,6 +7,8 @@ pub returns : goal.returns
 unfolding clap_on_literals words_fault
 returns c = record {
   help = refl;
+  short_help = refl;
+  help_as_a_word = refl;
   help_on_alone = refl;
   frames_of_nothing = refl;
   frames_twice = refl;
