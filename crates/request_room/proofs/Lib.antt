@@ -1,0 +1,6 @@
+pub mod AwardLemmas
+pub mod BookLemmas
+pub mod FactLemmas
+pub mod KeptLemmas
+pub mod CoverLemmas
+pub mod EndLemmas

@@ -1,0 +1,3 @@
+pub mod Book
+pub mod RoomFacts
+pub mod Search
