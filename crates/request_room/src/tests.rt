@@ -25,12 +25,18 @@ fn opening(rt: &impl Abort, alloc: Global, side: Side) -> Result<Room, Fail> {
     Ok(room)
 }
 
-/// The same with three quotes: of the dealers 0 and 1 at 25,476 ticks, and of the dealer 2 at 25,472. It is open.
-fn quoted(rt: &impl Abort, alloc: Global, side: Side) -> Result<Room, Fail> {
+/// The same with three quotes: of the dealers 0 and 1 at 25,476 ticks, and of the dealer 2 at 25,472.
+fn posted(rt: &impl Abort, alloc: Global, side: Side) -> Result<Room, Fail> {
     let mut room = opening(rt, alloc, side)?;
     assert!(rt; posts(rt, &mut room, 0, 10, 25_476, None)?);
     assert!(rt; posts(rt, &mut room, 1, 20, 25_476, None)?);
     assert!(rt; posts(rt, &mut room, 2, 30, 25_472, None)?);
+    Ok(room)
+}
+
+/// The same once it is open.
+fn quoted(rt: &impl Abort, alloc: Global, side: Side) -> Result<Room, Fail> {
+    let mut room = posted(rt, alloc, side)?;
     readies(rt, &mut room)?;
     Ok(room)
 }

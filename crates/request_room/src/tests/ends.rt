@@ -17,11 +17,11 @@ fn a_room_expires_at_its_deadline(rt: HostRuntime) -> Result<(), Fail> {
 
 #[test]
 fn an_opening_room_ends_in_no_way(rt: HostRuntime) -> Result<(), Fail> {
-    let mut room = opening(&rt, rt.alloc(), Side::Buy)?;
+    let mut room = posted(&rt, rt.alloc(), Side::Buy)?;
     assert!(rt; !room.expire(at(&rt, DEADLINE))?);
     assert!(rt; !room.pass(at(&rt, 1))?);
     assert!(rt; room.end().is_none() && room.is_opening());
-    assert_eq!(rt; room.events().len(), 3);
+    assert_eq!(rt; room.events().len(), 6);
     Ok(())
 }
 
