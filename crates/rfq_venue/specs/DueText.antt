@@ -7,7 +7,7 @@ use Rattle.quote_messages.specs.Texts.{is_quantity, number_of, number_up_to}
 use Rattle.quote_messages.specs.declared.sides.Side.{Side}
 use Rattle.quote_messages.specs.declared.closes.Close.{Close}
 use Rattle.quote_messages.specs.declared.closes.Close.TheVariants.{Hit, Expired, Cover, DoneAway, Pass}
-use Rattle.venue_config.specs.declared.dealer_rows.DealerRow.{DealerRow}
+use Rattle.venue_config.specs.Rows.{DealerValues}
 use Rattle.rfq_venue.specs.declared.due.Due.{Due}
 use Rattle.rfq_venue.specs.declared.due.Due.TheVariants as due
 use Rattle.rfq_venue.specs.declared.faults.ProgramFault.{ProgramFault}
@@ -55,19 +55,8 @@ traders_of text =
     else if ends_with_space text then None
     else traders_with [] (parts_of 32 text)
 
--- the values of a dealer's row
-pub record RowValues : Type 0 where
-  pub name : List ℕ
-  pub traders : List (List ℕ)
-  pub quotes : ℕ
-  pub exposure : ℕ
-
--- those of a row, which keeps its limits beside them
-abbrev pub values_of : DealerRow → RowValues
-values_of row = record { name = row.name; traders = row.traders; quotes = row.quotes; exposure = row.exposure }
-
 -- a row's values, where each of them could be read
-abbrev pub row_with : Option (List ℕ) → Option ℕ → Option ℕ → Option (List (List ℕ)) → Option RowValues
+abbrev pub row_with : Option (List ℕ) → Option ℕ → Option ℕ → Option (List (List ℕ)) → Option DealerValues
 row_with None quotes exposure traders = None
 row_with (Some name) None exposure traders = None
 row_with (Some name) (Some quotes) None traders = None
@@ -76,14 +65,14 @@ row_with (Some name) (Some quotes) (Some exposure) (Some traders) =
     Some (record { name = name; traders = traders; quotes = quotes; exposure = exposure })
 
 -- what stands behind the word `dealer`: NAME QUOTES EXPOSURE TRADER ..
-abbrev pub row_values : List ℕ → Option RowValues
+abbrev pub row_values : List ℕ → Option DealerValues
 row_values text =
     let behind_name = behind_word text in
     let behind_quotes = behind_word behind_name in
     row_with (text_if is_firm_name (first_word text)) (quotes_of (first_word behind_name)) (exposure_of (first_word behind_quotes)) (traders_of (behind_word behind_quotes))
 
 -- `dealer NAME QUOTES EXPOSURE TRADER ..`
-abbrev pub row_of : List ℕ → Option RowValues
+abbrev pub row_of : List ℕ → Option DealerValues
 row_of line = if same_text (first_word line) (codes "dealer") then row_values (behind_word line) else None
 
 -- a quantity: 1 to 1,000,000,000,000, in 1 to 16 digits
@@ -198,11 +187,11 @@ dues_from date firm number (line ∷ lines) =
 -- what due text spells
 pub record Spelled : Type 0 where
   pub date : List ℕ
-  pub row : RowValues
+  pub row : DealerValues
   pub dues : List Due
 
 -- what is spelled behind the date and the dealer's row
-abbrev pub spelled_with : List ℕ → RowValues → Result (List Due) ProgramFault → Result Spelled ProgramFault
+abbrev pub spelled_with : List ℕ → DealerValues → Result (List Due) ProgramFault → Result Spelled ProgramFault
 spelled_with date row (Err fault) = Err fault
 spelled_with date row (Ok dues) = Ok (record { date = date; row = row; dues = dues })
 

@@ -5,6 +5,7 @@ use Rattle.std.specs.Option.{IfSome}
 use Rattle.std.specs.Io.KnownBytes.{Appends, Keeps}
 use Rattle.fix_fields.specs.Frame.{Field, frame_of}
 use Rattle.quote_messages.specs.SessionChecks.{text_at}
+use Rattle.venue_config.specs.Rows.{dealer_values}
 use Rattle.venue_config.specs.declared.dealer_rows.DealerRow.{DealerRow}
 use Rattle.rfq_venue.specs.declared.due.Due.{Due}
 use Rattle.rfq_venue.specs.declared.faults.ProgramFault.{ProgramFault}
@@ -13,7 +14,7 @@ use Rattle.clap.specs.Kinds.{Kinds}
 use Rattle.clap.specs.Walk.{Text}
 use Rattle.rfq_venue.specs.CommandWords.{asks_for_frames, may_be_help, may_be_mistake, words_fault}
 use Rattle.rfq_venue.specs.DealerView.{dealer_view}
-use Rattle.rfq_venue.specs.DueText.{Spelled, due_text_of, values_of}
+use Rattle.rfq_venue.specs.DueText.{Spelled, due_text_of}
 
 -- a fault as standard error tells it
 abbrev pub fault_text : ProgramFault → List ℕ
@@ -84,7 +85,7 @@ pub record IsPrinted (with_frames : Bool) (input text : List ℕ) : Type 0 where
   pub row : DealerRow
   pub dues : List Due
   pub fits : length input ≤ 16777216
-  pub spelled : due_text_of input ≡ Ok (record { date = date; row = values_of row; dues = dues })
+  pub spelled : due_text_of input ≡ Ok (record { date = date; row = dealer_values row; dues = dues })
   pub printed : text ≡ messages_text with_frames row.name (dealer_view date row dues)
 
 -- A writer has taken a part of a text from its front: what it held, and then that part.

@@ -1,7 +1,8 @@
 //! The lines that due text begins with: `date YYYYMMDD` and `dealer NAME QUOTES EXPOSURE TRADER ..`.
 ghost use Rattle.std.specs.Prelude.{◌≡◌, ◌≤◌, length, IfSome};
 ghost use Rattle.std.specs.Option.{option_map};
-ghost use Rattle.rfq_venue.specs.DueText.{date_of, row_of, values_of, quotes_of, exposure_of, traders_of};
+ghost use Rattle.venue_config.specs.Rows.{dealer_values};
+ghost use Rattle.rfq_venue.specs.DueText.{date_of, row_of, quotes_of, exposure_of, traders_of};
 
 use crate::lines::Parts;
 use crate::words::{cut_word, is_word};
@@ -22,7 +23,7 @@ pub(crate) fn read_date(line: &[u8]) -> Option<Date>
 
 /// The dealer that a dealer line gives.
 pub(crate) fn read_dealer_row(line: &[u8]) -> Option<DealerRow>
-    ensures { option_map values_of result ≡ row_of line.now }
+    ensures { option_map dealer_values result ≡ row_of line.now }
 {
     let (keyword, rest) = cut_word(line);
     if !is_word(keyword, b"dealer") {

@@ -1,6 +1,7 @@
 //! Due text: a date, a dealer, and what is due to the dealer, line by line.
 ghost use Rattle.std.specs.Prelude.{◌≡◌, ◌≢◌, ◌≤◌, ◌+◌, length, Ok, Err, IfOk, IfErr, IfSome};
-ghost use Rattle.rfq_venue.specs.DueText.{values_of, due_of, mark_of, own_of, dues_from, due_text_of};
+ghost use Rattle.venue_config.specs.Rows.{dealer_values};
+ghost use Rattle.rfq_venue.specs.DueText.{due_of, mark_of, own_of, dues_from, due_text_of};
 ghost use Rattle.rfq_venue.specs.SayLine.{said_of};
 ghost use Rattle.rfq_venue.specs.Words.{one_past};
 
@@ -32,7 +33,7 @@ pub(crate) struct DueText {
 pub(crate) fn read_due_text(alloc: Global, input: &[u8]) -> Result<DueText, ProgramFault>
     requires { length input.now ≤ 16777216 }
     ensures ok { IfOk result (λ text. due_text_of input.now
-        ≡ Ok (record { date = text.date; row = values_of text.row; dues = text.dues.items })) }
+        ≡ Ok (record { date = text.date; row = dealer_values text.row; dues = text.dues.items })) }
     ensures err { IfErr result (λ fault. fault ≢ ProgramFault.Memory → due_text_of input.now ≡ Err fault) }
     ensures unwritten { IfErr result (λ fault. fault ≢ ProgramFault.Write) }
 {
