@@ -52,6 +52,14 @@ fn each_call_is_one_event(rt: HostRuntime) -> Result<(), Fail> {
     assert!(rt; unposts(&rt, &mut room, 1, 20)?);
     let reply = hits(&mut room, 10, at(&rt, 1), Settled::Lifted)?;
     assert_eq!(rt; reply, Reply::Awarded);
+    assert!(rt; room.events().len() == 8);
+    assert_begins(&rt, room.events());
+    assert_ends(&rt, room.events());
+    Ok(())
+}
+
+/// Asserts that the first events are the opening, three posts, and that the room is ready.
+fn assert_begins(rt: &impl Abort, events: &[RoomEvent]) {
     let [
         RoomEvent::Open(request),
         RoomEvent::Post {
@@ -60,19 +68,24 @@ fn each_call_is_one_event(rt: HostRuntime) -> Result<(), Fail> {
             price,
             valid_until,
         },
-        _,
-        _,
+        RoomEvent::Post { .. },
+        RoomEvent::Post { .. },
         RoomEvent::Ready,
-        more @ ..,
-    ] = room.events()
+        ..
+    ] = events
     else {
         assert!(rt; false, "the first events");
-        return Ok(());
+        return;
     };
     assert!(rt; request.dealers.as_slice() == [0, 1, 2].as_slice());
-    assert!(rt; request.ask.deadline == at(&rt, DEADLINE));
+    assert!(rt; request.ask.deadline == at(rt, DEADLINE));
     assert!(rt; *dealer == 0 && *word == 10 && price.get() == 25_476 && valid_until.is_none());
+}
+
+/// Asserts that the last events are the decline, the unpost and the hit.
+fn assert_ends(rt: &impl Abort, events: &[RoomEvent]) {
     let [
+        ..,
         RoomEvent::Decline { dealer },
         RoomEvent::Unpost {
             dealer: other,
@@ -83,12 +96,11 @@ fn each_call_is_one_event(rt: HostRuntime) -> Result<(), Fail> {
             moment,
             answer,
         },
-    ] = more
+    ] = events
     else {
         assert!(rt; false, "the last events");
-        return Ok(());
+        return;
     };
     assert!(rt; *dealer == 1 && *other == 1 && *word == 20 && *hit == 10);
-    assert!(rt; *moment == at(&rt, 1) && *answer == Some(Settled::Lifted));
-    Ok(())
+    assert!(rt; *moment == at(rt, 1) && *answer == Some(Settled::Lifted));
 }
