@@ -1,6 +1,6 @@
 -- The first refusal of two lists of checks, one behind the other.
 use Rattle.std.proofs.Common.{◌≡◌, Bool, true, false, List, [], ◌∷◌, ◌++◌, Option, Some, None, cond, refl}
-use Rattle.quote_messages.specs.Checks.{first_refusal}
+use Rattle.market_terms.specs.Checks.{first_refusal}
 use Rattle.quote_messages.specs.declared.reject_reasons.QuoteRejectReason.{QuoteRejectReason}
 
 abbrev pub Checks : Type 0

@@ -20,7 +20,7 @@ use Rattle.quote_word.specs.declared.settled.Settled.{Settled}
 use Rattle.quote_word.specs.declared.settled.Settled.TheVariants.{Withdrawn as IsWithdrawn, Lifted as IsLifted}
 use Rattle.venue_config.specs.declared.dealer_rows.DealerRow.{DealerRow}
 use Rattle.dealer_desk.specs.DealerFacts.{exposure_of, exposure_beside, quotes_of, accepted_quote, quotes_accepted, quote_with_id, is_live, live_quote_on, live_number_on, request_named, expected_number}
-use Rattle.quote_messages.specs.Checks.{first_refusal}
+use Rattle.market_terms.specs.Checks.{first_refusal}
 use Rattle.dealer_desk.specs.DealerRules.{standing_checks, terms_checks, day_checks, cancel_checks, decline_checks, quote_refusal, quote_answer, quote_on, quote_kept, quote_verdict, replacing, cancel_verdict, cancel_named, cancel_of, cancel_answer, decline_verdict, decline_of, decline_answer, message_verdict, sequence_verdict, sequence_number, frame_verdict, dealer_verdict, out_of_sequence, reject_of}
 use Rattle.dealer_desk.specs.DealerOutput.{verdict_facts, word_asked, is_numbered_within}
 use Rattle.dealer_desk.specs.declared.facts.AcceptedQuote.{AcceptedQuote}

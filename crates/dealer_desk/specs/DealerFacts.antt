@@ -5,9 +5,9 @@ use Rattle.std.specs.List.{filter_map, list_any, sum_by}
 use Rattle.std.specs.Option.{option_map}
 use Rattle.venue_config.specs.Texts.{same_text}
 use Rattle.quote_messages.specs.Written.{request_name}
-use Rattle.quote_messages.specs.declared.asks.Ask.{Ask}
+use Rattle.market_terms.specs.declared.asks.Ask.{Ask}
 use Rattle.dealer_desk.specs.declared.shown.ShownRequest.{ShownRequest}
-use Rattle.quote_messages.specs.declared.rooms.RoomRef.{RoomRef}
+use Rattle.market_terms.specs.declared.rooms.RoomRef.{RoomRef}
 use Rattle.dealer_desk.specs.declared.facts.AcceptedQuote.{AcceptedQuote}
 use Rattle.dealer_desk.specs.declared.facts.DealerFact.{DealerFact}
 use Rattle.dealer_desk.specs.declared.facts.DealerFact.TheVariants.{Came, Shown, Quoted, Withdrawn, Late, Declined, Told}

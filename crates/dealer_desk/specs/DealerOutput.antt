@@ -8,11 +8,11 @@ use Rattle.quote_messages.specs.Written.{written}
 use Rattle.quote_word.specs.declared.settled.Settled.{Settled}
 use Rattle.quote_word.specs.declared.settled.Settled.TheVariants.{Withdrawn as IsWithdrawn, Lifted as IsLifted}
 use Rattle.venue_config.specs.declared.dealer_rows.DealerRow.{DealerRow}
-use Rattle.quote_messages.specs.declared.asks.Ask.{Ask}
-use Rattle.quote_messages.specs.declared.closes.Close.{Close}
-use Rattle.quote_messages.specs.declared.rooms.RoomRef.{RoomRef}
-use Rattle.quote_messages.specs.declared.duties.Duty.{Duty}
-use Rattle.quote_messages.specs.declared.duties.Duty.TheVariants.{Post, Unpost, Decline}
+use Rattle.market_terms.specs.declared.asks.Ask.{Ask}
+use Rattle.market_terms.specs.declared.closes.Close.{Close}
+use Rattle.market_terms.specs.declared.rooms.RoomRef.{RoomRef}
+use Rattle.market_terms.specs.declared.duties.Duty.{Duty}
+use Rattle.market_terms.specs.declared.duties.Duty.TheVariants.{Post, Unpost, Decline}
 use Rattle.quote_messages.specs.declared.reject_reasons.QuoteRejectReason.TheVariants.{TooLate}
 use Rattle.quote_messages.specs.declared.out_messages.Request.{Request}
 use Rattle.quote_messages.specs.declared.out_messages.QuotedPrice.{QuotedPrice}

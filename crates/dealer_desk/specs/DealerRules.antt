@@ -5,12 +5,12 @@ use Rattle.bond_prices.specs.declared.fault.PriceFault.{PriceFault}
 use Rattle.fix_fields.specs.Frame.{Field, frame_of, times_of, value_of}
 use Rattle.venue_config.specs.Texts.{same_text, text_if}
 use Rattle.quote_messages.specs.Texts.{is_msg_type, is_sequence_number}
-use Rattle.quote_messages.specs.Checks.{first_refusal, is_not_after}
+use Rattle.market_terms.specs.Checks.{first_refusal, is_not_after}
 use Rattle.quote_messages.specs.SessionChecks.{session_verdict, text_at}
 use Rattle.dealer_desk.specs.DealerFacts.{expected_number, request_named, quotes_accepted, quote_with_id, live_number_on, exposure_beside, is_declined, is_told, is_withdrawn, is_known_lifted, has_lifted_quote}
-use Rattle.quote_messages.specs.declared.sides.Side.{Side}
-use Rattle.quote_messages.specs.declared.sides.Side.TheVariants.{Buy, Sell}
-use Rattle.quote_messages.specs.declared.asks.Ask.{Ask}
+use Rattle.market_terms.specs.declared.asks.Side.{Side}
+use Rattle.market_terms.specs.declared.asks.Side.TheVariants.{Buy, Sell}
+use Rattle.market_terms.specs.declared.asks.Ask.{Ask}
 use Rattle.quote_messages.specs.declared.out_messages.Request.{Request}
 use Rattle.quote_messages.specs.declared.out_messages.Reject.{Reject}
 use Rattle.venue_config.specs.declared.dealer_rows.DealerRow.{DealerRow}

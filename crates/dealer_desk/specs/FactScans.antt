@@ -4,7 +4,7 @@ use Rattle.std.specs.Prelude.{ℕ, ◌==◌, Bool, false, List, Option, Some, No
 use Rattle.std.specs.List.{sum_by}
 use Rattle.venue_config.specs.Texts.{same_text}
 use Rattle.quote_messages.specs.Written.{request_name}
-use Rattle.quote_messages.specs.declared.rooms.RoomRef.{RoomRef}
+use Rattle.market_terms.specs.declared.rooms.RoomRef.{RoomRef}
 use Rattle.dealer_desk.specs.DealerFacts.{is_live, is_same_room}
 use Rattle.dealer_desk.specs.declared.facts.AcceptedQuote.{AcceptedQuote}
 use Rattle.dealer_desk.specs.declared.facts.DealerFact.{DealerFact}

@@ -1,6 +1,6 @@
 //! The rules of the market for what a dealer takes back: cancels of quotes, and declines of requests.
 ghost use Rattle.std.specs.Prelude.{◌≡◌};
-ghost use Rattle.quote_messages.specs.Checks.{first_refusal};
+ghost use Rattle.market_terms.specs.Checks.{first_refusal};
 ghost use Rattle.dealer_desk.specs.DealerRules.{cancel_verdict, cancel_checks, decline_verdict, decline_checks};
 
 use crate::counts::{is_declined, is_told, request_named};

@@ -2,7 +2,7 @@
 
 use bond_prices::Ticks;
 use fix_fields::Moment;
-use quote_messages::{Ask, Close, Quantity, QuoteId, RoomRef};
+use quote_messages::{Ask, Close, Quantity, IdBuf, RoomRef};
 
 /// A fact of a desk. Facts are only ever added, and everything that the desk decides is decided from them.
 /// But for the room in which a request was shown, they bear none but the dealer's own numbers.
@@ -56,7 +56,7 @@ pub struct AcceptedQuote {
     /// Its own number: which of the dealer's accepted quotes it is, from 1.
     pub number: u32,
     /// QuoteID (117).
-    pub id: QuoteId,
+    pub id: IdBuf,
     /// Which of the requests shown to the dealer it answers, from 1.
     pub request: u64,
     /// The request's quantity, for which the quote is in full.

@@ -1,6 +1,6 @@
 //! The rules of the market for a dealer, over the facts of its desk. Each function goes over the facts anew.
 ghost use Rattle.std.specs.Prelude.{◌≡◌, ◌+◌, ◌<◌, ◌≤◌, Some, None, MatchResult};
-ghost use Rattle.quote_messages.specs.Checks.{first_refusal, is_not_after};
+ghost use Rattle.market_terms.specs.Checks.{first_refusal, is_not_after};
 ghost use Rattle.dealer_desk.specs.DealerRules.{dealer_verdict, quote_verdict, quote_refusal, standing_checks, terms_checks, day_checks, price_for, reject_of, sequence_number, differs_from, quote_kept, lone_price, replacing};
 ghost use Rattle.dealer_desk.specs.DealerFacts.{exposure_of, live_number_on, quotes_accepted};
 
@@ -13,7 +13,7 @@ use crate::{AcceptedQuote, DealerFact, DealerVerdict};
 use bond_prices::{PriceFault, Ticks};
 use fix_fields::{Date, Frame, Moment, read_frame};
 use quote_messages::{
-    Ask, DealerMessage, MsgType, Quantity, Quote, QuoteId, QuoteRejectReason, Reject, Request,
+    Ask, DealerMessage, MsgType, Quantity, Quote, IdBuf, QuoteRejectReason, Reject, Request,
     SeqNum, SessionFault, SessionRejectReason, Side, read_dealer,
 };
 use venue_config::DealerRow;
@@ -287,7 +287,7 @@ fn kept(
 {
     AcceptedQuote {
         number,
-        id: QuoteId::of(&quote.id),
+        id: IdBuf::of(&quote.id),
         request: request.number,
         quantity: request.ask.quantity,
         price,
