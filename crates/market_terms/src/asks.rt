@@ -2,6 +2,7 @@
 ghost use Rattle.std.specs.Prelude.{◌≡◌};
 
 use crate::Quantity;
+use bond_prices::Grid;
 use fix_fields::Moment;
 use venue_config::{BondId, Name};
 
@@ -18,6 +19,8 @@ pub struct Ask {
     pub quantity: Quantity,
     /// The moment from which on the request takes no quote and no hit (ExpireTime 126).
     pub deadline: Moment,
+    /// The grid of the bond's prices, on which each quote's price is.
+    pub grid: Grid,
 }
 
 impl Ask {
@@ -31,6 +34,7 @@ impl Ask {
             side: self.side,
             quantity: self.quantity,
             deadline: self.deadline,
+            grid: self.grid,
         }
     }
 }
