@@ -1,6 +1,6 @@
 //! Tests of what no clause says: what a market maker would write down of a room's day, with its values.
 use crate::{End, EndKind, Room, RoomEvent, are_distinct};
-use bond_prices::Ticks;
+use bond_prices::{Grid, Ticks};
 use fix_fields::{Memory, Moment};
 use quote_messages::{Ask, HitRefusal, Quantity, Reply, Side};
 use quote_word::Settled;
@@ -58,6 +58,7 @@ fn ask(rt: &impl Abort, side: Side) -> Ask {
         side,
         quantity: Quantity::new(2_000_000).expect(rt, "a quantity"),
         deadline: at(rt, DEADLINE),
+        grid: Grid::FINEST,
     }
 }
 

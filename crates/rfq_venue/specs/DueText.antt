@@ -1,6 +1,7 @@
 -- Due text, line by line: what its bytes spell, or its first fault.
 use Rattle.std.specs.Prelude.{ℕ, ◌+◌, Bool, ◌&&◌, List, [], ◌∷◌, ◌++◌, map, length, nat_le, nat_lt, not, codes, Option, Some, None, Result, Ok, Err, if◌then◌else◌, ◌==◌, slice_index, ◌-◌}
 use Rattle.std.specs.Option.{option_map, option_and_then}
+use Rattle.bond_prices.specs.Grid.{finest_grid}
 use Rattle.fix_fields.specs.UtcTimestamp.{is_date}
 use Rattle.venue_config.specs.Texts.{is_name, is_firm_name, is_bond_id, is_among, same_text, text_if}
 use Rattle.market_terms.specs.Texts.{is_quantity}
@@ -89,7 +90,14 @@ shown_with (Some investor) (Some bond) (Some side) None deadline moment = None
 shown_with (Some investor) (Some bond) (Some side) (Some quantity) None moment = None
 shown_with (Some investor) (Some bond) (Some side) (Some quantity) (Some deadline) None = None
 shown_with (Some investor) (Some bond) (Some side) (Some quantity) (Some deadline) (Some moment) =
-    Some (due.Shown (record { investor = investor; bond = bond; side = side; quantity = quantity; deadline = deadline }) moment)
+    Some (due.Shown (record {
+      investor = investor;
+      bond = bond;
+      side = side;
+      quantity = quantity;
+      deadline = deadline;
+      grid = finest_grid;
+    }) moment)
 
 -- what stands behind the word `shown`: INVESTOR BOND SIDE QUANTITY DEADLINE TIME
 unfoldable pub shown_of : List ℕ → List ℕ → Option Due

@@ -4,6 +4,7 @@ ghost use Rattle.rfq_venue.specs.DueText.{shown_of};
 
 use crate::due::Due;
 use crate::words::{cut_word, read_side, read_time};
+use bond_prices::Grid;
 use fix_fields::Date;
 use quote_messages::{Ask, Quantity, read_long_number};
 use venue_config::{BondId, Name};
@@ -24,6 +25,7 @@ pub(crate) fn read_shown(date: &Date, text: &[u8]) -> Option<Due>
         side: read_side(side)?,
         quantity: Quantity::new(read_long_number(quantity)?)?,
         deadline: read_time(date, deadline)?,
+        grid: Grid::FINEST,
     };
     let moment = read_time(date, time)?;
     Some(Due::Shown(ask, moment))

@@ -1,4 +1,5 @@
 //! The day, the dealer and the requests of the tests.
+use bond_prices::Grid;
 use fix_fields::{Date, Moment, read_moment};
 use quote_messages::{Ask, Quantity, RoomRef, Side};
 use std::alloc::Global;
@@ -43,6 +44,7 @@ pub(crate) fn ask(
         side,
         quantity: Quantity::new(quantity).expect(rt, "a quantity"),
         deadline,
+        grid: Grid::FINEST,
     }
 }
 

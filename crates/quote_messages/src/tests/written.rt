@@ -4,7 +4,7 @@ use crate::{
     Ask, Close, ClosingNotice, Head, Message, MsgType, Quantity, IdBuf, QuoteRejectReason,
     QuotedPrice, Reject, Request, SeqNum, SessionFault, SessionRejectReason, Side, write_out,
 };
-use bond_prices::Ticks;
+use bond_prices::{Grid, Ticks};
 use venue_config::BondId;
 
 const NINE: u32 = 32_400_000;
@@ -78,6 +78,7 @@ fn buying(number: u64) -> Result<Request, Fail> {
             side: Side::Buy,
             quantity: Quantity::new(2_000_000).ok_or("no quantity")?,
             deadline: at(32_700_000)?,
+            grid: Grid::FINEST,
         },
     })
 }
@@ -92,6 +93,7 @@ fn selling(number: u64) -> Result<Request, Fail> {
             side: Side::Sell,
             quantity: Quantity::new(2_000_000).ok_or("no quantity")?,
             deadline: at(32_760_000)?,
+            grid: Grid::FINEST,
         },
     })
 }

@@ -1,5 +1,5 @@
 -- What the form of an identifier implies: it is ASCII, so it is UTF-8, is short and has no SOH.
-use Rattle.std.proofs.Common.{◌≡◌, ◌≢◌, ℕ, ◌<◌, ◌≤◌, true, List, length, ◌&&◌, nat_le, arith}
+use Rattle.std.proofs.Common.{◌≡◌, ◌≢◌, ℕ, ◌<◌, ◌≤◌, Bool, true, List, length, ◌&&◌, nat_le, arith}
 use Rattle.std.specs.List.{list_all}
 use Rattle.fix_fields.specs.Frame.{IsValue}
 use Rattle.fix_fields.specs.TextLaws.{utf8_if_all, value_if_all}
@@ -16,7 +16,9 @@ id_character-apart : (c : ℕ) → is_id_character c ≡ true → c ≢ 1
 id_character-apart c h = λ e. grind (arith, nat_tests)
 
 all_characters : (text : List ℕ) → is_id text ≡ true → list_all is_id_character text ≡ true
-all_characters text h = (and_parts (nat_le 1 (length text) && nat_le (length text) LONGEST_ID) (list_all is_id_character text) h).1
+all_characters text h =
+    let has_room : Bool = nat_le 1 (length text) && nat_le (length text) LONGEST_ID in
+    (and_parts has_room (list_all is_id_character text) h).1
 
 pub id_is_utf8 : (text : List ℕ) → is_id text ≡ true → IsUtf8 text
 id_is_utf8 text h = utf8_if_all is_id_character id_character-low text (all_characters text h)
