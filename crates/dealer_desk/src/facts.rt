@@ -2,7 +2,7 @@
 
 use bond_prices::Ticks;
 use fix_fields::Moment;
-use quote_messages::{Ask, Close, Quantity, IdBuf, RoomRef};
+use quote_messages::{Ask, Close, IdBuf, Quantity, RoomRef};
 
 /// A fact of a desk. Facts are only ever added, and everything that the desk decides is decided from them.
 /// But for the room in which a request was shown, they bear none but the dealer's own numbers.

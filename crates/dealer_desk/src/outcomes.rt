@@ -191,7 +191,7 @@ pub(crate) fn duty_of(
             post_of(facts, quote),
         ),
         DealerVerdict::CancelAsks { quote, request, .. } => {
-            where_withdrawn(answer, unpost_of(facts, *quote, *request, moment))
+            unpost_of(facts, *quote, *request, moment, answer)
         }
         DealerVerdict::DeclineAccepted { number, .. } => decline_of(facts, *number, moment),
         _ => None,
@@ -222,10 +222,19 @@ fn post_of(facts: &[DealerFact], quote: &AcceptedQuote) -> Option<Duty>
     })
 }
 
-/// The taking of a quote out of the room of its request.
-fn unpost_of(facts: &[DealerFact], quote: u32, request: u64, moment: Moment) -> Option<Duty>
-    ensures { result ≡ option_map (λ room. Duty.Unpost room quote moment) (room_of facts.now request) }
+/// The taking of a quote out of the room of its request, once its word is withdrawn.
+fn unpost_of(
+    facts: &[DealerFact],
+    quote: u32,
+    request: u64,
+    moment: Moment,
+    answer: Option<Settled>,
+) -> Option<Duty>
+    ensures { result ≡ (if is_withdrawal answer then option_map (λ room. Duty.Unpost room quote moment) (room_of facts.now request) else None) }
 {
+    if !is_withdrawal(answer) {
+        return None;
+    }
     let room = room_of(facts, request)?;
     Some(Duty::Unpost {
         room,

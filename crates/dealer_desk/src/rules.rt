@@ -13,7 +13,7 @@ use crate::{AcceptedQuote, DealerFact, DealerVerdict};
 use bond_prices::{PriceFault, Ticks};
 use fix_fields::{Date, Frame, Moment, read_frame};
 use quote_messages::{
-    Ask, DealerMessage, MsgType, Quantity, Quote, IdBuf, QuoteRejectReason, Reject, Request,
+    Ask, DealerMessage, IdBuf, MsgType, Quantity, Quote, QuoteRejectReason, Reject, Request,
     SeqNum, SessionFault, SessionRejectReason, Side, read_dealer,
 };
 use venue_config::DealerRow;

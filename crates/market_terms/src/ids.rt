@@ -75,7 +75,7 @@ impl Model for IdBuf {
 
 impl IdBuf {
     /// A copy of an identifier. It takes no memory.
-    #[tactic(auto, using(crate::proofs::IdTexts::id_is_utf8, crate::proofs::TextLemmas::id_is_short))]
+    #[tactic(auto, using(crate::proofs::IdTexts::id_is_utf8, crate::proofs::IdTexts::id_is_short))]
     pub fn of(id: &Id) -> Self
         ensures { result ≡ id.now }
     {
