@@ -3,7 +3,7 @@ use Rattle.std.specs.Prelude.{ℕ, ℤ, Bool, pos, negsuc, ◌+◌, ◌&&◌, Li
 use Rattle.std.specs.Option.{option_and_then}
 use Rattle.toml.specs.Data.{Data, Items, no_items, item, get, as_str, as_integer, as_array}
 use Rattle.venue_config.specs.Texts.{is_among, is_name}
-use Rattle.venue_config.specs.Keys.{NumberKey, TextKey, ArrayKey, traders_key}
+use Rattle.venue_config.specs.Keys.{NumberKey, ChoiceKey, TextKey, ArrayKey, traders_key}
 use Rattle.venue_config.specs.declared.faults.ConfigFault.{ConfigFault}
 use Rattle.venue_config.specs.declared.faults.ConfigFault.TheVariants.{Missing, Name, Twice, Limit}
 
@@ -26,6 +26,20 @@ number_in most (Some number) = number_within most number
 -- the number at a key
 unfoldable pub number_at : NumberKey → Data → Result ℕ ConfigFault
 number_at key holder = number_in key.most (option_and_then as_integer (get key.key holder))
+
+-- one of some integers; absent or of another kind it is none
+abbrev pub choice_within : (ℕ → Bool) → ℤ → Result ℕ ConfigFault
+choice_within is_choice (pos number) = if is_choice number then Ok number else Err Limit
+choice_within is_choice (negsuc number) = Err Limit
+
+-- one of some integers, where one stands
+abbrev pub choice_in : (ℕ → Bool) → Option ℤ → Result ℕ ConfigFault
+choice_in is_choice None = Err Missing
+choice_in is_choice (Some number) = choice_within is_choice number
+
+-- the choice at a key
+unfoldable pub choice_at : ChoiceKey → Data → Result ℕ ConfigFault
+choice_at key holder = choice_in key.is_choice (option_and_then as_integer (get key.key holder))
 
 -- a text of its form
 abbrev pub text_in : (List ℕ → Bool) → Option (List ℕ) → Result (List ℕ) ConfigFault

@@ -27,11 +27,14 @@
 #![tactic(auto)]
 
 mod bond_ids;
+mod bond_rows;
 mod characters;
 mod config;
+mod copies;
 mod dealer_rows;
 mod faults;
 mod investor_rows;
+mod laws;
 mod names;
 mod rows;
 #[cfg(test)]
@@ -40,9 +43,11 @@ mod traders;
 mod values;
 
 pub use bond_ids::BondId;
+pub use bond_rows::BondRow;
 pub use config::{VenueConfig, read_config};
 pub use dealer_rows::DealerRow;
 pub use faults::ConfigFault;
 pub use investor_rows::InvestorRow;
+pub use laws::rows_are_their_values;
 pub use names::Name;
 pub use traders::Traders;

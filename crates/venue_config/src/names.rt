@@ -58,9 +58,18 @@ impl Name {
         self.text.as_bytes()
     }
 
+    /// The name that a text of fixed room is.
+    pub(crate) fn of_text(text: ArrayString<8>) -> Self
+        requires { IsTrue (is_name text.bytes) }
+        ensures { result ≡ text.bytes }
+    {
+        Name { text }
+    }
+
     /// The characters as a text of fixed room.
     pub(crate) fn text(&self) -> ArrayString<8>
-        ensures { result.bytes ≡ self.now }
+        ensures value { result.bytes ≡ self.now }
+        ensures named { IsTrue (is_name result.bytes) }
     {
         self.text
     }

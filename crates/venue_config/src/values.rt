@@ -5,10 +5,13 @@ ghost use Rattle.std.specs.Result.{result_map_both};
 ghost use Rattle.toml.specs.Data.{get, as_str, as_array};
 ghost use Rattle.toml.specs.View.{view, items_view};
 ghost use Rattle.venue_config.specs.Keys.{date_key, id_key};
-ghost use Rattle.venue_config.specs.Values.{number_at, number_within, text_at, elements_in, rows_at, trader_of, traders_at};
+ghost use Rattle.bond_prices.specs.Grid.{is_grid};
+ghost use Rattle.venue_config.specs.Config.{grid_of};
+ghost use Rattle.venue_config.specs.Values.{number_at, number_within, choice_within, text_at, elements_in, rows_at, trader_of, traders_at};
 
 use crate::faults::ConfigFault;
-use crate::{BondId, Name, Traders};
+use crate::{BondId, Name, Traders, VenueConfig};
+use bond_prices::Grid;
 use fix_fields::Date;
 use toml::Value;
 
@@ -77,6 +80,36 @@ pub(crate) fn read_id(row: &Value) -> Result<BondId, ConfigFault>
         return Err(ConfigFault::Name);
     };
     Ok(id)
+}
+
+/// The grid of a bond, in a document of this version.
+#[tactic(auto, unfolding(crate::specs::Config::grid_of, crate::specs::Values::choice_at))]
+pub(crate) fn read_grid(version: u64, row: &Value) -> Result<Grid, ConfigFault>
+    ensures { result ≡ grid_of version (view row.now) }
+{
+    if version < VenueConfig::GRIDS_SINCE {
+        return Ok(Grid::FINEST);
+    }
+    let Some(value) = row.get("grid") else {
+        return Err(ConfigFault::Missing);
+    };
+    let Some(steps) = value.as_integer() else {
+        return Err(ConfigFault::Missing);
+    };
+    grid_within(steps)
+}
+
+/// An integer that is a grid.
+fn grid_within(steps: i64) -> Result<Grid, ConfigFault>
+    ensures { result ≡ choice_within is_grid steps }
+{
+    let Ok(steps) = u32::try_from(steps) else {
+        return Err(ConfigFault::Limit);
+    };
+    let Some(grid) = Grid::new(steps) else {
+        return Err(ConfigFault::Limit);
+    };
+    Ok(grid)
 }
 
 /// The elements of an array that has at least `least` and at most `most`.
