@@ -1,13 +1,19 @@
--- Which configuration a text spells, or its first fault: the keys in their order, row by row, and the sums last.
-use Rattle.std.specs.Prelude.{ℕ, Bool, ◌&&◌, List, [], ◌++◌, map, nat_le, sum_by, Option, Some, None, Result, Ok, Err, if◌then◌else◌}
+-- Which configuration a text spells, or its first fault: the keys in their order, row by row, and
+-- the sums last.
+use Rattle.std.specs.Prelude.{ℕ, Bool, ◌&&◌, List, [], ◌++◌, map, nat_le, sum_by, Option, Some}
+use Rattle.std.specs.Prelude.{None, Result, Ok, Err, if◌then◌else◌}
 use Rattle.toml.specs.Data.{Data, Members, table}
 use Rattle.toml.specs.Parse.{parse_document}
-use Rattle.venue_config.specs.Keys.{version_key, has_grids, date_key, bonds_key, id_key, grid_key, dealers_key, investors_key}
-use Rattle.venue_config.specs.Keys.{name_key, quotes_key, exposure_key, requests_key, open_key, quantity_key}
+use Rattle.venue_config.specs.Keys.{version_key, has_grids, date_key, bonds_key, id_key, grid_key}
+use Rattle.venue_config.specs.Keys.{dealers_key, investors_key}
+use Rattle.venue_config.specs.Keys.{name_key, quotes_key, exposure_key, requests_key, open_key}
+use Rattle.venue_config.specs.Keys.{quantity_key}
 use Rattle.bond_prices.specs.Grid.{finest_grid}
-use Rattle.venue_config.specs.declared.config.TheConstants.VenueConfig.{MOST_QUOTES_IN_ALL, MOST_REQUESTS_IN_ALL}
+use Rattle.venue_config.specs.declared.config.TheConstants.VenueConfig.{MOST_QUOTES_IN_ALL}
+use Rattle.venue_config.specs.declared.config.TheConstants.VenueConfig.{MOST_REQUESTS_IN_ALL}
 use Rattle.venue_config.specs.declared.bond_rows.BondRow.{BondRow}
-use Rattle.venue_config.specs.Values.{◌>>=◌, number_at, choice_at, text_at, unnamed, rows_at, read_all, traders_at}
+use Rattle.venue_config.specs.Values.{◌>>=◌, number_at, choice_at, text_at, unnamed, rows_at}
+use Rattle.venue_config.specs.Values.{read_all, traders_at}
 use Rattle.venue_config.specs.Rows.{DealerValues, InvestorValues, ConfigValues, bond_ids}
 use Rattle.venue_config.specs.declared.faults.ConfigFault.{ConfigFault}
 use Rattle.venue_config.specs.declared.faults.ConfigFault.TheVariants.{Toml, Limit}
@@ -49,14 +55,21 @@ dealer_of dealers row = do
   Ok (record { name = name; traders = traders; quotes = quotes; exposure = exposure })
 
 -- an investor, behind all dealers and the investors before it
-unfoldable pub investor_of : List DealerValues → List InvestorValues → Data → Result InvestorValues ConfigFault
+unfoldable pub investor_of : List DealerValues → List InvestorValues → Data
+    → Result InvestorValues ConfigFault
 investor_of dealers investors row = do
   name ← firm_name_of (dealer_names dealers ++ investor_names investors) row
   traders ← traders_at row
   requests ← number_at requests_key row
   open_limit ← number_at open_key row
   quantity ← number_at quantity_key row
-  Ok (record { name = name; traders = traders; requests = requests; open_limit = open_limit; quantity = quantity })
+  Ok (record {
+    name = name;
+    traders = traders;
+    requests = requests;
+    open_limit = open_limit;
+    quantity = quantity;
+  })
 
 -- the bonds of a document, in their order
 unfoldable pub bonds_in : ℕ → Data → Result (List BondRow) ConfigFault

@@ -1,9 +1,14 @@
 -- What a configuration holds, and the limits that it keeps.
-use Rattle.std.specs.Prelude.{◌≢◌, ℕ, ◌-◌, ◌≤◌, Bool, false, ◌&&◌, IsTrue, List, ◌++◌, length, map, nat_le, position, slice_get, sum_by, All, AllPairs, Option, Some, None, if◌then◌else◌}
+use Rattle.std.specs.Prelude.{◌≢◌, ℕ, ◌-◌, ◌≤◌, Bool, false, ◌&&◌, IsTrue, List, ◌++◌, length, map}
+use Rattle.std.specs.Prelude.{nat_le, position, slice_get, sum_by, All, AllPairs, Option, Some}
+use Rattle.std.specs.Prelude.{None, if◌then◌else◌}
 use Rattle.std.specs.List.{find}
 use Rattle.bond_prices.specs.Grid.{is_grid}
 use Rattle.venue_config.specs.Texts.{is_bond_id, is_firm_name, same_text}
-use Rattle.venue_config.specs.declared.config.TheConstants.VenueConfig.{MOST_BONDS, MOST_DEALERS, MOST_INVESTORS, MOST_QUOTES_IN_ALL, MOST_REQUESTS_IN_ALL}
+use Rattle.venue_config.specs.declared.config.TheConstants.VenueConfig.{MOST_BONDS, MOST_DEALERS}
+use Rattle.venue_config.specs.declared.config.TheConstants.VenueConfig.{MOST_INVESTORS}
+use Rattle.venue_config.specs.declared.config.TheConstants.VenueConfig.{MOST_QUOTES_IN_ALL}
+use Rattle.venue_config.specs.declared.config.TheConstants.VenueConfig.{MOST_REQUESTS_IN_ALL}
 use Rattle.venue_config.specs.declared.traders.TheConstants.Traders.{MOST}
 use Rattle.venue_config.specs.declared.bond_rows.BondRow.{BondRow}
 use Rattle.venue_config.specs.declared.dealer_rows.DealerRow.{DealerRow}
@@ -40,12 +45,22 @@ pub record Configuration : Type 0 where
 
 -- the values of a dealer
 abbrev pub dealer_values : DealerRow → DealerValues
-dealer_values row = record { name = row.name; traders = row.traders; quotes = row.quotes; exposure = row.exposure }
+dealer_values row = record {
+  name = row.name;
+  traders = row.traders;
+  quotes = row.quotes;
+  exposure = row.exposure;
+}
 
 -- the values of an investor
 abbrev pub investor_values : InvestorRow → InvestorValues
-investor_values row =
-    record { name = row.name; traders = row.traders; requests = row.requests; open_limit = row.open_limit; quantity = row.quantity }
+investor_values row = record {
+  name = row.name;
+  traders = row.traders;
+  requests = row.requests;
+  open_limit = row.open_limit;
+  quantity = row.quantity;
+}
 
 -- the values of a configuration
 abbrev pub values_of : Configuration → ConfigValues
@@ -64,9 +79,12 @@ bond_ids bonds = map (λ (row : BondRow). row.id) bonds
 abbrev pub bond_with_id : Configuration → List ℕ → Option BondRow
 bond_with_id config id = find (λ row. same_text row.id id) config.bonds
 
--- The names of the firms, each at its number: the dealers in their order, and behind them the investors.
+-- The names of the firms, each at its number: the dealers in their order, and behind them the
+-- investors.
 abbrev pub firm_names : Configuration → List (List ℕ)
-firm_names config = map (λ (row : DealerRow). row.name) config.dealers ++ map (λ (row : InvestorRow). row.name) config.investors
+firm_names config =
+    map (λ (row : DealerRow). row.name) config.dealers
+    ++ map (λ (row : InvestorRow). row.name) config.investors
 
 -- the number of the firm with a name
 abbrev pub firm_number : Configuration → List ℕ → Option ℕ
@@ -83,7 +101,9 @@ dealer_numbered config firm = slice_get config.dealers firm
 -- the investor with a number
 abbrev pub investor_numbered : Configuration → ℕ → Option InvestorRow
 investor_numbered config firm =
-    if nat_le (length config.dealers) firm then slice_get config.investors (firm - length config.dealers) else None
+    if nat_le (length config.dealers) firm
+    then slice_get config.investors (firm - length config.dealers)
+    else None
 
 -- whether a number is that of one of the investor's requests in a day
 abbrev pub may_request : Option InvestorRow → ℕ → Bool
@@ -113,4 +133,5 @@ pub record KeepsLimits (config : Configuration) : Type 0 where
   pub dealer_traders : All (λ (row : DealerRow). AreTraders row.traders) config.dealers
   pub investor_traders : All (λ (row : InvestorRow). AreTraders row.traders) config.investors
   pub quotes_most : sum_by (λ (row : DealerRow). row.quotes) config.dealers ≤ MOST_QUOTES_IN_ALL
-  pub requests_most : sum_by (λ (row : InvestorRow). row.requests) config.investors ≤ MOST_REQUESTS_IN_ALL
+  pub requests_most :
+      sum_by (λ (row : InvestorRow). row.requests) config.investors ≤ MOST_REQUESTS_IN_ALL

@@ -1,12 +1,14 @@
 //! The configuration of a venue, as a whole.
-ghost use Rattle.std.specs.Prelude.{◌≡◌, ◌≢◌, ◌≤◌, ◌++◌, Ok, Err, IfOk, IfErr, map, length, position, sum_by};
+ghost use Rattle.std.specs.Prelude.{◌≡◌, ◌≢◌, ◌≤◌, ◌++◌, Ok, Err, IfOk, IfErr, map, length};
+ghost use Rattle.std.specs.Prelude.{position, sum_by};
 ghost use Rattle.toml.specs.Parse.{parse_document};
 ghost use Rattle.toml.specs.View.{view};
 ghost use Rattle.venue_config.specs.Texts.{same_text};
 ghost use Rattle.std.specs.List.{find};
 ghost use Rattle.std.specs.Option.{option_copied};
 ghost use Rattle.venue_config.specs.Rows.{dealer_values, investor_values, values_of, KeepsLimits};
-ghost use Rattle.venue_config.specs.Rows.{bond_with_id, dealer_numbered, investor_numbered, dealer_named, firm_number, has_room};
+ghost use Rattle.venue_config.specs.Rows.{bond_with_id, dealer_numbered, investor_numbered};
+ghost use Rattle.venue_config.specs.Rows.{dealer_named, firm_number, has_room};
 ghost use Rattle.venue_config.specs.Config.{config_in, config_of, document_of, sums_fit};
 
 use crate::copies::{copy_bonds, copy_dealers, copy_investors};
@@ -37,9 +39,19 @@ impl Model for VenueConfig {
 
     ghost Value = { Configuration };
 
-    ghost view = { λ c. record { date = c.date; bonds = c.bonds.items; dealers = c.dealers.items; investors = c.investors.items } };
+    ghost view = { λ c. record {
+      date = c.date;
+      bonds = c.bonds.items;
+      dealers = c.dealers.items;
+      investors = c.investors.items;
+    } };
 
-    ghost invariant = { λ c. KeepsLimits (record { date = c.date; bonds = c.bonds.items; dealers = c.dealers.items; investors = c.investors.items }) };
+    ghost invariant = { λ c. KeepsLimits (record {
+      date = c.date;
+      bonds = c.bonds.items;
+      dealers = c.dealers.items;
+      investors = c.investors.items;
+    }) };
 }
 
 impl VenueConfig {
@@ -94,7 +106,8 @@ impl VenueConfig {
         self.bonds.as_slice()
     }
 
-    /// The dealers, in the order of their rows: each is the firm with the number of its place, from 0.
+    /// The dealers, in the order of their rows: each is the firm with the number of its place, from
+    /// 0.
     pub fn dealers(&self) -> &[DealerRow]
         ensures value { result.now ≡ self.now.dealers }
         ensures limits { KeepsLimits self.now }
@@ -151,16 +164,17 @@ impl VenueConfig {
         Some(place as u16)
     }
 
-    /// The number of the firm with this name, or none where no firm has it: the dealers are numbered
-    /// from 0 in their order, and the investors behind them.
+    /// The number of the firm with this name, or none where no firm has it: the dealers are
+    /// numbered from 0 in their order, and the investors behind them.
     pub fn firm(&self, name: &str) -> Option<u16>
         ensures { result ≡ firm_number self.now name.now }
     {
         firm_number(self.dealers(), self.investors(), name.as_bytes())
     }
 
-    /// Whether there is a room for the request with this number of the firm with that number: whether
-    /// the firm is an investor, and the number is one of its requests of the day, 1 to `requests`.
+    /// Whether there is a room for the request with this number of the firm with that number:
+    /// whether the firm is an investor, and the number is one of its requests of the day, 1 to
+    /// `requests`.
     pub fn has_room(&self, firm: u16, number: u32) -> bool
         ensures { result ≡ has_room self.now firm number }
     {
@@ -211,7 +225,8 @@ fn place_of_investor(investors: &[InvestorRow], name: &[u8]) -> Option<usize>
 fn sums_fit(dealers: &[DealerRow], investors: &[InvestorRow]) -> bool
     requires dealers_most { length dealers.now ≤ VenueConfig.MOST_DEALERS }
     requires investors_most { length investors.now ≤ VenueConfig.MOST_INVESTORS }
-    ensures { result ≡ sums_fit (map dealer_values dealers.now) (map investor_values investors.now) }
+    ensures { result
+        ≡ sums_fit (map dealer_values dealers.now) (map investor_values investors.now) }
 {
     quotes_in_all(dealers) <= VenueConfig::MOST_QUOTES_IN_ALL
         && requests_in_all(investors) <= VenueConfig::MOST_REQUESTS_IN_ALL
@@ -241,20 +256,23 @@ fn requests_in_all(investors: &[InvestorRow]) -> u64
     total
 }
 
-/// Reads the configuration that a text spells: TOML with the keys of `specs/Keys.antt`. Other keys are
-/// ignored, and arrays of tables that are absent are empty.
+/// Reads the configuration that a text spells: TOML with the keys of `specs/Keys.antt`. Other keys
+/// are ignored, and arrays of tables that are absent are empty.
 ///
 /// `Toml` is answered exactly where `toml` refuses the text for another cause than memory. Then the
-/// values are looked at in the order of their keys, row by row, and the two sums last; the first fault
-/// is the answer. Of one value the faults come in this order: `Missing` where it is absent or of
-/// another kind, `Name` where it is not of its form, `Limit` where it is out of its limits, `Twice`
-/// where it was named before. An array with too many elements is `Limit` before its elements are looked
-/// at. `Memory` may be answered at any point, and only then is the fault not the first one.
+/// values are looked at in the order of their keys, row by row, and the two sums last; the first
+/// fault is the answer. Of one value the faults come in this order: `Missing` where it is absent or
+/// of another kind, `Name` where it is not of its form, `Limit` where it is out of its limits,
+/// `Twice` where it was named before. An array with too many elements is `Limit` before its
+/// elements are looked at. `Memory` may be answered at any point, and only then is the fault not
+/// the first one.
 #[tactic(auto, unfolding(crate::specs::Config::config_of))]
 pub fn read_config(alloc: Global, text: &str) -> Result<VenueConfig, ConfigFault>
     ensures ok { IfOk result (λ config. config_of text.now ≡ Ok (values_of config)) }
-    ensures err { IfErr result (λ fault. fault ≢ ConfigFault.Memory → config_of text.now ≡ Err fault) }
-    ensures toml { IfErr result (λ fault. fault ≡ ConfigFault.Toml → parse_document text.now ≡ None) }
+    ensures err { IfErr result (λ fault. fault ≢ ConfigFault.Memory
+        → config_of text.now ≡ Err fault) }
+    ensures toml { IfErr result (λ fault. fault ≡ ConfigFault.Toml
+        → parse_document text.now ≡ None) }
     ensures limits { IfOk result (λ config. KeepsLimits config) }
 {
     let document = read_toml(alloc, text)?;
@@ -266,8 +284,10 @@ pub fn read_config(alloc: Global, text: &str) -> Result<VenueConfig, ConfigFault
 #[tactic(auto, unfolding(crate::specs::Config::document_of))]
 fn read_toml(alloc: Global, text: &str) -> Result<Value, ConfigFault>
     ensures ok { IfOk result (λ document. document_of text.now ≡ Ok (view document)) }
-    ensures err { IfErr result (λ fault. fault ≢ ConfigFault.Memory → document_of text.now ≡ Err fault) }
-    ensures toml { IfErr result (λ fault. fault ≡ ConfigFault.Toml → parse_document text.now ≡ None) }
+    ensures err { IfErr result (λ fault. fault ≢ ConfigFault.Memory
+        → document_of text.now ≡ Err fault) }
+    ensures toml { IfErr result (λ fault. fault ≡ ConfigFault.Toml
+        → parse_document text.now ≡ None) }
 {
     let error = match toml::table_from_str(alloc, text) {
         Ok(table) => return Ok(Value::Table(table)),
@@ -283,7 +303,8 @@ fn read_toml(alloc: Global, text: &str) -> Result<Value, ConfigFault>
 #[tactic(auto, unfolding(crate::specs::Config::config_in))]
 fn read_document(alloc: Global, document: &Value) -> Result<VenueConfig, ConfigFault>
     ensures ok { IfOk result (λ config. config_in (view document.now) ≡ Ok (values_of config)) }
-    ensures err { IfErr result (λ fault. fault ≢ ConfigFault.Memory → config_in (view document.now) ≡ Err fault) }
+    ensures err { IfErr result (λ fault. fault ≢ ConfigFault.Memory
+        → config_in (view document.now) ≡ Err fault) }
     ensures limits { IfOk result (λ config. KeepsLimits config) }
 {
     let version = number_at(document, "version", VenueConfig::LAST_VERSION)?;

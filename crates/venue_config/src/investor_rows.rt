@@ -1,6 +1,8 @@
 //! What the configuration says of an investor.
 ghost use Rattle.std.specs.Prelude.{◌≡◌, ◌≤◌, length};
-ghost use Rattle.venue_config.specs.declared.investor_rows.TheConstants.InvestorRow.{MOST_REQUESTS, MOST_OPEN, MOST_QUANTITY};
+ghost use Rattle.venue_config.specs.declared.investor_rows.TheConstants.InvestorRow.{MOST_REQUESTS};
+ghost use Rattle.venue_config.specs.declared.investor_rows.TheConstants.InvestorRow.{MOST_OPEN};
+ghost use Rattle.venue_config.specs.declared.investor_rows.TheConstants.InvestorRow.{MOST_QUANTITY};
 
 use crate::{Name, Traders};
 

@@ -1,5 +1,5 @@
-//! What the venue is configured with for a day: bonds, and dealers and investors with their limits, read
-//! from TOML.
+//! What the venue is configured with for a day: bonds, and dealers and investors with their limits,
+//! read from TOML.
 //!
 //! ```text
 //! let config = read_config(alloc, text)?;
@@ -10,11 +10,12 @@
 //!
 //! What is proved, of every text and every configuration:
 //!
-//! - [`read_config`] answers the values of the keys in the table that `toml` reads, the rows in their
-//!   order, none left out or put twice; or the first fault, in the order of [`ConfigFault`] and of the
-//!   keys. `Memory` may come at any point.
+//! - [`read_config`] answers the values of the keys in the table that `toml` reads, the rows in
+//!   their order, none left out or put twice; or the first fault, in the order of [`ConfigFault`]
+//!   and of the keys. `Memory` may come at any point.
 //! - A [`VenueConfig`] keeps every limit: no bond, no name of a firm and no trader of a firm stands
-//!   twice, each text has its form, and each number, each array and both sums are within their limits.
+//!   twice, each text has its form, and each number, each array and both sums are within their
+//!   limits.
 //! - [`VenueConfig::firm`] gives the number of exactly the configured names, and
 //!   [`VenueConfig::has_room`] is true for exactly the requests of configured investors.
 //! - A [`Name`] and a [`BondId`] are made of exactly the texts of their form. Rows and traders are
@@ -22,8 +23,8 @@
 //!
 //! Not promised: that memory is there.
 //!
-//! `specs/Keys.antt` has the keys as a table, `specs/Config.antt` what is read from them in what order,
-//! and `specs/Rows.antt` what a contract sees of a configuration, and its limits.
+//! `specs/Keys.antt` has the keys as a table, `specs/Config.antt` what is read from them in what
+//! order, and `specs/Rows.antt` what a contract sees of a configuration, and its limits.
 #![tactic(auto)]
 
 mod bond_ids;

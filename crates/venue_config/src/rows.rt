@@ -7,7 +7,9 @@ ghost use Rattle.venue_config.specs.Texts.{is_among, same_text};
 ghost use Rattle.venue_config.specs.Keys.{name_key};
 ghost use Rattle.venue_config.specs.Values.{text_at};
 ghost use Rattle.venue_config.specs.Rows.{bond_ids, dealer_values, investor_values};
-ghost use Rattle.venue_config.specs.Config.{bond_of, bond_id_of, firm_name_of, dealer_of, investor_of, bonds_in, dealers_in, investors_in, dealer_names, investor_names};
+ghost use Rattle.venue_config.specs.Config.{bond_of, bond_id_of, firm_name_of, dealer_of};
+ghost use Rattle.venue_config.specs.Config.{investor_of, bonds_in, dealers_in, investors_in};
+ghost use Rattle.venue_config.specs.Config.{dealer_names, investor_names};
 
 use crate::faults::ConfigFault;
 use crate::values::{number_at, read_grid, read_id, read_traders, rows_at, text_at};
@@ -82,9 +84,11 @@ fn read_name(row: &Value) -> Result<Name, ConfigFault>
 /// The dealers of a configuration.
 #[tactic(auto, using(crate::proofs::ValueLemmas::read_all_ok, crate::proofs::ValueLemmas::read_all_err, crate::proofs::ValueLemmas::read_all_end), unfolding(crate::specs::Config::dealers_in))]
 pub(crate) fn read_dealers(alloc: Global, document: &Value) -> Result<Vec<DealerRow>, ConfigFault>
-    ensures ok { IfOk result (λ dealers. dealers_in (view document.now) ≡ Ok (map dealer_values dealers.items)) }
+    ensures ok { IfOk result (λ dealers.
+        dealers_in (view document.now) ≡ Ok (map dealer_values dealers.items)) }
     ensures most { IfOk result (λ dealers. length dealers.items ≤ VenueConfig.MOST_DEALERS) }
-    ensures err { IfErr result (λ fault. fault ≢ ConfigFault.Memory → dealers_in (view document.now) ≡ Err fault) }
+    ensures err { IfErr result (λ fault. fault ≢ ConfigFault.Memory
+        → dealers_in (view document.now) ≡ Err fault) }
 {
     let rows = rows_at(document, "dealer", VenueConfig::MOST_DEALERS)?;
     let mut dealers = Vec::new(alloc);
@@ -142,7 +146,8 @@ pub(crate) fn read_investors(
     document: &Value,
 ) -> Result<Vec<InvestorRow>, ConfigFault>
     ensures ok { IfOk result (λ investors.
-        investors_in (map dealer_values dealers.now) (view document.now) ≡ Ok (map investor_values investors.items)) }
+        investors_in (map dealer_values dealers.now) (view document.now)
+        ≡ Ok (map investor_values investors.items)) }
     ensures most { IfOk result (λ investors. length investors.items ≤ VenueConfig.MOST_INVESTORS) }
     ensures err { IfErr result (λ fault. fault ≢ ConfigFault.Memory
         → investors_in (map dealer_values dealers.now) (view document.now) ≡ Err fault) }
@@ -164,7 +169,8 @@ fn read_investor(
     row: &Value,
 ) -> Result<InvestorRow, ConfigFault>
     ensures { result_map_both investor_values (λ fault. fault) result
-        ≡ investor_of (map dealer_values dealers.now) (map investor_values investors.now) (view row.now) }
+        ≡ investor_of (map dealer_values dealers.now) (map investor_values investors.now)
+        (view row.now) }
 {
     let name = read_investor_name(dealers, investors, row)?;
     let traders = read_traders(row)?;
@@ -188,7 +194,8 @@ fn read_investor_name(
     row: &Value,
 ) -> Result<Name, ConfigFault>
     ensures { result ≡ firm_name_of
-        (dealer_names (map dealer_values dealers.now) ++ investor_names (map investor_values investors.now))
+        (dealer_names (map dealer_values dealers.now)
+        ++ investor_names (map investor_values investors.now))
         (view row.now) }
 {
     let name = read_name(row)?;
@@ -201,7 +208,8 @@ fn read_investor_name(
 /// Whether one of the dealers or of the investors has this name.
 fn has_firm(dealers: &[DealerRow], investors: &[InvestorRow], name: &Name) -> bool
     ensures { result ≡ is_among
-        (dealer_names (map dealer_values dealers.now) ++ investor_names (map investor_values investors.now))
+        (dealer_names (map dealer_values dealers.now)
+        ++ investor_names (map investor_values investors.now))
         name.now }
 {
     has_dealer(dealers, name) || has_investor(investors, name)

@@ -1,7 +1,8 @@
 //! The traders of a firm.
 ghost use Rattle.std.specs.Prelude.{◌≡◌, ℕ, ◌≤◌, List, [], length, IsTrue};
 ghost use Rattle.std.specs.List.{find, list_any};
-ghost use Rattle.venue_config.specs.Texts.{is_among, is_name, same_text, same_texts, text_if, trader_added};
+ghost use Rattle.venue_config.specs.Texts.{is_among, is_name, same_text, same_texts, text_if};
+ghost use Rattle.venue_config.specs.Texts.{trader_added};
 
 use crate::Name;
 use arrayvec::{ArrayString, ArrayVec};
@@ -61,7 +62,8 @@ impl Traders {
         Some(Name::of_text(own))
     }
 
-    /// Adds a trader behind the others, or answers false and changes nothing where there are 16 already.
+    /// Adds a trader behind the others, or answers false and changes nothing where there are 16
+    /// already.
     pub fn push(&mut self, name: &Name) -> bool
         ensures { (self.new, result) ≡ trader_added self.old name.now }
     {

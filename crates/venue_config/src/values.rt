@@ -7,7 +7,8 @@ ghost use Rattle.toml.specs.View.{view, items_view};
 ghost use Rattle.venue_config.specs.Keys.{date_key, id_key};
 ghost use Rattle.bond_prices.specs.Grid.{is_grid};
 ghost use Rattle.venue_config.specs.Config.{grid_of};
-ghost use Rattle.venue_config.specs.Values.{number_at, number_within, choice_within, text_at, elements_in, rows_at, trader_of, traders_at};
+ghost use Rattle.venue_config.specs.Values.{number_at, number_within, choice_within, text_at};
+ghost use Rattle.venue_config.specs.Values.{elements_in, rows_at, trader_of, traders_at};
 
 use crate::faults::ConfigFault;
 use crate::{BondId, Name, Traders, VenueConfig};
@@ -46,7 +47,8 @@ fn number_within(number: i64, most: u64) -> Result<u64, ConfigFault>
 
 /// The text at a key, or none where it is absent or of another kind.
 pub(crate) fn text_at<'a>(table: &'a Value, key: &str) -> Option<&'a str>
-    ensures { option_map (λ text. text.now) result ≡ option_and_then as_str (get key.now (view table.now)) }
+    ensures { option_map (λ text. text.now) result
+        ≡ option_and_then as_str (get key.now (view table.now)) }
 {
     match table.get(key) {
         Some(value) => value.as_str(),
@@ -117,7 +119,8 @@ fn grid_within(steps: i64) -> Result<Grid, ConfigFault>
 pub(crate) fn elements_of(array: &Value, least: usize, most: usize) -> Result<&[Value], ConfigFault>
     ensures value { result_map_both (λ elements. items_view elements.now) (λ fault. fault) result
         ≡ elements_in least most (as_array (view array.now)) }
-    ensures limits { IfOk result (λ elements. (least ≤ length elements.now) × (length elements.now ≤ most)) }
+    ensures limits { IfOk result (λ elements.
+        (least ≤ length elements.now) × (length elements.now ≤ most)) }
 {
     let Some(elements) = array.as_array() else {
         return Err(ConfigFault::Missing);
