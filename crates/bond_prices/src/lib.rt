@@ -32,8 +32,6 @@ mod fault;
 mod grid;
 mod quoting;
 mod read;
-#[cfg(test)]
-mod tests;
 mod text;
 mod ticks;
 

@@ -38,8 +38,6 @@ mod investor_rows;
 mod laws;
 mod names;
 mod rows;
-#[cfg(test)]
-mod tests;
 mod traders;
 mod values;
 

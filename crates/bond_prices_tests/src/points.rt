@@ -1,7 +1,5 @@
-use crate::fault::PriceFault;
-use crate::read::read_price;
-use crate::text::price_text;
-use crate::ticks::Ticks;
+//! Prices in points: texts that are read, faults, and what is printed.
+use bond_prices::{PriceFault, Ticks, price_text, read_price};
 use std::test::Fail;
 
 /// The number of ticks that a text is read as, or its fault.

@@ -1,5 +1,5 @@
 //! Texts with their faults.
-use crate::ConfigFault;
+use venue_config::ConfigFault;
 
 /// The example with three dealers and two investors.
 pub(super) const THREE_DEALERS: &str = "
@@ -38,6 +38,21 @@ open = 2
 quantity = 5000000
 ";
 
+/// Three bonds, each with a grid of its own.
+pub(super) const THREE_GRIDS: &str = "
+version = 2
+date = \"20250314\"
+[[bond]]
+id = \"BONDA0000001\"
+grid = 32
+[[bond]]
+id = \"BONDB0000002\"
+grid = 128
+[[bond]]
+id = \"BONDC0000003\"
+grid = 256
+";
+
 /// A row of a table: what stands between the front and the back of a text, and the fault of the text.
 pub(super) type Row = (&'static str, Option<ConfigFault>);
 
@@ -68,16 +83,19 @@ pub(super) const DOCUMENTS: &[Row] = &[
     ),
     ("", MISSING),
     ("version = 1\ndate = ", TOML),
-    ("version = 2\ndate = ", TOML),
+    ("version = 3\ndate = ", TOML),
     ("version = 1\nversion = 1\ndate = '20250314'", TOML),
     ("date = '20250314'", MISSING),
     ("version = '1'\ndate = '20250314'", MISSING),
     ("version = 1.0\ndate = '20250314'", MISSING),
-    ("version = 2\ndate = '20250314'", LIMIT),
+    ("version = 2\ndate = '20250314'", None),
+    ("version = 3\ndate = '20250314'", LIMIT),
     ("version = 0\ndate = '20250314'", LIMIT),
     ("version = -1\ndate = '20250314'", LIMIT),
     ("version = 1", MISSING),
-    ("version = 2", LIMIT),
+    ("version = 2", MISSING),
+    ("version = 3", LIMIT),
+    ("version = 3\nbond = 5", LIMIT),
     ("version = '1'\ndate = '2025'", MISSING),
     ("version = 1\ndate = 20250314", MISSING),
     ("version = 1\ndate = 2025-03-14", MISSING),
@@ -106,10 +124,13 @@ pub(super) const ARRAYS: &[Row] = &[
     ("investor = [{name = 'd'}]\ndealer = 5", MISSING),
 ];
 
-/// The rows of bonds.
+/// The rows of bonds in version 1, which has no grids.
 pub(super) const BONDS: &[Row] = &[
     ("{id = 'BONDA0000001'}", None),
     ("{id = '000000000000', name = 5}", None),
+    ("{id = 'BONDA0000001', grid = 32}", None),
+    ("{id = 'BONDA0000001', grid = 0}", None),
+    ("{id = 'BONDA0000001', grid = 'none'}", None),
     ("{id = 'BONDA0000001'}, {id = 'BONDA0000002'}", None),
     ("{}", MISSING),
     ("{id = 5}", MISSING),
@@ -122,6 +143,47 @@ pub(super) const BONDS: &[Row] = &[
     ("{id = 'BONDA0000001'}, {id = 'BONDA0000001'}", TWICE),
     ("{id = 'BONDA0000001'}, {id = 'BONDA0000001'}, {}", TWICE),
     ("{id = 'BONDA0000001'}, {}, {id = 'BONDA0000001'}", MISSING),
+];
+
+/// The rows of bonds in version 2, each with its grid.
+pub(super) const GRIDS: &[Row] = &[
+    ("{id = 'BONDA0000001', grid = 32}", None),
+    ("{id = 'BONDA0000001', grid = 64}", None),
+    ("{id = 'BONDA0000001', grid = 128}", None),
+    ("{id = 'BONDA0000001', grid = 256}", None),
+    ("{id = 'BONDA0000001', grid = 256, name = 5}", None),
+    ("{id = 'BONDA0000001'}", MISSING),
+    ("{id = 'BONDA0000001', grid = '32'}", MISSING),
+    ("{id = 'BONDA0000001', grid = 32.0}", MISSING),
+    ("{id = 'BONDA0000001', grid = [32]}", MISSING),
+    ("{id = 'BONDA0000001', grid = true}", MISSING),
+    ("{id = 'BONDA0000001', grid = 0}", LIMIT),
+    ("{id = 'BONDA0000001', grid = 1}", LIMIT),
+    ("{id = 'BONDA0000001', grid = 16}", LIMIT),
+    ("{id = 'BONDA0000001', grid = 31}", LIMIT),
+    ("{id = 'BONDA0000001', grid = 33}", LIMIT),
+    ("{id = 'BONDA0000001', grid = 96}", LIMIT),
+    ("{id = 'BONDA0000001', grid = 255}", LIMIT),
+    ("{id = 'BONDA0000001', grid = 257}", LIMIT),
+    ("{id = 'BONDA0000001', grid = 512}", LIMIT),
+    ("{id = 'BONDA0000001', grid = -32}", LIMIT),
+    ("{id = 'BONDA0000001', grid = 4294967328}", LIMIT),
+    ("{id = 'BONDA0000001', grid = 9223372036854775807}", LIMIT),
+    ("{grid = 32}", MISSING),
+    ("{grid = 0}", MISSING),
+    ("{id = 'b'}", NAME),
+    ("{id = 'b', grid = 0}", NAME),
+    (
+        "{id = 'BONDA0000001', grid = 32}, {id = 'BONDA0000001', grid = 0}",
+        TWICE,
+    ),
+    (
+        "{id = 'BONDA0000001', grid = 32}, {id = 'BONDA0000001'}",
+        TWICE,
+    ),
+    ("{id = 'BONDA0000001', grid = 0}, {id = 'b'}", LIMIT),
+    ("{id = 'BONDA0000001'}, {id = 'b', grid = 32}", MISSING),
+    ("{id = 'BONDA0000001', grid = 32}, {id = 'b'}", NAME),
 ];
 
 /// The rows of dealers: their names and traders.
