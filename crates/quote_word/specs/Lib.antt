@@ -1,2 +1,7 @@
+pub mod Board
 pub mod PlainWords
 pub mod PlainWordsLaws
+pub mod Rule
+pub mod SettleLog
+pub mod SettleLogLaws
+pub mod Settlements

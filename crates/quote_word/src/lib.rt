@@ -17,7 +17,8 @@
 #![tactic(auto)]
 
 mod plain;
+mod rule;
 mod settled;
 
 pub use plain::PlainWords;
-pub use settled::{Settled, Words};
+pub use settled::{Settled, Settlement, Words};

@@ -72,31 +72,3 @@ impl Words for PlainWords {
         self.exchange(w, Settled::Lifted)
     }
 }
-
-#[cfg(test)]
-mod tests {
-    use super::*;
-    use std::test::Fail;
-
-    // The first settlement of a word is its last, whoever asks afterwards; other words are not touched.
-    #[test]
-    fn a_word_is_settled_once(rt: HostRuntime) -> Result<(), Fail> {
-        let mut words = PlainWords::new(rt.alloc(), 2)?;
-        assert_eq!(rt; words.len(), 2);
-        if words.len() == 2 {
-            assert_eq!(rt; words.withdraw(0), Settled::Withdrawn);
-            assert_eq!(rt; words.lift(0), Settled::Withdrawn);
-            assert_eq!(rt; words.lift(1), Settled::Lifted);
-            assert_eq!(rt; words.withdraw(1), Settled::Lifted);
-        }
-        Ok(())
-    }
-
-    // A row of no words takes part in nothing, and is lawful.
-    #[test]
-    fn a_row_may_have_no_words(rt: HostRuntime) -> Result<(), Fail> {
-        let words = PlainWords::new(rt.alloc(), 0)?;
-        assert_eq!(rt; words.len(), 0);
-        Ok(())
-    }
-}
