@@ -16,9 +16,13 @@
 //! ```
 #![tactic(auto)]
 
+mod board;
 mod plain;
 mod rule;
 mod settled;
+mod tokens;
 
+pub use board::Board;
 pub use plain::PlainWords;
 pub use settled::{Settled, Settlement, Words};
+pub use tokens::{BoardSeen, Met, Receipt};

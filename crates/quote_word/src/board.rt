@@ -1,0 +1,135 @@
+//! A board of words that threads share.
+ghost use Rattle.std.specs.Prelude.{◌≡◌, ◌<◌, List, [], Option, Some, IfOk};
+ghost use mathlib.Core.List.{IsPrefix};
+ghost use Rattle.quote_word.specs.declared.settled.Settlement.{Settlement};
+ghost use Rattle.quote_word.specs.PlainWords.{answer_of};
+ghost use Rattle.quote_word.specs.Rule.{code_of, entry_of_code};
+ghost use Rattle.quote_word.specs.SettleLog.{entry_of, IsLegal, log_after};
+
+use crate::rule::{Exchange, Law, Look, Nothing};
+use crate::tokens::{BoardSeen, Met, Receipt};
+use crate::{Settled, Settlement};
+use logbook::{Offer, Seen, Start, Word};
+use std::alloc::{AllocError, Global};
+use std::marker::Model;
+
+/// A row of words that threads share. Contracts see which board it is and how many words it has.
+#[derive(Drop)]
+pub struct Board {
+    words: Vec<Word<Settlement, u64, Law>>,
+    opening: BoardSeen,
+}
+
+impl Model for Board {
+    ghost use Rattle.std.specs.Prelude.{◌<◌, ◌^◌};
+    ghost use Rattle.quote_word.specs.Board.{BoardName};
+
+    ghost Value = { BoardName };
+
+    ghost use Rattle.quote_word.specs.Rule.{AreWords};
+
+    ghost view = { λ b. b.opening.board };
+
+    ghost invariant = { λ b. AreWords b.words.items b.opening.board × (b.opening.board.words < 2 ^ 32) };
+}
+
+/// The number that stands in a word that is settled so.
+fn code(wish: Settled) -> u64
+    ensures { result ≡ code_of (Some wish) }
+{
+    match wish {
+        Settled::Withdrawn => 1,
+        Settled::Lifted => 2,
+    }
+}
+
+/// What a number in a word says.
+fn entry_found(found: u64) -> Option<Settled>
+    ensures { result ≡ entry_of_code found }
+{
+    match found {
+        0 => None,
+        1 => Some(Settled::Withdrawn),
+        _ => Some(Settled::Lifted),
+    }
+}
+
+/// What an exchange answers that found this number.
+fn answer(found: u64, wish: Settled) -> Settled
+    ensures { result ≡ answer_of (entry_of_code found) wish }
+{
+    match entry_found(found) {
+        None => wish,
+        Some(settled) => settled,
+    }
+}
+
+impl Board {
+    /// A board of n open words, and the token that has seen no settlement. n may be 0. It fails
+    /// only for memory.
+    pub fn open(alloc: Global, n: u32) -> Result<(Board, BoardSeen), AllocError>
+        ensures board { IfOk result (λ r. (r.0 ≡ r.1.board) × (r.1.board.words ≡ n)) }
+        ensures empty { IfOk result (λ r. r.1.log ≡ []) }
+    {
+        let mut words = Vec::with_capacity(alloc, n as usize)?;
+        let (seen, mut pens) = Seen::open_row::<u32, Law>(&n, Start::alone(), n as usize);
+        for _ in 0..n {
+            words.push(Word::tracked(0, &mut pens.take()))?;
+        }
+        let opening = BoardSeen { seen };
+        let seen = opening.again();
+        Ok((Board { words, opening }, seen))
+    }
+
+    /// How many words there are.
+    pub fn len(&self) -> u32
+        ensures { result ≡ self.now.words }
+    {
+        self.words.len() as u32
+    }
+
+    /// Withdraws a word that is open, and tells what the word is from then on.
+    pub fn withdraw(&self, seen: BoardSeen, w: u32) -> Receipt
+        requires ours { seen.board ≡ self.now }
+        requires word { w < self.now.words }
+        ensures word { (result.word ≡ w) × (result.seen.board ≡ self.now) }
+        ensures log { (log : List Settlement) × IsPrefix seen.log log × IsLegal log × (result.seen.log ≡ log_after log w Settled.Withdrawn) }
+        ensures later { IsPrefix seen.log result.seen.log }
+        ensures answer { entry_of w result.seen.log ≡ Some result.answer }
+    {
+        self.settle(seen, w, Settled::Withdrawn)
+    }
+
+    /// One exchange: the word becomes the wish where it is open, and is told.
+    fn settle(&self, seen: BoardSeen, w: u32, wish: Settled) -> Receipt
+        requires ours { seen.board ≡ self.now }
+        requires word { w < self.now.words }
+        ensures word { (result.word ≡ w) × (result.seen.board ≡ self.now) }
+        ensures log { (log : List Settlement) × IsPrefix seen.log log × IsLegal log × (result.seen.log ≡ log_after log w wish) }
+        ensures later { IsPrefix seen.log result.seen.log }
+        ensures answer { entry_of w result.seen.log ≡ Some result.answer }
+    {
+        let BoardSeen { mut seen } = seen;
+        let asked = Settlement {
+            word: w,
+            settled: wish,
+        };
+        let mut offer: Offer<Settlement, u64, Law, Nothing> = seen
+            .plain::<Nothing, Settlement, Exchange>(&asked);
+        let mut pen = seen.no_pen();
+        let word = &self.words[w as usize];
+        let found = word.compare_exchange::<Exchange, Nothing>(
+            0,
+            code(wish),
+            &mut seen,
+            &mut offer,
+            &mut pen,
+        );
+        let settled = answer(found, wish);
+        Receipt {
+            word: w,
+            settled,
+            seen: BoardSeen { seen },
+        }
+    }
+}
