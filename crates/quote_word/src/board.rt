@@ -100,6 +100,78 @@ impl Board {
         self.settle(seen, w, Settled::Withdrawn)
     }
 
+    /// Lifts a word that is open, and tells what the word is from then on.
+    pub fn lift(&self, seen: BoardSeen, w: u32) -> Receipt
+        requires ours { seen.board ≡ self.now }
+        requires word { w < self.now.words }
+        ensures word { (result.word ≡ w) × (result.seen.board ≡ self.now) }
+        ensures log { (log : List Settlement) × IsPrefix seen.log log × IsLegal log × (result.seen.log ≡ log_after log w Settled.Lifted) }
+        ensures later { IsPrefix seen.log result.seen.log }
+        ensures answer { entry_of w result.seen.log ≡ Some result.answer }
+    {
+        self.settle(seen, w, Settled::Lifted)
+    }
+
+    /// What the word is, where it is settled, and the token that has seen so much. It loads the
+    /// word and settles nothing.
+    pub fn look(&self, seen: BoardSeen, w: u32) -> (Option<Settled>, BoardSeen)
+        requires ours { seen.board ≡ self.now }
+        requires word { w < self.now.words }
+        ensures ours { result.1.board ≡ self.now }
+        ensures later { IsPrefix seen.log result.1.log }
+        ensures legal { IsLegal result.1.log }
+        ensures entry { result.0 ≡ entry_of w result.1.log }
+    {
+        let BoardSeen { mut seen } = seen;
+        let asked = Settlement {
+            word: w,
+            settled: Settled::Withdrawn,
+        };
+        let mut offer: Offer<Settlement, u64, Law, Nothing> = seen
+            .plain::<Nothing, Settlement, Exchange>(&asked);
+        let word = &self.words[w as usize];
+        let found = word.load::<Look, Nothing>(&mut seen, &mut offer);
+        (entry_found(found), BoardSeen { seen })
+    }
+
+    /// A token that is later than both: it has seen what each has seen.
+    pub fn both(&self, first: BoardSeen, second: BoardSeen) -> BoardSeen
+        requires first { first.board ≡ self.now }
+        requires second { second.board ≡ self.now }
+        ensures ours { result.board ≡ self.now }
+        ensures legal { IsLegal result.log }
+        ensures first { IsPrefix first.log result.log }
+        ensures second { IsPrefix second.log result.log }
+    {
+        let BoardSeen { mut seen } = first;
+        let BoardSeen { seen: other } = second;
+        seen.learn(&other);
+        BoardSeen { seen }
+    }
+
+    /// Brings two receipts together: a token that is later than both, and both answers. Two
+    /// receipts of one word have one answer.
+    pub fn meet(&self, first: Receipt, second: Receipt) -> Met
+        requires first { first.seen.board ≡ self.now }
+        requires second { second.seen.board ≡ self.now }
+        ensures ours { result.front.board ≡ self.now }
+        ensures legal { IsLegal result.front.log }
+        ensures first { (result.first ≡ first.answer) × IsPrefix first.seen.log result.front.log }
+        ensures first_entry { entry_of first.word result.front.log ≡ Some result.first }
+        ensures second { (result.second ≡ second.answer) × IsPrefix second.seen.log result.front.log }
+        ensures second_entry { entry_of second.word result.front.log ≡ Some result.second }
+        ensures one_answer { first.word ≡ second.word → result.first ≡ result.second }
+    {
+        let one = first.settled();
+        let two = second.settled();
+        let front = self.both(first.seen(), second.seen());
+        Met {
+            front,
+            first: one,
+            second: two,
+        }
+    }
+
     /// One exchange: the word becomes the wish where it is open, and is told.
     fn settle(&self, seen: BoardSeen, w: u32, wish: Settled) -> Receipt
         requires ours { seen.board ≡ self.now }
