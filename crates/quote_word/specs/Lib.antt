@@ -1,4 +1,5 @@
 pub mod Board
+pub mod BoardLaws
 pub mod PlainWords
 pub mod PlainWordsLaws
 pub mod Rule

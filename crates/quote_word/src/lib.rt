@@ -17,12 +17,14 @@
 #![tactic(auto)]
 
 mod board;
+mod pass;
 mod plain;
 mod rule;
 mod settled;
 mod tokens;
 
 pub use board::Board;
+pub use pass::BoardPass;
 pub use plain::PlainWords;
 pub use settled::{Settled, Settlement, Words};
 pub use tokens::{BoardSeen, Met, Receipt};
