@@ -11,7 +11,7 @@ use Rattle.quote_word.specs.declared.settled.Settlement.{Settlement}
 use Rattle.quote_word.specs.PlainWords.{answer_of}
 use Rattle.quote_word.specs.SettleLog.{SettleLog, entry_of, IsLegal, added_by, log_after}
 use Rattle.quote_word.specs.SettleLogLaws.{entry_after, other_after, legal_after}
-use Rattle.quote_word.specs.Board.{BoardName}
+use Rattle.quote_word.specs.Board.{BoardName, SettlesOnBoard}
 use Rattle.quote_word.specs.Rule.{code_of, entry_of_code, IsBegun, words_of, settle_log, IsKept, Exchanged, Looked, front_of, word_of, AreWords}
 
 -- what clients see of the log, which is nothing, and how an update moves it
@@ -108,7 +108,7 @@ asks_goes seen log cs w wish kept pre within = (
     tt,
     kept_after cs log w wish kept within,
     inl (refl, refl),
-    (log, pre, kept.begun, kept.legal, ap (λ (c : Cell). c.0) (kept.codes w within), refl),
+    (log, pre, kept.legal, ap (λ (c : Cell). c.0) (kept.codes w within), refl),
   )
 
 pub asks_moves : (seen : List Settlement) (w : ℕ) (wish : Settled) → IsBegun seen → w < words_of seen
@@ -117,32 +117,6 @@ pub asks_moves : (seen : List Settlement) (w : ℕ) (wish : Settled) → IsBegun
 asks_moves seen w wish begun word cs log kept pre away =
     let within : w < length cs = rw (kept.count, words_later seen log pre begun) word in
     (within, ap (λ (c : Cell). c.1) (kept.codes w within), asks_goes seen log cs w wish kept pre within)
-
--- and so does a look, which changes nothing
-unchanged : (cs : List Cell) (w : ℕ) (entry : Option Settled) → cell cs w ≡ (code_of entry, true) → slice_set cs w ((cell cs w).0, true) ≡ cs
-unchanged cs w entry is = ap (λ (b : Bool). slice_set cs w ((cell cs w).0, b)) (sym (ap (λ (c : Cell). c.1) is)) ∙ set-get_or cs w (0, false)
-
-looks_goes : (seen log : List Settlement) (cs : List Cell) (w : ℕ) (asked : Settlement) → IsKept cs log → w < length cs
-    → Goes IsKept shown moved w (seen, (no_nib, None)) (λ n. n) (Looked (step w 0 0 asked) (seen, (no_nib, None))) cs log
-looks_goes seen log cs w asked kept within =
-    let all : log ++ [] ≡ log = append-nil log in (
-      keeps,
-      [],
-      None,
-      tt,
-      subst (IsKept (slice_set cs w ((cell cs w).0, true))) (sym all)
-        (subst (λ (c : List Cell). IsKept c log) (sym (unchanged cs w (entry_of w (settle_log log)) (kept.codes w within))) kept),
-      inl (refl, refl),
-      (subst IsBegun (sym all) kept.begun,
-        subst (λ (l : List Settlement). IsLegal (settle_log l)) (sym all) kept.legal,
-        ap (λ (c : Cell). c.0) (kept.codes w within) ∙ ap (λ (l : List Settlement). code_of (entry_of w (settle_log l))) (sym all)),
-    )
-
-pub looks_moves : (seen : List Settlement) (w : ℕ) (asked : Settlement) → IsBegun seen → w < words_of seen
-    → Moves IsKept shown moved w (seen, (no_nib, None)) (λ n. n) (Looked (step w 0 0 asked) (seen, (no_nib, None)))
-looks_moves seen w asked begun word cs log kept pre away =
-    let within : w < length cs = rw (kept.count, words_later seen log pre begun) word in
-    (within, ap (λ (c : Cell). c.1) (kept.codes w within), looks_goes seen log cs w asked kept within)
 
 -- the word that a call asks is tracked by the book of its token, under its own number
 pub word_found : (words : List Named) (board now : BoardName) (book : Book) (log : List Settlement) (w : ℕ) (found : Named)
@@ -153,27 +127,36 @@ word_found words board now book log w found are same ours word at =
     (at ∙ are.each w found within ∙ ap (λ (b : BoardName). word_of b.book w) (same ∙ sym ours),
       subst (λ (n : ℕ). w < n) (ap (λ (b : BoardName). b.words) (sym ours)) word)
 
--- what a caller knows after an exchange: the log that it sees is lawful, and the word's entry there is the answer
-pub record Told (w : ℕ) (wish : Settled) (found : ℕ) (later : List Settlement) : Type 0 where
+-- what a caller knows after an exchange: the log that it sees is lawful, and is that which was found, after one exchange
+pub record Told (book : Book) (seen : List Settlement) (w : ℕ) (wish : Settled) (found : ℕ) (later : List Settlement) : Type 0 where
   pub begun : IsBegun later
   pub legal : IsLegal (settle_log later)
-  pub entry : entry_of w (settle_log later) ≡ Some (answer_of (entry_of_code found) wish)
+  pub settles : SettlesOnBoard (front_of book seen) w wish (answer_of (entry_of_code found) wish) (front_of book later)
 
-told_of : (log later : List Settlement) (w : ℕ) (wish : Settled) (found : ℕ) → IsBegun log → IsLegal (settle_log log) → found ≡ code_of (entry_of w (settle_log log))
-    → later ≡ log ++ added_by (entry_of w (settle_log log)) w wish → Told w wish found later
-told_of log later w wish found begun legal is grown =
+told_of : (book : Book) (seen log later : List Settlement) (w : ℕ) (wish : Settled) (found : ℕ) → IsBegun seen → IsPrefix seen log → IsLegal (settle_log log)
+    → found ≡ code_of (entry_of w (settle_log log)) → later ≡ log ++ added_by (entry_of w (settle_log log)) w wish → Told book seen w wish found later
+told_of book seen log later w wish found begun goes_on legal is grown =
     let more : List Settlement = added_by (entry_of w (settle_log log)) w wish in
-    let tail : settle_log later ≡ log_after (settle_log log) w wish = ap settle_log grown ∙ settle_log_appended log more begun in
+    let begun_log : IsBegun log = begun_later seen log goes_on begun in
+    let tail : settle_log later ≡ log_after (settle_log log) w wish = ap settle_log grown ∙ settle_log_appended log more begun_log in
     let said : entry_of_code found ≡ entry_of w (settle_log log) = ap entry_of_code is ∙ code_back (entry_of w (settle_log log)) in
+    let as_many : words_of later ≡ words_of seen = ap words_of grown ∙ words_appended log more begun_log ∙ words_later seen log goes_on begun in
     record {
-      begun = subst IsBegun (sym grown) (begun_appended log more begun);
+      begun = subst IsBegun (sym grown) (begun_appended log more begun_log);
       legal = subst IsLegal (sym tail) (legal_after (settle_log log) w wish legal);
-      entry = ap (entry_of w) tail ∙ entry_after (settle_log log) w wish ∙ ap (λ (e : Option Settled). Some (answer_of e wish)) (sym said)
+      settles = record {
+        board = ap (λ (n : ℕ). let named : BoardName = record { book = book; words = n } in named) as_many;
+        found = settle_log log;
+        extends = settle_log_later seen log goes_on begun;
+        legal = legal;
+        settled = tail;
+        answered = ap (entry_of w) tail ∙ entry_after (settle_log log) w wish ∙ ap (λ (e : Option Settled). Some (answer_of e wish)) (sym said)
+      }
     }
 
-pub exchange_told : (key old new : ℕ) (ask : Settlement) (before after : View Settlement ℕ) (found w : ℕ) (wish : Settled) → key ≡ w → ask ≡ record { word = w; settled = wish }
-    → Exchanged (step key old new ask) before found after → Told w wish found after.0
-exchange_told key old new ask before after found w wish k a told =
+pub exchange_told : (book : Book) (key old new : ℕ) (ask : Settlement) (before after : View Settlement ℕ) (found w : ℕ) (wish : Settled) → IsBegun before.0
+    → key ≡ w → ask ≡ record { word = w; settled = wish } → Exchanged (step key old new ask) before found after → Told book before.0 w wish found after.0
+exchange_told book key old new ask before after found w wish begun k a told =
     let told' : Exchanged (step w old new (record { word = w; settled = wish })) before found after =
       subst (λ (s : Settlement). Exchanged (step w old new s) before found after) a (subst (λ (n : ℕ). Exchanged (step n old new ask) before found after) k told) in
-    told_of told'.0 after.0 w wish found told'.2 told'.3 told'.4 told'.5
+    told_of book before.0 told'.0 after.0 w wish found begun told'.1 told'.2 told'.3 told'.4

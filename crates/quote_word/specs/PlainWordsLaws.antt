@@ -42,3 +42,17 @@ stays_after (Some settled) entries w v wish was is stands = stands
 pub exchange_keeps_entries : (before after : List (Option Settled)) (w v : ℕ) (wish answer was : Settled) → Exchanges before w wish answer after → entry_in before v ≡ Some was → entry_in after v ≡ Some was
 exchange_keeps_entries before after w v wish answer was e stands =
     ap (λ words. entry_in words v) e.changed ∙ stays_after (entry_in before w) before w v wish was refl stands
+
+-- an open word becomes the wish
+pub exchange_takes_wish : (before after : List (Option Settled)) (w : ℕ) (wish answer : Settled) → w < length before → Exchanges before w wish answer after → entry_in before w ≡ None → entry_in after w ≡ Some wish
+exchange_takes_wish before after w wish answer within e unsettled =
+    exchange_answers_entry before after w wish answer within e ∙ ap Some (e.answered ∙ ap (λ (entry : Option Settled). answer_of entry wish) unsettled)
+
+-- no other word changes
+others_after : (entry : Option Settled) (entries : List (Option Settled)) (w v : ℕ) (wish : Settled) → v ≢ w → entry_in (after_exchange entry entries w wish) v ≡ entry_in entries v
+others_after None entries w v wish other = get_or-set_other entries w v (Some wish) None other
+others_after (Some settled) entries w v wish other = refl
+
+pub exchange_keeps_others : (before after : List (Option Settled)) (w v : ℕ) (wish answer : Settled) → Exchanges before w wish answer after → v ≢ w → entry_in after v ≡ entry_in before v
+exchange_keeps_others before after w v wish answer e other =
+    ap (λ words. entry_in words v) e.changed ∙ others_after (entry_in before w) before w v wish other

@@ -50,7 +50,7 @@ pub record IsKept (cells : List Cell) (log : List Settlement) : Type 0 where
 -- an exchange found the word as its entry in some lawful log that begins with what had been seen, and saw that log, with the wish where the word was open
 abbrev pub Exchanged : Step Settlement → View Settlement ℕ → ℕ → View Settlement ℕ → Type 0
 Exchanged s before found after =
-    (log : List Settlement) × IsPrefix before.0 log × IsBegun log × IsLegal (settle_log log)
+    (log : List Settlement) × IsPrefix before.0 log × IsLegal (settle_log log)
     × (found ≡ code_of (entry_of s.key (settle_log log)))
     × (after.0 ≡ log ++ added_by (entry_of s.key (settle_log log)) s.key s.ask.settled)
 

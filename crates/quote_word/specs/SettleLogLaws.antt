@@ -110,3 +110,11 @@ begins_all first second third p q = (p.0 ++ q.0, sym (append_assoc first p.0 q.0
 -- two answers that are one word's entry in one log are one answer
 pub one_entry : (log : SettleLog) (w v : ℕ) (first second : Settled) → entry_of w log ≡ Some first → entry_of v log ≡ Some second → w ≡ v → first ≡ second
 one_entry log w v first second one two same = cc (ap (λ (k : ℕ). entry_of k log) same)
+
+-- an open word has the wish as its entry
+pub open_after : (log : SettleLog) (w : ℕ) (wish : Settled) → entry_of w log ≡ None → entry_of w (log_after log w wish) ≡ Some wish
+open_after log w wish unsettled = entry_after log w wish ∙ ap (λ (entry : Option Settled). Some (answer_of entry wish)) unsettled
+
+-- a settled word adds nothing
+pub settled_after : (log : SettleLog) (w : ℕ) (wish was : Settled) → entry_of w log ≡ Some was → log_after log w wish ≡ log
+settled_after log w wish was stands = ap (λ (entry : Option Settled). log ++ added_by entry w wish) stands ∙ append-nil log

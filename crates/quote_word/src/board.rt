@@ -1,10 +1,10 @@
 //! A board of words that threads share.
-ghost use Rattle.std.specs.Prelude.{◌≡◌, ◌<◌, List, [], Option, Some, IfOk};
+ghost use Rattle.std.specs.Prelude.{◌≡◌, ◌<◌, [], Some, IfOk};
 ghost use mathlib.Core.List.{IsPrefix};
-ghost use Rattle.quote_word.specs.declared.settled.Settlement.{Settlement};
 ghost use Rattle.quote_word.specs.PlainWords.{answer_of};
 ghost use Rattle.quote_word.specs.Rule.{code_of, entry_of_code};
-ghost use Rattle.quote_word.specs.SettleLog.{entry_of, IsLegal, log_after};
+ghost use Rattle.quote_word.specs.Board.{SettlesOnBoard};
+ghost use Rattle.quote_word.specs.SettleLog.{entry_of, IsLegal};
 
 use crate::rule::{Exchange, Law, Look, Nothing};
 use crate::tokens::{BoardSeen, Met, Receipt};
@@ -92,10 +92,10 @@ impl Board {
     pub fn withdraw(&self, seen: BoardSeen, w: u32) -> Receipt
         requires ours { seen.board ≡ self.now }
         requires word { w < self.now.words }
-        ensures word { (result.word ≡ w) × (result.seen.board ≡ self.now) }
-        ensures log { (log : List Settlement) × IsPrefix seen.log log × IsLegal log × (result.seen.log ≡ log_after log w Settled.Withdrawn) }
+        ensures word { result.word ≡ w }
+        ensures settles { SettlesOnBoard seen w Settled.Withdrawn result.answer result.seen }
         ensures later { IsPrefix seen.log result.seen.log }
-        ensures answer { entry_of w result.seen.log ≡ Some result.answer }
+        ensures legal { IsLegal result.seen.log }
     {
         self.settle(seen, w, Settled::Withdrawn)
     }
@@ -104,10 +104,10 @@ impl Board {
     pub fn lift(&self, seen: BoardSeen, w: u32) -> Receipt
         requires ours { seen.board ≡ self.now }
         requires word { w < self.now.words }
-        ensures word { (result.word ≡ w) × (result.seen.board ≡ self.now) }
-        ensures log { (log : List Settlement) × IsPrefix seen.log log × IsLegal log × (result.seen.log ≡ log_after log w Settled.Lifted) }
+        ensures word { result.word ≡ w }
+        ensures settles { SettlesOnBoard seen w Settled.Lifted result.answer result.seen }
         ensures later { IsPrefix seen.log result.seen.log }
-        ensures answer { entry_of w result.seen.log ≡ Some result.answer }
+        ensures legal { IsLegal result.seen.log }
     {
         self.settle(seen, w, Settled::Lifted)
     }
@@ -176,10 +176,10 @@ impl Board {
     fn settle(&self, seen: BoardSeen, w: u32, wish: Settled) -> Receipt
         requires ours { seen.board ≡ self.now }
         requires word { w < self.now.words }
-        ensures word { (result.word ≡ w) × (result.seen.board ≡ self.now) }
-        ensures log { (log : List Settlement) × IsPrefix seen.log log × IsLegal log × (result.seen.log ≡ log_after log w wish) }
+        ensures word { result.word ≡ w }
+        ensures settles { SettlesOnBoard seen w wish result.answer result.seen }
         ensures later { IsPrefix seen.log result.seen.log }
-        ensures answer { entry_of w result.seen.log ≡ Some result.answer }
+        ensures legal { IsLegal result.seen.log }
     {
         let BoardSeen { mut seen } = seen;
         let asked = Settlement {

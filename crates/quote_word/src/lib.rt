@@ -17,6 +17,7 @@
 #![tactic(auto)]
 
 mod board;
+mod laws;
 mod pass;
 mod plain;
 mod rule;
@@ -24,6 +25,7 @@ mod settled;
 mod tokens;
 
 pub use board::Board;
+pub use laws::{an_exchange_adds_one_settlement, an_exchange_changes_one_word};
 pub use pass::BoardPass;
 pub use plain::PlainWords;
 pub use settled::{Settled, Settlement, Words};

@@ -1,6 +1,7 @@
 use Rattle.std.proofs.Common.{◌≡◌, ◌<◌, List, Option, Some, ap, sym, ◌∙◌, subst}
 use Rattle.logbook.specs.Pages.{no_nib}
-use Rattle.quote_word.specs.Rule.{code_of, IsBegun, words_of, word_of}
+use Rattle.quote_word.specs.Board.{SettlesOnBoard}
+use Rattle.quote_word.specs.Rule.{front_of}
 use Rattle.quote_word.proofs.Steps.{asks_moves, word_found, exchange_told, Told}
 use Rattle.quote_word.proofs.board.Board.settle.Goals as goal
 
@@ -20,19 +21,25 @@ compare_exchange-found-requires c =
       rw (ap (λ w. w.key) at.0, pen.1, offer.1, offer.3, c.code.ensures) (asks_moves log c.args.w c.args.wish c.seen.invariant.0 at.1),
     )
 
-told : (c : goal.After-answer-settled) → Told c.args.w c.args.wish c.compare_exchange-found.result c.compare_exchange-found.new.seen.log
+told : (c : goal.After-answer-settled) → Told c.seen.inside.seen.book c.seen.inside.seen.log c.args.w c.args.wish c.compare_exchange-found.result c.compare_exchange-found.new.seen.log
 told c =
     let ours = ap (λ s. s.board) c.seen.view_is ∙ c.requires.ours in
     let at = word_found c.self.inside.words.items c.self.inside.opening.board c.args.self.now c.seen.inside.seen.book c.seen.inside.seen.log c.args.w c.index-word.result.now c.self.invariant.0 c.self.view_is ours c.requires.word c.index-word.ensures in
-    exchange_told c.index-word.result.now.key 0 c.code.result c.plain-offer.result.ask (c.seen.inside.seen.log, (c.no_pen-pen.result.nib, c.plain-offer.result.state))
+    exchange_told c.seen.inside.seen.book c.index-word.result.now.key 0 c.code.result c.plain-offer.result.ask (c.seen.inside.seen.log, (c.no_pen-pen.result.nib, c.plain-offer.result.state))
       (c.compare_exchange-found.new.seen.log, (c.compare_exchange-found.new.pen.nib, c.compare_exchange-found.new.offer.state)) c.compare_exchange-found.result c.args.w c.args.wish
-      (ap (λ w. w.key) at.0) c.plain-offer.ensures.1 c.compare_exchange-found.ensures.7
+      c.seen.invariant.0 (ap (λ w. w.key) at.0) c.plain-offer.ensures.1 c.compare_exchange-found.ensures.7
+
+settles : (c : goal.After-answer-settled) → SettlesOnBoard c.args.seen c.args.w c.args.wish c.answer-settled.result (front_of c.compare_exchange-found.new.seen.book c.compare_exchange-found.new.seen.log)
+settles c = rw (c.compare_exchange-found.ensures.0, c.answer-settled.ensures, ← c.seen.view_is) (told c).settles
 
 pub invariant_of-result : goal.invariant_of-result
 invariant_of-result c = let t = told c in (t.begun, t.legal)
 
 pub invariant_of-result-2 : goal.invariant_of-result-2
-invariant_of-result-2 c = (told c.before.before).entry ∙ ap Some (sym c.answer-settled.ensures)
+invariant_of-result-2 c = (settles c.before.before).answered
 
-pub returns-clause-answer : goal.returns-clause-answer
-returns-clause-answer c = (told c.before.before).entry ∙ ap Some (sym c.answer-settled.ensures)
+pub returns-clause-settles : goal.returns-clause-settles
+returns-clause-settles c = settles c.before.before
+
+pub returns-clause-legal : goal.returns-clause-legal
+returns-clause-legal c = (told c.before.before).legal
