@@ -26,11 +26,13 @@ pub begun_appended : (log more : List Settlement) → IsBegun log → IsBegun (l
 begun_appended [] more begun = absurd begun
 begun_appended (first ∷ log) more begun = tt
 
-pub words_appended : (log more : List Settlement) → IsBegun log → words_of (log ++ more) ≡ words_of log
+pub words_appended : (log more : List Settlement) → IsBegun log
+    → words_of (log ++ more) ≡ words_of log
 words_appended [] more begun = absurd begun
 words_appended (first ∷ log) more begun = refl
 
-pub settle_log_appended : (log more : List Settlement) → IsBegun log → settle_log (log ++ more) ≡ settle_log log ++ more
+pub settle_log_appended : (log more : List Settlement) → IsBegun log
+    → settle_log (log ++ more) ≡ settle_log log ++ more
 settle_log_appended [] more begun = absurd begun
 settle_log_appended (first ∷ log) more begun = refl
 
@@ -38,11 +40,14 @@ settle_log_appended (first ∷ log) more begun = refl
 pub begun_later : (log later : List Settlement) → IsPrefix log later → IsBegun log → IsBegun later
 begun_later log later p begun = subst IsBegun p.1 (begun_appended log p.0 begun)
 
-pub words_later : (log later : List Settlement) → IsPrefix log later → IsBegun log → words_of later ≡ words_of log
+pub words_later : (log later : List Settlement) → IsPrefix log later → IsBegun log
+    → words_of later ≡ words_of log
 words_later log later p begun = ap words_of (sym p.1) ∙ words_appended log p.0 begun
 
-pub settle_log_later : (log later : List Settlement) → IsPrefix log later → IsBegun log → IsPrefix (settle_log log) (settle_log later)
-settle_log_later log later p begun = (p.0, sym (settle_log_appended log p.0 begun) ∙ ap settle_log p.1)
+pub settle_log_later : (log later : List Settlement) → IsPrefix log later → IsBegun log
+    → IsPrefix (settle_log log) (settle_log later)
+settle_log_later log later p begun =
+    (p.0, sym (settle_log_appended log p.0 begun) ∙ ap settle_log p.1)
 
 -- the number in a word says its entry
 pub code_back : (entry : Option Settled) → entry_of_code (code_of entry) ≡ entry
@@ -51,14 +56,16 @@ code_back (Some Withdrawn) = refl
 code_back (Some Lifted) = refl
 
 -- the number after an exchange is that of the entry after it
-pub code_after : (entry : Option Settled) (wish : Settled) → either (code_of entry == 0) (code_of (Some wish)) (code_of entry) ≡ code_of (Some (answer_of entry wish))
+pub code_after : (entry : Option Settled) (wish : Settled)
+    → either (code_of entry == 0) (code_of (Some wish)) (code_of entry) ≡ code_of (Some (answer_of entry wish))
 code_after None wish = refl
 code_after (Some Withdrawn) wish = refl
 code_after (Some Lifted) wish = refl
 
 -- the cells after an exchange on the word w
 abbrev exchanged : List Cell → ℕ → Settled → List Cell
-exchanged cs w wish = slice_set cs w (either ((cell cs w).0 == 0) (code_of (Some wish)) (cell cs w).0, true)
+exchanged cs w wish =
+    slice_set cs w (either ((cell cs w).0 == 0) (code_of (Some wish)) (cell cs w).0, true)
 
 -- where each is the code of its entry, it is so afterwards
 module _ (cs : List Cell) (log : SettleLog) (w : ℕ) (wish : Settled) (within : w < length cs) (codes : (v : ℕ) → v < length cs → cell cs v ≡ (code_of (entry_of v log), true)) where
@@ -69,22 +76,25 @@ module _ (cs : List Cell) (log : SettleLog) (w : ℕ) (wish : Settled) (within :
       ∙ ap (λ (n : ℕ). (n, true)) (code_after (entry_of w log) wish)
       ∙ ap (λ (entry : Option Settled). (code_of entry, true)) (sym (entry_after log w wish))
 
-  other_cell : (v : ℕ) → v ≢ w → v < length cs → cell (exchanged cs w wish) v ≡ (code_of (entry_of v (log_after log w wish)), true)
+  other_cell : (v : ℕ) → v ≢ w → v < length cs
+      → cell (exchanged cs w wish) v ≡ (code_of (entry_of v (log_after log w wish)), true)
   other_cell v other in_row =
       get_or-set_other cs w v (either ((cell cs w).0 == 0) (code_of (Some wish)) (cell cs w).0, true) (0, false) other
       ∙ codes v in_row
       ∙ ap (λ (entry : Option Settled). (code_of entry, true)) (sym (other_after log w v wish other))
 
-  each_cell : (v : ℕ) (here : Bool) → (v == w) ≡ here → v < length cs → cell (exchanged cs w wish) v ≡ (code_of (entry_of v (log_after log w wish)), true)
+  each_cell : (v : ℕ) (here : Bool) → (v == w) ≡ here → v < length cs
+      → cell (exchanged cs w wish) v ≡ (code_of (entry_of v (log_after log w wish)), true)
   each_cell v true is in_row =
-    let same : v ≡ w = grind (arith, nat_tests) in
-    subst (λ (k : ℕ). cell (exchanged cs w wish) k ≡ (code_of (entry_of k (log_after log w wish)), true)) (sym same) same_after
+      let same : v ≡ w = grind (arith, nat_tests) in
+      subst (λ (k : ℕ). cell (exchanged cs w wish) k ≡ (code_of (entry_of k (log_after log w wish)), true)) (sym same) same_after
   each_cell v false is in_row =
-    let other : v ≢ w = grind (arith, nat_tests) in
-    other_cell v other in_row
+      let other : v ≢ w = grind (arith, nat_tests) in
+      other_cell v other in_row
 
 -- the rule after an exchange
-kept_after : (cs : List Cell) (log : List Settlement) (w : ℕ) (wish : Settled) → IsKept cs log → w < length cs
+kept_after : (cs : List Cell) (log : List Settlement) (w : ℕ) (wish : Settled) → IsKept cs log
+    → w < length cs
     → IsKept (exchanged cs w wish) (log ++ added_by (entry_of w (settle_log log)) w wish)
 kept_after cs log w wish kept within =
     let more : List Settlement = added_by (entry_of w (settle_log log)) w wish in
@@ -94,26 +104,38 @@ kept_after cs log w wish kept within =
       begun = begun_appended log more kept.begun;
       legal = subst IsLegal (sym tail) (legal_after (settle_log log) w wish kept.legal);
       count = as_many ∙ kept.count ∙ sym (words_appended log more kept.begun);
-      codes = λ v in_row. each_cell cs (settle_log log) w wish within kept.codes v (v == w) refl (subst (λ n. v < n) as_many in_row) ∙ ap (λ (l : SettleLog). (code_of (entry_of v l), true)) (sym tail)
+      codes =
+          λ v in_row. each_cell cs (settle_log log) w wish within kept.codes v (v == w) refl (subst (λ n. v < n) as_many in_row)
+          ∙ ap (λ (l : SettleLog). (code_of (entry_of v l), true)) (sym tail);
     }
 
 -- whatever the board is, an exchange keeps the rule, and finds the word as its entry
-asks_goes : (seen log : List Settlement) (cs : List Cell) (w : ℕ) (wish : Settled) → IsKept cs log → IsPrefix seen log → w < length cs
+asks_goes : (seen log : List Settlement) (cs : List Cell) (w : ℕ) (wish : Settled) → IsKept cs log
+    → IsPrefix seen log → w < length cs
     → Goes IsKept shown moved w (seen, (no_nib, None)) (λ n. either (n == 0) (code_of (Some wish)) n)
-      (Exchanged (step w 0 (code_of (Some wish)) (record { word = w; settled = wish })) (seen, (no_nib, None))) cs log
+    (Exchanged (step w 0 (code_of (Some wish)) (record {
+      word =
+          w;
+      settled = wish;
+    })) (seen, (no_nib, None))) cs log
 asks_goes seen log cs w wish kept pre within = (
-    keeps,
-    added_by (entry_of w (settle_log log)) w wish,
-    None,
-    tt,
-    kept_after cs log w wish kept within,
-    inl (refl, refl),
-    (log, pre, kept.legal, ap (λ (c : Cell). c.0) (kept.codes w within), refl),
-  )
+  keeps,
+  added_by (entry_of w (settle_log log)) w wish,
+  None,
+  tt,
+  kept_after cs log w wish kept within,
+  inl (refl, refl),
+  (log, pre, kept.legal, ap (λ (c : Cell). c.0) (kept.codes w within), refl),
+)
 
-pub asks_moves : (seen : List Settlement) (w : ℕ) (wish : Settled) → IsBegun seen → w < words_of seen
+pub asks_moves : (seen : List Settlement) (w : ℕ) (wish : Settled) → IsBegun seen
+    → w < words_of seen
     → Moves IsKept shown moved w (seen, (no_nib, None)) (λ n. either (n == 0) (code_of (Some wish)) n)
-      (Exchanged (step w 0 (code_of (Some wish)) (record { word = w; settled = wish })) (seen, (no_nib, None)))
+    (Exchanged (step w 0 (code_of (Some wish)) (record {
+      word =
+          w;
+      settled = wish;
+    })) (seen, (no_nib, None)))
 asks_moves seen w wish begun word cs log kept pre away =
     let within : w < length cs = rw (kept.count, words_later seen log pre begun) word in
     (within, ap (λ (c : Cell). c.1) (kept.codes w within), asks_goes seen log cs w wish kept pre within)
@@ -123,40 +145,59 @@ pub word_found : (words : List Named) (board now : BoardName) (book : Book) (log
     → AreWords words board → board ≡ now → (front_of book log).board ≡ now → w < now.words → found ≡ slice_index_or words w found
     → (found ≡ word_of book w) × (w < words_of log)
 word_found words board now book log w found are same ours word at =
-    let within : w < length words = rw (are.count, same) word in
-    (at ∙ are.each w found within ∙ ap (λ (b : BoardName). word_of b.book w) (same ∙ sym ours),
-      subst (λ (n : ℕ). w < n) (ap (λ (b : BoardName). b.words) (sym ours)) word)
+    let within : w < length words = rw (are.count, same) word in (
+      at ∙ are.each w found within ∙ ap (λ (b : BoardName). word_of b.book w) (same ∙ sym ours),
+      subst (λ (n : ℕ). w < n) (ap (λ (b : BoardName). b.words) (sym ours)) word,
+    )
 
--- what a caller knows after an exchange: the log that it sees is lawful, and is that which was found, after one exchange
+-- what a caller knows after an exchange: the log that it sees is lawful, and is that which was
+-- found, after one exchange
 pub record Told (book : Book) (seen : List Settlement) (w : ℕ) (wish : Settled) (found : ℕ) (later : List Settlement) : Type 0 where
   pub begun : IsBegun later
   pub legal : IsLegal (settle_log later)
   pub settles : SettlesOnBoard (front_of book seen) w wish (answer_of (entry_of_code found) wish) (front_of book later)
 
-told_of : (book : Book) (seen log later : List Settlement) (w : ℕ) (wish : Settled) (found : ℕ) → IsBegun seen → IsPrefix seen log → IsLegal (settle_log log)
+told_of : (book : Book) (seen log later : List Settlement) (w : ℕ) (wish : Settled) (found : ℕ)
+    → IsBegun seen → IsPrefix seen log → IsLegal (settle_log log)
     → found ≡ code_of (entry_of w (settle_log log)) → later ≡ log ++ added_by (entry_of w (settle_log log)) w wish → Told book seen w wish found later
 told_of book seen log later w wish found begun goes_on legal is grown =
     let more : List Settlement = added_by (entry_of w (settle_log log)) w wish in
     let begun_log : IsBegun log = begun_later seen log goes_on begun in
-    let tail : settle_log later ≡ log_after (settle_log log) w wish = ap settle_log grown ∙ settle_log_appended log more begun_log in
-    let said : entry_of_code found ≡ entry_of w (settle_log log) = ap entry_of_code is ∙ code_back (entry_of w (settle_log log)) in
-    let as_many : words_of later ≡ words_of seen = ap words_of grown ∙ words_appended log more begun_log ∙ words_later seen log goes_on begun in
+    let tail : settle_log later ≡ log_after (settle_log log) w wish =
+    ap settle_log grown ∙ settle_log_appended log more begun_log in
+    let said : entry_of_code found ≡ entry_of w (settle_log log) =
+    ap entry_of_code is ∙ code_back (entry_of w (settle_log log)) in
+    let as_many : words_of later ≡ words_of seen =
+    ap words_of grown ∙ words_appended log more begun_log
+    ∙ words_later seen log goes_on begun in
     record {
       begun = subst IsBegun (sym grown) (begun_appended log more begun_log);
       legal = subst IsLegal (sym tail) (legal_after (settle_log log) w wish legal);
       settles = record {
-        board = ap (λ (n : ℕ). let named : BoardName = record { book = book; words = n } in named) as_many;
+        board =
+            ap (λ (n : ℕ). let named : BoardName = record { book = book; words = n } in named) as_many;
         found = settle_log log;
         extends = settle_log_later seen log goes_on begun;
         legal = legal;
         settled = tail;
-        answered = ap (entry_of w) tail ∙ entry_after (settle_log log) w wish ∙ ap (λ (e : Option Settled). Some (answer_of e wish)) (sym said)
-      }
+        answered =
+            ap (entry_of w) tail ∙ entry_after (settle_log log) w wish
+            ∙ ap (λ (e : Option Settled). Some (answer_of e wish)) (sym said);
+      };
     }
 
-pub exchange_told : (book : Book) (key old new : ℕ) (ask : Settlement) (before after : View Settlement ℕ) (found w : ℕ) (wish : Settled) → IsBegun before.0
-    → key ≡ w → ask ≡ record { word = w; settled = wish } → Exchanged (step key old new ask) before found after → Told book before.0 w wish found after.0
+pub exchange_told : (book : Book) (key old new : ℕ) (ask : Settlement) (before after : View Settlement ℕ) (found w : ℕ) (wish : Settled)
+    → IsBegun before.0
+    → key ≡ w → ask ≡ record {
+      word =
+          w;
+      settled = wish;
+    } → Exchanged (step key old new ask) before found after → Told book before.0 w wish found after.0
 exchange_told book key old new ask before after found w wish begun k a told =
-    let told' : Exchanged (step w old new (record { word = w; settled = wish })) before found after =
-      subst (λ (s : Settlement). Exchanged (step w old new s) before found after) a (subst (λ (n : ℕ). Exchanged (step n old new ask) before found after) k told) in
+    let told' : Exchanged (step w old new (record {
+      word =
+          w;
+      settled = wish;
+    })) before found after =
+    subst (λ (s : Settlement). Exchanged (step w old new s) before found after) a (subst (λ (n : ℕ). Exchanged (step n old new ask) before found after) k told) in
     told_of book before.0 told'.0 after.0 w wish found begun told'.1 told'.2 told'.3 told'.4

@@ -28,9 +28,11 @@ pub record Meeting : Type 0 where
   pub first : Settled
   pub second : Settled
 
--- one exchange on the board: there was a legal log which begins with what had been seen, and what is
+-- one exchange on the board: there was a legal log which begins with what had been seen, and what
+-- is
 -- seen afterwards is that log after the exchange, where the word's entry is the answer
-pub record SettlesOnBoard (before : Front) (w : ℕ) (wish answer : Settled) (after : Front) : Type 0 where
+pub record SettlesOnBoard (before : Front) (w : ℕ) (wish answer : Settled) (after : Front)
+    : Type 0 where
   pub board : after.board ≡ before.board
   pub found : List Settlement
   pub extends : IsPrefix before.log found

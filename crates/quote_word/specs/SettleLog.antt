@@ -17,7 +17,8 @@ abbrev pub IsLegal : SettleLog → Type 0
 IsLegal [] = Unit {0}
 IsLegal (e ∷ log) = (entry_of e.word log ≡ None) × IsLegal log
 
--- what an exchange adds to the log: the wish where the word is open, and nothing where it is settled
+-- what an exchange adds to the log: the wish where the word is open, and nothing where it is
+-- settled
 abbrev pub added_by : Option Settled → ℕ → Settled → SettleLog
 added_by None w wish = record { word = w; settled = wish } ∷ []
 added_by (Some settled) w wish = []

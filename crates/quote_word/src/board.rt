@@ -21,7 +21,6 @@ pub struct Board {
 }
 
 impl Model for Board {
-    ghost use Rattle.std.specs.Prelude.{◌<◌, ◌^◌};
     ghost use Rattle.quote_word.specs.Board.{BoardName};
 
     ghost Value = { BoardName };
@@ -30,7 +29,7 @@ impl Model for Board {
 
     ghost view = { λ b. b.opening.board };
 
-    ghost invariant = { λ b. AreWords b.words.items b.opening.board × (b.opening.board.words < 2 ^ 32) };
+    ghost invariant = { λ b. AreWords b.words.items b.opening.board };
 }
 
 /// The number that stands in a word that is settled so.
@@ -127,8 +126,11 @@ impl Board {
             word: w,
             settled: Settled::Withdrawn,
         };
-        let mut offer: Offer<Settlement, u64, Law, Nothing> = seen
-            .plain::<Nothing, Settlement, Exchange>(&asked);
+        let mut offer: Offer<Settlement, u64, Law, Nothing> = seen.plain::<
+            Nothing,
+            Settlement,
+            Exchange,
+        >(&asked);
         let word = &self.words[w as usize];
         let found = word.load::<Look, Nothing>(&mut seen, &mut offer);
         (entry_found(found), BoardSeen { seen })
@@ -156,9 +158,11 @@ impl Board {
         requires second { second.seen.board ≡ self.now }
         ensures ours { result.front.board ≡ self.now }
         ensures legal { IsLegal result.front.log }
-        ensures first { (result.first ≡ first.answer) × IsPrefix first.seen.log result.front.log }
+        ensures first { IsPrefix first.seen.log result.front.log }
+        ensures first_answer { result.first ≡ first.answer }
         ensures first_entry { entry_of first.word result.front.log ≡ Some result.first }
-        ensures second { (result.second ≡ second.answer) × IsPrefix second.seen.log result.front.log }
+        ensures second { IsPrefix second.seen.log result.front.log }
+        ensures second_answer { result.second ≡ second.answer }
         ensures second_entry { entry_of second.word result.front.log ≡ Some result.second }
         ensures one_answer { first.word ≡ second.word → result.first ≡ result.second }
     {
@@ -186,8 +190,11 @@ impl Board {
             word: w,
             settled: wish,
         };
-        let mut offer: Offer<Settlement, u64, Law, Nothing> = seen
-            .plain::<Nothing, Settlement, Exchange>(&asked);
+        let mut offer: Offer<Settlement, u64, Law, Nothing> = seen.plain::<
+            Nothing,
+            Settlement,
+            Exchange,
+        >(&asked);
         let mut pen = seen.no_pen();
         let word = &self.words[w as usize];
         let found = word.compare_exchange::<Exchange, Nothing>(

@@ -2,15 +2,15 @@
 ghost use Rattle.std.specs.Prelude.{◌≡◌};
 ghost use Rattle.quote_word.specs.Board.{SettlesOnBoard};
 ghost use Rattle.quote_word.specs.SettleLog.{entry_of};
-ghost use Rattle.quote_word.specs.BoardLaws.{board_keeps_count, board_answers_entry, board_keeps_entries};
+ghost use Rattle.quote_word.specs.BoardLaws as laws;
 
 use crate::board::Board;
 use crate::tokens::BoardSeen;
 use crate::{Settled, Words};
 use std::marker::Model;
 
-/// A borrowed board, with the latest token of the caller: what [`Words`] needs of a board. Contracts
-/// see it as that token.
+/// A borrowed board, with the latest token of the caller: what [`Words`] needs of a board.
+/// Contracts see it as that token.
 #[derive(Drop)]
 pub struct BoardPass<'a> {
     board: &'a Board,
@@ -52,11 +52,11 @@ impl Words for BoardPass<'_> {
 
     ghost settles = { SettlesOnBoard };
 
-    ghost count_stays = { board_keeps_count };
+    ghost count_stays = { laws.board_keeps_count };
 
-    ghost answer_is_entry = { board_answers_entry };
+    ghost answer_is_entry = { laws.board_answers_entry };
 
-    ghost entry_stays = { board_keeps_entries };
+    ghost entry_stays = { laws.board_keeps_entries };
 
     fn len(&self) -> u32 {
         self.board.len()

@@ -1,19 +1,18 @@
-use Rattle.std.proofs.Common.{◌≡◌, List, Some, subst, sym, ap}
+use Rattle.std.proofs.Common.{subst}
 use mathlib.Core.List.{IsPrefix}
 use Rattle.quote_word.specs.Board.{Front}
-use Rattle.quote_word.specs.SettleLog.{entry_of}
 use Rattle.quote_word.specs.SettleLogLaws.{entry_stays_later, one_entry}
 use Rattle.quote_word.proofs.board.Board.meet.Goals as goal
 
 pub returns-clause-first_entry : goal.returns-clause-first_entry
 returns-clause-first_entry c =
     entry_stays_later c.args.first.seen.log c.both-front.result.log c.args.first.word c.settled-one.result
-      (subst (λ (f : Front). IsPrefix f.log c.both-front.result.log) c.seen.ensures c.both-front.ensures.first) c.settled-one.ensures.entry
+    (subst (λ (f : Front). IsPrefix f.log c.both-front.result.log) c.seen.ensures c.both-front.ensures.first) c.settled-one.ensures.entry
 
 pub returns-clause-second_entry : goal.returns-clause-second_entry
 returns-clause-second_entry c =
     entry_stays_later c.args.second.seen.log c.both-front.result.log c.args.second.word c.settled-two.result
-      (subst (λ (f : Front). IsPrefix f.log c.both-front.result.log) c.seen-2.ensures c.both-front.ensures.second) c.settled-two.ensures.entry
+    (subst (λ (f : Front). IsPrefix f.log c.both-front.result.log) c.seen-2.ensures c.both-front.ensures.second) c.settled-two.ensures.entry
 
 pub returns-clause-one_answer : goal.returns-clause-one_answer
 returns-clause-one_answer c =

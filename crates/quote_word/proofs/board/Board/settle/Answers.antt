@@ -5,7 +5,6 @@ use Rattle.quote_word.specs.Rule.{front_of}
 use Rattle.quote_word.proofs.Steps.{asks_moves, word_found, exchange_told, Told}
 use Rattle.quote_word.proofs.board.Board.settle.Goals as goal
 
-
 pub compare_exchange-found-requires : goal.compare_exchange-found-requires
 compare_exchange-found-requires c =
     let book = c.seen.inside.seen.book in
@@ -26,8 +25,8 @@ told c =
     let ours = ap (λ s. s.board) c.seen.view_is ∙ c.requires.ours in
     let at = word_found c.self.inside.words.items c.self.inside.opening.board c.args.self.now c.seen.inside.seen.book c.seen.inside.seen.log c.args.w c.index-word.result.now c.self.invariant.0 c.self.view_is ours c.requires.word c.index-word.ensures in
     exchange_told c.seen.inside.seen.book c.index-word.result.now.key 0 c.code.result c.plain-offer.result.ask (c.seen.inside.seen.log, (c.no_pen-pen.result.nib, c.plain-offer.result.state))
-      (c.compare_exchange-found.new.seen.log, (c.compare_exchange-found.new.pen.nib, c.compare_exchange-found.new.offer.state)) c.compare_exchange-found.result c.args.w c.args.wish
-      c.seen.invariant.0 (ap (λ w. w.key) at.0) c.plain-offer.ensures.1 c.compare_exchange-found.ensures.7
+    (c.compare_exchange-found.new.seen.log, (c.compare_exchange-found.new.pen.nib, c.compare_exchange-found.new.offer.state)) c.compare_exchange-found.result c.args.w c.args.wish
+    c.seen.invariant.0 (ap (λ w. w.key) at.0) c.plain-offer.ensures.1 c.compare_exchange-found.ensures.7
 
 settles : (c : goal.After-answer-settled) → SettlesOnBoard c.args.seen c.args.w c.args.wish c.answer-settled.result (front_of c.compare_exchange-found.new.seen.book c.compare_exchange-found.new.seen.log)
 settles c = rw (c.compare_exchange-found.ensures.0, c.answer-settled.ensures, ← c.seen.view_is) (told c).settles
