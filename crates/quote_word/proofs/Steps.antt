@@ -1,6 +1,6 @@
 -- The steps of a board keep its rule.
 use Rattle.std.proofs.Common.{◌≡◌, ◌≢◌, ℕ, ◌<◌, ◌==◌, Bool, true, false, List, [], ◌∷◌, ◌++◌, length, slice_index_or, slice_set, Option, Some, None, refl, ap, sym, ◌∙◌, subst, arith, inl, length-set}
-use Rattle.std.proofs.lemmas.List.{append-nil, set-get_or, get_or-set_same, get_or-set_other}
+use Rattle.std.proofs.lemmas.List.{get_or-set_same, get_or-set_other}
 use Rattle.std.proofs.lemmas.Bool.Decides.{nat_tests}
 use mathlib.Core.List.{IsPrefix}
 use prog.Atomic.{either}
@@ -12,7 +12,7 @@ use Rattle.quote_word.specs.PlainWords.{answer_of}
 use Rattle.quote_word.specs.SettleLog.{SettleLog, entry_of, IsLegal, added_by, log_after}
 use Rattle.quote_word.specs.SettleLogLaws.{entry_after, other_after, legal_after}
 use Rattle.quote_word.specs.Board.{BoardName, SettlesOnBoard}
-use Rattle.quote_word.specs.Rule.{code_of, entry_of_code, IsBegun, words_of, settle_log, IsKept, Exchanged, Looked, front_of, word_of, AreWords}
+use Rattle.quote_word.specs.Rule.{code_of, entry_of_code, IsBegun, words_of, settle_log, IsKept, Exchanged, front_of, word_of, AreWords}
 
 -- what clients see of the log, which is nothing, and how an update moves it
 abbrev pub shown : List Settlement → List Settlement
@@ -141,14 +141,20 @@ asks_moves seen w wish begun word cs log kept pre away =
     (within, ap (λ (c : Cell). c.1) (kept.codes w within), asks_goes seen log cs w wish kept pre within)
 
 -- the word that a call asks is tracked by the book of its token, under its own number
-pub word_found : (words : List Named) (board now : BoardName) (book : Book) (log : List Settlement) (w : ℕ) (found : Named)
-    → AreWords words board → board ≡ now → (front_of book log).board ≡ now → w < now.words → found ≡ slice_index_or words w found
-    → (found ≡ word_of book w) × (w < words_of log)
+pub record Found (book : Book) (log : List Settlement) (w : ℕ) (word : Named) : Type 0 where
+  pub is : word ≡ word_of book w
+  pub within : w < words_of log
+
+pub word_found : (words : List Named) (board now : BoardName) (book : Book) (log : List Settlement)
+    → (w : ℕ) (found : Named) → AreWords words board → board ≡ now → (front_of book log).board ≡ now
+    → w < now.words → found ≡ slice_index_or words w found → Found book log w found
 word_found words board now book log w found are same ours word at =
-    let within : w < length words = rw (are.count, same) word in (
-      at ∙ are.each w found within ∙ ap (λ (b : BoardName). word_of b.book w) (same ∙ sym ours),
-      subst (λ (n : ℕ). w < n) (ap (λ (b : BoardName). b.words) (sym ours)) word,
-    )
+    let within : w < length words = rw (are.count, same) word in
+    record {
+      is = at ∙ are.each w found within
+          ∙ ap (λ (b : BoardName). word_of b.book w) (same ∙ sym ours);
+      within = subst (λ (n : ℕ). w < n) (ap (λ (b : BoardName). b.words) (sym ours)) word;
+    }
 
 -- what a caller knows after an exchange: the log that it sees is lawful, and is that which was
 -- found, after one exchange

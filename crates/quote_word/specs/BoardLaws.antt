@@ -1,9 +1,9 @@
 -- What an exchange on a board keeps.
-use Rattle.std.specs.Prelude.{◌≡◌, ℕ, ◌<◌, List, Some}
-use Rattle.std.proofs.Common.{ap, sym, ◌∙◌}
+use Rattle.std.specs.Prelude.{◌≡◌, ℕ, ◌<◌, Some}
+use Rattle.std.proofs.Common.{ap}
 use Rattle.quote_word.specs.declared.settled.Settled.{Settled}
 use Rattle.quote_word.specs.Board.{BoardName, Front, SettlesOnBoard}
-use Rattle.quote_word.specs.SettleLog.{entry_of, log_after}
+use Rattle.quote_word.specs.SettleLog.{entry_of}
 use Rattle.quote_word.specs.SettleLogLaws.{entry_stays_later, begins_all, log_goes_on}
 use mathlib.Core.List.{IsPrefix}
 
