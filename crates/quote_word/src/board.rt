@@ -32,6 +32,9 @@ impl Model for Board {
     ghost invariant = { λ b. AreWords b.words.items b.opening.board };
 }
 
+/// The number that stands in an open word.
+const OPEN: u64 = 0;
+
 /// The number that stands in a word that is settled so.
 fn code(wish: Settled) -> u64
     ensures { result ≡ code_of (Some wish) }
@@ -73,7 +76,7 @@ impl Board {
         let mut words = Vec::with_capacity(alloc, n as usize)?;
         let (seen, mut pens) = Seen::open_row::<u32, Law>(&n, Start::alone(), n as usize);
         for _ in 0..n {
-            words.push(Word::tracked(0, &mut pens.take()))?;
+            words.push(Word::tracked(OPEN, &mut pens.take()))?;
         }
         let opening = BoardSeen { seen };
         let seen = opening.again();
@@ -198,7 +201,7 @@ impl Board {
         let mut pen = seen.no_pen();
         let word = &self.words[w as usize];
         let found = word.compare_exchange::<Exchange, Nothing>(
-            0,
+            OPEN,
             code(wish),
             &mut seen,
             &mut offer,

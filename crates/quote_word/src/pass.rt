@@ -5,7 +5,7 @@ ghost use Rattle.quote_word.specs.SettleLog.{entry_of};
 ghost use Rattle.quote_word.specs.BoardLaws as laws;
 
 use crate::board::Board;
-use crate::tokens::BoardSeen;
+use crate::tokens::{BoardSeen, Receipt};
 use crate::{Settled, Words};
 use std::marker::Model;
 
@@ -37,6 +37,16 @@ impl<'a> BoardPass<'a> {
         BoardPass { board, seen }
     }
 
+    /// Keeps the token of a receipt, and answers what its word is.
+    fn keep(&mut self, receipt: Receipt) -> Settled
+        requires { receipt.seen.board ≡ self.old.board }
+        ensures token { self.new ≡ receipt.seen }
+        ensures answer { result ≡ receipt.answer }
+    {
+        self.seen = receipt.seen();
+        receipt.settled()
+    }
+
     /// The token: what was seen by the last call.
     pub fn into_seen(self) -> BoardSeen
         ensures { result ≡ self.entry }
@@ -64,13 +74,11 @@ impl Words for BoardPass<'_> {
 
     fn withdraw(&mut self, w: u32) -> Settled {
         let receipt = self.board.withdraw(self.seen.again(), w);
-        self.seen = receipt.seen();
-        receipt.settled()
+        self.keep(receipt)
     }
 
     fn lift(&mut self, w: u32) -> Settled {
         let receipt = self.board.lift(self.seen.again(), w);
-        self.seen = receipt.seen();
-        receipt.settled()
+        self.keep(receipt)
     }
 }
