@@ -55,90 +55,104 @@ code_back None = refl
 code_back (Some Withdrawn) = refl
 code_back (Some Lifted) = refl
 
+-- the cell of a word with this entry
+abbrev cell_of : Option Settled → Cell
+cell_of entry = (code_of entry, true)
+
+-- what an exchange makes of the number that it finds
+abbrev pub written : Settled → ℕ → ℕ
+written wish n = either (n == 0) (code_of (Some wish)) n
+
 -- the number after an exchange is that of the entry after it
-pub code_after : (entry : Option Settled) (wish : Settled)
-    → either (code_of entry == 0) (code_of (Some wish)) (code_of entry) ≡ code_of (Some (answer_of entry wish))
-code_after None wish = refl
-code_after (Some Withdrawn) wish = refl
-code_after (Some Lifted) wish = refl
+pub written_code : (entry : Option Settled) (wish : Settled)
+    → written wish (code_of entry) ≡ code_of (Some (answer_of entry wish))
+written_code None wish = refl
+written_code (Some Withdrawn) wish = refl
+written_code (Some Lifted) wish = refl
 
 -- the cells after an exchange on the word w
 abbrev exchanged : List Cell → ℕ → Settled → List Cell
-exchanged cs w wish =
-    slice_set cs w (either ((cell cs w).0 == 0) (code_of (Some wish)) (cell cs w).0, true)
+exchanged cs w wish = slice_set cs w (written wish (cell cs w).0, true)
 
--- where each is the code of its entry, it is so afterwards
-module _ (cs : List Cell) (log : SettleLog) (w : ℕ) (wish : Settled) (within : w < length cs) (codes : (v : ℕ) → v < length cs → cell cs v ≡ (code_of (entry_of v log), true)) where
-  same_after : cell (exchanged cs w wish) w ≡ (code_of (entry_of w (log_after log w wish)), true)
-  same_after =
-      get_or-set_same cs w (either ((cell cs w).0 == 0) (code_of (Some wish)) (cell cs w).0, true) (0, false) within
-      ∙ ap (λ (n : ℕ). (either (n == 0) (code_of (Some wish)) n, true)) (ap (λ (c : Cell). c.0) (codes w within))
-      ∙ ap (λ (n : ℕ). (n, true)) (code_after (entry_of w log) wish)
-      ∙ ap (λ (entry : Option Settled). (code_of entry, true)) (sym (entry_after log w wish))
+-- each cell is that of its word's entry
+abbrev AreCells : List Cell → SettleLog → Type 0
+AreCells cs log = (w : ℕ) → w < length cs → cell cs w ≡ cell_of (entry_of w log)
+
+-- and it is so afterwards
+module _ (cs : List Cell) (log : SettleLog) (w : ℕ) (wish : Settled) (cells : AreCells cs log) where
+  same_cell : w < length cs
+      → cell (exchanged cs w wish) w ≡ cell_of (entry_of w (log_after log w wish))
+  same_cell within =
+      get_or-set_same cs w (written wish (cell cs w).0, true) (0, false) within
+      ∙ ap (λ (c : Cell). (written wish c.0, true)) (cells w within)
+      ∙ ap (λ (n : ℕ). (n, true)) (written_code (entry_of w log) wish)
+      ∙ ap cell_of (sym (entry_after log w wish))
 
   other_cell : (v : ℕ) → v ≢ w → v < length cs
-      → cell (exchanged cs w wish) v ≡ (code_of (entry_of v (log_after log w wish)), true)
+      → cell (exchanged cs w wish) v ≡ cell_of (entry_of v (log_after log w wish))
   other_cell v other in_row =
-      get_or-set_other cs w v (either ((cell cs w).0 == 0) (code_of (Some wish)) (cell cs w).0, true) (0, false) other
-      ∙ codes v in_row
-      ∙ ap (λ (entry : Option Settled). (code_of entry, true)) (sym (other_after log w v wish other))
+      get_or-set_other cs w v (written wish (cell cs w).0, true) (0, false) other
+      ∙ cells v in_row ∙ ap cell_of (sym (other_after log w v wish other))
 
   each_cell : (v : ℕ) (here : Bool) → (v == w) ≡ here → v < length cs
-      → cell (exchanged cs w wish) v ≡ (code_of (entry_of v (log_after log w wish)), true)
+      → cell (exchanged cs w wish) v ≡ cell_of (entry_of v (log_after log w wish))
   each_cell v true is in_row =
-      let same : v ≡ w = grind (arith, nat_tests) in
-      subst (λ (k : ℕ). cell (exchanged cs w wish) k ≡ (code_of (entry_of k (log_after log w wish)), true)) (sym same) same_after
+      let same : w ≡ v = grind (arith, nat_tests) in
+      let P : ℕ → Type 0 =
+        λ k. cell (exchanged cs w wish) k ≡ cell_of (entry_of k (log_after log w wish)) in
+      subst P same (same_cell (rw same in_row))
   each_cell v false is in_row =
-      let other : v ≢ w = grind (arith, nat_tests) in
-      other_cell v other in_row
+      let other : v ≢ w = grind (arith, nat_tests) in other_cell v other in_row
+
+  cells_after : AreCells (exchanged cs w wish) (log_after log w wish)
+  cells_after v in_row =
+      let as_many = length-set cs w (written wish (cell cs w).0, true) in
+      each_cell v (v == w) refl (subst (λ (n : ℕ). v < n) as_many in_row)
 
 -- the rule after an exchange
 kept_after : (cs : List Cell) (log : List Settlement) (w : ℕ) (wish : Settled) → IsKept cs log
-    → w < length cs
     → IsKept (exchanged cs w wish) (log ++ added_by (entry_of w (settle_log log)) w wish)
-kept_after cs log w wish kept within =
+kept_after cs log w wish kept =
     let more : List Settlement = added_by (entry_of w (settle_log log)) w wish in
     let tail = settle_log_appended log more kept.begun in
-    let as_many : length (exchanged cs w wish) ≡ length cs = length-set cs w _ in
+    let after : AreCells (exchanged cs w wish) (settle_log log ++ more) =
+      cells_after cs (settle_log log) w wish kept.codes in
     record {
       begun = begun_appended log more kept.begun;
       legal = subst IsLegal (sym tail) (legal_after (settle_log log) w wish kept.legal);
-      count = as_many ∙ kept.count ∙ sym (words_appended log more kept.begun);
-      codes =
-          λ v in_row. each_cell cs (settle_log log) w wish within kept.codes v (v == w) refl (subst (λ n. v < n) as_many in_row)
-          ∙ ap (λ (l : SettleLog). (code_of (entry_of v l), true)) (sym tail);
+      count =
+        length-set cs w (written wish (cell cs w).0, true) ∙ kept.count
+        ∙ sym (words_appended log more kept.begun);
+      codes = subst (AreCells (exchanged cs w wish)) (sym tail) after
     }
 
+-- what an exchange tells a caller who has seen so much
+abbrev pub Asks : List Settlement → ℕ → Settled → ℕ → View Settlement ℕ → Type 0
+Asks seen w wish =
+    let asked : Settlement = record { word = w; settled = wish } in
+    Exchanged (step w 0 (code_of (Some wish)) asked) (seen, (no_nib, None))
+
 -- whatever the board is, an exchange keeps the rule, and finds the word as its entry
-asks_goes : (seen log : List Settlement) (cs : List Cell) (w : ℕ) (wish : Settled) → IsKept cs log
-    → IsPrefix seen log → w < length cs
-    → Goes IsKept shown moved w (seen, (no_nib, None)) (λ n. either (n == 0) (code_of (Some wish)) n)
-    (Exchanged (step w 0 (code_of (Some wish)) (record {
-      word =
-          w;
-      settled = wish;
-    })) (seen, (no_nib, None))) cs log
+asks_goes : (seen log : List Settlement) (cs : List Cell) (w : ℕ) (wish : Settled)
+    → IsKept cs log → IsPrefix seen log → w < length cs
+    → Goes IsKept shown moved w (seen, (no_nib, None)) (written wish) (Asks seen w wish) cs log
 asks_goes seen log cs w wish kept pre within = (
   keeps,
   added_by (entry_of w (settle_log log)) w wish,
   None,
   tt,
-  kept_after cs log w wish kept within,
+  kept_after cs log w wish kept,
   inl (refl, refl),
   (log, pre, kept.legal, ap (λ (c : Cell). c.0) (kept.codes w within), refl),
 )
 
 pub asks_moves : (seen : List Settlement) (w : ℕ) (wish : Settled) → IsBegun seen
     → w < words_of seen
-    → Moves IsKept shown moved w (seen, (no_nib, None)) (λ n. either (n == 0) (code_of (Some wish)) n)
-    (Exchanged (step w 0 (code_of (Some wish)) (record {
-      word =
-          w;
-      settled = wish;
-    })) (seen, (no_nib, None)))
+    → Moves IsKept shown moved w (seen, (no_nib, None)) (written wish) (Asks seen w wish)
 asks_moves seen w wish begun word cs log kept pre away =
     let within : w < length cs = rw (kept.count, words_later seen log pre begun) word in
-    (within, ap (λ (c : Cell). c.1) (kept.codes w within), asks_goes seen log cs w wish kept pre within)
+    let home = ap (λ (c : Cell). c.1) (kept.codes w within) in
+    (within, home, asks_goes seen log cs w wish kept pre within)
 
 -- the word that a call asks is tracked by the book of its token, under its own number
 pub record Found (book : Book) (log : List Settlement) (w : ℕ) (word : Named) : Type 0 where
@@ -158,52 +172,54 @@ word_found words board now book log w found are same ours word at =
 
 -- what a caller knows after an exchange: the log that it sees is lawful, and is that which was
 -- found, after one exchange
-pub record Told (book : Book) (seen : List Settlement) (w : ℕ) (wish : Settled) (found : ℕ) (later : List Settlement) : Type 0 where
+pub record Told (book : Book) (seen : List Settlement) (w : ℕ) (wish : Settled) (found : ℕ)
+    (later : List Settlement) : Type 0 where
   pub begun : IsBegun later
   pub legal : IsLegal (settle_log later)
-  pub settles : SettlesOnBoard (front_of book seen) w wish (answer_of (entry_of_code found) wish) (front_of book later)
+  pub settles :
+    SettlesOnBoard (front_of book seen) w wish (answer_of (entry_of_code found) wish)
+      (front_of book later)
 
 told_of : (book : Book) (seen log later : List Settlement) (w : ℕ) (wish : Settled) (found : ℕ)
     → IsBegun seen → IsPrefix seen log → IsLegal (settle_log log)
-    → found ≡ code_of (entry_of w (settle_log log)) → later ≡ log ++ added_by (entry_of w (settle_log log)) w wish → Told book seen w wish found later
+    → found ≡ code_of (entry_of w (settle_log log))
+    → later ≡ log ++ added_by (entry_of w (settle_log log)) w wish
+    → Told book seen w wish found later
 told_of book seen log later w wish found begun goes_on legal is grown =
     let more : List Settlement = added_by (entry_of w (settle_log log)) w wish in
     let begun_log : IsBegun log = begun_later seen log goes_on begun in
     let tail : settle_log later ≡ log_after (settle_log log) w wish =
-    ap settle_log grown ∙ settle_log_appended log more begun_log in
+      ap settle_log grown ∙ settle_log_appended log more begun_log in
     let said : entry_of_code found ≡ entry_of w (settle_log log) =
-    ap entry_of_code is ∙ code_back (entry_of w (settle_log log)) in
+      ap entry_of_code is ∙ code_back (entry_of w (settle_log log)) in
     let as_many : words_of later ≡ words_of seen =
-    ap words_of grown ∙ words_appended log more begun_log
-    ∙ words_later seen log goes_on begun in
+      ap words_of grown ∙ words_appended log more begun_log
+      ∙ words_later seen log goes_on begun in
+    let named : ℕ → BoardName = λ n. record { book = book; words = n } in
+    let answered : Option Settled → Option Settled = λ e. Some (answer_of e wish) in
     record {
       begun = subst IsBegun (sym grown) (begun_appended log more begun_log);
       legal = subst IsLegal (sym tail) (legal_after (settle_log log) w wish legal);
       settles = record {
-        board =
-            ap (λ (n : ℕ). let named : BoardName = record { book = book; words = n } in named) as_many;
+        board = ap named as_many;
         found = settle_log log;
         extends = settle_log_later seen log goes_on begun;
         legal = legal;
         settled = tail;
         answered =
-            ap (entry_of w) tail ∙ entry_after (settle_log log) w wish
-            ∙ ap (λ (e : Option Settled). Some (answer_of e wish)) (sym said);
-      };
+          ap (entry_of w) tail ∙ entry_after (settle_log log) w wish ∙ ap answered (sym said)
+      }
     }
 
-pub exchange_told : (book : Book) (key old new : ℕ) (ask : Settlement) (before after : View Settlement ℕ) (found w : ℕ) (wish : Settled)
-    → IsBegun before.0
-    → key ≡ w → ask ≡ record {
-      word =
-          w;
-      settled = wish;
-    } → Exchanged (step key old new ask) before found after → Told book before.0 w wish found after.0
+pub exchange_told : (book : Book) (key old new : ℕ) (ask : Settlement)
+    → (before after : View Settlement ℕ) (found w : ℕ) (wish : Settled) → IsBegun before.0
+    → key ≡ w → ask.settled ≡ wish → Exchanged (step key old new ask) before found after
+    → Told book before.0 w wish found after.0
 exchange_told book key old new ask before after found w wish begun k a told =
-    let told' : Exchanged (step w old new (record {
-      word =
-          w;
-      settled = wish;
-    })) before found after =
-    subst (λ (s : Settlement). Exchanged (step w old new s) before found after) a (subst (λ (n : ℕ). Exchanged (step n old new ask) before found after) k told) in
+    let P : ℕ → Settled → Type 0 =
+      λ n settled. (log : List Settlement) × IsPrefix before.0 log × IsLegal (settle_log log)
+      × (found ≡ code_of (entry_of n (settle_log log)))
+      × (after.0 ≡ log ++ added_by (entry_of n (settle_log log)) n settled) in
+    let told' : P w wish =
+      subst (λ (s : Settled). P w s) a (subst (λ (n : ℕ). P n ask.settled) k told) in
     told_of book before.0 told'.0 after.0 w wish found begun told'.1 told'.2 told'.3 told'.4

@@ -38,7 +38,7 @@ told c =
       (c.compare_exchange-found.new.pen.nib, c.compare_exchange-found.new.offer.state),
     )
     c.compare_exchange-found.result c.args.w c.args.wish c.seen.invariant.0
-    (ap (λ w. w.key) (named c.before.before).is) c.plain-offer.ensures.1
+    (ap (λ w. w.key) (named c.before.before).is) (ap (λ s. s.settled) c.plain-offer.ensures.1)
     c.compare_exchange-found.ensures.7
 
 settles : (c : goal.After-answer-settled)
