@@ -113,5 +113,5 @@ done
 refuse_in_test quote_messages tests::written::refused_memory_changes_no_answer always
 refuse_in_test fix_fields tests::a_quote_is_written sometimes
 refuse_in_test fix_fields tests::the_longest_frame sometimes
-refuse_in_test quote_word plain::tests::a_word_is_settled_once sometimes
+refuse_in_test quote_word_tests limits::refused_memory_is_asked_for_again always
 refuse_in_test venue_config tests::the_example_has_its_rows sometimes
