@@ -4,3 +4,4 @@ pub mod FactLemmas
 pub mod KeptLemmas
 pub mod CoverLemmas
 pub mod EndLemmas
+pub mod RankLemmas

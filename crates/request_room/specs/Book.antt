@@ -206,10 +206,3 @@ IsEndOf ends.Awarded (Some winner) cover = IfSome cover (λ other. other ≢ win
 IsEndOf ends.Awarded None cover = ⊥
 IsEndOf ends.Passed winner cover = (winner ≡ None) × (cover ≡ None)
 IsEndOf ends.Expired winner cover = (winner ≡ None) × (cover ≡ None)
-
--- What a room keeps beside its events: the request it was opened for, whether it is ready, its book and its end.
-pub record Keeps (facts : List RoomFact) (request : Option RoomRequest) (ready : Bool) (book : List StandingQuote) (end : Option End) : Type 0 where
-  pub request_is : request ≡ request_of facts
-  pub ready_is : ready ≡ is_ready facts
-  pub book_is : book ≡ book_of facts
-  pub end_is : end ≡ end_of facts

@@ -9,11 +9,6 @@ use Rattle.request_room.specs.declared.ends.EndKind.TheVariants.{Awarded, Passed
 use Rattle.request_room.specs.declared.requests.RoomRequest.{RoomRequest}
 use Rattle.request_room.specs.declared.quotes.StandingQuote.{StandingQuote}
 
--- whether no dealer is named twice
-abbrev pub are_distinct : List ℕ → Bool
-are_distinct [] = true
-are_distinct (dealer ∷ others) = not (list_any (λ named. named == dealer) others) && are_distinct others
-
 -- what became so in a room
 pub data RoomFact : Type 0 where
   Opened : RoomRequest → RoomFact  -- it was opened for a request
@@ -78,7 +73,7 @@ takes_quotes facts = is_some (request_of facts) && not (is_ended facts)
 -- whether the request names a dealer
 abbrev pub names : Option RoomRequest → ℕ → Bool
 names None dealer = false
-names (Some request) dealer = list_any (λ named. named == dealer) request.dealers.items
+names (Some request) dealer = list_any (λ named. named == dealer) request.dealers
 
 -- whether the room's request names a dealer
 abbrev pub is_named : List RoomFact → ℕ → Bool

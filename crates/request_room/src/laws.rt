@@ -1,10 +1,17 @@
 //! Laws over the definitions of a room, each the contract of a function that does nothing.
-ghost use Rattle.std.specs.Prelude.{◌≡◌, ◌≢◌, ◌≤◌, ◌↔◌, ℕ, List, [], ◌++◌, length, filter, AllPairs, IfSome, IsTrue};
+ghost use Rattle.std.specs.Prelude.{◌≡◌, ◌≢◌, ◌≤◌, ◌↔◌, ℕ, List, [], ◌∷◌, ◌++◌, length, filter, AllPairs, IfSome, IsTrue};
 ghost use Rattle.market_terms.specs.declared.asks.Side.{Side};
 ghost use Rattle.request_room.specs.declared.events.RoomEvent.{RoomEvent};
 ghost use Rattle.request_room.specs.declared.quotes.StandingQuote.{StandingQuote};
 ghost use Rattle.request_room.specs.RoomFacts.{RoomFact, end_of, is_award, is_ended, is_ending};
-ghost use Rattle.request_room.specs.Book.{IsBest, IsEndOf, book_of, cover_of, others, room_after};
+ghost use Rattle.request_room.specs.Book.{IsBest, IsEndOf, book_of, cover_of, event_facts, others, room_after};
+
+/// A room begins with no fact, and one event more adds what `event_facts` says of it to the facts that stand: so
+/// whoever tells a room one event at a time follows it by its facts alone.
+pub fn facts_after_one_event_more()
+    ensures begins { room_after [] ≡ [] }
+    ensures more { (events : List RoomEvent) (event : RoomEvent) → room_after (events ++ event ∷ []) ≡ room_after events ++ event_facts (room_after events) event }
+{}
 
 /// A room that has ended changes no more, whatever is tried on it: its facts stay, and with them its book and its end.
 pub fn an_ended_room_changes_no_more()

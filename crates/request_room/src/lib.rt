@@ -9,7 +9,7 @@
 //!
 //! ```
 //! let mut room = Room::vacant(alloc);
-//! room.open(ask, &[0, 1, 2])?;
+//! room.open(ask, AskedDealers::new(&[0, 1, 2])?)?;
 //! room.post(0, first_word, price, None)?;
 //! room.ready()?;
 //! // The investor hits a quote. Where nothing speaks against it, the word of the quote is asked, by a lift.
@@ -59,8 +59,8 @@ pub use ends::{End, EndKind};
 pub use events::RoomEvent;
 pub use laws::{
     a_dealer_has_one_quote, a_room_ends_once, an_ended_room_changes_no_more,
-    only_an_award_has_a_winner, the_cover_is_the_best_other_quote,
+    facts_after_one_event_more, only_an_award_has_a_winner, the_cover_is_the_best_other_quote,
 };
 pub use quotes::StandingQuote;
-pub use requests::{RoomRequest, are_distinct};
+pub use requests::RoomRequest;
 pub use rooms::Room;

@@ -2,7 +2,7 @@
 use crate::{End, EndKind, Room, RoomEvent, are_distinct};
 use bond_prices::{Grid, Ticks};
 use fix_fields::{Memory, Moment};
-use quote_messages::{Ask, HitRefusal, Quantity, Reply, Side};
+use market_terms::{Ask, HitRefusal, Quantity, Reply, Side};
 use quote_word::Settled;
 use std::alloc::Global;
 use std::process::Abort;
