@@ -1,7 +1,7 @@
 -- The cover is the best of the quotes of the other dealers.
 use Rattle.std.proofs.Common.{◌≡◌, ◌≢◌, ◌↔◌, ℕ, suc, zero, ◌<◌, Bool, true, false, ◌&&◌, ◌||◌, ◌==◌, not, cond, List, [], ◌∷◌, length, Option, Some, None, IfSome, filter, find, get_or, ltb, refl, ap, sym, ◌∙◌, arith}
 use Rattle.std.specs.Cmp.{IsStrictWeakOrder}
-use Rattle.std.specs.List.{list_any, IsFirstBest}
+use Rattle.std.specs.List.{list_any, IsFirstBest, best_of as best_so_far}
 use Rattle.std.proofs.lemmas.List.{get_or_default}
 use Rattle.std.proofs.lemmas.Bool.Decides.{nat_tests}
 use Rattle.std.proofs.lemmas.List.Folds.{list_any_none, list_any_at}
@@ -9,38 +9,7 @@ use Rattle.std.proofs.lemmas.List.MinMax.{IsFirstBest-from_best_of, IsStrictWeak
 use Rattle.market_terms.specs.declared.asks.Side.{Side}
 use Rattle.market_terms.specs.declared.asks.Side.TheVariants.{Buy, Sell}
 use Rattle.request_room.specs.declared.quotes.StandingQuote.{StandingQuote}
-use Rattle.request_room.specs.Search.{is_best_other}
 use Rattle.request_room.specs.Book.{has_better_price, others, best_of, cover_of, IsBest}
-
--- The cover is looked for in the whole book.
-
-find_step : {X : Type 0} (p q : X → Bool) (b : Bool) (x : X) (xs : List X) → find q (filter p xs) ≡ find (λ y. p y && q y) xs → find q (cond b (x ∷ filter p xs) (filter p xs)) ≡ cond (b && q x) (Some x) (find (λ y. p y && q y) xs)
-find_step p q true x xs h = ap (λ o. cond (q x) (Some x) o) h
-find_step p q false x xs h = h
-
-find_filter : {X : Type 0} (p q : X → Bool) (xs : List X) → find q (filter p xs) ≡ find (λ x. p x && q x) xs
-find_filter p q [] = refl
-find_filter p q (x ∷ xs) = find_step p q (p x) x xs (find_filter p q xs)
-
-any_step : {X : Type 0} (p q : X → Bool) (b : Bool) (x : X) (xs : List X) → list_any q (filter p xs) ≡ list_any (λ y. p y && q y) xs → list_any q (cond b (x ∷ filter p xs) (filter p xs)) ≡ ((b && q x) || list_any (λ y. p y && q y) xs)
-any_step p q true x xs h = ap (λ o. q x || o) h
-any_step p q false x xs h = h
-
-any_filter : {X : Type 0} (p q : X → Bool) (xs : List X) → list_any q (filter p xs) ≡ list_any (λ x. p x && q x) xs
-any_filter p q [] = refl
-any_filter p q (x ∷ xs) = any_step p q (p x) x xs (any_filter p q xs)
-
-find_alike : {X : Type 0} (p q : X → Bool) → ((x : X) → p x ≡ q x) → (xs : List X) → find p xs ≡ find q xs
-find_alike p q alike [] = refl
-find_alike p q alike (x ∷ xs) = ap (λ b. cond b (Some x) (find p xs)) (alike x) ∙ ap (λ o. cond (q x) (Some x) o) (find_alike p q alike xs)
-
--- the cover is the first quote in the book that is another dealer's and than which no other dealer's is better
-pub cover_is_found : (side : Side) (winner : ℕ) (book : List StandingQuote) → cover_of side winner book ≡ find (is_best_other side winner book) book
-unfolding cover_of is_best_other
-cover_is_found side winner book =
-    find_filter (λ quote. not (quote.dealer == winner)) (λ quote. not (list_any (λ other. has_better_price side other quote) (others winner book))) book
-    ∙ find_alike (λ quote. not (quote.dealer == winner) && not (list_any (λ other. has_better_price side other quote) (others winner book))) (is_best_other side winner book)
-    (λ quote. ap (λ b. not (quote.dealer == winner) && not b) (any_filter (λ other. not (other.dealer == winner)) (λ other. has_better_price side other quote) book)) book
 
 -- The best of some quotes.
 
@@ -94,24 +63,33 @@ pub cover_if_any : (side : Side) (winner : ℕ) (book : List StandingQuote) → 
 unfolding cover_of
 cover_if_any side winner book = (best_if_any side (others winner book), no_best side (others winner book))
 
-chosen : {X : Type 0} (p : X → Bool) (b : Bool) (x : X) (rest : Option X) → p x ≡ b → IfSome rest (λ y. p y ≡ true) → IfSome (cond b (Some x) rest) (λ y. p y ≡ true)
-chosen p true x rest h more = h
-chosen p false x rest h more = more
+-- what is found among those that pass a test passes it
+found_step : {X : Type 0} (p q : X → Bool) (x : X) (xs : List X) (here : Bool) → p x ≡ here → IfSome (find q (filter p xs)) (λ y. p y ≡ true) → IfSome (find q (cond here (x ∷ filter p xs) (filter p xs))) (λ y. p y ≡ true)
+found_step p q x xs true h more = elim (q x) as (λ b. IfSome (cond b (Some x) (find q (filter p xs))) (λ y. p y ≡ true)) [ true ↦ h | false ↦ more ]
+found_step p q x xs false h more = more
 
-found_passes : {X : Type 0} (p : X → Bool) (xs : List X) → IfSome (find p xs) (λ x. p x ≡ true)
-found_passes p [] = tt
-found_passes p (x ∷ xs) = chosen p (p x) x (find p xs) refl (found_passes p xs)
+found_passes : {X : Type 0} (p q : X → Bool) (xs : List X) → IfSome (find q (filter p xs)) (λ x. p x ≡ true)
+found_passes p q [] = tt
+found_passes p q (x ∷ xs) = found_step p q x xs (p x) refl (found_passes p q xs)
 
-another : (dealer winner : ℕ) (rest : Bool) → (not (dealer == winner) && rest) ≡ true → dealer ≢ winner
-another dealer winner rest h = grind (arith, nat_tests)
+another : (dealer winner : ℕ) → not (dealer == winner) ≡ true → dealer ≢ winner
+another dealer winner h = grind (arith, nat_tests)
 
-passes_another : (winner : ℕ) (rest : StandingQuote → Bool) (found : Option StandingQuote) → IfSome found (λ quote. (not (quote.dealer == winner) && rest quote) ≡ true) → IfSome found (λ quote. quote.dealer ≢ winner)
-passes_another winner rest None h = tt
-passes_another winner rest (Some quote) h = another quote.dealer winner (rest quote) h
+passes_another : (winner : ℕ) (found : Option StandingQuote) → IfSome found (λ quote. not (quote.dealer == winner) ≡ true) → IfSome found (λ quote. quote.dealer ≢ winner)
+passes_another winner None h = tt
+passes_another winner (Some quote) h = another quote.dealer winner h
 
 -- the cover is never the winner's quote
 pub cover_is_another : (side : Side) (winner : ℕ) (book : List StandingQuote) → IfSome (cover_of side winner book) (λ cover. cover.dealer ≢ winner)
-unfolding is_best_other
+unfolding cover_of
 cover_is_another side winner book =
-    rw (cover_is_found side winner book)
-    (passes_another winner (λ quote. not (list_any (λ other. not (other.dealer == winner) && has_better_price side other quote) book)) (find (is_best_other side winner book) book) (found_passes (is_best_other side winner book) book))
+    passes_another winner (best_of side (others winner book))
+    (found_passes (λ quote. not (quote.dealer == winner)) (λ quote. not (list_any (λ other. has_better_price side other quote) (others winner book))) book)
+
+-- The best so far, quote by quote.
+
+-- the best of some quotes is the first that no later one beats
+pub best_is_so_far : (side : Side) (first : StandingQuote) (later : List StandingQuote) → best_of side (first ∷ later) ≡ Some (best_so_far (has_better_price side) first later)
+best_is_so_far side first later =
+    let found = IsFirstBest-from_best_of (by_price side) first later in
+    best_found side (first ∷ later) found.0 first found.1 ∙ ap Some found.2

@@ -12,7 +12,8 @@ use Rattle.request_room.specs.declared.quotes.StandingQuote.{StandingQuote}
 use Rattle.request_room.specs.declared.requests.RoomRequest.{RoomRequest}
 use Rattle.request_room.specs.RoomFacts.{RoomFact, Opened, Readied, Posted, Unposted, Noted, Ended, opened_for, ended_as, request_of, end_of, is_ready, is_vacant, is_opening, is_open, takes_quotes}
 use Rattle.market_terms.specs.Checks.{first_refusal}
-use Rattle.request_room.specs.Book.{Keeps, book_of, others, stands, hit_outcome, may_expire, passed, expired, quote_posted, where_so, end_by, open_checks, hit_refusal, hit_settled, award_of, event_facts, after_event, room_after}
+use Rattle.request_room.specs.Kept.{Keeps}
+use Rattle.request_room.specs.Book.{book_of, others, stands, hit_outcome, may_expire, passed, expired, quote_posted, where_so, end_by, open_checks, hit_refusal, hit_settled, award_of, event_facts, after_event, room_after}
 use Rattle.request_room.proofs.FactLemmas.{said_by_others, said_first, ready_as_before, ready_now, left_by, book_after, book_opened, book_readied, book_noted, book_ended, book_unposted}
 
 -- a room after one event more is that after the others, and then after this one

@@ -5,3 +5,4 @@ pub mod KeptLemmas
 pub mod CoverLemmas
 pub mod EndLemmas
 pub mod RankLemmas
+pub mod KeptRoomLemmas

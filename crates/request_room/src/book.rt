@@ -91,12 +91,11 @@ impl RoomBook {
         Some(found.quote)
     }
 
-    /// The cover of an award to a dealer: the first quote of another dealer.
-    pub(crate) fn cover(&self, winner: u16) -> Option<StandingQuote>
-        ensures { result ≡ option_map (λ one. one.quote) (find (λ one. not (one.quote.dealer == winner)) self.now.quotes.items) }
+    /// The dealer of the cover of an award to a dealer: the first other one.
+    pub(crate) fn cover(&self, winner: u16) -> Option<u16>
+        ensures { result ≡ option_map (λ one. one.quote.dealer) (find (λ one. not (one.quote.dealer == winner)) self.now.quotes.items) }
     {
-        let cover = first_other(winner, &self.quotes)?;
-        Some(cover.quote)
+        first_other(winner, &self.quotes)
     }
 }
 
@@ -174,13 +173,13 @@ fn comes_first(w: u32, found: &Option<RankedQuote>, one: &RankedQuote) -> bool
     one.quote.word == w && one.posting < found.posting
 }
 
-/// The first quote of another dealer.
-fn first_other(winner: u16, quotes: &[RankedQuote]) -> Option<RankedQuote>
-    ensures { result ≡ find (λ one. not (one.quote.dealer == winner)) quotes.now }
+/// The dealer of the first quote that is another's.
+fn first_other(winner: u16, quotes: &[RankedQuote]) -> Option<u16>
+    ensures { result ≡ option_map (λ one. one.quote.dealer) (find (λ one. not (one.quote.dealer == winner)) quotes.now) }
 {
     for one in quotes {
         if one.quote.dealer != winner {
-            return Some(*one);
+            return Some(one.quote.dealer);
         }
     }
     None

@@ -337,15 +337,21 @@ impl Room {
     }
 
     /// The end by an award of the quote that this word means.
+    #[tactic(auto, using(crate::proofs::KeptRoomLemmas::no_cover))]
     fn award_of(&self, w: u32) -> End
         ensures { result ≡ spec.award_of (room_after self.now) w }
     {
-        let quote = self.quote_meant(w);
-        let cover = self.cover_for(&quote);
+        let Some(quote) = self.quote_meant(w) else {
+            return End {
+                kind: EndKind::Awarded,
+                winner: None,
+                cover: None,
+            };
+        };
         End {
             kind: EndKind::Awarded,
-            winner: quote.map(|quote| (quote.dealer, quote.word)),
-            cover: cover.map(|cover| cover.dealer),
+            winner: Some((quote.dealer, quote.word)),
+            cover: self.cover_for(&quote),
         }
     }
 
@@ -356,14 +362,10 @@ impl Room {
         self.book.hit(w)
     }
 
-    /// The cover of an award of this quote, where there is one.
-    fn cover_for(&self, winner: &Option<StandingQuote>) -> Option<StandingQuote>
-        ensures { result ≡ spec.cover_for (facts.request_of (room_after self.now)) winner.now (spec.book_of (room_after self.now)) }
+    /// The dealer of the cover of an award of this quote, where there is one.
+    fn cover_for(&self, winner: &StandingQuote) -> Option<u16>
+        ensures { result ≡ option_map (λ quote. quote.dealer) (spec.cover_for (facts.request_of (room_after self.now)) (Some winner.now) (spec.book_of (room_after self.now))) }
     {
-        let Some(winner) = winner else {
-            return None;
-        };
-        let cover = self.book.cover(winner.dealer)?;
-        Some(cover)
+        self.book.cover(winner.dealer)
     }
 }
