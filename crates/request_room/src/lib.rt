@@ -52,8 +52,6 @@ mod laws;
 mod quotes;
 mod requests;
 mod rooms;
-#[cfg(test)]
-mod tests;
 
 pub use ends::{End, EndKind};
 pub use events::RoomEvent;

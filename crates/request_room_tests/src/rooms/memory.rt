@@ -67,6 +67,21 @@ fn a_refused_expiry_leaves_the_room(rt: HostRuntime) -> Result<(), Fail> {
     Ok(())
 }
 
+#[test]
+fn a_hundred_posts_are_refused_in_turn(rt: HostRuntime) -> Result<(), Fail> {
+    let mut room = Room::vacant(rt.alloc());
+    assert!(rt; calls(&rt, &mut room, &Call::Open)?);
+    assert!(rt; calls(&rt, &mut room, &Call::Ready)?);
+    for w in 0..100 {
+        assert!(rt; calls(&rt, &mut room, &Call::Post((w % 3) as u16, w))?);
+    }
+    assert_eq!(rt; room.events().len(), 102);
+    assert!(rt; room.question_hit(96, at(&rt, 1)).is_err());
+    assert!(rt; calls(&rt, &mut room, &Call::Hit(98))?);
+    assert!(rt; room.end() == awarded(2, 98, Some(1)));
+    Ok(())
+}
+
 /// Makes a call, and where memory was refused looks at the room and makes it again.
 fn calls(rt: &impl Abort, room: &mut Room, call: &Call) -> Result<bool, Memory> {
     let before = seen(room, at(rt, 1));

@@ -71,10 +71,3 @@ fn an_unpost_names_the_dealer_and_its_quote(rt: HostRuntime) -> Result<(), Fail>
     assert!(rt; room.question_hit(21, at(&rt, 1)) == Ok(21));
     Ok(())
 }
-
-#[test]
-fn dealers_are_distinct(rt: HostRuntime) -> Result<(), Fail> {
-    assert!(rt; are_distinct(&[]) && are_distinct(&[5]) && are_distinct(&[5, 0, 7]));
-    assert!(rt; !are_distinct(&[5, 0, 5]) && !are_distinct(&[5, 5]));
-    Ok(())
-}

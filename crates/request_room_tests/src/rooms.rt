@@ -1,14 +1,15 @@
-//! Tests of what no clause says: what a market maker would write down of a room's day, with its values.
-use crate::{End, EndKind, Room, RoomEvent, are_distinct};
+//! What the tests of a room share: rooms at some point of their day, and calls that meet their conditions.
 use bond_prices::{Grid, Ticks};
 use fix_fields::{Memory, Moment};
-use market_terms::{Ask, HitRefusal, Quantity, Reply, Side};
+use market_terms::{Ask, AskedDealers, HitRefusal, Quantity, Reply, Side};
 use quote_word::Settled;
+use request_room::{End, EndKind, Room, RoomEvent};
 use std::alloc::Global;
 use std::process::Abort;
 use std::test::Fail;
 use venue_config::{BondId, Name};
 
+mod books;
 mod covers;
 mod ends;
 mod hitting;
@@ -45,8 +46,7 @@ fn quoted(rt: &impl Abort, alloc: Global, side: Side) -> Result<Room, Fail> {
 fn opens(rt: &impl Abort, room: &mut Room, side: Side, dealers: &[u16]) -> Result<(), Memory> {
     let ask = ask(rt, side);
     assert!(rt; room.is_vacant(), "the room is vacant");
-    assert!(rt; dealers.len() >= 1 && dealers.len() <= 8);
-    assert!(rt; are_distinct(dealers));
+    let dealers = AskedDealers::new(dealers).expect(rt, "one to eight dealers");
     room.open(ask, dealers)
 }
 
