@@ -1,4 +1,5 @@
--- The book of a room, what a hit meets there, what the cover is, and the room after a list of its events.
+-- The book of a room, what a hit meets there, what the cover is, and the room after a list of its
+-- events.
 use Rattle.std.specs.Prelude.{◌≡◌, ◌≢◌, ℕ, Bool, true, false, ◌&&◌, ◌==◌, not, nat_lt, nat_le, List, [], ◌∷◌, ◌++◌, Option, Some, None, IfSome, is_none, Result, Ok, Err, fold, find, filter, length, slice_index_or, if◌then◌else◌}
 use Rattle.std.specs.List.{list_any, IsFirstBest}
 use Rattle.std.specs.Option.{option_map}
@@ -32,8 +33,8 @@ takes_out quote (Posted next) = quote.dealer == next.dealer
 takes_out quote (Unposted dealer w) = is_quote_of dealer w quote
 takes_out quote fact = false
 
--- The book: for each dealer its last posted quote, and none where that was unposted later. So it has each quote that
--- was posted and that no later fact takes out, the earliest posted first.
+-- The book: for each dealer its last posted quote, and none where that was unposted later. So it
+-- has each quote that was posted and that no later fact takes out, the earliest posted first.
 abbrev pub book_of : List RoomFact → List StandingQuote
 book_of [] = []
 book_of (Posted quote ∷ later) = if list_any (takes_out quote) later then book_of later else quote ∷ book_of later
@@ -53,8 +54,8 @@ quote_meant book w = find (λ quote. quote.word == w) book
 
 -- Cover.
 
--- whether a price is better than another for an investor of this side: a lower offer for one that buys, a higher bid
--- for one that sells
+-- whether a price is better than another for an investor of this side: a lower offer for one that
+-- buys, a higher bid for one that sells
 abbrev pub is_better : Side → ℕ → ℕ → Bool
 is_better Buy price other = nat_lt price other
 is_better Sell price other = nat_lt other price
@@ -71,8 +72,8 @@ others dealer book = filter (λ quote. not (quote.dealer == dealer)) book
 abbrev pub best_of : Side → List StandingQuote → Option StandingQuote
 best_of side quotes = find (λ quote. not (list_any (λ other. has_better_price side other quote) quotes)) quotes
 
--- A quote is the best of some: it stands among them at a place at which none is better, and each that was posted
--- earlier is worse.
+-- A quote is the best of some: it stands among them at a place at which none is better, and each
+-- that was posted earlier is worse.
 pub record IsBest (side : Side) (quotes : List StandingQuote) (best : StandingQuote) : Type 0 where
   pub place : ℕ
   pub stands_there : slice_index_or quotes place best ≡ best
@@ -181,7 +182,8 @@ abbrev pub end_by : Result End HitRefusal → ℕ → List RoomFact
 end_by (Ok award) moment = Ended award moment ∷ []
 end_by (Err refused) moment = []
 
--- the fact that an event adds to those that stand, if it adds one: nothing else that is tried changes a room
+-- the fact that an event adds to those that stand, if it adds one: nothing else that is tried
+-- changes a room
 unfoldable pub event_facts : List RoomFact → RoomEvent → List RoomFact
 event_facts facts (event.Open request) = where_so (is_vacant facts) (Opened request)
 event_facts facts event.Ready = where_so (is_opening facts) Readied
@@ -200,7 +202,8 @@ after_event facts event = facts ++ event_facts facts event
 unfoldable pub room_after : List RoomEvent → List RoomFact
 room_after events = fold after_event [] events
 
--- What an end may say: an award has a winner, and its cover is another dealer; without an award there is neither.
+-- What an end may say: an award has a winner, and its cover is another dealer; without an award
+-- there is neither.
 abbrev pub IsEndOf : EndKind → Option (ℕ × ℕ) → Option ℕ → Type 0
 IsEndOf ends.Awarded (Some winner) cover = IfSome cover (λ other. other ≢ winner.0)
 IsEndOf ends.Awarded None cover = ⊥

@@ -1,6 +1,6 @@
 -- What a room keeps beside its events: words of its private invariant and of its private functions,
--- which no public clause names. The book is kept best first, and each quote in it with the number of
--- its posting; the definitions of `Book` list it in the order of posting.
+-- which no public clause names. The book is kept best first, and each quote in it with the number
+-- of its posting; the definitions of `Book` list it in the order of posting.
 use Rattle.std.specs.Prelude.{◌≡◌, ℕ, ◌+◌, ◌<◌, ◌≤◌, Bool, ◌&&◌, ◌==◌, nat_lt}
 use Rattle.std.specs.Prelude.{List, [], ◌∷◌, map, fold, Option, Some, None, if◌then◌else◌}
 use Rattle.market_terms.specs.declared.asks.Side.{Side}

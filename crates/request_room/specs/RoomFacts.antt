@@ -1,5 +1,5 @@
--- The facts of a room, and what follows from them: whether it is vacant, opening, open or ended, what is asked for, of
--- which dealers, and how it ended. Facts are only ever added.
+-- The facts of a room, and what follows from them: whether it is vacant, opening, open or ended,
+-- what is asked for, of which dealers, and how it ended. Facts are only ever added.
 use Rattle.std.specs.Prelude.{ℕ, Bool, true, false, ◌&&◌, ◌==◌, not, List, [], ◌∷◌, Option, Some, None, is_some, is_none}
 use Rattle.std.specs.List.{list_any}
 use Rattle.std.specs.Option.{option_or}

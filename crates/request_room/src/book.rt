@@ -54,8 +54,8 @@ impl RoomBook {
         Ok(())
     }
 
-    /// Puts a quote that is posted now where it ranks, in the place of the one that its dealer has in
-    /// the book. There is room for it.
+    /// Puts a quote that is posted now where it ranks, in the place of the one that its dealer has
+    /// in the book. There is room for it.
     pub(crate) fn post(&mut self, posting: usize, quote: StandingQuote) -> Result<(), Memory>
         requires { vec_len self.old.quotes < vec_capacity self.old.quotes }
         ensures ok { IsOk result }

@@ -6,14 +6,15 @@ ghost use Rattle.request_room.specs.declared.quotes.StandingQuote.{StandingQuote
 ghost use Rattle.request_room.specs.RoomFacts.{RoomFact, end_of, is_award, is_ended, is_ending};
 ghost use Rattle.request_room.specs.Book.{IsBest, IsEndOf, book_of, cover_of, event_facts, others, room_after};
 
-/// A room begins with no fact, and one event more adds what `event_facts` says of it to the facts that stand: so
-/// whoever tells a room one event at a time follows it by its facts alone.
+/// A room begins with no fact, and one event more adds what `event_facts` says of it to the facts
+/// that stand: so whoever tells a room one event at a time follows it by its facts alone.
 pub fn facts_after_one_event_more()
     ensures begins { room_after [] ≡ [] }
     ensures more { (events : List RoomEvent) (event : RoomEvent) → room_after (events ++ event ∷ []) ≡ room_after events ++ event_facts (room_after events) event }
 {}
 
-/// A room that has ended changes no more, whatever is tried on it: its facts stay, and with them its book and its end.
+/// A room that has ended changes no more, whatever is tried on it: its facts stay, and with them
+/// its book and its end.
 pub fn an_ended_room_changes_no_more()
     ensures { (events more : List RoomEvent) → IsTrue (is_ended (room_after events)) → room_after (events ++ more) ≡ room_after events }
 {}
@@ -24,8 +25,9 @@ pub fn a_room_ends_once()
     ensures awards { (events : List RoomEvent) → length (filter is_award (room_after events)) ≤ 1 }
 {}
 
-/// The cover of an award is the best of the quotes of the other dealers: no other's is better, and each other's that
-/// was posted earlier is worse. It is never the winner's, and there is one exactly where another dealer's quote stands.
+/// The cover of an award is the best of the quotes of the other dealers: no other's is better, and
+/// each other's that was posted earlier is worse. It is never the winner's, and there is one
+/// exactly where another dealer's quote stands.
 pub fn the_cover_is_the_best_other_quote()
     ensures best { (side : Side) (winner : ℕ) (book : List StandingQuote) → IfSome (cover_of side winner book) (λ cover. IsBest side (others winner book) cover) }
     ensures another { (side : Side) (winner : ℕ) (book : List StandingQuote) → IfSome (cover_of side winner book) (λ cover. cover.dealer ≢ winner) }
@@ -37,8 +39,8 @@ pub fn a_dealer_has_one_quote()
     ensures { (facts : List RoomFact) → AllPairs (λ one other. one.dealer ≢ other.dealer) (book_of facts) }
 {}
 
-/// A room that was awarded has a winner, and its cover, where there is one, is another dealer. A room that ended
-/// otherwise has neither.
+/// A room that was awarded has a winner, and its cover, where there is one, is another dealer. A
+/// room that ended otherwise has neither.
 pub fn only_an_award_has_a_winner()
     ensures { (events : List RoomEvent) → IfSome (end_of (room_after events)) (λ end. IsEndOf end.kind end.winner end.cover) }
 {}

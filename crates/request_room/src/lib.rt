@@ -1,9 +1,10 @@
-//! The room of one request of a blind multi-dealer RFQ venue: where the quotes of its dealers stand until the investor
-//! hits one of them, passes, or the deadline comes.
+//! The room of one request of a blind multi-dealer RFQ venue: where the quotes of its dealers stand
+//! until the investor hits one of them, passes, or the deadline comes.
 //!
-//! A room is vacant until it is opened, then opening until each named dealer was shown the request, then open, and
-//! ended for good once it was awarded, passed or expired. It sees nothing but what is tried on it. It holds no word:
-//! where a hit asks the word of a quote, the room is handed the answer.
+//! A room is vacant until it is opened, then opening until each named dealer was shown the request,
+//! then open, and ended for good once it was awarded, passed or expired. It sees nothing but what
+//! is tried on it. It holds no word: where a hit asks the word of a quote, the room is handed the
+//! answer.
 //!
 //! # Example
 //!
@@ -25,23 +26,27 @@
 //!
 //! # What is promised
 //!
-//! - Each call that changes a room, or tries to, adds one event to [`Room::events`] and changes nothing else. What a
-//!   room answers is a function of its events, `room_after`: the facts that stand. Where memory is refused a call
-//!   changes nothing at all.
-//! - [`Room::post`], [`Room::unpost`], [`Room::decline`], [`Room::pass`] and [`Room::expire`] say whether they took
-//!   effect. The first three do in an opening and in an open room, an unpost only where that quote stands; a pass
-//!   does in an open room, an expiry in an open room from the deadline on.
+//! - Each call that changes a room, or tries to, adds one event to [`Room::events`] and changes
+//!   nothing else. What a room answers is a function of its events, `room_after`: the facts that
+//!   stand. Where memory is refused a call changes nothing at all.
+//! - [`Room::post`], [`Room::unpost`], [`Room::decline`], [`Room::pass`] and [`Room::expire`] say
+//!   whether they took effect. The first three do in an opening and in an open room, an unpost only
+//!   where that quote stands; a pass does in an open room, an expiry in an open room from the
+//!   deadline on.
 //! - The book is, for each dealer, its last posted quote, and none where that was unposted later.
-//! - [`Room::question_hit`] gives the word that a hit asks, or the first of four refusals whose condition holds.
-//!   [`Room::hit`] awards the request exactly where none of them holds and the word is lifted.
-//! - A room that has ended changes no more, whatever is tried on it ([`an_ended_room_changes_no_more`]). It ends once
-//!   at most, and is awarded once at most ([`a_room_ends_once`]).
-//! - The cover is the best of the other dealers' quotes in the book, of equal prices the earlier posted. There is one
-//!   exactly where another dealer's quote stands ([`the_cover_is_the_best_other_quote`]).
+//! - [`Room::question_hit`] gives the word that a hit asks, or the first of four refusals whose
+//!   condition holds. [`Room::hit`] awards the request exactly where none of them holds and the
+//!   word is lifted.
+//! - A room that has ended changes no more, whatever is tried on it
+//!   ([`an_ended_room_changes_no_more`]). It ends once at most, and is awarded once at most
+//!   ([`a_room_ends_once`]).
+//! - The cover is the best of the other dealers' quotes in the book, of equal prices the earlier
+//!   posted. There is one exactly where another dealer's quote stands
+//!   ([`the_cover_is_the_best_other_quote`]).
 //! - Only an award has a winner, and a cover is another dealer ([`only_an_award_has_a_winner`]).
 //!
-//! Each call returns, and fails for nothing but memory. The room goes over its book anew at each question; a book has
-//! one quote of a dealer at most ([`a_dealer_has_one_quote`]).
+//! Each call returns, and fails for nothing but memory. The room goes over its book anew at each
+//! question; a book has one quote of a dealer at most ([`a_dealer_has_one_quote`]).
 #![tactic(auto)]
 
 mod book;

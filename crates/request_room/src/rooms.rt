@@ -15,11 +15,12 @@ use quote_word::Settled;
 use std::alloc::Global;
 use std::marker::Model;
 
-/// The room of one request: where the quotes of its dealers stand until the investor hits one of them, passes, or the
-/// deadline comes.
+/// The room of one request: where the quotes of its dealers stand until the investor hits one of
+/// them, passes, or the deadline comes.
 ///
-/// A contract sees the list of what was tried on the room. What became of it is `room_after` that list: the facts that
-/// stand, and from them whether the room is vacant, opening, open or ended, its book and its end.
+/// A contract sees the list of what was tried on the room. What became of it is `room_after` that
+/// list: the facts that stand, and from them whether the room is vacant, opening, open or ended,
+/// its book and its end.
 #[derive(Drop)]
 pub struct Room {
     events: Vec<RoomEvent>,
@@ -56,8 +57,8 @@ impl Room {
         }
     }
 
-    /// Opens a vacant room for a request (QuoteRequest 35=R) of these dealers, named by their numbers
-    /// among the firms. It fails for memory alone, and then the room is as before.
+    /// Opens a vacant room for a request (QuoteRequest 35=R) of these dealers, named by their
+    /// numbers among the firms. It fails for memory alone, and then the room is as before.
     pub fn open(&mut self, ask: Ask, dealers: AskedDealers) -> Result<(), Memory>
         requires { IsTrue (facts.is_vacant (room_after self.old)) }
         ensures ok { OnOk result (self.new ≡ self.old ++ RoomEvent.Open (record { ask = ask; dealers = dealers }) ∷ []) }
@@ -72,8 +73,8 @@ impl Room {
         Ok(())
     }
 
-    /// Makes an opening room open for hits, a pass and its expiry: each named dealer was shown the request. It fails
-    /// for memory alone, and then the room is as before.
+    /// Makes an opening room open for hits, a pass and its expiry: each named dealer was shown the
+    /// request. It fails for memory alone, and then the room is as before.
     pub fn ready(&mut self) -> Result<(), Memory>
         requires { IsTrue (facts.is_opening (room_after self.old)) }
         ensures ok { OnOk result (self.new ≡ self.old ++ RoomEvent.Ready ∷ []) }
@@ -85,10 +86,11 @@ impl Room {
         Ok(())
     }
 
-    /// Posts a quote of a named dealer (Quote 35=S) with its word, its price in ticks of 1/256 point on the asked
-    /// side, and the moment from which on it can't be hit (ValidUntilTime 62), in the place of the quote that the
-    /// dealer has in the book. It answers whether it took effect: it does where the room is opening or open, and in a
-    /// vacant room it does not. It fails for memory alone, and then the room is as before.
+    /// Posts a quote of a named dealer (Quote 35=S) with its word, its price in ticks of 1/256
+    /// point on the asked side, and the moment from which on it can't be hit (ValidUntilTime 62),
+    /// in the place of the quote that the dealer has in the book. It answers whether it took
+    /// effect: it does where the room is opening or open, and in a vacant room it does not. It
+    /// fails for memory alone, and then the room is as before.
     pub fn post(
         &mut self,
         dealer: u16,
@@ -119,9 +121,10 @@ impl Room {
         Ok(true)
     }
 
-    /// Takes the quote of a named dealer with this word out of the book, once its dealer withdrew it (QuoteCancel
-    /// 35=Z). It answers whether it took effect: it does where that quote of that dealer stands in a room that has
-    /// not ended. It fails for memory alone, and then the room is as before.
+    /// Takes the quote of a named dealer with this word out of the book, once its dealer withdrew
+    /// it (QuoteCancel 35=Z). It answers whether it took effect: it does where that quote of that
+    /// dealer stands in a room that has not ended. It fails for memory alone, and then the room is
+    /// as before.
     pub fn unpost(&mut self, dealer: u16, w: u32) -> Result<bool, Memory>
         requires { IsTrue (facts.is_vacant (room_after self.old) || facts.is_named (room_after self.old) dealer) }
         ensures effect { IfOk result (λ effect. effect ≡ (facts.takes_quotes (room_after self.old) && spec.stands (spec.book_of (room_after self.old)) dealer w)) }
@@ -138,9 +141,9 @@ impl Room {
         Ok(true)
     }
 
-    /// Notes that a named dealer declined (QuoteRequestReject 35=AG). It answers whether it took effect: it does
-    /// where the room is opening or open, also a second time. The book stays as it is. It fails for memory alone, and
-    /// then the room is as before.
+    /// Notes that a named dealer declined (QuoteRequestReject 35=AG). It answers whether it took
+    /// effect: it does where the room is opening or open, also a second time. The book stays as it
+    /// is. It fails for memory alone, and then the room is as before.
     pub fn decline(&mut self, dealer: u16) -> Result<bool, Memory>
         requires { IsTrue (facts.is_vacant (room_after self.old) || facts.is_named (room_after self.old) dealer) }
         ensures effect { IfOk result (λ effect. effect ≡ facts.takes_quotes (room_after self.old)) }
@@ -153,10 +156,11 @@ impl Room {
         Ok(takes)
     }
 
-    /// The word that has to be asked before the quote with this word is hit at this moment, or else the first of
-    /// these refusals: `NotOpen` where the room is not open, `Deadline` where the moment is at or past the deadline
-    /// (ExpireTime 126), `Gone` where no quote in the book bears the word, `Expired` where the quote's validity
-    /// (ValidUntilTime 62) ends at or before the moment. It takes no memory.
+    /// The word that has to be asked before the quote with this word is hit at this moment, or else
+    /// the first of these refusals: `NotOpen` where the room is not open, `Deadline` where the
+    /// moment is at or past the deadline (ExpireTime 126), `Gone` where no quote in the book bears
+    /// the word, `Expired` where the quote's validity (ValidUntilTime 62) ends at or before the
+    /// moment. It takes no memory.
     pub fn question_hit(&self, w: u32, moment: Moment) -> Result<u32, HitRefusal>
         ensures { result ≡ spec.hit_question (room_after self.now) w moment }
     {
@@ -166,10 +170,11 @@ impl Room {
         Ok(w)
     }
 
-    /// The investor hits the quote with this word (QuoteResponse 35=AJ, QuoteRespType 694=1), with the answer of the
-    /// word where it is asked. A lifted word awards the request to the earliest posted quote that bears it, and ends
-    /// the room. Else the hit is refused as [`Room::question_hit`] says, or as `Withdrawn` where the word was
-    /// withdrawn, and the room stays as it was but for the event. It fails for memory alone, and then the room is as
+    /// The investor hits the quote with this word (QuoteResponse 35=AJ, QuoteRespType 694=1), with
+    /// the answer of the word where it is asked. A lifted word awards the request to the earliest
+    /// posted quote that bears it, and ends the room. Else the hit is refused as
+    /// [`Room::question_hit`] says, or as `Withdrawn` where the word was withdrawn, and the room
+    /// stays as it was but for the event. It fails for memory alone, and then the room is as
     /// before.
     pub fn hit(&mut self, w: u32, moment: Moment, answer: Option<Settled>) -> Result<Reply, Memory>
         requires { is_some answer ≡ is_ok (spec.hit_question (room_after self.old) w moment) }
@@ -192,8 +197,9 @@ impl Room {
         Ok(Reply::Awarded)
     }
 
-    /// The investor passes at this moment (QuoteResponse 35=AJ, QuoteRespType 694=6). It answers whether that ended the
-    /// room: it does where the room is open. It fails for memory alone, and then the room is as before.
+    /// The investor passes at this moment (QuoteResponse 35=AJ, QuoteRespType 694=6). It answers
+    /// whether that ended the room: it does where the room is open. It fails for memory alone, and
+    /// then the room is as before.
     pub fn pass(&mut self, moment: Moment) -> Result<bool, Memory>
         ensures ended { IfOk result (λ ended. ended ≡ facts.is_open (room_after self.old)) }
         ensures ok { OnOk result (self.new ≡ self.old ++ RoomEvent.Pass moment ∷ []) }
@@ -213,9 +219,9 @@ impl Room {
         Ok(true)
     }
 
-    /// A sweep at this moment. It answers whether it ended the room: it does where the room is open and the moment is
-    /// at or past the deadline of the request (ExpireTime 126). It fails for memory alone, and then the room is as
-    /// before.
+    /// A sweep at this moment. It answers whether it ended the room: it does where the room is open
+    /// and the moment is at or past the deadline of the request (ExpireTime 126). It fails for
+    /// memory alone, and then the room is as before.
     pub fn expire(&mut self, moment: Moment) -> Result<bool, Memory>
         ensures ended { IfOk result (λ ended. ended ≡ spec.may_expire (room_after self.old) moment) }
         ensures ok { OnOk result (self.new ≡ self.old ++ RoomEvent.Expire moment ∷ []) }
