@@ -1,6 +1,7 @@
 -- The facts of a room, and what follows from them: whether it is vacant, opening, open or ended,
 -- what is asked for, of which dealers, and how it ended. Facts are only ever added.
-use Rattle.std.specs.Prelude.{ℕ, Bool, true, false, ◌&&◌, ◌==◌, not, List, [], ◌∷◌, Option, Some, None, is_some, is_none}
+use Rattle.std.specs.Prelude.{ℕ, Bool, true, false, ◌&&◌, ◌||◌, ◌==◌, not, List, [], ◌∷◌}
+use Rattle.std.specs.Prelude.{Option, Some, None, is_some, is_none}
 use Rattle.std.specs.List.{list_any}
 use Rattle.std.specs.Option.{option_or}
 use Rattle.request_room.specs.declared.ends.End.{End}
@@ -78,6 +79,11 @@ names (Some request) dealer = list_any (λ named. named == dealer) request.deale
 -- whether the room's request names a dealer
 abbrev pub is_named : List RoomFact → ℕ → Bool
 is_named facts dealer = names (request_of facts) dealer
+
+-- whom a room hears: the dealers that its request names; while it is vacant anyone, and then
+-- nothing follows
+abbrev pub hears : List RoomFact → ℕ → Bool
+hears facts dealer = is_vacant facts || is_named facts dealer
 
 -- whether a fact ends the room
 abbrev pub is_ending : RoomFact → Bool

@@ -60,7 +60,10 @@ impl RoomBook {
         requires { vec_len self.old.quotes < vec_capacity self.old.quotes }
         ensures ok { IsOk result }
         ensures side { self.new.side ≡ self.old.side }
-        ensures quotes { self.new.quotes.items ≡ kept.rank_in self.old.side (filter (λ one. not (one.quote.dealer == quote.dealer)) self.old.quotes.items) (record { posting = posting; quote = quote }) }
+        ensures quotes { self.new.quotes.items
+            ≡ kept.rank_in self.old.side
+            (filter (λ one. not (one.quote.dealer == quote.dealer)) self.old.quotes.items)
+            (record { posting = posting; quote = quote }) }
     {
         leave_others(&mut self.quotes, quote.dealer);
         let place = rank_of(self.side, &self.quotes, quote.price);
@@ -71,7 +74,8 @@ impl RoomBook {
     /// Takes out the quote of this dealer with this word.
     pub(crate) fn unpost(&mut self, dealer: u16, w: u32)
         ensures side { self.new.side ≡ self.old.side }
-        ensures quotes { self.new.quotes.items ≡ filter (λ one. not (kept.is_kept_of dealer w one)) self.old.quotes.items }
+        ensures quotes { self.new.quotes.items
+            ≡ filter (λ one. not (kept.is_kept_of dealer w one)) self.old.quotes.items }
     {
         take_out(&mut self.quotes, dealer, w);
     }
@@ -85,7 +89,8 @@ impl RoomBook {
 
     /// The quote that a hit of this word means: the earliest posted of those that bear it.
     pub(crate) fn hit(&self, w: u32) -> Option<StandingQuote>
-        ensures { result ≡ option_map (λ one. one.quote) (kept.earliest_of w self.now.quotes.items) }
+        ensures { result
+            ≡ option_map (λ one. one.quote) (kept.earliest_of w self.now.quotes.items) }
     {
         let found = earliest_of(w, &self.quotes)?;
         Some(found.quote)
@@ -93,7 +98,8 @@ impl RoomBook {
 
     /// The dealer of the cover of an award to a dealer: the first other one.
     pub(crate) fn cover(&self, winner: u16) -> Option<u16>
-        ensures { result ≡ option_map (λ one. one.quote.dealer) (find (λ one. not (one.quote.dealer == winner)) self.now.quotes.items) }
+        ensures { result ≡ option_map (λ one. one.quote.dealer)
+            (find (λ one. not (one.quote.dealer == winner)) self.now.quotes.items) }
     {
         first_other(winner, &self.quotes)
     }
@@ -101,7 +107,8 @@ impl RoomBook {
 
 /// Leaves only the quotes of the other dealers.
 fn leave_others(quotes: &mut Vec<RankedQuote>, dealer: u16)
-    ensures items { quotes.new.items ≡ filter (λ one. not (one.quote.dealer == dealer)) quotes.old.items }
+    ensures items { quotes.new.items
+        ≡ filter (λ one. not (one.quote.dealer == dealer)) quotes.old.items }
     ensures len { vec_len quotes.new ≤ vec_len quotes.old }
     ensures capacity { vec_capacity quotes.old ≤ vec_capacity quotes.new }
 {
@@ -110,7 +117,8 @@ fn leave_others(quotes: &mut Vec<RankedQuote>, dealer: u16)
 
 /// Takes out the quote of this dealer with this word.
 fn take_out(quotes: &mut Vec<RankedQuote>, dealer: u16, w: u32)
-    ensures { quotes.new.items ≡ filter (λ one. not (kept.is_kept_of dealer w one)) quotes.old.items }
+    ensures { quotes.new.items
+        ≡ filter (λ one. not (kept.is_kept_of dealer w one)) quotes.old.items }
 {
     quotes.retain(|one| !is_kept_of(dealer, w, one));
 }
@@ -123,9 +131,10 @@ fn is_kept_of(dealer: u16, w: u32, one: &RankedQuote) -> bool
 }
 
 /// Where a price ranks: behind each than which it is not better.
-#[tactic(auto, using(crate::proofs::RankLemmas::place_or_end, crate::proofs::RankLemmas::place_within))]
+#[tactic(auto, using(crate::proofs::RankLemmas::place_or_end, crate::proofs::RankLemmas::within))]
 fn rank_of(side: Side, quotes: &[RankedQuote], price: Ticks) -> usize
-    ensures place { result ≡ position_or_len (λ one. spec.is_better side price one.quote.price) quotes.now }
+    ensures place { result
+        ≡ position_or_len (λ one. spec.is_better side price one.quote.price) quotes.now }
     ensures within { result ≤ length quotes.now }
 {
     first_worse(side, quotes, price).unwrap_or(quotes.len())
@@ -175,7 +184,8 @@ fn comes_first(w: u32, found: &Option<RankedQuote>, one: &RankedQuote) -> bool
 
 /// The dealer of the first quote that is another's.
 fn first_other(winner: u16, quotes: &[RankedQuote]) -> Option<u16>
-    ensures { result ≡ option_map (λ one. one.quote.dealer) (find (λ one. not (one.quote.dealer == winner)) quotes.now) }
+    ensures { result ≡ option_map (λ one. one.quote.dealer)
+        (find (λ one. not (one.quote.dealer == winner)) quotes.now) }
 {
     for one in quotes {
         if one.quote.dealer != winner {

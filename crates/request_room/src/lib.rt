@@ -13,7 +13,7 @@
 //! room.open(ask, AskedDealers::new(&[0, 1, 2])?)?;
 //! room.post(0, first_word, price, None)?;
 //! room.ready()?;
-//! // The investor hits a quote. Where nothing speaks against it, the word of the quote is asked, by a lift.
+//! // The investor hits a quote. Where nothing speaks against it, its word is asked, by a lift.
 //! let answer = match room.question_hit(first_word, ten_past_nine) {
 //!     Ok(w) => Some(words.lift(w)),
 //!     Err(_) => None,
@@ -45,8 +45,12 @@
 //!   ([`the_cover_is_the_best_other_quote`]).
 //! - Only an award has a winner, and a cover is another dealer ([`only_an_award_has_a_winner`]).
 //!
-//! Each call returns, and fails for nothing but memory. The room goes over its book anew at each
-//! question; a book has one quote of a dealer at most ([`a_dealer_has_one_quote`]).
+//! - The facts after one event more are those before and what `event_facts` says of it
+//!   ([`facts_after_one_event_more`]).
+//! - The book has one quote of a dealer at most ([`a_dealer_has_one_quote`]), so eight at most.
+//!
+//! Each call returns, and fails for nothing but memory. The room keeps its book best first, so that
+//! the cover is the first quote of another dealer.
 #![tactic(auto)]
 
 mod book;

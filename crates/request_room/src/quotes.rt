@@ -22,7 +22,8 @@ pub struct StandingQuote {
 impl StandingQuote {
     /// Its posting.
     pub(crate) fn posting(&self) -> RoomEvent
-        ensures { result ≡ RoomEvent.Post self.now.dealer self.now.word self.now.price self.now.valid_until }
+        ensures { result ≡ RoomEvent.Post self.now.dealer self.now.word self.now.price
+            self.now.valid_until }
     {
         RoomEvent::Post {
             dealer: self.dealer,

@@ -1,5 +1,5 @@
 //! The room of one request.
-ghost use Rattle.std.specs.Prelude.{◌≡◌, ◌||◌, ◌&&◌, [], ◌∷◌, ◌++◌, is_some, is_ok, option_map};
+ghost use Rattle.std.specs.Prelude.{◌≡◌, [], ◌∷◌, ◌++◌, is_some, is_ok, option_map};
 ghost use Rattle.std.specs.Prelude.{IsTrue, IfOk, OnOk, OnErr};
 ghost use Rattle.request_room.specs.RoomFacts as facts;
 ghost use Rattle.request_room.specs.Book as spec;
@@ -17,6 +17,9 @@ use std::marker::Model;
 
 /// The room of one request: where the quotes of its dealers stand until the investor hits one of
 /// them, passes, or the deadline comes.
+///
+/// That the room is vacant, opening, or hears a dealer, a call's condition, is tested by the steps
+/// of the venue, which know whom they act for; no rule of the room tests it.
 ///
 /// A contract sees the list of what was tried on the room. What became of it is `room_after` that
 /// list: the facts that stand, and from them whether the room is vacant, opening, open or ended,
@@ -40,7 +43,9 @@ impl Model for Room {
 
     ghost view = { λ room. room.events.items };
 
-    ghost invariant = { λ room. KeepsRoom (room_after room.events.items) (length room.events.items) room.request room.ready room.book.side room.book.quotes.items room.end };
+    ghost invariant = { λ room.
+        KeepsRoom (room_after room.events.items) (length room.events.items)
+        room.request room.ready room.book.side room.book.quotes.items room.end };
 }
 
 impl Room {
@@ -61,7 +66,8 @@ impl Room {
     /// numbers among the firms. It fails for memory alone, and then the room is as before.
     pub fn open(&mut self, ask: Ask, dealers: AskedDealers) -> Result<(), Memory>
         requires { IsTrue (facts.is_vacant (room_after self.old)) }
-        ensures ok { OnOk result (self.new ≡ self.old ++ RoomEvent.Open (record { ask = ask; dealers = dealers }) ∷ []) }
+        ensures ok { OnOk result
+            (self.new ≡ self.old ++ RoomEvent.Open (record { ask = ask; dealers = dealers }) ∷ []) }
         ensures err { OnErr result (self.new ≡ self.old) }
     {
         let side = ask.side;
@@ -98,7 +104,7 @@ impl Room {
         price: Ticks,
         until: Option<Moment>,
     ) -> Result<bool, Memory>
-        requires { IsTrue (facts.is_vacant (room_after self.old) || facts.is_named (room_after self.old) dealer) }
+        requires { IsTrue (facts.hears (room_after self.old) dealer) }
         ensures effect { IfOk result (λ effect. effect ≡ facts.takes_quotes (room_after self.old)) }
         ensures ok { OnOk result (self.new ≡ self.old ++ RoomEvent.Post dealer w price until ∷ []) }
         ensures err { OnErr result (self.new ≡ self.old) }
@@ -126,12 +132,13 @@ impl Room {
     /// dealer stands in a room that has not ended. It fails for memory alone, and then the room is
     /// as before.
     pub fn unpost(&mut self, dealer: u16, w: u32) -> Result<bool, Memory>
-        requires { IsTrue (facts.is_vacant (room_after self.old) || facts.is_named (room_after self.old) dealer) }
-        ensures effect { IfOk result (λ effect. effect ≡ (facts.takes_quotes (room_after self.old) && spec.stands (spec.book_of (room_after self.old)) dealer w)) }
+        requires { IsTrue (facts.hears (room_after self.old) dealer) }
+        ensures effect { IfOk result
+            (λ effect. effect ≡ spec.may_unpost (room_after self.old) dealer w) }
         ensures ok { OnOk result (self.new ≡ self.old ++ RoomEvent.Unpost dealer w ∷ []) }
         ensures err { OnErr result (self.new ≡ self.old) }
     {
-        let standing = self.stands(dealer, w);
+        let standing = self.may_unpost(dealer, w);
         self.events.reserve(1)?;
         self.events.push(RoomEvent::Unpost { dealer, word: w })?;
         if !standing {
@@ -145,7 +152,7 @@ impl Room {
     /// effect: it does where the room is opening or open, also a second time. The book stays as it
     /// is. It fails for memory alone, and then the room is as before.
     pub fn decline(&mut self, dealer: u16) -> Result<bool, Memory>
-        requires { IsTrue (facts.is_vacant (room_after self.old) || facts.is_named (room_after self.old) dealer) }
+        requires { IsTrue (facts.hears (room_after self.old) dealer) }
         ensures effect { IfOk result (λ effect. effect ≡ facts.takes_quotes (room_after self.old)) }
         ensures ok { OnOk result (self.new ≡ self.old ++ RoomEvent.Decline dealer ∷ []) }
         ensures err { OnErr result (self.new ≡ self.old) }
@@ -178,7 +185,9 @@ impl Room {
     /// before.
     pub fn hit(&mut self, w: u32, moment: Moment, answer: Option<Settled>) -> Result<Reply, Memory>
         requires { is_some answer ≡ is_ok (spec.hit_question (room_after self.old) w moment) }
-        ensures reply { IfOk result (λ reply. reply ≡ spec.reply_of (spec.hit_outcome (room_after self.old) w moment answer)) }
+        ensures reply { IfOk result
+            (λ reply. reply
+            ≡ spec.reply_of (spec.hit_outcome (room_after self.old) w moment answer)) }
         ensures ok { OnOk result (self.new ≡ self.old ++ RoomEvent.Hit w moment answer ∷ []) }
         ensures err { OnErr result (self.new ≡ self.old) }
     {
@@ -223,7 +232,8 @@ impl Room {
     /// and the moment is at or past the deadline of the request (ExpireTime 126). It fails for
     /// memory alone, and then the room is as before.
     pub fn expire(&mut self, moment: Moment) -> Result<bool, Memory>
-        ensures ended { IfOk result (λ ended. ended ≡ spec.may_expire (room_after self.old) moment) }
+        ensures ended { IfOk result
+            (λ ended. ended ≡ spec.may_expire (room_after self.old) moment) }
         ensures ok { OnOk result (self.new ≡ self.old ++ RoomEvent.Expire moment ∷ []) }
         ensures err { OnErr result (self.new ≡ self.old) }
     {
@@ -282,7 +292,8 @@ impl Room {
 
     /// What the room was opened for, if it was: what is asked, and the dealers in their order.
     pub fn request(&self) -> Option<&RoomRequest>
-        ensures { option_map (λ request. request.now) result ≡ facts.request_of (room_after self.now) }
+        ensures { option_map (λ request. request.now) result
+            ≡ facts.request_of (room_after self.now) }
     {
         self.request.as_ref()
     }
@@ -316,8 +327,8 @@ impl Room {
     }
 
     /// Whether an unpost of this quote of this dealer takes effect.
-    fn stands(&self, dealer: u16, w: u32) -> bool
-        ensures { result ≡ (facts.takes_quotes (room_after self.now) && spec.stands (spec.book_of (room_after self.now)) dealer w) }
+    fn may_unpost(&self, dealer: u16, w: u32) -> bool
+        ensures { result ≡ spec.may_unpost (room_after self.now) dealer w }
     {
         self.takes_quotes() && self.book.stands(dealer, w)
     }
@@ -370,7 +381,9 @@ impl Room {
 
     /// The dealer of the cover of an award of this quote, where there is one.
     fn cover_for(&self, winner: &StandingQuote) -> Option<u16>
-        ensures { result ≡ option_map (λ quote. quote.dealer) (spec.cover_for (facts.request_of (room_after self.now)) (Some winner.now) (spec.book_of (room_after self.now))) }
+        ensures { result ≡ option_map (λ quote. quote.dealer)
+            (spec.cover_for (facts.request_of (room_after self.now)) (Some winner.now)
+            (spec.book_of (room_after self.now))) }
     {
         self.book.cover(winner.dealer)
     }

@@ -6,4 +6,4 @@ abbrev pub invariant-loop-one : goal.invariant-loop-one
 invariant-loop-one l =
     option_map (λ one. one.quote.dealer) (find (λ one. not (one.quote.dealer == l.winner)) l.quotes)
     ≡ option_map (λ one. one.quote.dealer)
-      (find (λ one. not (one.quote.dealer == l.winner)) (drop l.one-index l.quotes))
+    (find (λ one. not (one.quote.dealer == l.winner)) (drop l.one-index l.quotes))

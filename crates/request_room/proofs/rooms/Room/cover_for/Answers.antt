@@ -10,4 +10,6 @@ returns c =
     let winner = Some c.args.winner.now in
     c.cover.ensures
     ∙ cover_is c.self.invariant c.args.winner.now
-    ∙ ap (λ events. option_map (λ quote. quote.dealer) (cover_for (request_of (room_after events)) winner (book_of (room_after events)))) c.self.view_is
+    ∙ ap (λ events. option_map (λ quote. quote.dealer)
+    (cover_for (request_of (room_after events)) winner (book_of (room_after events))))
+    c.self.view_is

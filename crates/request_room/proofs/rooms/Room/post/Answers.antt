@@ -7,14 +7,33 @@ use Rattle.request_room.proofs.rooms.Room.post.Goals as goal
 pub invariant_of-self-then-not-takes : goal.invariant_of-self-then-not-takes
 invariant_of-self-then-not-takes c =
     let room = c.self.inside in
-    let ended : takes_quotes (room_after room.events.items) ≡ false = ap (λ events. takes_quotes (room_after events)) c.self.view_is ∙ sym c.if-not-takes.ensures in
-    rw (c.in_ok-push.ensures.items, c.in_ok-reserve.ensures.items, c.in_ok-reserve-2.ensures.side, c.in_ok-reserve-2.ensures.quotes, c.posting.ensures)
-    (room_post_refused room.events.items c.self.invariant c.args.dealer c.args.w c.args.price c.args.until ended)
+    let ended : takes_quotes (room_after room.events.items) ≡ false =
+    ap (λ events. takes_quotes (room_after events)) c.self.view_is ∙ sym c.if-not-takes.ensures in
+    rw (
+      c.in_ok-push.ensures.items,
+      c.in_ok-reserve.ensures.items,
+      c.in_ok-reserve-2.ensures.side,
+      c.in_ok-reserve-2.ensures.quotes,
+      c.posting.ensures,
+    )
+    (room_post_refused room.events.items c.self.invariant c.args.dealer c.args.w c.args.price
+    c.args.until ended)
 
 pub invariant_of-self-2 : goal.invariant_of-self-2
 invariant_of-self-2 c =
     let room = c.self.inside in
-    let takes : takes_quotes (room_after room.events.items) ≡ true = ap (λ events. takes_quotes (room_after events)) c.self.view_is ∙ sym c.if-not-takes.ensures in
+    let takes : takes_quotes (room_after room.events.items) ≡ true =
+    ap (λ events. takes_quotes (room_after events)) c.self.view_is ∙ sym c.if-not-takes.ensures in
     let place : c.len-posting.result ≡ length room.events.items = search rules in
-    rw (c.in_ok-push.ensures.items, c.in_ok-reserve.ensures.items, c.in_ok-post.ensures.side, c.in_ok-post.ensures.quotes, c.in_ok-reserve-2.ensures.side, c.in_ok-reserve-2.ensures.quotes, c.posting.ensures, place)
-    (room_post room.events.items c.self.invariant c.args.dealer c.args.w c.args.price c.args.until takes)
+    rw (
+      c.in_ok-push.ensures.items,
+      c.in_ok-reserve.ensures.items,
+      c.in_ok-post.ensures.side,
+      c.in_ok-post.ensures.quotes,
+      c.in_ok-reserve-2.ensures.side,
+      c.in_ok-reserve-2.ensures.quotes,
+      c.posting.ensures,
+      place,
+    )
+    (room_post room.events.items c.self.invariant c.args.dealer c.args.w c.args.price c.args.until
+    takes)
