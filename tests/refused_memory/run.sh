@@ -107,8 +107,9 @@ refuse_each "busy-morning, no words" "$examples/busy-morning.due" "$examples/bus
 refuse_each "--help" /dev/null "$work/help" --help
 
 refuse_in_test dealer_desk tests::memory::a_refused_call_leaves_the_desk always
-for test in a_refused_call_leaves_the_room a_refused_pass_leaves_the_room a_refused_expiry_leaves_the_room; do
-    refuse_in_test request_room "tests::memory::$test" always
+for test in a_refused_call_leaves_the_room a_refused_pass_leaves_the_room a_refused_expiry_leaves_the_room \
+    a_hundred_posts_are_refused_in_turn; do
+    refuse_in_test request_room_tests "rooms::memory::$test" always
 done
 refuse_in_test quote_messages tests::written::refused_memory_changes_no_answer always
 refuse_in_test fix_fields tests::a_quote_is_written sometimes
