@@ -99,7 +99,7 @@ module _ (cs : List Cell) (log : SettleLog) (w : ℕ) (wish : Settled) (cells : 
   each_cell v true is in_row =
       let same : w ≡ v = grind (arith, nat_tests) in
       let P : ℕ → Type 0 =
-        λ k. cell (exchanged cs w wish) k ≡ cell_of (entry_of k (log_after log w wish)) in
+      λ k. cell (exchanged cs w wish) k ≡ cell_of (entry_of k (log_after log w wish)) in
       subst P same (same_cell (rw same in_row))
   each_cell v false is in_row =
       let other : v ≢ w = grind (arith, nat_tests) in other_cell v other in_row
@@ -116,14 +116,14 @@ kept_after cs log w wish kept =
     let more : List Settlement = added_by (entry_of w (settle_log log)) w wish in
     let tail = settle_log_appended log more kept.begun in
     let after : AreCells (exchanged cs w wish) (settle_log log ++ more) =
-      cells_after cs (settle_log log) w wish kept.codes in
+    cells_after cs (settle_log log) w wish kept.codes in
     record {
       begun = begun_appended log more kept.begun;
       legal = subst IsLegal (sym tail) (legal_after (settle_log log) w wish kept.legal);
       count =
-        length-set cs w (written wish (cell cs w).0, true) ∙ kept.count
-        ∙ sym (words_appended log more kept.begun);
-      codes = subst (AreCells (exchanged cs w wish)) (sym tail) after
+          length-set cs w (written wish (cell cs w).0, true) ∙ kept.count
+          ∙ sym (words_appended log more kept.begun);
+      codes = subst (AreCells (exchanged cs w wish)) (sym tail) after;
     }
 
 -- what an exchange tells a caller who has seen so much
@@ -177,7 +177,7 @@ pub record Told (book : Book) (seen : List Settlement) (w : ℕ) (wish : Settled
   pub begun : IsBegun later
   pub legal : IsLegal (settle_log later)
   pub settles :
-    SettlesOnBoard (front_of book seen) w wish (answer_of (entry_of_code found) wish)
+      SettlesOnBoard (front_of book seen) w wish (answer_of (entry_of_code found) wish)
       (front_of book later)
 
 told_of : (book : Book) (seen log later : List Settlement) (w : ℕ) (wish : Settled) (found : ℕ)
@@ -189,12 +189,12 @@ told_of book seen log later w wish found begun goes_on legal is grown =
     let more : List Settlement = added_by (entry_of w (settle_log log)) w wish in
     let begun_log : IsBegun log = begun_later seen log goes_on begun in
     let tail : settle_log later ≡ log_after (settle_log log) w wish =
-      ap settle_log grown ∙ settle_log_appended log more begun_log in
+    ap settle_log grown ∙ settle_log_appended log more begun_log in
     let said : entry_of_code found ≡ entry_of w (settle_log log) =
-      ap entry_of_code is ∙ code_back (entry_of w (settle_log log)) in
+    ap entry_of_code is ∙ code_back (entry_of w (settle_log log)) in
     let as_many : words_of later ≡ words_of seen =
-      ap words_of grown ∙ words_appended log more begun_log
-      ∙ words_later seen log goes_on begun in
+    ap words_of grown ∙ words_appended log more begun_log
+    ∙ words_later seen log goes_on begun in
     let named : ℕ → BoardName = λ n. record { book = book; words = n } in
     let answered : Option Settled → Option Settled = λ e. Some (answer_of e wish) in
     record {
@@ -207,8 +207,8 @@ told_of book seen log later w wish found begun goes_on legal is grown =
         legal = legal;
         settled = tail;
         answered =
-          ap (entry_of w) tail ∙ entry_after (settle_log log) w wish ∙ ap answered (sym said)
-      }
+            ap (entry_of w) tail ∙ entry_after (settle_log log) w wish ∙ ap answered (sym said);
+      };
     }
 
 pub exchange_told : (book : Book) (key old new : ℕ) (ask : Settlement)
@@ -217,9 +217,9 @@ pub exchange_told : (book : Book) (key old new : ℕ) (ask : Settlement)
     → Told book before.0 w wish found after.0
 exchange_told book key old new ask before after found w wish begun k a told =
     let P : ℕ → Settled → Type 0 =
-      λ n settled. (log : List Settlement) × IsPrefix before.0 log × IsLegal (settle_log log)
-      × (found ≡ code_of (entry_of n (settle_log log)))
-      × (after.0 ≡ log ++ added_by (entry_of n (settle_log log)) n settled) in
+    λ n settled. (log : List Settlement) × IsPrefix before.0 log × IsLegal (settle_log log)
+    × (found ≡ code_of (entry_of n (settle_log log)))
+    × (after.0 ≡ log ++ added_by (entry_of n (settle_log log)) n settled) in
     let told' : P w wish =
-      subst (λ (s : Settled). P w s) a (subst (λ (n : ℕ). P n ask.settled) k told) in
+    subst (λ (s : Settled). P w s) a (subst (λ (n : ℕ). P n ask.settled) k told) in
     told_of book before.0 told'.0 after.0 w wish found begun told'.1 told'.2 told'.3 told'.4

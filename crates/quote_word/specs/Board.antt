@@ -28,9 +28,8 @@ pub record Meeting : Type 0 where
   pub first : Settled
   pub second : Settled
 
--- one exchange on the board: there was a legal log which begins with what had been seen, and what
--- is
--- seen afterwards is that log after the exchange, where the word's entry is the answer
+-- one exchange on the board: some legal log begins with what had been seen; what is seen
+-- afterwards is that log after the exchange; and the word's entry there is the answer
 pub record SettlesOnBoard (before : Front) (w : ℕ) (wish answer : Settled) (after : Front)
     : Type 0 where
   pub board : after.board ≡ before.board

@@ -13,6 +13,9 @@ use logbook::{Offer, Seen, Start, Word};
 use std::alloc::{AllocError, Global};
 use std::marker::Model;
 
+/// What a step asks for, which trades nothing.
+type Asked = Offer<Settlement, u64, Law, Nothing>;
+
 /// A row of words that threads share. Contracts see which board it is and how many words it has.
 #[derive(Drop)]
 pub struct Board {
@@ -129,11 +132,7 @@ impl Board {
             word: w,
             settled: Settled::Withdrawn,
         };
-        let mut offer: Offer<Settlement, u64, Law, Nothing> = seen.plain::<
-            Nothing,
-            Settlement,
-            Exchange,
-        >(&asked);
+        let mut offer: Asked = seen.plain::<Nothing, Settlement, Exchange>(&asked);
         let word = &self.words[w as usize];
         let found = word.load::<Look, Nothing>(&mut seen, &mut offer);
         (entry_found(found), BoardSeen { seen })
@@ -193,11 +192,7 @@ impl Board {
             word: w,
             settled: wish,
         };
-        let mut offer: Offer<Settlement, u64, Law, Nothing> = seen.plain::<
-            Nothing,
-            Settlement,
-            Exchange,
-        >(&asked);
+        let mut offer: Asked = seen.plain::<Nothing, Settlement, Exchange>(&asked);
         let mut pen = seen.no_pen();
         let word = &self.words[w as usize];
         let found = word.compare_exchange::<Exchange, Nothing>(

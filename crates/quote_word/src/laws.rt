@@ -1,5 +1,7 @@
 //! Laws of exchanges: each function does nothing, and its clauses hold of all words and logs.
 ghost use Rattle.std.specs.Prelude.{◌≡◌, ◌≢◌, ℕ, ◌<◌, List, length, Option, Some, None};
+ghost use mathlib.Core.List.{IsPrefix};
+ghost use Rattle.quote_word.specs.Board.{Front, SettlesOnBoard};
 ghost use Rattle.quote_word.specs.PlainWords.{entry_in, Exchanges};
 ghost use Rattle.quote_word.specs.SettleLog.{SettleLog, entry_of, IsLegal, log_after};
 ghost use Rattle.quote_word.specs.declared.settled.Settled.{Settled};
@@ -25,4 +27,13 @@ pub fn an_exchange_adds_one_settlement()
         → v ≢ w → entry_of v (log_after log w wish) ≡ entry_of v log }
     ensures legal { (log : SettleLog) (w : ℕ) (wish : Settled)
         → IsLegal log → IsLegal (log_after log w wish) }
+{}
+
+/// A board, by whatever call: the log that is seen after an exchange begins with what was seen
+/// before it, and is legal.
+pub fn an_exchange_on_a_board_is_seen_later()
+    ensures later { (before after : Front) (w : ℕ) (wish answer : Settled)
+        → SettlesOnBoard before w wish answer after → IsPrefix before.log after.log }
+    ensures legal { (before after : Front) (w : ℕ) (wish answer : Settled)
+        → SettlesOnBoard before w wish answer after → IsLegal after.log }
 {}

@@ -43,7 +43,10 @@ mod settled;
 mod tokens;
 
 pub use board::Board;
-pub use laws::{an_exchange_adds_one_settlement, an_exchange_changes_one_word};
+pub use laws::{
+    an_exchange_adds_one_settlement, an_exchange_changes_one_word,
+    an_exchange_on_a_board_is_seen_later,
+};
 pub use pass::BoardPass;
 pub use plain::PlainWords;
 pub use settled::{Settled, Settlement, Words};

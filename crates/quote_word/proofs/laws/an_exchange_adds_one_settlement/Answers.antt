@@ -6,5 +6,5 @@ returns c = record {
   «open» = open_after;
   settled = settled_after;
   others = other_after;
-  legal = legal_after
+  legal = legal_after;
 }
