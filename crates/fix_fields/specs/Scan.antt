@@ -1,6 +1,7 @@
 -- What stands at the front of a text, and what a text consists of.
 use Rattle.std.specs.Prelude.{◌≡◌, ℕ, ◌≤◌, List, ◌++◌, ◌%◌, length, decimal, sum}
 use Rattle.std.specs.List.{AllByRecursion}
+use Rattle.fix_fields.specs.declared.limits.TheConstants.{MOST_FRAME, MOST_BODY}
 use Rattle.fix_fields.specs.Frame.{Field, IsField, AreBody, AreSumDigits, field_text, fields_text, fields_of, front_text, end_text, three_digits}
 
 -- the text begins with a lawful field
@@ -31,13 +32,13 @@ pub record IsEnd (text digits : List ℕ) : Type 0 where
 pub record IsFieldsText (text : List ℕ) : Type 0 where
   pub lawful : AllByRecursion IsField (fields_of text)
   pub is : text ≡ fields_text (fields_of text)
-  pub fits : length text ≤ 4096
+  pub fits : length text ≤ MOST_FRAME
 
 -- the same of a body
 pub record IsBodyText (text : List ℕ) : Type 0 where
   pub body : AreBody (fields_of text)
   pub is : text ≡ fields_text (fields_of text)
-  pub fits : length text ≤ 4071
+  pub fits : length text ≤ MOST_BODY
 
 -- a body between its BodyLength and its CheckSum, as they are written
 abbrev pub text_around : List ℕ → List ℕ

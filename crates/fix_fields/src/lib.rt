@@ -26,8 +26,9 @@
 //! - [`Frame::get`] is the value of the first field with a tag, [`Frame::times`] how many have it,
 //!   and [`Frame::fields`] goes over all of them in order.
 //! - What [`FrameWriter::finish`] returns is the frame of the fields that were written, with the
-//!   length in decimal without leading zeros, so it is read back as these fields. [`FrameWriter::left`]
-//!   tells what still fits. A call whose memory is refused leaves the writer as it was.
+//!   length in decimal without leading zeros, so it is read back as these fields. [`is_tag`],
+//!   [`is_value`] and [`fits`] are the tests of what a writer asks for, and [`FrameWriter::left`]
+//!   tells how much still fits. A call whose memory is refused leaves the writer as it was.
 //! - [`read_moment`] reads exactly the two spellings of a moment of its date, and tells what is no
 //!   spelling at all from what is one of another date. What [`moment_text`] returns is read back.
 //!
@@ -43,6 +44,7 @@ mod dates;
 mod fault;
 mod frames;
 mod laws;
+mod limits;
 mod moments;
 mod scan;
 #[cfg(test)]
@@ -56,8 +58,9 @@ pub use laws::{
     decimal_len_is_the_length, frame_of_is_the_reading, frames_have_one_reading,
     moment_of_is_the_reading,
 };
+pub use limits::{MOST_BODY, MOST_FRAME};
 pub use moments::{Moment, moment_text, read_moment};
-pub use writer::{FrameWriter, decimal_len};
+pub use writer::{FrameWriter, decimal_len, fits, is_tag, is_value};
 
 /// An allocation that was refused.
 pub type Memory = std::alloc::AllocError;
