@@ -47,12 +47,13 @@ mod laws;
 mod limits;
 mod moments;
 mod scan;
+mod stream_laws;
 #[cfg(test)]
 mod tests;
 mod writer;
 
 pub use dates::Date;
-pub use fault::{Garbled, MomentFault};
+pub use fault::{Garbled, MomentFault, StreamFault};
 pub use frames::{Fields, Frame, read_frame};
 pub use laws::{
     decimal_len_is_the_length, frame_of_is_the_reading, frames_have_one_reading,
@@ -60,6 +61,9 @@ pub use laws::{
 };
 pub use limits::{MOST_BODY, MOST_FRAME};
 pub use moments::{Moment, moment_text, read_moment};
+pub use stream_laws::{
+    envelopes_of_is_the_cutting, frames_are_cut, pieces_make_no_difference, stream_faults_are_for_ever,
+};
 pub use writer::{FrameWriter, decimal_len, fits, is_tag, is_value};
 
 /// An allocation that was refused.
