@@ -1,5 +1,5 @@
 -- What stands at the front of a stream: the function that reads it, and the facts that it decides.
-use Rattle.std.proofs.Common.{◌≡◌, ◌≢◌, ℕ, ◌+◌, ◌-◌, ◌<◌, ◌≤◌, ◌==◌, ◌&&◌, Bool, true, false, List, [], ◌∷◌, ◌++◌, length, take, drop, sym, ap, ◌∙◌, subst, refl, arith, inl, inr, zero, suc, append_assoc, length-append}
+use Rattle.std.proofs.Common.{◌≡◌, ◌≢◌, ℕ, ◌+◌, ◌-◌, ◌<◌, ◌≤◌, ◌==◌, ◌&&◌, ◌⊎◌, Bool, true, false, List, [], ◌∷◌, ◌++◌, length, take, drop, sym, ap, ◌∙◌, subst, refl, arith, inl, inr, zero, suc, append_assoc, length-append}
 use Rattle.std.specs.Prelude.{nat_lt, codes}
 use Rattle.std.specs.Char.{is_ascii_digit}
 use Rattle.std.specs.Str.{bytes_eq, all_ascii_digits}
@@ -27,9 +27,15 @@ pub record HasWhole (n : ℕ) (bytes : List ℕ) : Type 0 where
 
 -- what an answer says of the bytes
 abbrev pub Says : Front → List ℕ → Type 0
-Says Begun bytes = Unit {0}
+Says Begun bytes = length bytes < MOST_FRAME
 Says (Whole n) bytes = HasWhole n bytes
 Says (Faulty fault) bytes = IsStreamFault fault bytes
+
+-- an answer is one of three
+pub cases_Front : (v : Front) → (v ≡ Begun) ⊎ (((n : ℕ) × (v ≡ Whole n)) ⊎ ((fault : StreamFault) × (v ≡ Faulty fault)))
+cases_Front Begun = inl refl
+cases_Front (Whole n) = inr (inl (n, refl))
+cases_Front (Faulty fault) = inr (inr (fault, refl))
 
 -- CheckSum
 end_from_test : (tail : List ℕ) → length tail ≡ 7 → is_end tail ≡ true
@@ -76,7 +82,10 @@ behind_says digits bytes all some few =
           long = (let t = long in grind (arith, nat_tests));
         })
       | inr fits ↦ elim (cases_Bool (nat_lt (length bytes) (n + 7))) [
-        | inl short ↦ rw (fits, short) tt
+        | inl short ↦
+            (let few_bytes : length bytes < n + 7 = (let t = short in grind (arith, nat_tests)) in
+            let most : message_len digits ≤ MOST_FRAME = (let t = fits in grind (arith, nat_tests)) in
+            rw (fits, short) (omega (arith, length-append digits (1 ∷ bytes), length-append digits (1 ∷ []))))
         | inr there ↦
             (let enough : n + 7 ≤ length bytes = (let t = there in grind (arith, nat_tests)) in
             let most : message_len digits ≤ MOST_FRAME = (let t = fits in grind (arith, nat_tests)) in
@@ -134,7 +143,7 @@ digits_push (digit ∷ digits) byte all test = (all.0, digits_push digits byte a
 length_says : (bytes digits : List ℕ) → AllDigits 10 digits → length digits ≤ 6
     → Says (front_in_length digits bytes) (start_text ++ (digits ++ bytes))
 unfolding front_in_length
-length_says [] digits all few = tt
+length_says [] digits all few = omega (arith, length-append digits [])
 length_says (byte ∷ bytes) digits all few =
     elim (cases_Bool (is_ascii_digit byte && nat_lt (length digits) 6)) [
       | inl more ↦
@@ -165,7 +174,8 @@ start_says : (wanted before bytes : List ℕ) → start_text ≡ before ++ wante
 unfolding front_in_start
 start_says [] before bytes is =
     subst (λ t. Says (front_in_length [] bytes) (t ++ bytes)) (is ∙ append-nil before) (length_says bytes [] tt (omega arith))
-start_says (first ∷ wanted) before [] is = tt
+start_says (first ∷ wanted) before [] is =
+    omega (arith, ap length is, length-append before (first ∷ wanted), length-append before [])
 start_says (first ∷ wanted) before (byte ∷ bytes) is =
     elim (cases_Bool (byte == first)) [
       | inl same ↦
@@ -293,7 +303,7 @@ front_no_end bytes is =
 seven_long : (digits : List ℕ) → AreSumDigits digits → length (end_text digits) ≡ 7
 seven_long digits are = let three = are.three in omega (arith, length-append digits (1 ∷ []))
 
-envelope_len : (message : List ℕ) (is : IsEnvelope message) → length message ≡ message_len is.length_digits
+pub envelope_len : (message : List ℕ) (is : IsEnvelope message) → length message ≡ message_len is.length_digits
 envelope_len message is =
     omega (arith, ap length is.text, length-append (front_text is.length_digits is.body) (end_text is.sum_digits),
     seven_long is.sum_digits is.sum_is, message_len_is is.length_digits is.body is.length_is)
@@ -367,6 +377,9 @@ has_fault bytes fault is = subst (λ v. Says v bytes) is (front_says bytes)
 
 pub has_whole : (bytes : List ℕ) (n : ℕ) → front_of bytes ≡ Whole n → HasWhole n bytes
 has_whole bytes n is = subst (λ v. Says v bytes) is (front_says bytes)
+
+pub begun_short : (bytes : List ℕ) → front_of bytes ≡ Begun → length bytes < MOST_FRAME
+begun_short bytes is = subst (λ v. Says v bytes) is (front_says bytes)
 
 pub front_more_faulty : (bytes more : List ℕ) (fault : StreamFault) → front_of bytes ≡ Faulty fault → front_of (bytes ++ more) ≡ Faulty fault
 front_more_faulty bytes more fault is = front_fault fault (bytes ++ more) (fault_more fault bytes more (has_fault bytes fault is))
