@@ -5,4 +5,5 @@ pub mod FrameLemmas
 pub mod WriterLemmas
 pub mod FrontLemmas
 pub mod CuttingLemmas
+pub mod FoundLemmas
 pub mod ClockLemmas

@@ -1,8 +1,14 @@
 -- What stands at the front of a text, and what a text consists of.
-use Rattle.std.specs.Prelude.{◌≡◌, ℕ, ◌≤◌, List, ◌++◌, ◌%◌, length, decimal, sum}
+use Rattle.std.specs.Prelude.{◌≡◌, ℕ, ◌<◌, ◌≤◌, List, ◌++◌, ◌%◌, length, decimal, sum}
+use Rattle.std.specs.Prelude.{Option, Some, None, Result, Ok, Err}
 use Rattle.std.specs.List.{AllByRecursion}
 use Rattle.fix_fields.specs.declared.limits.TheConstants.{MOST_FRAME, MOST_BODY}
 use Rattle.fix_fields.specs.Frame.{Field, IsField, AreBody, AreSumDigits, field_text, fields_text, fields_of, front_text, end_text, three_digits}
+use Rattle.fix_fields.specs.Envelope.{front_of}
+use Rattle.fix_fields.specs.Envelope.Front.{Begun, Whole, Faulty}
+use Rattle.fix_fields.specs.declared.fault.StreamFault.{StreamFault}
+use Rattle.fix_fields.specs.declared.fronts.Found.{Found}
+use Rattle.fix_fields.specs.declared.fronts.Found.TheVariants as Found
 
 -- the text begins with a lawful field
 pub record BeginsWithField (text : List ℕ) : Type 0 where
@@ -45,3 +51,24 @@ abbrev pub text_around : List ℕ → List ℕ
 text_around body =
     let front = front_text (decimal (length body)) body in
     front ++ end_text (three_digits (sum front % 256))
+
+-- no further bytes tell more of these before there are this many
+pub record WaitsFor (wait : ℕ) (bytes : List ℕ) : Type 0 where
+  pub begun : front_of bytes ≡ Begun
+  pub waits : (more : List ℕ) → length (bytes ++ more) < wait → front_of (bytes ++ more) ≡ Begun
+
+-- what was found at the front of bytes
+abbrev pub IsFound : Found → List ℕ → Type 0
+IsFound (Found.Begun wait) bytes = WaitsFor wait bytes
+IsFound (Found.Message len) bytes = front_of bytes ≡ Whole len
+IsFound (Found.Faulty fault) bytes = front_of bytes ≡ Faulty fault
+
+-- a rest as it is kept: its bytes, or the fault that they have
+abbrev pub rest_of : Option StreamFault → List ℕ → Result (List ℕ) StreamFault
+rest_of None kept = Ok kept
+rest_of (Some fault) kept = Err fault
+
+-- bytes that are kept are waited for
+abbrev pub IsKept : Option StreamFault → ℕ → List ℕ → Type 0
+IsKept None wait kept = WaitsFor wait kept
+IsKept (Some fault) wait kept = Unit {0}

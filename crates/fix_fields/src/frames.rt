@@ -132,7 +132,7 @@ fn cut(bytes: &[u8]) -> Result<(&[u8], &[u8]), Garbled>
 }
 
 /// The number of a CheckSum of seven bytes: `10=`, three digits and SOH.
-fn sum_of_end(tail: &[u8]) -> Option<u32>
+pub(crate) fn sum_of_end(tail: &[u8]) -> Option<u32>
     requires { length tail.now ≡ 7 }
     ensures { MatchOption result ((digits : List ℕ) → ¬ IsEnd tail.now digits)
         (λ n. (digits : List ℕ) × IsEnd tail.now digits × (digits_value 10 digits ≡ n)) }

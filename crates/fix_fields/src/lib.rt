@@ -43,6 +43,7 @@
 mod dates;
 mod fault;
 mod frames;
+mod fronts;
 mod laws;
 mod limits;
 mod moments;
