@@ -8,15 +8,9 @@ use Rattle.std.proofs.lemmas.List.Folds.{concat-append}
 use Rattle.fix_fields.specs.declared.fault.StreamFault.{StreamFault}
 use Rattle.fix_fields.specs.Frame.{Field, IsFrame, fields_text, front_text}
 use Rattle.fix_fields.specs.Envelope.{IsEnvelope, BeginsWithEnvelope, IsStreamFault, Cutting, Stands, IsCutting, Front, front_of, front_in_start, taken, with_byte, with_byte_behind, cut_behind, uncut, envelopes_of, envelopes_of_pieces}
+use Rattle.fix_fields.specs.Scan.{cutting, cut_on, WaitsFor, IsKept, rest_of}
 use Rattle.fix_fields.specs.Envelope.Front.{Begun, Whole, Faulty}
 use Rattle.fix_fields.proofs.FrontLemmas.{HasWhole, cases_Front, front_fault, front_whole, front_more_faulty, front_more_whole, has_fault, has_whole, envelope_len}
-
--- what bytes are cut into that come behind these messages and this rest
-abbrev pub cut_on : List (List ℕ) → Result (List ℕ) StreamFault → List ℕ → Cutting
-cut_on messages rest bytes = fold with_byte (record { messages = messages; rest = rest }) bytes
-
-abbrev pub cutting : List (List ℕ) → Result (List ℕ) StreamFault → Cutting
-cutting messages rest = record { messages = messages; rest = rest }
 
 one_more : (rest : List ℕ) (byte : ℕ) (bytes : List ℕ) → rest ++ (byte ∷ bytes) ≡ (rest ++ (byte ∷ [])) ++ bytes
 one_more rest byte bytes = sym (append_assoc rest (byte ∷ []) bytes)

@@ -13,12 +13,12 @@ use Rattle.std.proofs.Math.Seq.{take-append_seam, drop-append_seam, drop-append-
 use Rattle.fix_fields.specs.declared.limits.TheConstants.{MOST_FRAME}
 use Rattle.fix_fields.specs.declared.fault.StreamFault.TheVariants.{Start, Length, TooLong, End}
 use Rattle.fix_fields.specs.Frame.{IsLength, AreSumDigits, start_text, front_text, end_text}
-use Rattle.fix_fields.specs.Scan.{IsEnd, WaitsFor}
+use Rattle.fix_fields.specs.Scan.{IsEnd, WaitsFor, IsWhole}
 use Rattle.fix_fields.specs.Envelope.{message_len, is_end, Front, front_of, front_in_start, front_in_length, front_behind_length}
 use Rattle.fix_fields.specs.Envelope.Front.{Begun, Whole, Faulty}
 use Rattle.fix_fields.proofs.Digits.{counted_digits}
 use Rattle.fix_fields.proofs.CutLemmas.{begins_of}
-use Rattle.fix_fields.proofs.FrontLemmas.{front_digits, front_measured, front_fault, front_whole}
+use Rattle.fix_fields.proofs.FrontLemmas.{front_digits, front_measured, front_fault, front_whole, begun_short}
 
 -- BeginString and the tag of BodyLength
 
@@ -62,7 +62,7 @@ begun_in_start (byte ∷ bytes) more some =
 
 -- nothing waits for no bytes
 waits_for_none : (bytes : List ℕ) → front_of bytes ≡ Begun → WaitsFor 0 bytes
-waits_for_none bytes is = record { begun = is; waits = λ more less. absurd (omega arith) }
+waits_for_none bytes is = record { begun = is; short = begun_short bytes is; waits = λ more less. absurd (omega arith) }
 
 pub found_in_start : (bytes more : List ℕ) → length bytes < 13 → start_text ≡ bytes ++ more → WaitsFor 0 bytes
 unfolding front_of
@@ -217,6 +217,7 @@ pub found_begun : (bytes digits behind : List ℕ) (n v : ℕ) → IsHead bytes 
     → length bytes < 13 + n + 1 + v + 7 → WaitsFor (13 + n + 1 + v + 7) bytes
 found_begun bytes digits behind n v is fits short = record {
   begun = short_is_begun bytes digits behind n v is fits short;
+  short = omega arith;
   waits = λ more less. short_is_begun (bytes ++ more) digits (behind ++ more) n v (head_more bytes digits behind more n v is) fits less;
 }
 
@@ -272,7 +273,7 @@ found_no_end bytes digits behind tail n v is fits enough tail_is none =
 
 pub found_whole : (bytes digits behind tail sum_digits : List ℕ) (n v : ℕ) → IsHead bytes digits behind n v → 13 + n + 1 + v + 7 ≤ MOST_FRAME
     → 13 + n + 1 + v + 7 ≤ length bytes → tail ≡ take 7 (drop (13 + n + 1 + v) bytes) → IsEnd tail sum_digits
-    → front_of bytes ≡ Whole (13 + n + 1 + v + 7)
+    → IsWhole (13 + n + 1 + v + 7) bytes
 found_whole bytes digits behind tail sum_digits n v is fits enough tail_is end =
     let has = seven_at bytes digits behind tail n v is enough tail_is in
     let body = take v behind in
@@ -281,6 +282,7 @@ found_whole bytes digits behind tail sum_digits n v is fits enough tail_is end =
     let body_len = has.body_len in
     let seven = has.seven in
     let size : length message ≡ 13 + n + 1 + v + 7 = omega (arith, length-append (digits ++ (1 ∷ body)) tail, length-append digits (1 ∷ body)) in
+    let whole : front_of bytes ≡ Whole (13 + n + 1 + v + 7) =
     ap front_of (text_of_seven bytes digits behind tail n v is has ∙ sym (append_assoc (front_text digits body) tail (drop 7 (drop v behind))))
     ∙ (front_whole message (drop 7 (drop v behind)) (record {
       length_digits = digits;
@@ -290,4 +292,5 @@ found_whole bytes digits behind tail sum_digits n v is fits enough tail_is end =
       sum_is = end.lawful;
       text = ap (λ t. front_text digits body ++ t) end.is;
       fits = omega arith;
-    }) ∙ ap Whole size)
+    }) ∙ ap Whole size) in
+    record { whole = whole; some = omega arith; inside = enough }

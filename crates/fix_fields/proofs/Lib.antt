@@ -6,4 +6,5 @@ pub mod WriterLemmas
 pub mod FrontLemmas
 pub mod CuttingLemmas
 pub mod FoundLemmas
+pub mod StreamLemmas
 pub mod ClockLemmas

@@ -1,10 +1,10 @@
 -- What stands at the front of a text, and what a text consists of.
 use Rattle.std.specs.Prelude.{◌≡◌, ℕ, ◌<◌, ◌≤◌, List, ◌++◌, ◌%◌, length, decimal, sum}
-use Rattle.std.specs.Prelude.{Option, Some, None, Result, Ok, Err}
+use Rattle.std.specs.Prelude.{fold, Option, Some, None, Result, Ok, Err}
 use Rattle.std.specs.List.{AllByRecursion}
 use Rattle.fix_fields.specs.declared.limits.TheConstants.{MOST_FRAME, MOST_BODY}
 use Rattle.fix_fields.specs.Frame.{Field, IsField, AreBody, AreSumDigits, field_text, fields_text, fields_of, front_text, end_text, three_digits}
-use Rattle.fix_fields.specs.Envelope.{front_of}
+use Rattle.fix_fields.specs.Envelope.{Cutting, with_byte, front_of}
 use Rattle.fix_fields.specs.Envelope.Front.{Begun, Whole, Faulty}
 use Rattle.fix_fields.specs.declared.fault.StreamFault.{StreamFault}
 use Rattle.fix_fields.specs.declared.fronts.Found.{Found}
@@ -52,15 +52,29 @@ text_around body =
     let front = front_text (decimal (length body)) body in
     front ++ end_text (three_digits (sum front % 256))
 
+-- what bytes are cut into that come behind these messages and this rest
+abbrev pub cutting : List (List ℕ) → Result (List ℕ) StreamFault → Cutting
+cutting messages rest = record { messages = messages; rest = rest }
+
+abbrev pub cut_on : List (List ℕ) → Result (List ℕ) StreamFault → List ℕ → Cutting
+cut_on messages rest bytes = fold with_byte (cutting messages rest) bytes
+
 -- no further bytes tell more of these before there are this many
 pub record WaitsFor (wait : ℕ) (bytes : List ℕ) : Type 0 where
   pub begun : front_of bytes ≡ Begun
+  pub short : length bytes < MOST_FRAME
   pub waits : (more : List ℕ) → length (bytes ++ more) < wait → front_of (bytes ++ more) ≡ Begun
+
+-- the first bytes are a message
+pub record IsWhole (len : ℕ) (bytes : List ℕ) : Type 0 where
+  pub whole : front_of bytes ≡ Whole len
+  pub some : 0 < len
+  pub inside : len ≤ length bytes
 
 -- what was found at the front of bytes
 abbrev pub IsFound : Found → List ℕ → Type 0
 IsFound (Found.Begun wait) bytes = WaitsFor wait bytes
-IsFound (Found.Message len) bytes = front_of bytes ≡ Whole len
+IsFound (Found.Message len) bytes = IsWhole len bytes
 IsFound (Found.Faulty fault) bytes = front_of bytes ≡ Faulty fault
 
 -- a rest as it is kept: its bytes, or the fault that they have

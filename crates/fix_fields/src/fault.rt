@@ -54,6 +54,8 @@ pub enum StreamFault {
 }
 
 impl From<AllocError> for StreamFault {
+    ghost use Rattle.fix_fields.specs.declared.fault.StreamFault.TheVariants.{Memory};
+
     ghost from_gives = { λ _ fault. fault ≡ Memory };
 
     fn from(_error: AllocError) -> StreamFault {

@@ -49,6 +49,7 @@ mod limits;
 mod moments;
 mod scan;
 mod stream_laws;
+mod streams;
 #[cfg(test)]
 mod tests;
 mod writer;
@@ -65,6 +66,7 @@ pub use moments::{Moment, moment_text, read_moment};
 pub use stream_laws::{
     envelopes_of_is_the_cutting, frames_are_cut, pieces_make_no_difference, stream_faults_are_for_ever,
 };
+pub use streams::{Messages, Splitter};
 pub use writer::{FrameWriter, decimal_len, fits, is_tag, is_value};
 
 /// An allocation that was refused.
