@@ -50,8 +50,6 @@ mod moments;
 mod scan;
 mod stream_laws;
 mod streams;
-#[cfg(test)]
-mod tests;
 mod writer;
 
 pub use dates::Date;

@@ -1,9 +1,8 @@
 //! Streams of bytes that are cut into messages.
-ghost use Rattle.std.specs.Prelude.{◌≡◌, ◌<◌, ◌≤◌, ◌⊎◌, [], ◌∷◌, ◌++◌, length, take, map, Ok, Err};
-ghost use Rattle.std.specs.Prelude.{vec_len, vec_capacity, slice_get, IfOk, IfErr, OnErr};
-ghost use Rattle.std.specs.Option.{option_copied};
+ghost use Rattle.std.specs.Prelude.{◌≡◌, ◌<◌, ◌≤◌, ◌==◌, ◌⊎◌, [], ◌∷◌, length, take, map, Ok, Err};
+ghost use Rattle.std.specs.Prelude.{vec_capacity, IfOk, IfErr, OnErr};
 ghost use Rattle.fix_fields.specs.Envelope.{front_of as front, cut_behind};
-ghost use Rattle.fix_fields.specs.Envelope.Front.{Begun, Whole};
+ghost use Rattle.fix_fields.specs.Envelope.Front.{Begun};
 ghost use Rattle.fix_fields.specs.Scan.{cutting, cut_on, rest_of, IsKept};
 ghost use Rattle.fix_fields.specs.declared.fault.StreamFault.{StreamFault};
 
@@ -48,6 +47,13 @@ impl Messages {
         ensures { result ≡ length self.now }
     {
         self.list.len()
+    }
+
+    /// Whether there are none.
+    pub fn is_empty(&self) -> bool
+        ensures { result ≡ (length self.now == 0) }
+    {
+        self.list.is_empty()
     }
 }
 
