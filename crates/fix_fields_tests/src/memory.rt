@@ -47,7 +47,7 @@ fn a_refused_piece_is_fed_again(rt: HostRuntime) -> Result<(), Fail> {
     ends(&rt, &mut splitter, &QUOTE[10..40], 0)?;
     ends(&rt, &mut splitter, &QUOTE[40..], 1)?;
     ends(&rt, &mut splitter, QUOTES, 2)?;
-    ends(&rt, &mut splitter, &QUOTE[23..], 1)?;
+    ends(&rt, &mut splitter, &QUOTE[22..], 1)?;
     ends(&rt, &mut splitter, &QUOTES[..300], 2)?;
     Ok(())
 }

@@ -164,7 +164,10 @@ impl Answers {
                 self.take(messages)?;
             }
             Err(fault) => {
-                assert!(rt; self.fault.is_none() || self.fault == Some(fault), "another fault");
+                assert!(rt;
+                    self.fault.is_none() || self.fault == Some(fault),
+                    "another fault"
+                );
                 self.fault = Some(fault);
             }
         }
@@ -189,12 +192,7 @@ impl Answers {
 }
 
 /// The answers to a stream in pieces of one size, and to the empty piece behind them.
-fn answers_in(
-    rt: &impl Abort,
-    alloc: Global,
-    bytes: &[u8],
-    size: usize,
-) -> Result<Answers, Fail> {
+fn answers_in(rt: &impl Abort, alloc: Global, bytes: &[u8], size: usize) -> Result<Answers, Fail> {
     let mut splitter = Splitter::new(alloc);
     let mut answers = Answers::new(alloc);
     let mut rest = bytes;
@@ -288,7 +286,11 @@ fn the_longest_message(rt: HostRuntime) -> Result<(), Fail> {
     bytes.extend_from_slice(b"10=000\x01")?;
     for size in [1, 512, MOST_FRAME] {
         let answers = answers_in(&rt, rt.alloc(), &bytes, size)?;
-        assert_eq!(rt; answers.lengths.as_slice(), [MOST_FRAME].as_slice(), "in pieces of {size}");
+        assert_eq!(rt;
+            answers.lengths.as_slice(),
+            [MOST_FRAME].as_slice(),
+            "in pieces of {size}"
+        );
         assert!(rt; answers.bytes.as_slice() == bytes.as_slice());
         assert!(rt; answers.fault.is_none());
     }

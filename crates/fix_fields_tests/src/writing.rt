@@ -43,7 +43,6 @@ fn numbers_are_written(rt: HostRuntime) -> Result<(), Fail> {
     Ok(())
 }
 
-
 #[test]
 fn tags_that_may_stand_in_a_body(rt: HostRuntime) {
     for tag in [1, 7, 11, 35, 999_999_999] {
