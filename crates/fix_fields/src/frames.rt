@@ -1,13 +1,16 @@
 //! Frames that are read.
-ghost use Rattle.std.specs.Prelude.{◌≡◌, ℕ, ◌+◌, ◌<◌, ◌≤◌, ◌%◌, ◌↔◌, List, Ok, Err, length, sum, MatchOption, MatchResult, IfOk, OnOk, IfSome, Some, None};
+ghost use Rattle.std.specs.Prelude.{◌≡◌, ℕ, ◌+◌, ◌<◌, ◌≤◌, ◌%◌, ◌↔◌, List, Ok, Err, length, sum};
+ghost use Rattle.std.specs.Prelude.{MatchOption, MatchResult, IfOk, OnOk, IfSome, Some, None};
 ghost use Rattle.std.specs.Option.{option_copied};
 ghost use Rattle.std.specs.Result.{result_ok};
 ghost use Rattle.std.specs.Str.Parse.{digits_value};
-ghost use Rattle.fix_fields.specs.Frame.{Field, IsValue, AreBody, IsFrame, frame_of, value_of, times_of, fields_text, fields_of};
+ghost use Rattle.fix_fields.specs.Frame.{Field, IsValue, AreBody, IsFrame, frame_of, value_of};
+ghost use Rattle.fix_fields.specs.Frame.{times_of, fields_text, fields_of};
 ghost use Rattle.fix_fields.specs.Garbled.{IsFault, IsCut};
 ghost use Rattle.fix_fields.specs.Scan.{IsEnd};
 
 use crate::fault::Garbled;
+use crate::limits::{MOST_BODY, MOST_FRAME};
 use crate::scan::{SOH, is_body, leading_number, split_field};
 use std::marker::Model;
 
@@ -40,7 +43,7 @@ impl<'a> Frame<'a> {
     pub fn get(&self, tag: u32) -> Option<&'a [u8]>
         ensures first { option_copied result ≡ value_of tag self.now }
         ensures value { IfSome result (λ value. IsValue value.now) }
-        ensures fits { IfSome result (λ value. length value.now ≤ 4071) }
+        ensures fits { IfSome result (λ value. length value.now ≤ MOST_BODY) }
     {
         for (found, value) in self.fields() {
             if found == tag {
@@ -61,8 +64,8 @@ impl<'a> Frame<'a> {
     pub fn fields(&self) -> Fields<'a>
         ensures all { result ≡ self.now }
         ensures body { AreBody self.now }
-        ensures fits { length (fields_text self.now) ≤ 4071 }
-        ensures few { length self.now ≤ 4071 }
+        ensures fits { length (fields_text self.now) ≤ MOST_BODY }
+        ensures few { length self.now ≤ MOST_BODY }
     {
         Fields { rest: self.body }
     }
@@ -104,12 +107,13 @@ impl<'a> Iterator for Fields<'a> {
 
 /// Cuts bytes into the body and the seven bytes behind it, by BeginString and BodyLength alone.
 fn cut(bytes: &[u8]) -> Result<(&[u8], &[u8]), Garbled>
-    ensures ok { IfOk result (λ parts. (length_digits : List ℕ) × IsCut bytes.now length_digits parts.0.now parts.1.now) }
+    ensures ok { IfOk result (λ parts. (length_digits : List ℕ)
+        × IsCut bytes.now length_digits parts.0.now parts.1.now) }
     ensures seven { IfOk result (λ parts. length parts.1.now ≡ 7) }
     ensures long { OnOk result (7 ≤ length bytes.now) }
     ensures err { MatchResult result (λ _. Unit {0}) (λ fault. IsFault fault bytes.now) }
 {
-    if bytes.len() > 4096 {
+    if bytes.len() > MOST_FRAME {
         return Err(Garbled::TooLong);
     }
     if !bytes.starts_with(START) {
@@ -131,7 +135,7 @@ fn cut(bytes: &[u8]) -> Result<(&[u8], &[u8]), Garbled>
 }
 
 /// The number of a CheckSum of seven bytes: `10=`, three digits and SOH.
-fn sum_of_end(tail: &[u8]) -> Option<u32>
+pub(crate) fn sum_of_end(tail: &[u8]) -> Option<u32>
     requires { length tail.now ≡ 7 }
     ensures { MatchOption result ((digits : List ℕ) → ¬ IsEnd tail.now digits)
         (λ n. (digits : List ℕ) × IsEnd tail.now digits × (digits_value 10 digits ≡ n)) }
@@ -174,7 +178,8 @@ pub fn read_frame(bytes: &[u8]) -> Result<Frame<'_>, Garbled>
 
 /// The frame that bytes are, or the first check that they do not pass.
 fn read(bytes: &[u8]) -> Result<Frame<'_>, Garbled>
-    ensures { MatchResult result (λ fields. IsFrame bytes.now fields) (λ fault. IsFault fault bytes.now) }
+    ensures { MatchResult result (λ fields. IsFrame bytes.now fields)
+        (λ fault. IsFault fault bytes.now) }
 {
     let (body, tail) = cut(bytes)?;
     if !is_body(body) {
