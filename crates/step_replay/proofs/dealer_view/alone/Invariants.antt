@@ -1,6 +1,6 @@
 use Rattle.std.proofs.Common.{◌≡◌, drop, length, fold}
-use Rattle.rfq_venue.specs.DealerView.{after_due, view_after}
-use Rattle.rfq_venue.proofs.due.alone.Given as goal
+use Rattle.step_replay.specs.DealerView.{after_due, view_after}
+use Rattle.step_replay.proofs.dealer_view.alone.Given as goal
 
 abbrev pub invariant-loop-due : goal.invariant-loop-due
 invariant-loop-due l =
