@@ -8,7 +8,7 @@ use Rattle.std.proofs.lemmas.Bool.{cases_Bool, false_from_ne_true}
 use Rattle.std.proofs.lemmas.List.{take_all, drop_all, length-drop}
 use Rattle.std.proofs.lemmas.List.Sums.{position_or_len_is}
 use Rattle.memchr.specs.Find.{Nowhere, NoneBefore, Passes, is_byte}
-use Rattle.rfq_venue.specs.Words.{parts_of, is_skipped, spoken_from}
+use Rattle.venue_text.specs.Lines.{parts_of, is_skipped, spoken_from}
 
 nowhere_place : (byte : ℕ) (text : List ℕ) → Nowhere (Passes (is_byte byte) text) 0 (length text) → position_or_len (λ (c : ℕ). c == byte) text ≡ length text
 nowhere_place byte text none =

@@ -3,10 +3,11 @@ use Rattle.std.proofs.Common.{◌≡◌, ℕ, ◌+◌, ◌<◌, ◌≤◌, List,
 use Rattle.fix_fields.specs.Frame.{Field, field_text, fields_text, fields_len, left_of, frame_text}
 use Rattle.fix_fields.specs.UtcTimestamp.{timestamp_text}
 use Rattle.std.specs.Option.{option_map}
-use Rattle.rfq_venue.specs.declared.due.Due.{Due}
-use Rattle.rfq_venue.specs.declared.faults.ProgramFault.{ProgramFault}
-use Rattle.rfq_venue.specs.SayLine.{before_fields, fitting, with_field, Said, own_field, said_message}
-use Rattle.rfq_venue.specs.DueText.{before_dues}
+use Rattle.step_replay.specs.declared.due.Due.{Due}
+use Rattle.venue_text.specs.declared.faults.ProgramFault.{ProgramFault}
+use Rattle.venue_text.specs.SayLine.{fitting, with_field, Said, header_field, said_message}
+use Rattle.venue_text.specs.OptionSteps as option
+use Rattle.venue_text.specs.ResultSteps as result
 use Rattle.std.proofs.lemmas.List.{length-append, append-nil}
 use Rattle.std.proofs.lemmas.Bool.{cases_Bool}
 use Rattle.std.proofs.lemmas.Bool.Decides.{nat_tests}
@@ -17,7 +18,7 @@ behind_fields done None = None
 behind_fields done (Some rest) = Some (done ++ rest)
 
 pub behind_fields-more : (done : List Field) (field : Field) (rest : Option (List Field))
-    → behind_fields done (before_fields (Some field) rest) ≡ behind_fields (done ++ field ∷ []) rest
+    → behind_fields done (option.◌>>=◌ rest (λ fields. Some (field ∷ fields))) ≡ behind_fields (done ++ field ∷ []) rest
 behind_fields-more done field None = refl
 behind_fields-more done field (Some rest) = ap Some (sym (append_assoc done (field ∷ []) rest))
 
@@ -27,7 +28,7 @@ behind_dues done (Err fault) = Err fault
 behind_dues done (Ok rest) = Ok (done ++ rest)
 
 pub behind_dues-more : (done : List Due) (due : Due) (rest : Result (List Due) ProgramFault)
-    → behind_dues done (before_dues due rest) ≡ behind_dues (done ++ due ∷ []) rest
+    → behind_dues done (result.◌>>=◌ rest (λ dues. Ok (due ∷ dues))) ≡ behind_dues (done ++ due ∷ []) rest
 behind_dues-more done due (Err fault) = refl
 behind_dues-more done due (Ok rest) = ap Ok (sym (append_assoc done (due ∷ []) rest))
 
@@ -133,11 +134,11 @@ push_none fields tag value long = push_long fields tag (length (decimal tag)) va
 pub said_message_is : (date firm : List ℕ) (number : ℕ) (said : Said) (f0 f1 f2 f3 f4 f5 f6 : Option (List Field)) (m : Option (List ℕ))
     (t v1 v2 v3 v4 v5 : List ℕ) (b1 b2 b3 b4 b5 b6 : List Field) → t ≡ said.msg_type → v1 ≡ firm → v2 ≡ codes "VENUE" → v3 ≡ decimal number
     → v4 ≡ timestamp_text date said.moment → v5 ≡ said.trader → b1 ≡ said.fields → b2 ≡ said.fields → b3 ≡ said.fields → b4 ≡ said.fields
-    → b5 ≡ said.fields → b6 ≡ said.fields → f0 ≡ fitting ((35, t) ∷ []) → f1 ≡ fold with_field f0 (own_field b1 49 v1)
-    → f2 ≡ fold with_field f1 (own_field b2 56 v2) → f3 ≡ fold with_field f2 (own_field b3 34 v3) → f4 ≡ fold with_field f3 (own_field b4 52 v4)
-    → f5 ≡ fold with_field f4 (own_field b5 50 v5) → f6 ≡ fold with_field f5 b6 → m ≡ option_map frame_text f6 → m ≡ said_message date firm number said
+    → b5 ≡ said.fields → b6 ≡ said.fields → f0 ≡ fitting ((35, t) ∷ []) → f1 ≡ fold with_field f0 (header_field b1 49 v1)
+    → f2 ≡ fold with_field f1 (header_field b2 56 v2) → f3 ≡ fold with_field f2 (header_field b3 34 v3) → f4 ≡ fold with_field f3 (header_field b4 52 v4)
+    → f5 ≡ fold with_field f4 (header_field b5 50 v5) → f6 ≡ fold with_field f5 b6 → m ≡ option_map frame_text f6 → m ≡ said_message date firm number said
 said_message_is date firm number said f0 f1 f2 f3 f4 f5 f6 m t v1 v2 v3 v4 v5 b1 b2 b3 b4 b5 b6 et ev1 ev2 ev3 ev4 ev5 eb1 eb2 eb3 eb4 eb5 eb6 e0 e1 e2 e3 e4 e5 e6 em =
-    let whole = whole_frame f0 f1 f2 f3 f4 f5 f6 ((35, t) ∷ []) (own_field b1 49 v1) (own_field b2 56 v2) (own_field b3 34 v3) (own_field b4 52 v4) (own_field b5 50 v5) b6
+    let whole = whole_frame f0 f1 f2 f3 f4 f5 f6 ((35, t) ∷ []) (header_field b1 49 v1) (header_field b2 56 v2) (header_field b3 34 v3) (header_field b4 52 v4) (header_field b5 50 v5) b6
     e0 e1 e2 e3 e4 e5 e6 in
     let told = rw (et, ev1, ev2, ev3, ev4, ev5, eb1, eb2, eb3, eb4, eb5, eb6) at whole in
     em ∙ ap (option_map frame_text) told

@@ -9,7 +9,7 @@ use Rattle.std.proofs.lemmas.Str.Parse.{IsNumeralModel, numerals_by_value, tells
 use Rattle.fix_fields.specs.Frame.{IsValue}
 use Rattle.fix_fields.specs.TextLaws.{digits_if_all, value_if_all}
 use Rattle.quote_messages.specs.Texts.{number_up_to}
-use Rattle.rfq_venue.specs.SayLine.{is_plain_value, is_plain_character, is_plain_word}
+use Rattle.venue_text.specs.SayLine.{is_plain_value, is_plain_character, is_plain_part}
 
 plain : IsNumeralModel (AllDigits 10) (digits_value 10)
 plain = numerals_by_value (AllDigits 10) tells_digits
@@ -38,5 +38,5 @@ character-apart c h = λ e. grind (arith, nat_tests)
 pub value_is_plain : (value : List ℕ) → is_plain_value value ≡ true → IsValue value
 value_is_plain value h = value_if_all (λ (c : ℕ). not (c == 1)) plain-apart value h
 
-pub word_is_value : (word : List ℕ) → is_plain_word word ≡ true → IsValue word
-word_is_value word h = value_if_all is_plain_character character-apart word (and_parts (not (length word == 0)) (list_all is_plain_character word) h).1
+pub part_is_value : (word : List ℕ) → is_plain_part word ≡ true → IsValue word
+part_is_value word h = value_if_all is_plain_character character-apart word (and_parts (not (length word == 0)) (list_all is_plain_character word) h).1

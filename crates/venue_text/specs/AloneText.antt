@@ -7,7 +7,7 @@ use Rattle.step_replay.specs.DealerView.{dealer_view}
 use Rattle.step_replay.specs.declared.due.Due.{Due}
 use Rattle.venue_text.specs.DueText.{Spelled, due_text_of}
 use Rattle.venue_text.specs.MessageLines.{messages_text}
-use Rattle.venue_text.specs.declared.alone_text.TheConstants.{MOST_INPUT}
+use Rattle.venue_text.specs.declared.lines.TheConstants.{MOST_INPUT}
 use Rattle.venue_text.specs.declared.faults.ProgramFault.{ProgramFault}
 use Rattle.venue_text.specs.declared.faults.ProgramFault.TheVariants.{Input}
 

@@ -5,6 +5,7 @@ use Rattle.fix_fields.specs.UtcTimestamp.{is_date}
 use Rattle.venue_config.specs.Rows.{DealerValues}
 use Rattle.venue_config.specs.Texts.{is_name, is_firm_name, is_bond_id, is_among, same_text, text_if}
 use Rattle.quote_messages.specs.Texts.{is_quantity, number_of, number_up_to}
+use Rattle.quote_messages.specs.declared.asks.Ask.{Ask}
 use Rattle.quote_messages.specs.declared.closes.Close.{Close}
 use Rattle.quote_messages.specs.declared.closes.Close.TheVariants.{Hit, Expired, Cover, DoneAway, Pass}
 use Rattle.step_replay.specs.declared.due.Due.{Due}
@@ -86,7 +87,13 @@ shown_of date text = do
   quantity ← asked_quantity (first_part behind_side)
   deadline ← time_of date (first_part behind_quantity)
   moment ← time_of date (behind_part behind_quantity)
-  let ask = record { investor = investor; bond = bond; side = side; quantity = quantity; deadline = deadline }
+  let ask : Ask = record {
+    investor = investor;
+    bond = bond;
+    side = side;
+    quantity = quantity;
+    deadline = deadline;
+  }
   Some (due.Shown ask moment)
 
 -- The MsgSeqNum (34) that is written into the next message whose BODY has none: 1 more than before

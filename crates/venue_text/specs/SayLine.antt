@@ -9,7 +9,7 @@ use Rattle.fix_fields.specs.UtcTimestamp.{timestamp_text}
 use Rattle.quote_messages.specs.Texts.{number_of}
 use Rattle.venue_text.specs.Lines.{parts_of, first_part, behind_part, time_of}
 use Rattle.venue_text.specs.OptionSteps.{◌>>=◌}
-use Rattle.venue_text.specs.declared.say_line.TheConstants.{LONGEST_BODY}
+use Rattle.venue_text.specs.declared.fitting.TheConstants.{LONGEST_BODY}
 
 -- a tag may not begin with the digit 0
 abbrev pub begins_with_zero : List ℕ → Bool
@@ -85,9 +85,8 @@ said_of date text = do
   let body = behind_part behind_time
   moment ← time_of date (first_part behind_trader)
   fields ← said_fields body
-  if is_plain_part trader && is_plain_part msg_type && not (length body == 0)
-  then Some (record { trader = trader; moment = moment; msg_type = msg_type; fields = fields })
-  else None
+  let said : Said = record { trader = trader; moment = moment; msg_type = msg_type; fields = fields }
+  if is_plain_part trader && is_plain_part msg_type && not (length body == 0) then Some said else None
 
 -- whether a field of these has the tag
 abbrev pub has_tag : List Field → ℕ → Bool

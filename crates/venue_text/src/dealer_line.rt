@@ -2,20 +2,20 @@
 ghost use Rattle.std.specs.Prelude.{◌≡◌, ◌≤◌, length, IfSome};
 ghost use Rattle.std.specs.Option.{option_map};
 ghost use Rattle.venue_config.specs.Rows.{dealer_values};
-ghost use Rattle.rfq_venue.specs.DueText.{date_of, row_of, quotes_of, exposure_of, traders_of};
+ghost use Rattle.venue_text.specs.DueLines as spec;
 
 use crate::lines::Parts;
-use crate::words::{cut_word, is_word};
+use crate::parts::{cut_part, same_text};
 use fix_fields::Date;
 use quote_messages::{read_long_number, read_number};
 use venue_config::{DealerRow, Name, Traders};
 
 /// The date that a date line gives.
 pub(crate) fn read_date(line: &[u8]) -> Option<Date>
-    ensures { result ≡ date_of line.now }
+    ensures { result ≡ spec.date_of line.now }
 {
-    let (keyword, digits) = cut_word(line);
-    if !is_word(keyword, b"date") {
+    let (keyword, digits) = cut_part(line);
+    if !same_text(keyword, b"date") {
         return None;
     }
     Date::new(digits)
@@ -23,15 +23,15 @@ pub(crate) fn read_date(line: &[u8]) -> Option<Date>
 
 /// The dealer that a dealer line gives.
 pub(crate) fn read_dealer_row(line: &[u8]) -> Option<DealerRow>
-    ensures { option_map dealer_values result ≡ row_of line.now }
+    ensures { option_map dealer_values result ≡ spec.row_of line.now }
 {
-    let (keyword, rest) = cut_word(line);
-    if !is_word(keyword, b"dealer") {
+    let (keyword, rest) = cut_part(line);
+    if !same_text(keyword, b"dealer") {
         return None;
     }
-    let (name, rest) = cut_word(rest);
-    let (quotes, rest) = cut_word(rest);
-    let (exposure, traders) = cut_word(rest);
+    let (name, rest) = cut_part(rest);
+    let (quotes, rest) = cut_part(rest);
+    let (exposure, traders) = cut_part(rest);
     let name = Name::of_firm(name)?;
     let quotes = read_quotes(quotes)?;
     let exposure = read_exposure(exposure)?;
@@ -46,7 +46,7 @@ pub(crate) fn read_dealer_row(line: &[u8]) -> Option<DealerRow>
 
 /// How many quotes a dealer may have in a day.
 fn read_quotes(text: &[u8]) -> Option<u32>
-    ensures value { result ≡ quotes_of text.now }
+    ensures value { result ≡ spec.quotes_of text.now }
     ensures limits { IfSome result (λ quotes. (1 ≤ quotes) × (quotes ≤ 4096)) }
 {
     let quotes = read_number(text)?;
@@ -58,7 +58,7 @@ fn read_quotes(text: &[u8]) -> Option<u32>
 
 /// The greatest exposure of a dealer.
 fn read_exposure(text: &[u8]) -> Option<u64>
-    ensures value { result ≡ exposure_of text.now }
+    ensures value { result ≡ spec.exposure_of text.now }
     ensures limits { IfSome result (λ exposure. (1 ≤ exposure) × (exposure ≤ 1000000000000000)) }
 {
     let exposure = read_long_number(text)?;
@@ -68,18 +68,18 @@ fn read_exposure(text: &[u8]) -> Option<u64>
     Some(exposure)
 }
 
-/// The traders of a firm: 1 to 16 names, none twice, divided by one space.
+/// The traders of a firm: 1 to 16 names, none twice, divided by one space each.
 fn read_traders(text: &[u8]) -> Option<Traders>
-    ensures value { result ≡ traders_of text.now }
+    ensures value { result ≡ spec.traders_of text.now }
     ensures some { IfSome result (λ traders. 1 ≤ length traders) }
 {
     if text.is_empty() || text[text.len() - 1] == b' ' {
         return None;
     }
     let mut traders = Traders::new();
-    for word in Parts::new(text, b' ') {
-        let trader = Name::new(word)?;
-        if traders.contains(word) || !traders.push(&trader) {
+    for name in Parts::new(text, b' ') {
+        let trader = Name::new(name)?;
+        if traders.contains(name) || !traders.push(&trader) {
             return None;
         }
     }

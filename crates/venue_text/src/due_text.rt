@@ -1,40 +1,40 @@
 //! Due text: a date, a dealer, and what is due to the dealer, line by line.
 ghost use Rattle.std.specs.Prelude.{◌≡◌, ◌≢◌, ◌≤◌, ◌+◌, length, Ok, Err, IfOk, IfErr, IfSome};
 ghost use Rattle.venue_config.specs.Rows.{dealer_values};
-ghost use Rattle.rfq_venue.specs.DueText.{due_of, mark_of, own_of, dues_from, due_text_of};
-ghost use Rattle.rfq_venue.specs.SayLine.{said_of};
-ghost use Rattle.rfq_venue.specs.Words.{one_past};
+ghost use Rattle.venue_text.specs.DueLines.{due_of, said_due};
+ghost use Rattle.venue_text.specs.DueText as spec;
+ghost use Rattle.venue_text.specs.Lines as lines;
 
 use crate::dealer_line::{read_date, read_dealer_row};
-use crate::due::Due;
+use crate::due_items::read_by_keyword;
 use crate::faults::ProgramFault;
-use crate::lines::{SpokenLines, has_divider, one_past};
-use crate::mark_lines::{read_closed, read_lifted};
-use crate::own_line::read_framed;
-use crate::say_line::Said;
-use crate::shown_line::read_shown;
-use crate::words::{cut_word, is_word};
+use crate::lines::{MOST_INPUT, SpokenLines, has_divider, one_past};
+use crate::parts::{cut_part, same_text};
+use crate::said::Said;
 use fix_fields::{Date, Memory};
 use std::alloc::Global;
+use step_replay::Due;
 use venue_config::{DealerRow, Name};
 
 /// What due text spells.
 #[derive(Drop)]
-pub(crate) struct DueText {
+pub struct DueText {
     /// The day.
-    pub(crate) date: Date,
+    pub date: Date,
     /// The dealer.
-    pub(crate) row: DealerRow,
+    pub row: DealerRow,
     /// What is due to the dealer, in order.
-    pub(crate) dues: Vec<Due>,
+    pub dues: Vec<Due>,
 }
 
-/// Reads due text, or gives its first fault; memory may be refused at any point.
-pub(crate) fn read_due_text(alloc: Global, input: &[u8]) -> Result<DueText, ProgramFault>
-    requires { length input.now ≤ 16777216 }
-    ensures ok { IfOk result (λ text. due_text_of input.now
+/// Reads due text, or gives its first fault ([`ProgramFault::Parts`] or [`ProgramFault::Form`]); memory
+/// may be refused at any point.
+pub fn read_due_text(alloc: Global, input: &[u8]) -> Result<DueText, ProgramFault>
+    requires { length input.now ≤ MOST_INPUT }
+    ensures ok { IfOk result (λ text. spec.due_text_of input.now
         ≡ Ok (record { date = text.date; row = dealer_values text.row; dues = text.dues.items })) }
-    ensures err { IfErr result (λ fault. fault ≢ ProgramFault.Memory → due_text_of input.now ≡ Err fault) }
+    ensures err { IfErr result (λ fault.
+        fault ≢ ProgramFault.Memory → spec.due_text_of input.now ≡ Err fault) }
     ensures unwritten { IfErr result (λ fault. fault ≢ ProgramFault.Write) }
 {
     if has_divider(input) {
@@ -59,8 +59,8 @@ pub(crate) fn read_due_text(alloc: Global, input: &[u8]) -> Result<DueText, Prog
 
 /// The fault of a text that ends before a line that it must have.
 fn missing(input: &[u8]) -> ProgramFault
-    requires { length input.now ≤ 16777216 }
-    ensures { result ≡ ProgramFault.Form (one_past input.now) }
+    requires { length input.now ≤ MOST_INPUT }
+    ensures { result ≡ ProgramFault.Form (lines.one_past input.now) }
 {
     ProgramFault::Form {
         line: one_past(input),
@@ -74,8 +74,9 @@ fn read_dues(
     firm: &Name,
     lines: SpokenLines<'_>,
 ) -> Result<Vec<Due>, ProgramFault>
-    ensures ok { IfOk result (λ dues. dues_from date.now firm.now 1 lines.entry ≡ Ok dues.items) }
-    ensures err { IfErr result (λ fault. fault ≢ ProgramFault.Memory → dues_from date.now firm.now 1 lines.entry ≡ Err fault) }
+    ensures ok { IfOk result (λ dues. spec.dues_from date.now firm.now 1 lines.entry ≡ Ok dues.items) }
+    ensures err { IfErr result (λ fault.
+        fault ≢ ProgramFault.Memory → spec.dues_from date.now firm.now 1 lines.entry ≡ Err fault) }
     ensures unwritten { IfErr result (λ fault. fault ≢ ProgramFault.Write) }
 {
     let mut dues = Vec::new(alloc);
@@ -102,37 +103,18 @@ fn read_due(
     ensures due { IfOk result (λ due. due ≡ due_of date.now firm.now number line.now) }
     ensures next { IfOk result (λ due. IfSome due (λ due. due.1 ≤ number + 1)) }
 {
-    let (keyword, text) = cut_word(line);
-    if is_word(keyword, b"say") {
-        return read_own(alloc, date, firm, number, text);
+    let (keyword, text) = cut_part(line);
+    if same_text(keyword, b"say") {
+        return read_said(alloc, date, firm, number, text);
     }
-    let Some(due) = read_mark(alloc, date, keyword, text)? else {
+    let Some(due) = read_by_keyword(alloc, date, keyword, text)? else {
         return Ok(None);
     };
     Ok(Some((due, number)))
 }
 
-/// What a line other than `say` makes due, by its first word.
-fn read_mark(alloc: Global, date: &Date, keyword: &[u8], text: &[u8]) -> Result<Option<Due>, Memory>
-    ensures { IfOk result (λ due. due ≡ mark_of date.now keyword.now text.now) }
-{
-    if is_word(keyword, b"shown") {
-        return Ok(read_shown(date, text));
-    }
-    if is_word(keyword, b"own") {
-        return read_framed(alloc, date, text);
-    }
-    if is_word(keyword, b"lifted") {
-        return Ok(read_lifted(text));
-    }
-    if is_word(keyword, b"closed") {
-        return Ok(read_closed(date, text));
-    }
-    Ok(None)
-}
-
 /// The message that a `say` line makes due, and the number of the next one.
-fn read_own(
+fn read_said(
     alloc: Global,
     date: &Date,
     firm: &Name,
@@ -140,7 +122,7 @@ fn read_own(
     text: &[u8],
 ) -> Result<Option<(Due, u64)>, Memory>
     requires { number ≤ 9223372036854775808 }
-    ensures due { IfOk result (λ due. due ≡ own_of date.now firm.now number (said_of date.now text.now)) }
+    ensures due { IfOk result (λ due. due ≡ said_due date.now firm.now number text.now) }
     ensures next { IfOk result (λ due. IfSome due (λ due. due.1 ≤ number + 1)) }
 {
     let Some(said) = Said::read(alloc, date, text)? else {

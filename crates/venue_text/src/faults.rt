@@ -1,7 +1,10 @@
-//! Why a run of the program prints no messages.
+//! Why a run of the program prints no messages, and the lines that tell it.
 ghost use Rattle.std.specs.Prelude.{◌≡◌, Some};
-ghost use Rattle.rfq_venue.specs.declared.faults.ProgramFault.TheVariants.{Memory};
+ghost use Rattle.venue_text.specs.Faults as spec;
+ghost use Rattle.venue_text.specs.declared.faults.ProgramFault.TheVariants.{Memory};
 
+use arrayvec::ArrayString;
+use itoa::Buffer;
 use std::alloc::{AllocError, AllocFailed};
 use std::fmt;
 
@@ -28,7 +31,7 @@ pub enum ProgramFault {
 }
 
 impl fmt::Display for ProgramFault {
-    ghost use Rattle.rfq_venue.specs.ProgramText.{fault_text};
+    ghost use Rattle.venue_text.specs.Faults.{fault_text};
 
     ghost output = { λ fault. Some (fault_text fault) };
 
@@ -58,4 +61,25 @@ impl<T: Drop> From<AllocFailed<T>> for ProgramFault {
     fn from(_error: AllocFailed<T>) -> ProgramFault {
         ProgramFault::Memory
     }
+}
+
+/// The line that tells a fault, whole, with its line feed. It takes no memory.
+pub fn fault_line(fault: &ProgramFault) -> ArrayString<64>
+    ensures { result.bytes ≡ spec.fault_line fault.now }
+{
+    let mut line = ArrayString::new();
+    match fault {
+        ProgramFault::Read => line.push_str("read\n"),
+        ProgramFault::Input => line.push_str("input\n"),
+        ProgramFault::Parts => line.push_str("parts\n"),
+        ProgramFault::Form { line: number } => {
+            let mut digits = Buffer::new();
+            line.push_str("line ");
+            line.push_str(digits.format(*number));
+            line.push_str(": form\n");
+        }
+        ProgramFault::Memory => line.push_str("memory\n"),
+        ProgramFault::Write => line.push_str("write\n"),
+    }
+    line
 }

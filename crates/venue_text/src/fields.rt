@@ -2,10 +2,10 @@
 ghost use Rattle.std.specs.Prelude.{◌≡◌, IfOk, IfSome};
 ghost use Rattle.std.specs.Option.{option_map};
 ghost use Rattle.fix_fields.specs.Frame.{IsTag};
-ghost use Rattle.rfq_venue.specs.SayLine.{said_field, said_fields, tag_of, begins_with_zero, is_plain_value};
+ghost use Rattle.venue_text.specs.SayLine as spec;
 
 use crate::lines::Parts;
-use crate::words::cut_at;
+use crate::parts::cut_at;
 use fix_fields::Memory;
 use quote_messages::read_number;
 use std::alloc::Global;
@@ -13,7 +13,7 @@ use std::marker::Model;
 
 /// A field that may stand in the body of a frame.
 #[derive(Drop)]
-pub(crate) struct Field<'a> {
+pub struct Field<'a> {
     tag: u32,
     value: &'a [u8],
 }
@@ -32,7 +32,7 @@ impl<'a> Field<'a> {
     ghost use Rattle.fix_fields.specs.Frame.{IsTag, IsValue};
 
     /// Its tag.
-    pub(crate) fn tag(&self) -> u32
+    pub fn tag(&self) -> u32
         ensures value { result ≡ self.now.0 }
         ensures lawful { IsTag self.now.0 }
     {
@@ -40,7 +40,7 @@ impl<'a> Field<'a> {
     }
 
     /// Its value.
-    pub(crate) fn value(&self) -> &'a [u8]
+    pub fn value(&self) -> &'a [u8]
         ensures value { result.now ≡ self.now.1 }
         ensures lawful { IsValue self.now.1 }
     {
@@ -50,8 +50,8 @@ impl<'a> Field<'a> {
 
 /// The fields that vertical bars divide, one at the end allowed, or none where one of them is not of
 /// the form of a field.
-pub(crate) fn read_fields(alloc: Global, body: &[u8]) -> Result<Option<Vec<Field<'_>>>, Memory>
-    ensures { IfOk result (λ fields. option_map (λ f. f.items) fields ≡ said_fields body.now) }
+pub fn read_fields(alloc: Global, body: &[u8]) -> Result<Option<Vec<Field<'_>>>, Memory>
+    ensures { IfOk result (λ fields. option_map (λ f. f.items) fields ≡ spec.said_fields body.now) }
 {
     let mut fields = Vec::new(alloc);
     for text in Parts::new(body, b'|') {
@@ -66,7 +66,7 @@ pub(crate) fn read_fields(alloc: Global, body: &[u8]) -> Result<Option<Vec<Field
 /// The field that a text spells: a tag, an equals sign and a value.
 #[tactic(auto, using(crate::proofs::TagLemmas::value_is_plain))]
 fn read_field(text: &[u8]) -> Option<Field<'_>>
-    ensures { result ≡ said_field text.now }
+    ensures { result ≡ spec.said_field text.now }
 {
     let (digits, value) = cut_at(text, b'=');
     if digits.len() == text.len() || !is_plain_value(value) {
@@ -80,7 +80,7 @@ fn read_field(text: &[u8]) -> Option<Field<'_>>
 /// BodyLength (9) or CheckSum (10).
 #[tactic(auto, using(crate::proofs::TagLemmas::number_is_small))]
 fn read_tag(digits: &[u8]) -> Option<u32>
-    ensures value { result ≡ tag_of digits.now }
+    ensures value { result ≡ spec.tag_of digits.now }
     ensures tag { IfSome result IsTag }
 {
     if begins_with_zero(digits) {
@@ -95,7 +95,7 @@ fn read_tag(digits: &[u8]) -> Option<u32>
 
 /// Whether a text begins with the digit 0.
 fn begins_with_zero(text: &[u8]) -> bool
-    ensures { result ≡ begins_with_zero text.now }
+    ensures { result ≡ spec.begins_with_zero text.now }
 {
     match text.first() {
         None => false,
@@ -105,7 +105,7 @@ fn begins_with_zero(text: &[u8]) -> bool
 
 /// Whether a value has no SOH.
 fn is_plain_value(value: &[u8]) -> bool
-    ensures { result ≡ is_plain_value value.now }
+    ensures { result ≡ spec.is_plain_value value.now }
 {
     value.iter().all(|c| *c != 1)
 }

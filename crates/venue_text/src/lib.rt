@@ -23,27 +23,28 @@
 //! No call has a condition but those that say so; each returns, and only memory can be refused.
 #![tactic(auto)]
 
-mod alone_text;
 mod dealer_line;
 mod due_items;
 mod due_text;
 mod faults;
 mod fields;
+mod fitting;
 mod lines;
 mod message_lines;
 mod parts;
+mod printed;
 mod received;
 mod said;
-mod say_line;
 mod written_dues;
 
-pub use alone_text::{MOST_INPUT, alone_text};
 pub use due_text::{DueText, read_due_text};
 pub use faults::{ProgramFault, fault_line};
+pub use fitting::LONGEST_BODY;
 pub use fields::{Field, read_fields};
-pub use lines::{Parts, SpokenLines, has_divider, one_past};
+pub use lines::{MOST_INPUT, Parts, SpokenLines, has_divider, one_past};
 pub use message_lines::messages_text;
 pub use parts::{cut_part, read_side, read_time, same_text};
+pub use printed::alone_text;
 pub use received::read_received;
 pub use said::Said;
 pub use written_dues::due_lines;

@@ -1,20 +1,23 @@
-//! The lines of a text, and the fields of a message's body.
+//! The lines of a text, and the parts of a text that a byte divides.
 ghost use Rattle.std.specs.Prelude.{◌≡◌, ◌<◌, ◌≤◌, ◌+◌, ◌==◌, length};
-ghost use Rattle.rfq_venue.specs.Words.{parts_of, is_skipped, has_divider, one_past};
+ghost use Rattle.venue_text.specs.Lines as spec;
 
-use crate::words::{cut_at, is_word};
+use crate::parts::{cut_at, same_text};
 use std::marker::Model;
+
+/// How many bytes an input has at most.
+pub const MOST_INPUT: usize = 16_777_216;
 
 /// The parts of a text that are each ended by one byte, the last one also without it.
 #[derive(Drop)]
-pub(crate) struct Parts<'a> {
+pub struct Parts<'a> {
     rest: &'a [u8],
     end: u8,
 }
 
 impl<'a> Model for Parts<'a> {
     ghost use Rattle.std.specs.Prelude.{ℕ, List};
-    ghost use Rattle.rfq_venue.specs.Words.{parts_of};
+    ghost use Rattle.venue_text.specs.Lines.{parts_of};
 
     ghost Value = { List (List ℕ) };
 
@@ -23,8 +26,8 @@ impl<'a> Model for Parts<'a> {
 
 impl<'a> Parts<'a> {
     /// The parts of `text` that `end` ends.
-    pub(crate) fn new(text: &'a [u8], end: u8) -> Self
-        ensures { result ≡ parts_of end text.entry.now }
+    pub fn new(text: &'a [u8], end: u8) -> Self
+        ensures { result ≡ spec.parts_of end text.entry.now }
     {
         Parts { rest: text, end }
     }
@@ -51,29 +54,28 @@ impl<'a> Iterator for Parts<'a> {
 
 /// The lines of a text that are not skipped, each with its number.
 #[derive(Drop)]
-pub(crate) struct SpokenLines<'a> {
+pub struct SpokenLines<'a> {
     rest: &'a [u8],
     number: usize,
 }
 
 impl<'a> Model for SpokenLines<'a> {
     ghost use Rattle.std.specs.Prelude.{ℕ, List, ◌+◌, ◌≤◌, ◌<◌, length};
-    ghost use Rattle.rfq_venue.specs.Words.{spoken_from, parts_of};
+    ghost use Rattle.venue_text.specs.Lines.{spoken_from, parts_of};
+    ghost use Rattle.venue_text.specs.declared.lines.TheConstants.{MOST_INPUT};
 
     ghost Value = { List (ℕ × List ℕ) };
 
     ghost view = { λ lines. spoken_from lines.number (parts_of 10 lines.rest.now) };
 
-    ghost invariant = { λ lines. lines.number + length lines.rest.now ≤ 16777217 };
+    ghost invariant = { λ lines. lines.number + length lines.rest.now ≤ MOST_INPUT + 1 };
 }
 
 impl<'a> SpokenLines<'a> {
-    ghost use Rattle.rfq_venue.specs.Words.{spoken_lines};
-
     /// The lines of a text that are not skipped.
-    pub(crate) fn new(text: &'a [u8]) -> Self
-        requires { length text.now ≤ 16777216 }
-        ensures { result ≡ spoken_lines text.entry.now }
+    pub fn new(text: &'a [u8]) -> Self
+        requires { length text.now ≤ MOST_INPUT }
+        ensures { result ≡ spec.spoken_lines text.entry.now }
     {
         SpokenLines {
             rest: text,
@@ -107,7 +109,7 @@ impl<'a> Iterator for SpokenLines<'a> {
 
 /// Whether a line says nothing: it is empty or begins with `#`.
 fn is_skipped(line: &[u8]) -> bool
-    ensures { result ≡ is_skipped line.now }
+    ensures { result ≡ spec.is_skipped line.now }
 {
     match line.first() {
         None => true,
@@ -115,17 +117,17 @@ fn is_skipped(line: &[u8]) -> bool
     }
 }
 
-/// Whether a line of the text divides it into parts.
-pub(crate) fn has_divider(text: &[u8]) -> bool
-    ensures { result ≡ has_divider text.now }
+/// Whether a line of the text is `%%`, which divides an input.
+pub fn has_divider(text: &[u8]) -> bool
+    ensures { result ≡ spec.has_divider text.now }
 {
-    Parts::new(text, b'\n').any(|line| is_word(line, b"%%"))
+    Parts::new(text, b'\n').any(|line| same_text(line, b"%%"))
 }
 
 /// The number that a line behind the last one would have.
-pub(crate) fn one_past(text: &[u8]) -> usize
-    requires { length text.now ≤ 16777216 }
-    ensures { result ≡ one_past text.now }
+pub fn one_past(text: &[u8]) -> usize
+    requires { length text.now ≤ MOST_INPUT }
+    ensures { result ≡ spec.one_past text.now }
 {
     Parts::new(text, b'\n').count() + 1
 }

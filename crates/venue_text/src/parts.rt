@@ -1,8 +1,8 @@
-//! The words of a line.
-ghost use Rattle.std.specs.Prelude.{◌≡◌, ◌<◌, ◌==◌, length, Some, None};
+//! The parts of a line, and what single parts spell.
+ghost use Rattle.std.specs.Prelude.{◌≡◌, ◌<◌, ◌==◌, length};
 ghost use Rattle.std.specs.List.{before_first, after_first};
-ghost use Rattle.venue_config.specs.Texts.{same_text};
-ghost use Rattle.rfq_venue.specs.Words.{side_of, time_of};
+ghost use Rattle.venue_config.specs.Texts as texts;
+ghost use Rattle.venue_text.specs.Lines as spec;
 
 use arrayvec::ArrayVec;
 use fix_fields::{Date, Moment, read_moment};
@@ -22,38 +22,38 @@ pub(crate) fn cut_at(text: &[u8], byte: u8) -> (&[u8], &[u8])
     (&text[..place], &text[place + 1..])
 }
 
-/// The first word of a text, and what stands behind the space that ends it.
-pub(crate) fn cut_word(text: &[u8]) -> (&[u8], &[u8])
-    ensures word { result.0.now ≡ before_first (λ c. c == 32) text.now }
-    ensures behind { result.1.now ≡ after_first (λ c. c == 32) text.now }
+/// The first part of a line, and what stands behind the space that ends it.
+pub fn cut_part(text: &[u8]) -> (&[u8], &[u8])
+    ensures part { result.0.now ≡ spec.first_part text.now }
+    ensures behind { result.1.now ≡ spec.behind_part text.now }
 {
     cut_at(text, b' ')
 }
 
-/// Whether a text is this word.
-pub(crate) fn is_word(text: &[u8], word: &[u8]) -> bool
-    ensures { result ≡ same_text text.now word.now }
+/// Whether a text is this one, byte by byte.
+pub fn same_text(text: &[u8], other: &[u8]) -> bool
+    ensures { result ≡ texts.same_text text.now other.now }
 {
-    text == word
+    text == other
 }
 
-/// The side of the investor: `1` buys, `2` sells.
-pub(crate) fn read_side(text: &[u8]) -> Option<Side>
-    ensures { result ≡ side_of text.now }
+/// SIDE, the side of the investor: `1` buys, `2` sells.
+pub fn read_side(text: &[u8]) -> Option<Side>
+    ensures { result ≡ spec.side_of text.now }
 {
-    if is_word(text, b"1") {
+    if same_text(text, b"1") {
         return Some(Side::Buy);
     }
-    if is_word(text, b"2") {
+    if same_text(text, b"2") {
         return Some(Side::Sell);
     }
     None
 }
 
-/// A moment of the day, `HH:MM:SS` or `HH:MM:SS.sss`: read as the UTCTimestamp that it makes behind
-/// the date and a dash.
-pub(crate) fn read_time(date: &Date, text: &[u8]) -> Option<Moment>
-    ensures { result ≡ time_of date.now text.now }
+/// TIME, a moment of the day, `HH:MM:SS` or `HH:MM:SS.sss`: read as the UTCTimestamp that it makes
+/// behind the date and a dash.
+pub fn read_time(date: &Date, text: &[u8]) -> Option<Moment>
+    ensures { result ≡ spec.time_of date.now text.now }
 {
     if text.len() > 12 {
         return None;

@@ -1,7 +1,7 @@
 use Rattle.std.proofs.Common.{◌≡◌, ◌+◌, ◌≤◌, vec_len}
-use Rattle.rfq_venue.specs.DueText.{dues_from}
-use Rattle.rfq_venue.proofs.SpellLemmas.{behind_dues}
-use Rattle.rfq_venue.proofs.due_text.read_dues.Given as goal
+use Rattle.venue_text.specs.DueText.{dues_from}
+use Rattle.venue_text.proofs.SpellLemmas.{behind_dues}
+use Rattle.venue_text.proofs.due_text.read_dues.Given as goal
 
 abbrev pub invariant-loop-line : goal.invariant-loop-line
 invariant-loop-line l =

@@ -1,7 +1,7 @@
 use Rattle.std.proofs.Common.{◌≡◌}
-use Rattle.rfq_venue.specs.SayLine.{fields_in, said_fields}
-use Rattle.rfq_venue.proofs.SpellLemmas.{behind_fields}
-use Rattle.rfq_venue.proofs.fields.read_fields.Given as goal
+use Rattle.venue_text.specs.SayLine.{fields_in, said_fields}
+use Rattle.venue_text.proofs.SpellLemmas.{behind_fields}
+use Rattle.venue_text.proofs.fields.read_fields.Given as goal
 
 abbrev pub invariant-loop-text : goal.invariant-loop-text
 invariant-loop-text l =

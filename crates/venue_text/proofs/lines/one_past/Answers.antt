@@ -1,6 +1,6 @@
 use Rattle.std.proofs.Common.{inl, arith, length, ap}
-use Rattle.rfq_venue.proofs.CutLemmas.{length-parts_of}
-use Rattle.rfq_venue.proofs.lines.one_past.Goals as goal
+use Rattle.venue_text.proofs.CutLemmas.{length-parts_of}
+use Rattle.venue_text.proofs.lines.one_past.Goals as goal
 
 pub count-requires-clause-fits : goal.count-requires-clause-fits
 count-requires-clause-fits c =

@@ -1,6 +1,6 @@
 use Rattle.std.proofs.Common.{◌≡◌, ◌++◌}
-use Rattle.rfq_venue.specs.ProgramText.{fields_text_behind}
-use Rattle.rfq_venue.proofs.message_lines.push_fields.Given as goal
+use Rattle.venue_text.specs.MessageLines.{fields_text_behind}
+use Rattle.venue_text.proofs.message_lines.push_fields.Given as goal
 
 abbrev pub invariant-loop-tag : goal.invariant-loop-tag
 invariant-loop-tag l =

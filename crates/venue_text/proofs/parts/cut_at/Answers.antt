@@ -1,5 +1,5 @@
-use Rattle.rfq_venue.proofs.CutLemmas.{nowhere_front, nowhere_behind, place_front, place_behind}
-use Rattle.rfq_venue.proofs.words.cut_at.Goals as goal
+use Rattle.venue_text.proofs.CutLemmas.{nowhere_front, nowhere_behind, place_front, place_behind}
+use Rattle.venue_text.proofs.parts.cut_at.Goals as goal
 
 pub returns-in_default-clause-front : goal.returns-in_default-clause-front
 returns-in_default-clause-front c = nowhere_front c.args.byte c.args.text.now c.in_default.ensures

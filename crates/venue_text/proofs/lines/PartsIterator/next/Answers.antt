@@ -1,6 +1,6 @@
 use Rattle.std.proofs.Common.{length, ap, rules}
-use Rattle.rfq_venue.proofs.CutLemmas.{parts_first}
-use Rattle.rfq_venue.proofs.lines.PartsIterator.next.Goals as goal
+use Rattle.venue_text.proofs.CutLemmas.{parts_first}
+use Rattle.venue_text.proofs.lines.PartsIterator.next.Goals as goal
 
 pub returns-clause-steps : goal.returns-clause-steps
 returns-clause-steps c =

@@ -1,6 +1,6 @@
 use Rattle.std.proofs.Common.{length, ap, rules}
-use Rattle.rfq_venue.proofs.CutLemmas.{spoken_first, spoken_next}
-use Rattle.rfq_venue.proofs.lines.SpokenLinesIterator.next.Goals as goal
+use Rattle.venue_text.proofs.CutLemmas.{spoken_first, spoken_next}
+use Rattle.venue_text.proofs.lines.SpokenLinesIterator.next.Goals as goal
 
 pub loop-self-preserved : goal.loop-self-preserved
 loop-self-preserved c = record {

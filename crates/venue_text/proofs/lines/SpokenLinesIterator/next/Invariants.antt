@@ -1,6 +1,6 @@
 use Rattle.std.proofs.Common.{◌≡◌, ◌+◌, ◌≤◌, length}
-use Rattle.rfq_venue.specs.Words.{spoken_from, parts_of}
-use Rattle.rfq_venue.proofs.lines.SpokenLinesIterator.next.Given as goal
+use Rattle.venue_text.specs.Lines.{spoken_from, parts_of}
+use Rattle.venue_text.proofs.lines.SpokenLinesIterator.next.Given as goal
 
 abbrev pub invariant-loop-self : goal.invariant-loop-self
 invariant-loop-self l = record {

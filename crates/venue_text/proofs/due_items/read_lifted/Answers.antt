@@ -1,6 +1,6 @@
 use Rattle.std.proofs.Common.{◌<◌, ◌^◌, lit<, arith}
-use Rattle.rfq_venue.proofs.TagLemmas.{number_is_small}
-use Rattle.rfq_venue.proofs.mark_lines.read_lifted.Goals as goal
+use Rattle.venue_text.proofs.TagLemmas.{number_is_small}
+use Rattle.venue_text.proofs.due_items.read_lifted.Goals as goal
 
 pub overflow_cast-result : goal.overflow_cast-result
 overflow_cast-result c =

@@ -1,10 +1,10 @@
 use Rattle.std.proofs.Common.{ap, ◌∙◌, rules}
-use Rattle.rfq_venue.proofs.SpellLemmas.{said_message_is}
+use Rattle.venue_text.proofs.SpellLemmas.{said_message_is}
 use Rattle.fix_fields.specs.TextLaws.{number_is_value}
-use Rattle.rfq_venue.proofs.say_line.Said.message.Goals as goal
+use Rattle.venue_text.proofs.said.Said.message.Goals as goal
 
-pub with_own-requires-3-clause-value : goal.with_own-requires-3-clause-value
-with_own-requires-3-clause-value c = rw (c.as_bytes-digits.ensures.value, c.format.ensures.text) (number_is_value c.args.number (search rules))
+pub with_header_field-requires-3-clause-value : goal.with_header_field-requires-3-clause-value
+with_header_field-requires-3-clause-value c = rw (c.as_bytes-digits.ensures.value, c.format.ensures.text) (number_is_value c.args.number (search rules))
 
 pub returns : goal.returns
 returns c =

@@ -1,7 +1,7 @@
 use Rattle.std.proofs.Common.{ap, ◌∙◌, arith}
-use Rattle.rfq_venue.specs.DealerView.{dealer_view}
-use Rattle.rfq_venue.specs.ProgramText.{messages_text}
-use Rattle.rfq_venue.proofs.program.alone_text.Goals as goal
+use Rattle.step_replay.specs.DealerView.{dealer_view}
+use Rattle.venue_text.specs.MessageLines.{messages_text}
+use Rattle.venue_text.proofs.printed.alone_text.Goals as goal
 
 pub returns-clause-ok : goal.returns-clause-ok
 returns-clause-ok c =
