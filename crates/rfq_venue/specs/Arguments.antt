@@ -1,8 +1,9 @@
--- The words of the program's command, and what is wrong with words that are no command.
-use Rattle.std.specs.Prelude.{◌≡◌, ◌<◌, ◌⊎◌, Bool, true, false, List, [], ◌∷◌, Some, length, codes, string_bytes}
+-- The arguments of the program's command, and what is wrong with arguments that are no command.
+use Rattle.std.specs.Prelude.{◌≡◌, ◌<◌, ◌⊎◌, Bool, true, false, List, [], ◌∷◌, Some, length, codes}
+use Rattle.std.specs.Prelude.{string_bytes}
 use Rattle.std.specs.List.{list_any}
 use Rattle.std.specs.Str.{bytes_eq}
-use Rattle.clap.specs.Simple.{on_top}
+use Rattle.clap.specs.Simple.{Shape, on_top}
 use Rattle.clap.specs.Words.{App, Kinds, Rule, Text, fault_of, new_app, new_rule, with_rule, with_subcommand}
 use Rattle.clap.specs.declared.builder.action.ArgAction.TheVariants.{SetTrue}
 use Rattle.clap.specs.declared.error.kind.ErrorKind.{ErrorKind}
@@ -18,45 +19,50 @@ frames_flag = record (new_rule (codes "frames")) { long = Some (codes "frames");
 abbrev pub alone_app : App
 alone_app = with_rule (new_app (codes "alone")) frames_flag
 
--- the program, which wants one of its commands; its own name is not among the words
+-- the program's settings
+abbrev pub settings : Shape → Shape
+settings s = record s { has_version = true; no_binary_name = true; subcommand_required = true }
+
+-- the program, which has a version and wants one of its commands; its own name is not among the
+-- arguments
 abbrev pub venue_app : App
-venue_app = with_subcommand (on_top (λ s. record s { no_binary_name = true; subcommand_required = true }) (new_app (codes "rfq_venue")))
-    alone_app.top
+venue_app = with_subcommand (on_top settings (new_app (codes "rfq_venue"))) alone_app.top
 
--- What clap finds wrong with words, as the kinds that its error may have.
-unfoldable pub words_fault : List Text → Kinds
-words_fault words = fault_of venue_app words
+-- What clap finds wrong with arguments, as the kinds that its error may have.
+unfoldable pub arguments_fault : List Text → Kinds
+arguments_fault arguments = fault_of venue_app arguments
 
--- The words that are a command: `alone`, with `--frames` behind it or not, and with `--` behind that or not.
+-- The arguments that are a command: `alone`, with `--frames` behind it or not, and with `--` behind
+-- that or not.
 abbrev pub IsCommand : List Text → Type 0
-IsCommand words =
-    (words ≡ codes "alone" ∷ [])
-    ⊎ ((words ≡ codes "alone" ∷ codes "--frames" ∷ [])
-    ⊎ ((words ≡ codes "alone" ∷ codes "--" ∷ [])
-    ⊎ (words ≡ codes "alone" ∷ codes "--frames" ∷ codes "--" ∷ [])))
+IsCommand arguments =
+    (arguments ≡ codes "alone" ∷ [])
+    ⊎ ((arguments ≡ codes "alone" ∷ codes "--frames" ∷ [])
+    ⊎ ((arguments ≡ codes "alone" ∷ codes "--" ∷ [])
+    ⊎ (arguments ≡ codes "alone" ∷ codes "--frames" ∷ codes "--" ∷ [])))
 
--- a command's words ask for whole frames: `--frames` is among them
+-- a command's arguments ask for whole frames: `--frames` is among them
 abbrev pub asks_for_frames : List Text → Bool
-asks_for_frames words = list_any (λ word. bytes_eq word (codes "--frames")) words
+asks_for_frames arguments = list_any (λ argument. bytes_eq argument (codes "--frames")) arguments
 
--- the words ask for help, which clap tells as an error
+-- the arguments ask for help or for the version, which clap tells as an error
 abbrev pub is_help : ErrorKind → Bool
 is_help kind.DisplayHelp = true
 is_help kind.DisplayVersion = true
 is_help _ = false
 
--- the words are wrong
+-- the arguments are wrong
 abbrev pub is_mistake : ErrorKind → Bool
 is_mistake kind.DisplayHelp = false
 is_mistake kind.DisplayVersion = false
 is_mistake kind.OutOfMemory = false
 is_mistake _ = true
 
--- some error that the words may have asks for help
+-- some error that the arguments may have asks for help
 abbrev pub may_be_help : Kinds → Bool
 may_be_help kinds = list_any is_help kinds
 
--- some error that the words may have is a mistake
+-- some error that the arguments may have is a mistake
 abbrev pub may_be_mistake : Kinds → Bool
 may_be_mistake kinds = list_any is_mistake kinds
 

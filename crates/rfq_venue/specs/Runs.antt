@@ -1,179 +1,162 @@
--- What the program prints.
-use Rattle.std.specs.Prelude.{◌≡◌, ◌<◌, ◌≤◌, ◌⊎◌, ℕ, Bool, true, ◌==◌, List, [], ◌∷◌, ◌++◌, length, map, drop, take, nat_lt, codes, decimal, Option, Some, None, Result, Ok, Err, if◌then◌else◌}
-use Rattle.std.specs.List.{flat_map}
+-- How a run of the program ends.
+use Rattle.std.specs.Prelude.{◌≡◌, ◌<◌, ◌≤◌, ◌⊎◌, ℕ, Bool, true, false, List, [], ◌∷◌, ◌++◌, length, take}
+use Rattle.std.specs.Prelude.{codes, Option, Some, None, Result, Ok, Err}
 use Rattle.std.specs.Option.{IfSome}
 use Rattle.std.specs.Io.KnownBytes.{Appends, Keeps}
-use Rattle.fix_fields.specs.Frame.{Field, frame_of}
-use Rattle.quote_messages.specs.SessionChecks.{text_at}
-use Rattle.venue_config.specs.Rows.{dealer_values}
-use Rattle.venue_config.specs.declared.dealer_rows.DealerRow.{DealerRow}
-use Rattle.rfq_venue.specs.declared.due.Due.{Due}
-use Rattle.rfq_venue.specs.declared.faults.ProgramFault.{ProgramFault}
-use Rattle.rfq_venue.specs.declared.faults.ProgramFault.TheVariants.{Read, Input, Parts, Form, Memory, Write}
 use Rattle.clap.specs.Kinds.{Kinds}
 use Rattle.clap.specs.Walk.{Text}
-use Rattle.rfq_venue.specs.CommandWords.{asks_for_frames, may_be_help, may_be_mistake, words_fault}
-use Rattle.rfq_venue.specs.DealerView.{dealer_view}
-use Rattle.rfq_venue.specs.DueText.{Spelled, due_text_of}
+use Rattle.venue_text.specs.AloneText.{IsPrinted, first_fault}
+use Rattle.venue_text.specs.Faults.{fault_line}
+use Rattle.venue_text.specs.declared.faults.ProgramFault.{ProgramFault}
+use Rattle.venue_text.specs.declared.faults.ProgramFault.TheVariants.{Read, Input, Parts, Form, Memory, Write}
+use Rattle.venue_text.specs.declared.lines.TheConstants.{MOST_INPUT}
+use Rattle.rfq_venue.specs.Arguments.{IsCommand, asks_for_frames, arguments_fault}
+use Rattle.rfq_venue.specs.Arguments.{may_be_help, may_be_mistake}
+use Rattle.rfq_venue.specs.declared.process.ArgumentFault.{ArgumentFault}
+use Rattle.rfq_venue.specs.declared.process.ArgumentFault.TheVariants as argument
 
--- a fault as standard error tells it
-abbrev pub fault_text : ProgramFault → List ℕ
-fault_text Read = codes "read"
-fault_text Input = codes "input"
-fault_text Parts = codes "parts"
-fault_text (Form line) = codes "line " ++ decimal line ++ codes ": form"
-fault_text Memory = codes "memory"
-fault_text Write = codes "write"
+-- What a writer held before a run and after it, where it tells.
+pub record Written : Type 0 where
+  pub before : Option (List ℕ)
+  pub after : Option (List ℕ)
 
--- a vertical bar stands for SOH
-abbrev pub with_bar : ℕ → ℕ
-with_bar c = if c == 1 then 124 else c
+-- The streams of a run: what standard input had to give, where it tells, and what was written to
+-- standard output and to standard error.
+pub record Streams : Type 0 where
+  pub input : Option (List ℕ)
+  pub out : Written
+  pub err : Written
 
--- a message as its whole frame: `FIRM FRAME`
-abbrev pub frame_line : List ℕ → List ℕ → List ℕ
-frame_line firm message = firm ++ 32 ∷ map with_bar message ++ 10 ∷ []
+-- nothing was written
+abbrev pub IsUntouched : Written → Type 0
+IsUntouched written = Keeps written.before written.after
 
--- fields behind a text: `tag=value`, each behind a divider
-abbrev pub fields_text_behind : ℕ → List Field → List ℕ
-fields_text_behind divider [] = []
-fields_text_behind divider (field ∷ fields) =
-    (divider ∷ decimal field.0 ++ 61 ∷ field.1) ++ fields_text_behind 124 fields
+-- a text was written, and nothing else
+abbrev pub Gains : List ℕ → Written → Type 0
+Gains text written = Appends written.before written.after text
 
--- MsgSeqNum (34), the time of day of SendingTime (52) and MsgType (35), each behind a space. The time of day stands
--- behind eight digits of the date and a dash.
-abbrev pub header_text : List Field → List ℕ
-header_text fields =
-    32 ∷ text_at 34 fields ++ 32 ∷ drop 9 (text_at 52 fields) ++ 32 ∷ text_at 35 fields
-
--- the fields behind the header of a written message, which has five: 35, 49, 56, 34 and 52
-abbrev pub fields_behind_header : List Field → List Field
-fields_behind_header fields = drop 5 fields
-
--- a message as a line: `FIRM N TIME TYPE BODY`; vertical bars divide the fields of BODY
-abbrev pub fields_line : List ℕ → List Field → List ℕ
-fields_line firm fields = firm ++ header_text fields ++ fields_text_behind 32 (fields_behind_header fields) ++ 10 ∷ []
-
--- the same of its bytes; the venue sends frames alone, and other bytes would be shown as they are
-abbrev pub message_line : List ℕ → List ℕ → List ℕ
-message_line firm message =
-    elim (frame_of message) [
-      | None ↦ frame_line firm message
-      | Some fields ↦ fields_line firm fields
-    ]
-
--- the line of a message, in one form or the other
-abbrev pub line_of : Bool → List ℕ → List ℕ → List ℕ
-line_of with_frames firm message = if with_frames then frame_line firm message else message_line firm message
-
--- messages, a line each
-abbrev pub messages_text : Bool → List ℕ → List (List ℕ) → List ℕ
-messages_text with_frames firm messages = flat_map (line_of with_frames firm) messages
-
--- the fault of what was read, if it has one
-abbrev pub fault_of_reading : Result Spelled ProgramFault → Option ProgramFault
-fault_of_reading (Ok spelled) = None
-fault_of_reading (Err fault) = Some fault
-
--- the first fault of an input, if it has one
-abbrev pub first_fault : List ℕ → Option ProgramFault
-first_fault input = if nat_lt 16777216 (length input) then Some Input else fault_of_reading (due_text_of input)
-
--- What `alone` prints for an input: the dealer view of what the input spells, a line for each message. An input has
--- one such text at most, since what it spells is a function of its bytes.
-pub record IsPrinted (with_frames : Bool) (input text : List ℕ) : Type 0 where
-  pub date : List ℕ
-  pub row : DealerRow
-  pub dues : List Due
-  pub fits : length input ≤ 16777216
-  pub spelled : due_text_of input ≡ Ok (record { date = date; row = dealer_values row; dues = dues })
-  pub printed : text ≡ messages_text with_frames row.name (dealer_view date row dues)
-
--- A writer has taken a part of a text from its front: what it held, and then that part.
-pub record AppendsPrefix (old new : Option (List ℕ)) (text : List ℕ) : Type 0 where
+-- a part of a text was written, from its front, as where the writer refused
+pub record GainsPart (text : List ℕ) (written : Written) : Type 0 where
   pub taken : ℕ
-  pub appends : Appends old new (take taken text)
+  pub gained : Gains (take taken text) written
 
--- What was read of all bytes: their front, and all of them unless there are more than the program reads.
+-- What was read of all bytes: their front, and all of them unless there are more than an input has.
 pub record IsReadOf (all bytes : List ℕ) : Type 0 where
   pub rest : List ℕ
   pub split : all ≡ bytes ++ rest
-  pub whole : length bytes ≤ 16777216 → rest ≡ []
+  pub whole : length bytes ≤ MOST_INPUT → rest ≡ []
 
--- a writer has taken what `alone` prints for an input, and nothing else
-pub record HasPrinted (with_frames : Bool) (input : List ℕ) (old new : Option (List ℕ)) : Type 0 where
+-- what `alone` prints for an input was written, and nothing else
+pub record HasPrinted (with_frames : Bool) (input : List ℕ) (out : Written) : Type 0 where
   pub text : List ℕ
-  pub printed : IsPrinted with_frames input text
-  pub appended : Appends old new text
+  pub is_text : IsPrinted with_frames input text
+  pub gained : Gains text out
 
--- a writer that refused has taken a part of it, from its front
-pub record HasPrintedPart (with_frames : Bool) (input : List ℕ) (old new : Option (List ℕ)) : Type 0 where
+-- a part of it was written, from its front
+pub record HasPrintedPart (with_frames : Bool) (input : List ℕ) (out : Written) : Type 0 where
   pub text : List ℕ
-  pub printed : IsPrinted with_frames input text
-  pub appended : AppendsPrefix old new text
+  pub is_text : IsPrinted with_frames input text
+  pub gained : GainsPart text out
 
--- What standard output holds after a fault, and what the fault says of the input where its bytes are known: nothing was
--- printed, but for a part of the text where the output itself refused.
-abbrev pub FaultLeaves : Bool → ProgramFault → Option (List ℕ) → Option (List ℕ) → Option (List ℕ) → Type 0
-FaultLeaves with_frames Read input old new = Keeps old new
-FaultLeaves with_frames Input input old new = Keeps old new × IfSome input (λ all. first_fault all ≡ Some Input)
-FaultLeaves with_frames Parts input old new = Keeps old new × IfSome input (λ all. first_fault all ≡ Some Parts)
-FaultLeaves with_frames (Form line) input old new = Keeps old new × IfSome input (λ all. first_fault all ≡ Some (Form line))
-FaultLeaves with_frames Memory input old new = Keeps old new
-FaultLeaves with_frames Write input old new = IfSome input (λ all. HasPrintedPart with_frames all old new)
+-- What a fault says of the input, where its bytes are known.
+abbrev pub IsFirstOf : ProgramFault → Option (List ℕ) → Type 0
+IsFirstOf fault input = IfSome input (λ all. first_fault all ≡ Some fault)
 
--- the line that tells a fault
-abbrev pub fault_line : ProgramFault → List ℕ
-fault_line fault = fault_text fault ++ 10 ∷ []
+-- What standard output holds after a fault, and what the fault says of the input: nothing was written,
+-- but for a part of the text where the output itself refused.
+abbrev pub FaultLeaves : Bool → ProgramFault → Option (List ℕ) → Written → Type 0
+FaultLeaves with_frames Read input out = IsUntouched out
+FaultLeaves with_frames Input input out = IsUntouched out × IsFirstOf Input input
+FaultLeaves with_frames Parts input out = IsUntouched out × IsFirstOf Parts input
+FaultLeaves with_frames (Form line) input out = IsUntouched out × IsFirstOf (Form line) input
+FaultLeaves with_frames Memory input out = IsUntouched out
+FaultLeaves with_frames Write input out = IfSome input (λ all. HasPrintedPart with_frames all out)
 
--- status 1: a fault, which standard error has taken the line of, or a part of it where it refused
-pub record EndsInFault (with_frames : Bool) (input old new told_old told_new : Option (List ℕ)) : Type 0 where
+-- a fault, whose line standard error has taken, or a part of it where it refused
+pub record EndsInFault (with_frames : Bool) (streams : Streams) : Type 0 where
   pub fault : ProgramFault
-  pub left : FaultLeaves with_frames fault input old new
-  pub told : AppendsPrefix told_old told_new (fault_line fault)
+  pub left : FaultLeaves with_frames fault streams.input streams.out
+  pub told : GainsPart (fault_line fault) streams.err
+
+-- all of what `alone` prints for the input was written, and nothing to standard error
+abbrev pub EndsInMessages : Bool → Streams → Type 0
+EndsInMessages with_frames streams =
+    IfSome streams.input (λ all. HasPrinted with_frames all streams.out) × IsUntouched streams.err
 
 -- How a run of `alone` ends: with status 0 and all of its text, or with status 1 and a fault.
-abbrev pub EndsAlone : Bool → ℕ → Option (List ℕ) → Option (List ℕ) → Option (List ℕ) → Option (List ℕ) → Option (List ℕ) → Type 0
-EndsAlone with_frames status input old new told_old told_new =
-    ((status ≡ 0) × IfSome input (λ all. HasPrinted with_frames all old new) × Keeps told_old told_new)
-    ⊎ ((status ≡ 1) × EndsInFault with_frames input old new told_old told_new)
+abbrev pub EndsAlone : Bool → ℕ → Streams → Type 0
+EndsAlone with_frames status streams =
+    ((status ≡ 0) × EndsInMessages with_frames streams)
+    ⊎ ((status ≡ 1) × EndsInFault with_frames streams)
 
--- How a run ends that prints one text: with status 0 and all of it, or, where the output refused a part, with status 1.
-abbrev pub EndsInText : List ℕ → ℕ → Option (List ℕ) → Option (List ℕ) → Option (List ℕ) → Option (List ℕ) → Type 0
-EndsInText text status old new told_old told_new =
-    ((status ≡ 0) × Appends old new text × Keeps told_old told_new)
-    ⊎ ((status ≡ 1) × AppendsPrefix old new text × AppendsPrefix told_old told_new (fault_line Write))
+-- How a run ends that prints one text: with status 0 and all of it, or, where the output refused a part,
+-- with status 1.
+abbrev pub EndsInText : List ℕ → ℕ → Written → Written → Type 0
+EndsInText text status out err =
+    ((status ≡ 0) × Gains text out × IsUntouched err)
+    ⊎ ((status ≡ 1) × GainsPart text out × GainsPart (fault_line Write) err)
 
 -- help: a text that is not empty is printed
-pub record EndsInHelp (status : ℕ) (old new told_old told_new : Option (List ℕ)) : Type 0 where
+pub record EndsInHelp (status : ℕ) (out err : Written) : Type 0 where
   pub text : List ℕ
   pub filled : 0 < length text
-  pub ends : EndsInText text status old new told_old told_new
+  pub ends : EndsInText text status out err
 
--- wrong words: status 2, nothing is printed, and standard error has taken a text that is not empty, or a part of it
-pub record EndsInMistake (status : ℕ) (old new told_old told_new : Option (List ℕ)) : Type 0 where
+-- wrong arguments: status 2, nothing is printed, and standard error has taken a text that is not empty,
+-- or a part of it
+pub record EndsInMistake (status : ℕ) (out err : Written) : Type 0 where
   pub text : List ℕ
   pub filled : 0 < length text
   pub code : status ≡ 2
-  pub left : Keeps old new
-  pub told : AppendsPrefix told_old told_new text
+  pub left : IsUntouched out
+  pub told : GainsPart text err
 
 -- memory was refused before anything was printed
-abbrev pub EndsInMemory : ℕ → Option (List ℕ) → Option (List ℕ) → Option (List ℕ) → Option (List ℕ) → Type 0
-EndsInMemory status old new told_old told_new =
-    (status ≡ 1) × Keeps old new × AppendsPrefix told_old told_new (fault_line Memory)
+abbrev pub EndsInMemory : ℕ → Written → Written → Type 0
+EndsInMemory status out err =
+    (status ≡ 1) × IsUntouched out × GainsPart (fault_line Memory) err
 
--- How a run ends whose words are not those of a command, by what is wrong with them.
-abbrev pub EndsTold : Kinds → ℕ → Option (List ℕ) → Option (List ℕ) → Option (List ℕ) → Option (List ℕ) → Type 0
-EndsTold kinds status old new told_old told_new =
-    EndsInMemory status old new told_old told_new
-    ⊎ (((may_be_help kinds ≡ true) × EndsInHelp status old new told_old told_new)
-    ⊎ ((may_be_mistake kinds ≡ true) × EndsInMistake status old new told_old told_new))
+-- How a run ends whose arguments are not those of a command, by what is wrong with them.
+abbrev pub EndsTold : Kinds → ℕ → Written → Written → Type 0
+EndsTold kinds status out err =
+    EndsInMemory status out err
+    ⊎ (((may_be_help kinds ≡ true) × EndsInHelp status out err)
+    ⊎ ((may_be_mistake kinds ≡ true) × EndsInMistake status out err))
 
--- How a run with words ends: as `alone` where nothing is wrong with them, and else it tells what is.
-abbrev pub EndsByFault : Kinds → Bool → ℕ → Option (List ℕ) → Option (List ℕ) → Option (List ℕ) → Option (List ℕ) → Option (List ℕ) → Type 0
-EndsByFault [] with_frames status input old new told_old told_new = EndsAlone with_frames status input old new told_old told_new
-EndsByFault (k ∷ ks) with_frames status input old new told_old told_new = EndsTold (k ∷ ks) status old new told_old told_new
+-- How a run with arguments ends: as `alone` where nothing is wrong with them, and else it tells what is.
+abbrev pub EndsByFault : Kinds → Bool → ℕ → Streams → Type 0
+EndsByFault [] with_frames status streams = EndsAlone with_frames status streams
+EndsByFault (k ∷ ks) with_frames status streams = EndsTold (k ∷ ks) status streams.out streams.err
 
--- the same by the words themselves
-abbrev pub EndsByWords : List Text → ℕ → Option (List ℕ) → Option (List ℕ) → Option (List ℕ) → Option (List ℕ) → Option (List ℕ) → Type 0
-EndsByWords words = EndsByFault (words_fault words) (asks_for_frames words)
+-- the same by the arguments themselves
+abbrev pub EndsByArguments : List Text → ℕ → Streams → Type 0
+EndsByArguments arguments status streams =
+    EndsByFault (arguments_fault arguments) (asks_for_frames arguments) status streams
+
+-- How a run ends, by its arguments.
+pub record EndsAsAsked (arguments : List Text) (status : ℕ) (streams : Streams) : Type 0 where
+  -- No arguments at all mean `alone`.
+  pub none : length arguments ≡ 0 → EndsAlone false status streams
+
+  -- Those of a command, and two of them by name.
+  pub commands : IsCommand arguments → EndsAlone (asks_for_frames arguments) status streams
+  pub alone : arguments ≡ codes "alone" ∷ [] → EndsAlone false status streams
+  pub frames : arguments ≡ codes "alone" ∷ codes "--frames" ∷ [] → EndsAlone true status streams
+
+  -- All arguments: those of a command run it, others print help or tell what is wrong with them.
+  pub some : 0 < length arguments → EndsByArguments arguments status streams
+
+  -- Wrong arguments print nothing.
+  pub wrong : status ≡ 2 → IsUntouched streams.out
+
+-- the arguments of the process as texts
+abbrev pub as_texts : {A : Type 0} → (A → List Text) → Result A ArgumentFault → Result (List Text) ArgumentFault
+as_texts texts_of (Ok arguments) = Ok (texts_of arguments)
+as_texts texts_of (Err fault) = Err fault
+
+-- How the process ends, by its arguments, or by why they could not be read: an argument that is no
+-- UTF-8 is a wrong one.
+abbrev pub EndsProcess : Result (List Text) ArgumentFault → ℕ → Streams → Type 0
+EndsProcess (Ok arguments) status streams = EndsAsAsked arguments status streams
+EndsProcess (Err argument.NotUtf8) status streams = EndsInMistake status streams.out streams.err
+EndsProcess (Err argument.Memory) status streams = EndsInMemory status streams.out streams.err

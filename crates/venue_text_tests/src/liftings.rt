@@ -1,5 +1,7 @@
-//! Made-up lists: marks and notices in any place, and messages byte by byte.
-use super::*;
+//! Made-up lists: liftings and notices in any place, and messages byte by byte.
+use crate::fixtures::{REQUEST, assert_all_go_on, assert_from_start, assert_prints, assert_shown_first};
+use std::alloc::Global;
+use std::test::Fail;
 
 /// What is due behind the first quote, and what is printed behind its acceptance: one list for each way in which a
 /// request ends.
@@ -36,7 +38,7 @@ fn notice_says_how_the_request_ended(rt: HostRuntime) -> Result<(), Fail> {
     assert_all_go_on(&rt, ENDS)
 }
 
-const MARKS: &[(&str, &str)] = &[
+const LIFTINGS: &[(&str, &str)] = &[
     // lifted thrice: the word is what it was; a quote that is known to be lifted is live until its notice
     (
         "lifted 1
@@ -63,7 +65,7 @@ say T1 09:00:20 Z 298=5|117=a1
 ",
         "DLR1 3 09:00:20.000 AI 117=a1|297=17\n",
     ),
-    // withdrawn before the mark
+    // withdrawn before the lifting
     (
         "say T1 09:00:20 Z 298=5|117=a1
 lifted 1
@@ -75,7 +77,7 @@ DLR1 4 09:00:30.000 AI 117=a1|297=5|300=99
 DLR1 5 09:00:50.000 AJ 693=N1|131=R1|694=5|55=[N/A]|48=BONDA0000001|22=4|54=1|38=2000000
 ",
     ),
-    // replaced before the mark
+    // replaced before the lifting
     (
         "say T1 09:00:20 S 117=a2|131=R1|48=BONDA0000001|22=4|133=99
 lifted 1
@@ -97,7 +99,7 @@ DLR1 4 09:00:30.000 AI 131=R1|117=a3|297=5|300=4
 DLR1 5 09:00:50.000 AJ 693=N1|131=R1|117=a2|694=1|55=[N/A]|48=BONDA0000001|22=4|54=1|38=2000000|133=99
 ",
     ),
-    // the last quote of the day has a word, and the marks send nothing
+    // the last quote of the day has a word, and the liftings send nothing
     (
         "say T1 09:00:20 S 117=a2|131=R1|48=BONDA0000001|22=4|133=99
 say T1 09:00:21 S 117=a3|131=R1|48=BONDA0000001|22=4|133=99
@@ -117,8 +119,8 @@ DLR1 7 09:00:40.000 AI 117=a3|297=5|300=99
 ];
 
 #[test]
-fn mark_counts_for_an_open_word(rt: HostRuntime) -> Result<(), Fail> {
-    assert_all_go_on(&rt, MARKS)
+fn lifting_counts_for_an_open_word(rt: HostRuntime) -> Result<(), Fail> {
+    assert_all_go_on(&rt, LIFTINGS)
 }
 
 const NOTICES: &[(&str, &str)] = &[
@@ -174,7 +176,7 @@ fn award_without_a_quote_names_none(rt: HostRuntime) -> Result<(), Fail> {
 const STARTS: &[(&str, &str)] = &[
     // a notice without a request
     ("closed 1 1 09:00:00\n", ""),
-    // a mark without a request
+    // a lifting without a request
     ("lifted 1\n", ""),
     // a notice before its request, and the one behind it
     (
@@ -186,7 +188,7 @@ closed 1 3 09:05:00
 DLR1 2 09:05:00.000 AJ 693=N1|131=R1|694=3|55=[N/A]|48=BONDA0000001|22=4|54=1|38=2000000
 ",
     ),
-    // a mark before its quote, which counts later
+    // a lifting before its quote, which counts later
     (
         "lifted 1
 shown INV1 BONDA0000001 1 2000000 09:05:00 09:00:00
@@ -312,6 +314,5 @@ fn forty_quotes_replace_one_another(rt: HostRuntime) -> Result<(), Fail> {
     let lines = forty_answers(alloc)?;
     let input = format!(in alloc; "{BEFORE_FORTY}{dues}{BEHIND_FORTY}")?;
     let text = format!(in alloc; "{REQUEST}{lines}{BEHIND_FORTY_LINES}")?;
-    assert_prints(&rt, &["alone"], input.as_str(), text.as_str());
-    Ok(())
+    assert_prints(&rt, input.as_str(), text.as_str())
 }

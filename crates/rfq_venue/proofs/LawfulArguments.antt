@@ -1,4 +1,4 @@
--- Which words are a command.
+-- Which arguments are a command.
 use Rattle.std.proofs.Common.{◌≡◌, ◌∙◌, ◌⊎◌, ◌||◌, ◌&&◌, ◌==◌, refl, sym, ap, ap₂, subst, inl, inr, ℕ, Bool, zero, suc, true, false, List, [], ◌∷◌, length, Option, Some, None, cond, not, codes, unwrap_or}
 use Rattle.std.proofs.lemmas.Bool.{eqb-true, false≢true}
 use Rattle.std.proofs.lemmas.List.Sums.{take_while-cons}
@@ -18,7 +18,7 @@ use Rattle.clap.specs.Simple.{Shape, built, names_of, new_shape}
 use Rattle.clap.specs.Walk.{Held, Names, Row, Rule, Text, Walk, after_flag, bundle_met, bundle_step, has_row, idle, long_or_other, plain, short_or_plain, subcommand_or_other, trailing, walk_from, walked}
 use Rattle.clap.proofs.OnLiterals.{clap_on_literals}
 use Rattle.clap.proofs.WalkLemmas.{walk_stopped}
-use Rattle.rfq_venue.specs.CommandWords.{IsCommand, venue_app, words_fault}
+use Rattle.rfq_venue.specs.Arguments.{IsCommand, venue_app, arguments_fault}
 
 -- the command as built, and its `alone`
 
@@ -230,25 +230,28 @@ behind_alone (word ∷ words) e =
 
 -- ---- the first word
 
-abbrev found_above : Bool → Option Rule
-found_above b = cond (b || false) (first_rule top_rules) None
+abbrev found_above : Bool → Bool → Option Rule
+found_above a b = cond (a || false) (first_rule top_rules) (cond (b || false) (second_rule top_rules) None)
 
-above_long : (v : Option Text) (b : Bool) → long_fault top_rules false (found_above b) v (held []) ≡ [] → ⊥
+above_long : (v : Option Text) (a b : Bool) → long_fault top_rules false (found_above a b) v (held []) ≡ [] → ⊥
 unfolding clap_on_literals
-above_long v false e = not_none kind.UnknownArgument [] e
-above_long (Some x) true e = not_none kind.TooManyValues [] e
-above_long None true e = not_none kind.DisplayHelp [] e
+above_long v false false e = not_none kind.UnknownArgument [] e
+above_long (Some x) false true e = not_none kind.TooManyValues [] e
+above_long None false true e = not_none kind.DisplayVersion [] e
+above_long (Some x) true b e = not_none kind.TooManyValues [] e
+above_long None true b e = not_none kind.DisplayHelp [] e
 
-above_short : (b : Bool) (rest : Text) (next : Held → Kinds) → short_fault top_rules false (found_above b) rest (held []) next ≡ [] → ⊥
-above_short false rest next e = not_none kind.UnknownArgument [] e
-above_short true rest next e = not_none kind.DisplayHelp [] e
+above_short : (a b : Bool) (rest : Text) (next : Held → Kinds) → short_fault top_rules false (found_above a b) rest (held []) next ≡ [] → ⊥
+above_short false false rest next e = not_none kind.UnknownArgument [] e
+above_short false true rest next e = not_none kind.DisplayVersion [] e
+above_short true b rest next e = not_none kind.DisplayHelp [] e
 
 above_char : (word flags : Text) (k : ℕ) (x : Option ℕ)
     → (let met = bundle_step top_rules x flags 0 plain (held []) (bundle_met top_rules k) in
     let after = after_flag top_rules idle word met.0 met.1 in
     or_else (bundle_step_fault top_rules false x flags 0 (held []) (flags_fault top_rules false k)) (step_fault top_shape 1 after.0 after.1)) ≡ [] → ⊥
 above_char word flags k None e = not_none kind.UnknownArgument (kind.InvalidSubcommand ∷ []) e
-above_char word flags k (Some x) e = above_short (104 == x) _ _ (neither _ _ e).0
+above_char word flags k (Some x) e = above_short (104 == x) (86 == x) _ _ (neither _ _ e).0
 
 above_bundle : (word flags : Text) (n : ℕ)
     → (let met = bundle_met top_rules n flags 0 plain (held []) in
@@ -267,7 +270,7 @@ above_rest word (Some flags) e = above_bundle word flags (length flags) e
 above_word : (word : Text) (o : Option (Text × Option Text))
     → (let met = long_or_other top_rules idle word o (held []) in
     or_else (flag_word_fault top_rules false o word (held [])) (step_fault top_shape 1 met.0 met.1)) ≡ [] → ⊥
-above_word word (Some p) e = above_long p.1 (bytes_eq (codes "help") p.0) (neither _ _ e).0
+above_word word (Some p) e = above_long p.1 (bytes_eq (codes "help") p.0) (bytes_eq (codes "version") p.0) (neither _ _ e).0
 above_word word None e = above_rest word (short_of word) e
 
 above_dashes : (word : Text) (b : Bool)
@@ -295,13 +298,13 @@ first_turn word e = elim (first_case word (bytes_eq (codes "alone") word) (bytes
   | inr is ↦ inr is
 ]
 
-first_dashes : (words : List Text) → words_fault (codes "--" ∷ words) ≡ [] → ⊥
-unfolding clap_on_literals words_fault
+first_dashes : (words : List Text) → arguments_fault (codes "--" ∷ words) ≡ [] → ⊥
+unfolding clap_on_literals arguments_fault
 first_dashes [] e = not_none kind.MissingSubcommand [] e
 first_dashes (word ∷ words) e = not_none kind.UnknownArgument (kind.InvalidSubcommand ∷ []) e
 
-first_none : (word : Text) (words : List Text) → words_fault (word ∷ words) ≡ [] → turn_fault top_shape top_names (at []) word ≡ []
-unfolding words_fault walk_fault
+first_none : (word : Text) (words : List Text) → arguments_fault (word ∷ words) ≡ [] → turn_fault top_shape top_names (at []) word ≡ []
+unfolding arguments_fault walk_fault
 first_none word words e = (neither _ _ (neither _ _ e).0).0
 
 -- ---- all the words
@@ -309,8 +312,8 @@ first_none word words e = (neither _ _ (neither _ _ e).0).0
 below_is : (words : List Text) → entered_fault (built venue_app) (Some (codes "alone", words)) ≡ [] → walk_fault alone_shape [] (at []) words ≡ []
 below_is words e = (neither _ _ e).0
 
-alone_none : (words : List Text) → words_fault (codes "alone" ∷ words) ≡ [] → walk_fault alone_shape [] (at []) words ≡ []
-unfolding clap_on_literals words_fault
+alone_none : (words : List Text) → arguments_fault (codes "alone" ∷ words) ≡ [] → walk_fault alone_shape [] (at []) words ≡ []
+unfolding clap_on_literals arguments_fault
 alone_none words e =
     below_is words (ap (λ (w : Walk). entered_fault (built venue_app) w.stopped) (walk_stopped top_rules top_names (at []) (codes "alone") [] words)
     ∙ (neither _ _ (neither _ _ e).1).0)
@@ -324,17 +327,17 @@ as_command words rest is (inr (inl flag)) = inr (inl (is ∙ ap (λ ws. codes "a
 as_command words rest is (inr (inr (inl end))) = inr (inr (inl (is ∙ ap (λ ws. codes "alone" ∷ ws) end)))
 as_command words rest is (inr (inr (inr both))) = inr (inr (inr (is ∙ ap (λ ws. codes "alone" ∷ ws) both)))
 
-pub lawful_words : (words : List Text) → words_fault words ≡ [] → IsCommand words
-unfolding clap_on_literals words_fault
-lawful_words [] e = absurd (not_none kind.MissingSubcommand [] e)
-lawful_words (word ∷ words) e = elim (first_turn word (first_none word words e)) [
-  | inl is ↦ as_command (word ∷ words) words (ap (λ w. w ∷ words) is) (behind_alone words (alone_none words (subst (λ (w : Text). words_fault (w ∷ words) ≡ []) is e)))
-  | inr is ↦ absurd (first_dashes words (subst (λ (w : Text). words_fault (w ∷ words) ≡ []) is e))
+pub lawful_arguments : (words : List Text) → arguments_fault words ≡ [] → IsCommand words
+unfolding clap_on_literals arguments_fault
+lawful_arguments [] e = absurd (not_none kind.MissingSubcommand [] e)
+lawful_arguments (word ∷ words) e = elim (first_turn word (first_none word words e)) [
+  | inl is ↦ as_command (word ∷ words) words (ap (λ w. w ∷ words) is) (behind_alone words (alone_none words (subst (λ (w : Text). arguments_fault (w ∷ words) ≡ []) is e)))
+  | inr is ↦ absurd (first_dashes words (subst (λ (w : Text). arguments_fault (w ∷ words) ≡ []) is e))
 ]
 
-pub command_is : (words : List Text) → IsCommand words → words_fault words ≡ []
-unfolding clap_on_literals words_fault
-command_is words (inl is) = ap words_fault is
-command_is words (inr (inl is)) = ap words_fault is
-command_is words (inr (inr (inl is))) = ap words_fault is
-command_is words (inr (inr (inr is))) = ap words_fault is
+pub command_is : (words : List Text) → IsCommand words → arguments_fault words ≡ []
+unfolding clap_on_literals arguments_fault
+command_is words (inl is) = ap arguments_fault is
+command_is words (inr (inl is)) = ap arguments_fault is
+command_is words (inr (inr (inl is))) = ap arguments_fault is
+command_is words (inr (inr (inr is))) = ap arguments_fault is

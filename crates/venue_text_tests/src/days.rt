@@ -1,8 +1,9 @@
 //! Days of the worked examples: each value is computed by hand or outside the program from the rules.
-use super::*;
+use crate::fixtures::{assert_all_go_on, assert_prints, assert_shown_first, assert_text};
+use std::test::Fail;
 
 /// A quote is replaced at exactly the exposure, the second one is lifted, and its request closed.
-pub(super) const REPLACEMENT: &str = "date 20250314
+const REPLACEMENT: &str = "date 20250314
 dealer DLR1 4 2000000 T1
 shown INV1 BONDA0000001 1 2000000 09:05:00 09:00:00
 say T1 09:00:10 S 117=a1|131=R1|48=BONDA0000001|22=4|133=99.5
@@ -16,7 +17,7 @@ closed 1 1 09:00:50
 say T1 09:01:00 S 117=a3|131=R2|48=BONDB0000002|22=4|132=101
 ";
 
-pub(super) const REPLACEMENT_MESSAGES: &str =
+const REPLACEMENT_MESSAGES: &str =
     "DLR1 1 09:00:00.000 R 131=R1|146=1|55=[N/A]|48=BONDA0000001|22=4|54=1|38=2000000|126=20250314-09:05:00.000|453=1|448=INV1|447=D|452=13
 DLR1 2 09:00:10.000 AI 131=R1|117=a1|297=0
 DLR1 3 09:00:20.000 AI 131=R1|117=a2|297=0
@@ -41,10 +42,9 @@ DLR1 8=FIXT.1.1|9=73|35=AI|49=VENUE|56=DLR1|34=9|52=20250314-09:01:00.000|131=R2
 ";
 
 #[test]
-fn quote_is_replaced_at_the_exposure(rt: HostRuntime) {
-    assert_prints(&rt, &["alone"], REPLACEMENT, REPLACEMENT_MESSAGES);
-    assert_prints(&rt, &[], REPLACEMENT, REPLACEMENT_MESSAGES);
-    assert_prints(&rt, &["alone", "--frames"], REPLACEMENT, REPLACEMENT_FRAMES);
+fn quote_is_replaced_at_the_exposure(rt: HostRuntime) -> Result<(), Fail> {
+    assert_text(&rt, false, REPLACEMENT, REPLACEMENT_MESSAGES)?;
+    assert_text(&rt, true, REPLACEMENT, REPLACEMENT_FRAMES)
 }
 
 const CANCELS: &str = "date 20250314
@@ -73,8 +73,8 @@ DLR1 9 09:00:09.000 AI 117=x|297=9
 ";
 
 #[test]
-fn cancels_are_checked_in_order(rt: HostRuntime) {
-    assert_prints(&rt, &["alone"], CANCELS, CANCEL_ANSWERS);
+fn cancels_are_checked_in_order(rt: HostRuntime) -> Result<(), Fail> {
+    assert_prints(&rt, CANCELS, CANCEL_ANSWERS)
 }
 
 /// What is due behind the first quote, and what is printed behind its acceptance.
@@ -128,7 +128,7 @@ DLR1 5 09:01:10.000 AI 131=R1|297=5|300=99
 }
 
 #[test]
-fn only_quote_of_the_day_is_used_up(rt: HostRuntime) {
+fn only_quote_of_the_day_is_used_up(rt: HostRuntime) -> Result<(), Fail> {
     let input = "date 20250314
 dealer DLR1 1 10000000 T1
 shown INV1 BONDA0000001 1 2000000 09:05:00 09:00:00
@@ -140,5 +140,5 @@ say T1 09:00:30 S 117=a2|131=R1|48=BONDA0000001|22=4|133=99
 DLR1 2 09:00:10.000 AI 131=R1|117=a1|297=0
 DLR1 3 09:00:30.000 AI 131=R1|117=a2|297=5|300=3
 ";
-    assert_prints(&rt, &["alone"], input, lines);
+    assert_prints(&rt, input, lines)
 }

@@ -1,5 +1,8 @@
-//! The forms of the lines of marks, notices and bytes: what is no such line, and what is one and sends nothing.
-use super::*;
+//! The forms of lines: what is no line of due text, and what is one and sends nothing.
+use crate::fixtures::{HEAD, assert_fault, assert_form, assert_prints};
+use std::process::Abort;
+use std::test::Fail;
+use venue_text::ProgramFault;
 
 const FAULTS: &[&str] = &[
     "lifted",
@@ -46,8 +49,7 @@ const FAULTS: &[&str] = &[
 /// Asserts that a line behind the dealer's is not of its form, whatever stands behind it.
 fn assert_no_line<T: Abort + AllocGlobal>(rt: &T, line: &str) -> Result<(), Fail> {
     let input = format!(in rt.alloc(); "{HEAD}\n{line}\nx\n")?;
-    assert_fault(rt, input.as_bytes(), b"line 4: form\n");
-    Ok(())
+    assert_form(rt, input.as_str(), Some(4))
 }
 
 #[test]
@@ -73,8 +75,7 @@ const SILENT: &[&str] = &[
 /// Asserts that a line is read, and that nothing is sent for it.
 fn assert_silent<T: Abort + AllocGlobal>(rt: &T, line: &str) -> Result<(), Fail> {
     let input = format!(in rt.alloc(); "{HEAD}{line}")?;
-    assert_prints(rt, &["alone"], input.as_str(), "");
-    Ok(())
+    assert_prints(rt, input.as_str(), "")
 }
 
 #[test]
@@ -83,4 +84,36 @@ fn lines_may_send_nothing(rt: HostRuntime) -> Result<(), Fail> {
         assert_silent(&rt, line)?;
     }
     Ok(())
+}
+
+const FAULTS_AT: &[(&[u8], usize)] = &[
+    (b"", 1),
+    (b"\n# x\n", 3),
+    (b"date 20250314", 2),
+    (b"date 20250314\n", 2),
+    (b"date 20250314 \n", 1),
+    (b"date 20251314\n", 1),
+    (b"date 20250314\r\n", 1),
+    (b"dealer DLR1 4 1 T1\ndate 20250314\n", 1),
+    (b"date 20250314\ndealer CLOCK 4 1 T1\n", 2),
+    (b"date 20250314\ndealer VENUE 4 1 T1\n", 2),
+    (b"date 20250314\ndealer DLR1 4 1 T1 T1\n", 2),
+    (b"date 20250314\ndealer DLR1 4 1 T1\n\nowned 09:00:00 x\n", 4),
+    (b"date 20250314\ndealer DLR1 4 1 T1\nsay T1 09:00:00 S 1=a||2=b\n", 3),
+];
+
+#[test]
+fn first_line_of_no_form_is_told(rt: HostRuntime) {
+    for (input, line) in FAULTS_AT {
+        assert_fault(&rt, input, ProgramFault::Form { line: *line });
+    }
+}
+
+/// Due text has one part, and a line that divides it is looked for before any other fault.
+#[test]
+fn divided_text_is_no_due_text(rt: HostRuntime) {
+    assert_fault(&rt, b"date 20251314\n%%\n", ProgramFault::Parts);
+    assert_fault(&rt, b"%%", ProgramFault::Parts);
+    assert_fault(&rt, b"%% \n", ProgramFault::Form { line: 1 });
+    assert_fault(&rt, b" %%\n", ProgramFault::Form { line: 1 });
 }
