@@ -23,8 +23,8 @@ mod input;
 mod output;
 mod process;
 mod program;
-//T
-//T2
+#[cfg(test)]
+mod tests;
 
 pub use command::{arguments_have_these_faults, these_arguments_are_commands};
 pub use program::run_program;
