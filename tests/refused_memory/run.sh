@@ -105,6 +105,8 @@ done
 refuse_each "busy-morning, no words" "$examples/busy-morning.due" "$examples/busy-morning.out"
 "$program" --help </dev/null >"$work/help"
 refuse_each "--help" /dev/null "$work/help" --help
+"$program" --version </dev/null >"$work/version"
+refuse_each "--version" /dev/null "$work/version" --version
 
 refuse_in_test dealer_desk tests::memory::a_refused_call_leaves_the_desk always
 for test in a_refused_call_leaves_the_room a_refused_pass_leaves_the_room a_refused_expiry_leaves_the_room \

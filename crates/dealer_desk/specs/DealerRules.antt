@@ -1,6 +1,7 @@
 -- The rules of the market for a dealer: what becomes of a message that came to its desk.
 use Rattle.std.specs.Prelude.{ℕ, ◌+◌, Bool, false, ◌==◌, ◌||◌, not, nat_lt, nat_le, List, [], ◌∷◌, ◌++◌, Option, Some, None, unwrap_or, is_none, is_some, Result, Ok, Err, if◌then◌else◌, option_and_then}
 use Rattle.std.specs.Str.Parse.{digits_value}
+use Rattle.bond_prices.specs.Grid.{on_grid}
 use Rattle.bond_prices.specs.declared.fault.PriceFault.{PriceFault}
 use Rattle.fix_fields.specs.Frame.{Field, frame_of, times_of, value_of}
 use Rattle.venue_config.specs.Texts.{same_text, text_if}
@@ -41,16 +42,21 @@ abbrev pub other_price : Side → Quote → Option (Result ℕ PriceFault)
 other_price Buy quote = quote.bid
 other_price Sell quote = quote.offer
 
--- a price that is in range and on the grid, with none on the other side
+-- a price that is in range and in whole 256ths, with none on the other side
 abbrev pub lone_price : Option (Result ℕ PriceFault) → Option (Result ℕ PriceFault) → Option ℕ
 lone_price (Some (Ok price)) None = Some price
 lone_price (Some (Ok price)) (Some other) = None
 lone_price (Some (Err fault)) other = None
 lone_price None other = None
 
+-- a price that is on the grid of the bond
+abbrev pub if_on_grid : ℕ → Option ℕ → Option ℕ
+if_on_grid grid None = None
+if_on_grid grid (Some price) = if on_grid price grid then Some price else None
+
 -- the price at which a quote answers an ask, if it is a lawful answer
 unfoldable pub price_for : Ask → Quote → Option ℕ
-price_for ask quote = lone_price (asked_price ask.side quote) (other_price ask.side quote)
+price_for ask quote = if_on_grid ask.grid (lone_price (asked_price ask.side quote) (other_price ask.side quote))
 
 -- The conditions of the checks.
 

@@ -1,7 +1,7 @@
 //! The rules of the market for a dealer, over the facts of its desk. Each function goes over the facts anew.
 ghost use Rattle.std.specs.Prelude.{◌≡◌, ◌+◌, ◌<◌, ◌≤◌, Some, None, MatchResult};
 ghost use Rattle.market_terms.specs.Checks.{first_refusal, is_not_after};
-ghost use Rattle.dealer_desk.specs.DealerRules.{dealer_verdict, quote_verdict, quote_refusal, standing_checks, terms_checks, day_checks, price_for, reject_of, sequence_number, differs_from, quote_kept, lone_price, replacing};
+ghost use Rattle.dealer_desk.specs.DealerRules.{dealer_verdict, quote_verdict, quote_refusal, standing_checks, terms_checks, day_checks, price_for, reject_of, sequence_number, differs_from, quote_kept, lone_price, if_on_grid, replacing};
 ghost use Rattle.dealer_desk.specs.DealerFacts.{exposure_of, live_number_on, quotes_accepted};
 
 use crate::cancels::{cancel_verdict, decline_verdict};
@@ -10,7 +10,7 @@ use crate::quotes::{
     exposure_beside, has_lifted_quote, live_number_on, quote_with_id, quotes_accepted,
 };
 use crate::{AcceptedQuote, DealerFact, DealerVerdict};
-use bond_prices::{PriceFault, Ticks};
+use bond_prices::{Grid, PriceFault, Ticks, on_grid};
 use fix_fields::{Date, Frame, Moment, read_frame};
 use quote_messages::{
     Ask, DealerMessage, IdBuf, MsgType, Quantity, Quote, QuoteRejectReason, Reject, Request,
@@ -232,15 +232,27 @@ fn is_not_after(moment: Moment, until: Option<Moment>) -> bool
     }
 }
 
-/// The price at which a quote answers an ask: in range and on the grid, on the asked side, with none on the other.
+/// The price at which a quote answers an ask: in range and on the grid of the bond, on the asked side, with none on the
+/// other.
 #[tactic(auto, unfolding(crate::specs::DealerRules::price_for))]
 fn price_for(ask: &Ask, quote: &Quote) -> Option<Ticks>
     ensures { result ≡ price_for ask.now quote.now }
 {
     match ask.side {
-        Side::Buy => lone_price(quote.offer, quote.bid),
-        Side::Sell => lone_price(quote.bid, quote.offer),
+        Side::Buy => if_on_grid(ask.grid, lone_price(quote.offer, quote.bid)),
+        Side::Sell => if_on_grid(ask.grid, lone_price(quote.bid, quote.offer)),
     }
+}
+
+/// A price that is on the grid of the bond.
+fn if_on_grid(grid: Grid, price: Option<Ticks>) -> Option<Ticks>
+    ensures { result ≡ if_on_grid grid price }
+{
+    let price = price?;
+    if !on_grid(price, grid) {
+        return None;
+    }
+    Some(price)
 }
 
 /// A lawful price that stands alone.
