@@ -68,6 +68,7 @@ fn the_longest_body(rt: HostRuntime) -> Result<(), Fail> {
     assert!(rt; fits(35, 4_067, MOST_BODY) && !fits(35, 4_068, MOST_BODY));
     let mut writer = FrameWriter::new(rt.alloc(), b"S")?;
     let letters = [b'x'; 4_063];
+    assert!(rt; is_value(&letters));
     assert!(rt; fits(1, letters.len(), writer.left()));
     writer.text(1, &letters)?;
     assert_eq!(rt; writer.left(), 0);
@@ -82,7 +83,9 @@ fn the_longest_body(rt: HostRuntime) -> Result<(), Fail> {
 /// A MsgType that takes the whole body.
 #[test]
 fn the_longest_type(rt: HostRuntime) -> Result<(), Fail> {
-    let writer = FrameWriter::new(rt.alloc(), &[b'x'; 4_067])?;
+    let letters = [b'x'; 4_067];
+    assert!(rt; is_value(&letters));
+    let writer = FrameWriter::new(rt.alloc(), &letters)?;
     assert_eq!(rt; writer.left(), 0);
     let bytes = writer.finish()?;
     assert_eq!(rt; bytes.len(), MOST_FRAME);
