@@ -52,7 +52,15 @@ fn prints(
     let (first_due, first_printed) = opening;
     let due = format!(in alloc; "{first_due}{due}")?;
     let printed = format!(in alloc; "{first_printed}{printed}")?;
-    is_printed(rt, alloc, name, limits, due.as_str(), printed.as_str(), false)
+    is_printed(
+        rt,
+        alloc,
+        name,
+        limits,
+        due.as_str(),
+        printed.as_str(),
+        false,
+    )
 }
 
 /// Asserts what is printed of a day of the dealer, as lines or as frames.

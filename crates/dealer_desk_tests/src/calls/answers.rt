@@ -6,9 +6,16 @@ use std::alloc::Global;
 use std::process::Abort;
 use std::test::Fail;
 
-/// A message: MsgType (35), MsgSeqNum (34), the fields behind the header; the own number of the quote
-/// whose word it asks, or 0; the exposure behind it; and what is left to be done.
-type Said = (&'static str, &'static str, &'static str, u32, u64, &'static str);
+/// A message: MsgType (35), MsgSeqNum (34), the fields behind the header; the own number of the
+/// quote whose word it asks, or 0; the exposure behind it; and what is left to be done.
+type Said = (
+    &'static str,
+    &'static str,
+    &'static str,
+    u32,
+    u64,
+    &'static str,
+);
 
 /// The day of a dealer whose third quote is lifted.
 const DAY: &[Said] = &[
@@ -88,7 +95,8 @@ fn is_answered(
     Ok(())
 }
 
-/// The last event is a message of these bytes at 09:00:10, with the answer of the word of that quote.
+/// The last event is a message of these bytes at 09:00:10, with the answer of the word of that
+/// quote.
 fn is_last_event(rt: &impl Abort, events: &[DealerEvent], bytes: &[u8], asked: u32) {
     let Some(
         DealerEvent::Own {

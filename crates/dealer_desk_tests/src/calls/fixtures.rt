@@ -113,8 +113,8 @@ pub(crate) fn with_soh(alloc: Global, text: &str) -> Result<Vec<u8>, Memory> {
 }
 
 /// A desk takes a message, with the answer of the word that it asks, and answers the own number of
-/// the quote whose word was asked, or 0, and what is left to be done. The word of the quote with the
-/// number `lifted` is lifted, and no other.
+/// the quote whose word was asked, or 0, and what is left to be done. The word of the quote with
+/// the number `lifted` is lifted, and no other.
 pub(crate) fn takes(
     desk: &mut DealerDesk,
     moment: Moment,

@@ -21,7 +21,10 @@ fn a_forged_quote_is_dropped(rt: HostRuntime) -> Result<(), Fail> {
     assert_eq!(rt; desk.events().len(), 2 + 129 * 8, "the events");
     assert_eq!(rt; desk.sent().len(), 2, "the messages");
     let (_, left) = takes(&mut desk, moment, quote.as_slice(), 0)?;
-    assert!(rt; left.is_some() && desk.sent().len() == 3, "the quote is accepted");
+    assert!(rt;
+        left.is_some() && desk.sent().len() == 3,
+        "the quote is accepted"
+    );
     Ok(())
 }
 

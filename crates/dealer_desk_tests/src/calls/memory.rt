@@ -1,10 +1,10 @@
 //! Memory that is refused in the middle of a day.
 //!
-//! The desk takes its memory from `Global` alone, so a test can't hand it an allocator that refuses.
-//! This test is to be run as `rt try --test --fail-alloc N`, for each N in turn, which refuses the
-//! N-th allocation. It allocates nothing but in `show`, `take` and `tell`: after a refusal the desk has
-//! to be as before, and the same call made again has to answer as if the first one had not been made.
-//! So it passes whichever allocation is refused.
+//! The desk takes its memory from `Global` alone, so a test can't hand it an allocator that
+//! refuses. This test is to be run as `rt try --test --fail-alloc N`, for each N in turn, which
+//! refuses the N-th allocation. It allocates nothing but in `show`, `take` and `tell`: after a
+//! refusal the desk has to be as before, and the same call made again has to answer as if the first
+//! one had not been made. So it passes whichever allocation is refused.
 use super::fixtures::{FIRST_ROOM, SECOND_ROOM, ask, at, desk, sum, takes};
 use dealer_desk::DealerDesk;
 use fix_fields::Moment;
@@ -19,56 +19,59 @@ const TAKEN: &[(&[u8], u64, bool, u32)] = &[
     (b"8=FIXT.1.1\x019=1\x01", 0, false, 0),
     // no type of a dealer
     (
-        b"8=FIXT.1.1\x019=65\x0135=R\x0149=DLR1\x0156=VENUE\x0134=1\x0152=20250314-09:00:10.000\x01\
-        50=T1\x01131=a1\x0110=085\x01",
+        b"8=FIXT.1.1\x019=65\x0135=R\x0149=DLR1\x0156=VENUE\x0134=1\x01\
+        52=20250314-09:00:10.000\x0150=T1\x01131=a1\x0110=085\x01",
         0,
         false,
         0,
     ),
     // a quote
     (
-        b"8=FIXT.1.1\x019=109\x0135=S\x0149=DLR1\x0156=VENUE\x0134=2\x0152=20250314-09:00:10.000\x01\
-        50=T1\x01117=a1\x01131=R1\x0148=BONDA0000001\x0122=4\x01133=99.50390625\x0110=040\x01",
+        b"8=FIXT.1.1\x019=109\x0135=S\x0149=DLR1\x0156=VENUE\x0134=2\x01\
+        52=20250314-09:00:10.000\x0150=T1\x01117=a1\x01131=R1\x0148=BONDA0000001\x0122=4\x01\
+        133=99.50390625\x0110=040\x01",
         2_000_000,
         true,
         0,
     ),
     // one that replaces it
     (
-        b"8=FIXT.1.1\x019=100\x0135=S\x0149=DLR1\x0156=VENUE\x0134=3\x0152=20250314-09:00:10.000\x01\
-        50=T1\x01117=a2\x01131=R1\x0148=BONDA0000001\x0122=4\x01133=99\x0110=085\x01",
+        b"8=FIXT.1.1\x019=100\x0135=S\x0149=DLR1\x0156=VENUE\x0134=3\x01\
+        52=20250314-09:00:10.000\x0150=T1\x01117=a2\x01131=R1\x0148=BONDA0000001\x0122=4\x01\
+        133=99\x0110=085\x01",
         2_000_000,
         true,
         1,
     ),
     // its cancel
     (
-        b"8=FIXT.1.1\x019=71\x0135=Z\x0149=DLR1\x0156=VENUE\x0134=4\x0152=20250314-09:00:10.000\x01\
-        50=T1\x01298=5\x01117=a2\x0110=120\x01",
+        b"8=FIXT.1.1\x019=71\x0135=Z\x0149=DLR1\x0156=VENUE\x0134=4\x01\
+        52=20250314-09:00:10.000\x0150=T1\x01298=5\x01117=a2\x0110=120\x01",
         0,
         true,
         2,
     ),
     // a decline
     (
-        b"8=FIXT.1.1\x019=73\x0135=AG\x0149=DLR1\x0156=VENUE\x0134=5\x0152=20250314-09:00:10.000\x01\
-        50=T1\x01131=R1\x01658=10\x0110=193\x01",
+        b"8=FIXT.1.1\x019=73\x0135=AG\x0149=DLR1\x0156=VENUE\x0134=5\x01\
+        52=20250314-09:00:10.000\x0150=T1\x01131=R1\x01658=10\x0110=193\x01",
         0,
         true,
         0,
     ),
     // a quote on the second request
     (
-        b"8=FIXT.1.1\x019=100\x0135=S\x0149=DLR1\x0156=VENUE\x0134=6\x0152=20250314-09:00:10.000\x01\
-        50=T1\x01117=a3\x01131=R2\x0148=BONDA0000001\x0122=4\x01133=99\x0110=090\x01",
+        b"8=FIXT.1.1\x019=100\x0135=S\x0149=DLR1\x0156=VENUE\x0134=6\x01\
+        52=20250314-09:00:10.000\x0150=T1\x01117=a3\x01131=R2\x0148=BONDA0000001\x0122=4\x01\
+        133=99\x0110=090\x01",
         2_000_000,
         true,
         0,
     ),
     // its cancel, which finds it lifted
     (
-        b"8=FIXT.1.1\x019=71\x0135=Z\x0149=DLR1\x0156=VENUE\x0134=7\x0152=20250314-09:00:10.000\x01\
-        50=T1\x01298=5\x01117=a3\x0110=124\x01",
+        b"8=FIXT.1.1\x019=71\x0135=Z\x0149=DLR1\x0156=VENUE\x0134=7\x01\
+        52=20250314-09:00:10.000\x0150=T1\x01298=5\x01117=a3\x0110=124\x01",
         2_000_000,
         false,
         3,
@@ -91,9 +94,9 @@ fn a_refused_call_leaves_the_desk(rt: HostRuntime) -> Result<(), Fail> {
 }
 
 /// The last message.
-const NOTICE: &[u8] =
-    b"8=FIXT.1.1\x019=134\x0135=AJ\x0149=VENUE\x0156=DLR1\x0134=11\x0152=20250314-09:00:00.000\x01\
-    693=N2\x01131=R2\x01117=a3\x01694=1\x0155=[N/A]\x0148=BONDA0000001\x0122=4\x0154=1\x01\
+const NOTICE: &[u8] = b"8=FIXT.1.1\x019=134\x0135=AJ\x0149=VENUE\x0156=DLR1\x0134=11\x01\
+    52=20250314-09:00:00.000\x01693=N2\x01131=R2\x01117=a3\x01694=1\x0155=[N/A]\x01\
+    48=BONDA0000001\x0122=4\x0154=1\x01\
     38=2000000\x01133=99\x0110=255\x01";
 
 /// What the readers of a desk answer: how many events, how many messages, the sum of the bytes of
@@ -135,7 +138,10 @@ fn takes_one(
         return Ok(taken);
     }
     assert!(rt; seen(desk) == before, "a refused take changed the desk");
-    assert!(rt; desk.question(moment, bytes) == asked, "a refused take changed its question");
+    assert!(rt;
+        desk.question(moment, bytes) == asked,
+        "a refused take changed its question"
+    );
     let taken = takes(desk, moment, bytes, 3)?;
     Ok(taken)
 }

@@ -25,23 +25,40 @@ fn a_desk_begins_with_nothing(rt: HostRuntime) -> Result<(), Fail> {
 fn requests_are_shown(rt: HostRuntime) -> Result<(), Fail> {
     let mut desk = desk(&rt, rt.alloc(), 4, 2_000_000)?;
     let nine = at(&rt, 32_400_000);
-    assert_eq!(rt; desk.show(FIRST_ROOM, ask(&rt, 2_000_000), nine)?, 1, "the first");
+    assert_eq!(rt;
+        desk.show(FIRST_ROOM, ask(&rt, 2_000_000), nine)?,
+        1,
+        "the first"
+    );
     assert!(rt; desk.was_shown(FIRST_ROOM) && !desk.was_shown(SECOND_ROOM));
     assert_eq!(rt; desk.show(SECOND_ROOM, ask(&rt, 1), nine)?, 2, "the second");
     assert!(rt; desk.was_shown(FIRST_ROOM) && desk.was_shown(SECOND_ROOM));
     assert!(rt; !desk.was_shown(NO_ROOM), "another investor's room");
-    assert_eq!(rt; desk.show(FIRST_ROOM, ask(&rt, 3), nine)?, 3, "the first room again");
-    assert!(rt; desk.tell(FIRST_ROOM, Close::Pass, nine)?, "the first request");
-    assert!(rt; !desk.tell(FIRST_ROOM, Close::Pass, nine)?, "the first request again");
-    assert!(rt; desk.tell_request(3, Close::Pass, nine)?, "the third request");
+    assert_eq!(rt;
+        desk.show(FIRST_ROOM, ask(&rt, 3), nine)?,
+        3,
+        "the first room again"
+    );
+    assert!(rt;
+        desk.tell(FIRST_ROOM, Close::Pass, nine)?,
+        "the first request"
+    );
+    assert!(rt;
+        !desk.tell(FIRST_ROOM, Close::Pass, nine)?,
+        "the first request again"
+    );
+    assert!(rt;
+        desk.tell_request(3, Close::Pass, nine)?,
+        "the third request"
+    );
     assert!(rt; desk.was_shown(FIRST_ROOM), "a room that was told");
     assert_eq!(rt; desk.events().len(), 5, "the events");
     assert_eq!(rt; desk.sent().len(), 5, "the messages");
     Ok(())
 }
 
-/// A notice is sent once of each request that was shown, by its room or by its number, and frees the
-/// exposure of its quote.
+/// A notice is sent once of each request that was shown, by its room or by its number, and frees
+/// the exposure of its quote.
 #[test]
 fn requests_are_told(rt: HostRuntime) -> Result<(), Fail> {
     let alloc = rt.alloc();
@@ -56,20 +73,39 @@ fn requests_are_told(rt: HostRuntime) -> Result<(), Fail> {
         takes(&mut desk, at(&rt, 32_410_000), quote.as_slice(), 0)?;
     }
     assert_eq!(rt; desk.exposure(), 2_000_001, "both are live");
-    assert!(rt; !desk.tell(NO_ROOM, Close::Hit, later)?, "a room that was not shown");
+    assert!(rt;
+        !desk.tell(NO_ROOM, Close::Hit, later)?,
+        "a room that was not shown"
+    );
     assert!(rt; !desk.tell_request(0, Close::Hit, later)?, "a request 0");
-    assert!(rt; !desk.tell_request(3, Close::Hit, later)?, "a third request");
+    assert!(rt;
+        !desk.tell_request(3, Close::Hit, later)?,
+        "a third request"
+    );
     assert_eq!(rt; desk.events().len(), 4, "none of these is an event");
     assert!(rt; desk.tell(FIRST_ROOM, Close::Hit, later)?, "the first room");
     assert_eq!(rt; desk.exposure(), 1, "the second quote is live");
-    assert!(rt; !desk.tell_request(1, Close::Hit, later)?, "the first request again");
-    assert!(rt; desk.tell_request(2, Close::Cover, later)?, "the second request");
-    assert!(rt; !desk.tell(SECOND_ROOM, Close::Cover, later)?, "the second room again");
+    assert!(rt;
+        !desk.tell_request(1, Close::Hit, later)?,
+        "the first request again"
+    );
+    assert!(rt;
+        desk.tell_request(2, Close::Cover, later)?,
+        "the second request"
+    );
+    assert!(rt;
+        !desk.tell(SECOND_ROOM, Close::Cover, later)?,
+        "the second room again"
+    );
     assert_eq!(rt; desk.exposure(), 0, "no quote is live");
     are_kept(&rt, &desk);
     let messages = desk.sent().len();
     assert_eq!(rt; messages, 6, "the messages");
-    assert_eq!(rt; desk.into_sent().len(), messages, "the messages that are given away");
+    assert_eq!(rt;
+        desk.into_sent().len(),
+        messages,
+        "the messages that are given away"
+    );
     Ok(())
 }
 
@@ -81,7 +117,10 @@ fn are_kept(rt: &impl Abort, desk: &DealerDesk) {
         return;
     };
     assert!(rt; room.investor == 7 && room.n == 1, "the room");
-    assert!(rt; ask.quantity.get() == 2_000_000 && moment.get() == 32_400_000, "the request");
+    assert!(rt;
+        ask.quantity.get() == 2_000_000 && moment.get() == 32_400_000,
+        "the request"
+    );
     let Some(
         DealerEvent::Told {
             request,

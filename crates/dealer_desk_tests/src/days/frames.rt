@@ -87,5 +87,13 @@ fn a_quote_that_is_cut_is_dropped(rt: HostRuntime) -> Result<(), Fail> {
     let (shown, request) = ONE_SHOWN;
     let due = format!(in alloc; "{shown}{due}")?;
     let printed = format!(in alloc; "{request}DLR1 2 09:00:10.000 AI 131=R1|117=a1|297=0\n")?;
-    is_printed(&rt, alloc, "cut", WIDE, due.as_str(), printed.as_str(), false)
+    is_printed(
+        &rt,
+        alloc,
+        "cut",
+        WIDE,
+        due.as_str(),
+        printed.as_str(),
+        false,
+    )
 }

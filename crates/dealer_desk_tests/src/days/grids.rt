@@ -4,7 +4,8 @@ use super::{Day, Opening, print_all};
 use std::test::Fail;
 
 const REQUEST: &str =
-    "DLR1 1 09:00:00.000 R 131=R1|146=1|<A>|126=20250314-09:05:00.000|453=1|448=INV1|447=D|452=13\n";
+    "DLR1 1 09:00:00.000 R 131=R1|146=1|<A>|126=20250314-09:05:00.000|453=1|448=INV1|447=D|452=13
+";
 
 /// A request on the grid of 256, which is that of a line without a grid too.
 const ON_256: &[Opening] = &[

@@ -14,6 +14,20 @@ DLR1 3 09:00:10.000 AI 131=R1|117=a1|297=0
 ",
 );
 
+/// INV2 sells 2,000,000 of another bond besides.
+const THREE_SHOWN: Opening = (
+    "shown INV1 BONDA0000001 1 2000000 09:05:00 09:00:00
+shown INV1 BONDA0000001 1 1 09:05:00 09:00:00
+shown INV2 BONDB0000002 2 2000000 09:06:00 09:00:00
+say T1 09:00:10 S 117=a1|131=R1|<a>|133=99.5
+",
+    "DLR1 1 09:00:00.000 R 131=R1|146=1|<A>|126=20250314-09:05:00.000|453=1|448=INV1|447=D|452=13
+DLR1 2 09:00:00.000 R 131=R2|146=1|<C>|126=20250314-09:05:00.000|453=1|448=INV1|447=D|452=13
+DLR1 3 09:00:00.000 R 131=R3|146=1|<B>|126=20250314-09:06:00.000|453=1|448=INV2|447=D|452=13
+DLR1 4 09:00:10.000 AI 131=R1|117=a1|297=0
+",
+);
+
 /// With an exposure of 2,000,000: another quote passes it by one, a replacement does not.
 const ONE_PAST: Day = (
     "one past the exposure",
@@ -61,14 +75,12 @@ DLR1 8 09:00:24.000 AI 117=c2|297=17
 const FREED: &[Day] = &[
     (
         "freed by a hit",
-        "shown INV2 BONDB0000002 2 2000000 09:06:00 09:00:12
-say T1 09:00:20 S 117=b1|131=R3|<b>|132=101
+        "say T1 09:00:20 S 117=b1|131=R3|<b>|132=101
 closed 1 1 09:00:21
 say T1 09:00:22 S 117=b1|131=R3|<b>|132=101
 say T1 09:00:23 S 117=c1|131=R2|<a>|133=99
 ",
-        "DLR1 4 09:00:12.000 R 131=R3|146=1|<B>|126=20250314-09:06:00.000|453=1|448=INV2|447=D|452=13
-DLR1 5 09:00:20.000 AI 131=R3|117=b1|297=5|300=3
+        "DLR1 5 09:00:20.000 AI 131=R3|117=b1|297=5|300=3
 DLR1 6 09:00:21.000 AJ 693=N1|131=R1|117=a1|694=1|<A>|133=99.5
 DLR1 7 09:00:22.000 AI 131=R3|117=b1|297=0
 DLR1 8 09:00:23.000 AI 131=R2|117=c1|297=0
@@ -76,14 +88,12 @@ DLR1 8 09:00:23.000 AI 131=R2|117=c1|297=0
     ),
     (
         "freed by an expiry",
-        "shown INV2 BONDB0000002 2 2000000 09:06:00 09:00:12
-closed 2 3 09:00:19
+        "closed 2 3 09:00:19
 say T1 09:00:20 S 117=b1|131=R3|<b>|132=101
 closed 1 3 09:00:21
 say T1 09:00:22 S 117=b1|131=R3|<b>|132=101
 ",
-        "DLR1 4 09:00:12.000 R 131=R3|146=1|<B>|126=20250314-09:06:00.000|453=1|448=INV2|447=D|452=13
-DLR1 5 09:00:19.000 AJ 693=N1|131=R2|694=3|<C>
+        "DLR1 5 09:00:19.000 AJ 693=N1|131=R2|694=3|<C>
 DLR1 6 09:00:20.000 AI 131=R3|117=b1|297=5|300=3
 DLR1 7 09:00:21.000 AJ 693=N2|131=R1|694=3|<A>
 DLR1 8 09:00:22.000 AI 131=R3|117=b1|297=0
@@ -94,7 +104,7 @@ DLR1 8 09:00:22.000 AI 131=R3|117=b1|297=0
 #[test]
 fn exactly_the_exposure(rt: HostRuntime) -> Result<(), Fail> {
     print_all(&rt, rt.alloc(), "4 2000001", TWO_OF_A_BOND, &[REACHED])?;
-    print_all(&rt, rt.alloc(), "4 2000001", TWO_OF_A_BOND, FREED)
+    print_all(&rt, rt.alloc(), "4 2000001", THREE_SHOWN, FREED)
 }
 
 /// With one quote a day: no second one, not as a replacement and not on another request. A

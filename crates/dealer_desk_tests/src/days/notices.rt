@@ -73,7 +73,11 @@ DLR1 8 09:02:01.000 AJ 693=N3|131=R3|694=1|<C>
 );
 
 /// Of no request at all.
-const NONE_SHOWN: Day = ("none shown", "closed 1 1 09:00:00\nclosed 0 3 09:00:00\n", "");
+const NONE_SHOWN: Day = (
+    "none shown",
+    "closed 1 1 09:00:00\nclosed 0 3 09:00:00\n",
+    "",
+);
 
 /// A notice bears the price of the live quote, which replaced another.
 const REPLACED: Day = (
