@@ -82,23 +82,28 @@ fn is_dropped(
         exposure,
         "the exposure behind a drop up to {last}"
     );
+    is_last_event(rt, desk.events(), last, asked);
+    Ok(())
+}
+
+/// The last event is a drop up to `last` at 09:00:30, with an answer where a word was asked.
+fn is_last_event(rt: &impl Abort, events: &[DealerEvent], up_to: u32, asked: u32) {
     let Some(
         DealerEvent::Drop {
-            last: kept,
+            last,
             moment,
             answer,
         },
-    ) = desk.events().last()
+    ) = events.last()
     else {
         assert!(rt; false, "the last event is no drop");
-        return Ok(());
+        return;
     };
     assert!(rt;
-        *kept == last && moment.get() == 32_430_000,
+        *last == up_to && moment.get() == 32_430_000,
         "the event of a drop"
     );
     assert!(rt; answer.is_some() == (asked > 0), "the answer of a drop");
-    Ok(())
 }
 
 /// A desk drops the next quote up to `last`, with the answer of the word that this asks, and

@@ -2,6 +2,7 @@
 use super::fixtures::{FIRST_ROOM, SECOND_ROOM, ask, asked_desk, at, desk, message, takes};
 use dealer_desk::{DealerDesk, DealerEvent};
 use quote_messages::{Close, RoomRef};
+use std::alloc::Global;
 use std::process::Abort;
 use std::test::Fail;
 
@@ -61,17 +62,8 @@ fn requests_are_shown(rt: HostRuntime) -> Result<(), Fail> {
 /// the exposure of its quote.
 #[test]
 fn requests_are_told(rt: HostRuntime) -> Result<(), Fail> {
-    let alloc = rt.alloc();
-    let mut desk = asked_desk(&rt, alloc, 4, 2_000_001)?;
+    let mut desk = quoted_desk(&rt, rt.alloc())?;
     let later = at(&rt, 32_460_000);
-    let quotes = [
-        ("1", "117=a1|131=R1|48=BONDA0000001|22=4|133=99.5|"),
-        ("2", "117=c1|131=R2|48=BONDA0000001|22=4|133=99.5|"),
-    ];
-    for (number, fields) in quotes {
-        let quote = message(alloc, "S", number, fields)?;
-        takes(&mut desk, at(&rt, 32_410_000), quote.as_slice(), 0)?;
-    }
     assert_eq!(rt; desk.exposure(), 2_000_001, "both are live");
     assert!(rt;
         !desk.tell(NO_ROOM, Close::Hit, later)?,
@@ -107,6 +99,20 @@ fn requests_are_told(rt: HostRuntime) -> Result<(), Fail> {
         "the messages that are given away"
     );
     Ok(())
+}
+
+/// A desk with a live quote on each of its two requests.
+fn quoted_desk(rt: &impl Abort, alloc: Global) -> Result<DealerDesk, Fail> {
+    let mut desk = asked_desk(rt, alloc, 4, 2_000_001)?;
+    let quotes = [
+        ("1", "117=a1|131=R1|48=BONDA0000001|22=4|133=99.5|"),
+        ("2", "117=c1|131=R2|48=BONDA0000001|22=4|133=99.5|"),
+    ];
+    for (number, fields) in quotes {
+        let quote = message(alloc, "S", number, fields)?;
+        takes(&mut desk, at(rt, 32_410_000), quote.as_slice(), 0)?;
+    }
+    Ok(desk)
 }
 
 /// The first event is the first request, and the last one the notice of the second.

@@ -1,5 +1,5 @@
 //! A cancel of all quotes (298=4), and the drops that follow it one by one.
-use super::openings::{BOTH_QUOTED, FIRST_QUOTED, NOTHING, ONE_QUOTED, WIDE};
+use super::openings::{BOTH_QUOTED, FIRST_QUOTED, NOTHING, ONE_QUOTED, TWO_SHOWN, WIDE};
 use super::{Day, Opening, print_all};
 use std::test::Fail;
 
@@ -7,7 +7,9 @@ use std::test::Fail;
 /// behind the notice.
 const WORKED: Day = (
     "worked",
-    "say T1 09:00:30 Z 298=4
+    "say T1 09:00:10 S 117=a1|131=R1|<a>|133=99.5
+say T1 09:00:20 S 117=a2|131=R2|<b>|132=101
+say T1 09:00:30 Z 298=4
 lifted 2
 drop 2 09:00:30
 drop 2 09:00:30
@@ -15,9 +17,11 @@ drop 2 09:00:30
 closed 2 1 09:00:40
 say T1 09:00:50 Z 298=4
 ",
-    "DLR1 5 09:00:30.000 AI 117=a1|297=17
-DLR1 6 09:00:30.000 AI 117=b1|297=5|300=4
-DLR1 7 09:00:40.000 AJ 693=N1|131=R2|117=b1|694=1|<B>|132=101
+    "DLR1 3 09:00:10.000 AI 131=R1|117=a1|297=0
+DLR1 4 09:00:20.000 AI 131=R2|117=a2|297=0
+DLR1 5 09:00:30.000 AI 117=a1|297=17
+DLR1 6 09:00:30.000 AI 117=a2|297=5|300=4
+DLR1 7 09:00:40.000 AJ 693=N1|131=R2|117=a2|694=1|<B>|132=101
 DLR1 8 09:00:50.000 AI 297=9
 ",
 );
@@ -106,7 +110,8 @@ DLR1 6 09:00:30.000 AI 117=b1|297=17
 #[test]
 fn two_quotes_are_dropped(rt: HostRuntime) -> Result<(), Fail> {
     let alloc = rt.alloc();
-    print_all(&rt, alloc, WIDE, BOTH_QUOTED, &[WORKED, LIKE_A_CANCEL])?;
+    print_all(&rt, alloc, WIDE, TWO_SHOWN, &[WORKED])?;
+    print_all(&rt, alloc, WIDE, BOTH_QUOTED, &[LIKE_A_CANCEL])?;
     print_all(&rt, alloc, WIDE, BOTH_QUOTED, BEFORE_THE_DROP)
 }
 
