@@ -106,7 +106,7 @@ refuse_each "busy-morning, no words" "$examples/busy-morning.due" "$examples/bus
 "$program" --help </dev/null >"$work/help"
 refuse_each "--help" /dev/null "$work/help" --help
 
-refuse_in_test dealer_desk tests::memory::a_refused_call_leaves_the_desk always
+refuse_in_test dealer_desk_tests calls::memory::a_refused_call_leaves_the_desk always
 for test in a_refused_call_leaves_the_room a_refused_pass_leaves_the_room a_refused_expiry_leaves_the_room; do
     refuse_in_test request_room "tests::memory::$test" always
 done

@@ -25,42 +25,41 @@ pub(crate) type Opening = (&'static str, &'static str);
 /// its opening.
 pub(crate) type Day = (&'static str, &'static str, &'static str);
 
-/// Asserts what each day prints of the dealer DLR1 with these limits: the quotes of the day, and
-/// the exposure.
-pub(crate) fn print_all(
+/// The limits of the dealer DLR1, its quotes of the day and its exposure; how its days begin; and
+/// the days.
+pub(crate) type Days = (&'static str, Opening, &'static [Day]);
+
+/// Asserts what each day prints.
+pub(crate) fn print_all(rt: &impl Abort, alloc: Global, all: &[Days]) -> Result<(), Fail> {
+    for &(limits, opening, days) in all {
+        print_each(rt, alloc, limits, opening, days)?;
+    }
+    Ok(())
+}
+
+/// Asserts what days with one opening print.
+fn print_each(
     rt: &impl Abort,
     alloc: Global,
     limits: &str,
     opening: Opening,
     days: &[Day],
 ) -> Result<(), Fail> {
-    for day in days {
-        prints(rt, alloc, limits, opening, *day)?;
+    let (first_due, first_printed) = opening;
+    for &(name, due, printed) in days {
+        let due = format!(in alloc; "{first_due}{due}")?;
+        let printed = format!(in alloc; "{first_printed}{printed}")?;
+        is_printed(
+            rt,
+            alloc,
+            name,
+            limits,
+            due.as_str(),
+            printed.as_str(),
+            false,
+        )?;
     }
     Ok(())
-}
-
-/// Asserts what a day prints.
-fn prints(
-    rt: &impl Abort,
-    alloc: Global,
-    limits: &str,
-    opening: Opening,
-    day: Day,
-) -> Result<(), Fail> {
-    let (name, due, printed) = day;
-    let (first_due, first_printed) = opening;
-    let due = format!(in alloc; "{first_due}{due}")?;
-    let printed = format!(in alloc; "{first_printed}{printed}")?;
-    is_printed(
-        rt,
-        alloc,
-        name,
-        limits,
-        due.as_str(),
-        printed.as_str(),
-        false,
-    )
 }
 
 /// Asserts what is printed of a day of the dealer, as lines or as frames.

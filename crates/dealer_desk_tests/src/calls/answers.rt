@@ -1,7 +1,6 @@
 //! Which word a message asks, what the exposure is behind it, and what it leaves to be done.
 use super::fixtures::{asked_desk, at, left_text, message, takes};
-use dealer_desk::{DealerDesk, DealerEvent};
-use quote_word::Settled;
+use dealer_desk::DealerDesk;
 use std::alloc::Global;
 use std::process::Abort;
 use std::test::Fail;
@@ -77,7 +76,7 @@ fn messages_are_answered(rt: HostRuntime) -> Result<(), Fail> {
     Ok(())
 }
 
-/// A message asks this word, and leaves this; it is the last event, with the answer of its word.
+/// A message asks this word, and leaves this.
 fn is_answered(
     rt: &impl Abort,
     alloc: Global,
@@ -91,30 +90,5 @@ fn is_answered(
     assert_eq!(rt; desk.exposure(), exposure, "the exposure behind {number}");
     let duty = left_text(alloc, &duty)?;
     assert_eq!(rt; duty.as_str(), left, "what {number} leaves");
-    is_last_event(rt, desk.events(), bytes.as_slice(), asked);
     Ok(())
-}
-
-/// The last event is a message of these bytes at 09:00:10, with the answer of the word of that
-/// quote.
-fn is_last_event(rt: &impl Abort, events: &[DealerEvent], bytes: &[u8], asked: u32) {
-    let Some(
-        DealerEvent::Own {
-            moment,
-            message,
-            answer,
-        },
-    ) = events.last()
-    else {
-        assert!(rt; false, "the last event is no message");
-        return;
-    };
-    assert!(rt; moment.get() == 32_410_000, "the moment of the event");
-    assert!(rt; message.as_bytes() == bytes, "the bytes of the event");
-    let answered = match answer {
-        None => asked == 0,
-        Some(Settled::Withdrawn) => asked == 1 || asked == 2,
-        Some(Settled::Lifted) => asked == 3,
-    };
-    assert!(rt; answered, "the answer of the event");
 }

@@ -152,7 +152,10 @@ pub(crate) fn left_text(alloc: Global, left: &Option<Duty>) -> Result<String, Me
                 moment,
             },
         ) => {
-            let until = valid_until.map_or(0, |until| until.get());
+            let until = match valid_until {
+                Some(until) => until.get(),
+                None => 0,
+            };
             post_text(alloc, *room, *quote, price.get(), until, moment.get())
         }
         Some(

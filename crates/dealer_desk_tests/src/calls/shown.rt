@@ -1,6 +1,7 @@
 //! Requests that are shown, notices, and what a desk gives back.
 use super::fixtures::{FIRST_ROOM, SECOND_ROOM, ask, asked_desk, at, desk, message, takes};
-use dealer_desk::{DealerDesk, DealerEvent};
+use dealer_desk::DealerDesk;
+use fix_fields::{Memory, Moment};
 use quote_messages::{Close, RoomRef};
 use std::alloc::Global;
 use std::process::Abort;
@@ -9,96 +10,80 @@ use std::test::Fail;
 /// A room that is never shown: a number of another investor's.
 const NO_ROOM: RoomRef = RoomRef { investor: 8, n: 1 };
 
-#[test]
-fn a_desk_begins_with_nothing(rt: HostRuntime) -> Result<(), Fail> {
-    let mut desk = desk(&rt, rt.alloc(), 1, 1)?;
-    assert!(rt; desk.events().is_empty() && desk.sent().is_empty());
-    assert_eq!(rt; desk.exposure(), 0, "the exposure");
-    assert!(rt; !desk.was_shown(FIRST_ROOM), "a room");
-    assert!(rt; !desk.tell(FIRST_ROOM, Close::Hit, at(&rt, 1))?, "a notice");
-    assert!(rt; desk.events().is_empty(), "a notice of nothing is no event");
-    Ok(())
-}
+/// Rooms as they are shown: whether each was shown before, and the number of its request. A room
+/// that is shown once more is a request more, and goes on to mean its first one.
+const SHOWN: &[(RoomRef, bool, u64)] = &[
+    (FIRST_ROOM, false, 1),
+    (SECOND_ROOM, false, 2),
+    (FIRST_ROOM, true, 3),
+];
 
-/// Requests are numbered as they are shown. A room that is shown once more is a request more, and
-/// goes on to mean its first one.
 #[test]
 fn requests_are_shown(rt: HostRuntime) -> Result<(), Fail> {
-    let mut desk = desk(&rt, rt.alloc(), 4, 2_000_000)?;
+    let mut desk = desk(&rt, rt.alloc(), 1, 1)?;
+    assert!(rt;
+        desk.events().is_empty() && desk.sent().is_empty(),
+        "nothing came"
+    );
+    assert_eq!(rt; desk.exposure(), 0, "the exposure");
     let nine = at(&rt, 32_400_000);
-    assert_eq!(rt;
-        desk.show(FIRST_ROOM, ask(&rt, 2_000_000), nine)?,
-        1,
-        "the first"
-    );
-    assert!(rt; desk.was_shown(FIRST_ROOM) && !desk.was_shown(SECOND_ROOM));
-    assert_eq!(rt; desk.show(SECOND_ROOM, ask(&rt, 1), nine)?, 2, "the second");
-    assert!(rt; desk.was_shown(FIRST_ROOM) && desk.was_shown(SECOND_ROOM));
+    for &(room, was_shown, number) in SHOWN {
+        assert_eq!(rt; desk.was_shown(room), was_shown, "the room of {number}");
+        let shown = desk.show(room, ask(&rt, 1), nine)?;
+        assert_eq!(rt; shown, number, "the number of {number}");
+    }
     assert!(rt; !desk.was_shown(NO_ROOM), "another investor's room");
-    assert_eq!(rt;
-        desk.show(FIRST_ROOM, ask(&rt, 3), nine)?,
-        3,
-        "the first room again"
-    );
-    assert!(rt;
-        desk.tell(FIRST_ROOM, Close::Pass, nine)?,
-        "the first request"
-    );
-    assert!(rt;
-        !desk.tell(FIRST_ROOM, Close::Pass, nine)?,
-        "the first request again"
-    );
-    assert!(rt;
-        desk.tell_request(3, Close::Pass, nine)?,
-        "the third request"
-    );
-    assert!(rt; desk.was_shown(FIRST_ROOM), "a room that was told");
+    let first = desk.tell(FIRST_ROOM, Close::Pass, nine)?;
+    let again = desk.tell(FIRST_ROOM, Close::Pass, nine)?;
+    let third = desk.tell_request(3, Close::Pass, nine)?;
+    assert!(rt; first && !again && third, "a room means its first request");
     assert_eq!(rt; desk.events().len(), 5, "the events");
     assert_eq!(rt; desk.sent().len(), 5, "the messages");
     Ok(())
 }
 
-/// A notice is sent once of each request that was shown, by its room or by its number, and frees
-/// the exposure of its quote.
+/// Notices by a room, or by a number where there is none: whether each is sent, and the exposure
+/// behind it. One is sent of each request that was shown, and it frees what its quote took.
+const TOLD: &[(Option<RoomRef>, u64, bool, u64)] = &[
+    (Some(NO_ROOM), 0, false, 2_000_001),
+    (None, 0, false, 2_000_001),
+    (None, 3, false, 2_000_001),
+    (Some(FIRST_ROOM), 0, true, 1),
+    (None, 1, false, 1),
+    (None, 2, true, 0),
+    (Some(SECOND_ROOM), 0, false, 0),
+];
+
 #[test]
 fn requests_are_told(rt: HostRuntime) -> Result<(), Fail> {
     let mut desk = quoted_desk(&rt, rt.alloc())?;
-    let later = at(&rt, 32_460_000);
-    assert_eq!(rt; desk.exposure(), 2_000_001, "both are live");
-    assert!(rt;
-        !desk.tell(NO_ROOM, Close::Hit, later)?,
-        "a room that was not shown"
-    );
-    assert!(rt; !desk.tell_request(0, Close::Hit, later)?, "a request 0");
-    assert!(rt;
-        !desk.tell_request(3, Close::Hit, later)?,
-        "a third request"
-    );
-    assert_eq!(rt; desk.events().len(), 4, "none of these is an event");
-    assert!(rt; desk.tell(FIRST_ROOM, Close::Hit, later)?, "the first room");
-    assert_eq!(rt; desk.exposure(), 1, "the second quote is live");
-    assert!(rt;
-        !desk.tell_request(1, Close::Hit, later)?,
-        "the first request again"
-    );
-    assert!(rt;
-        desk.tell_request(2, Close::Cover, later)?,
-        "the second request"
-    );
-    assert!(rt;
-        !desk.tell(SECOND_ROOM, Close::Cover, later)?,
-        "the second room again"
-    );
-    assert_eq!(rt; desk.exposure(), 0, "no quote is live");
-    are_kept(&rt, &desk);
-    let messages = desk.sent().len();
-    assert_eq!(rt; messages, 6, "the messages");
+    for &(room, number, is_told, exposure) in TOLD {
+        let told = tells(&mut desk, room, number, at(&rt, 32_460_000))?;
+        assert_eq!(rt; told, is_told, "the notice of {number}");
+        assert_eq!(rt; desk.exposure(), exposure, "the exposure behind {number}");
+    }
+    assert_eq!(rt; desk.sent().len(), 6, "the messages");
     assert_eq!(rt;
         desk.into_sent().len(),
-        messages,
+        6,
         "the messages that are given away"
     );
     Ok(())
+}
+
+/// Tells how the request of a room ended, or the one with a number where there is none.
+fn tells(
+    desk: &mut DealerDesk,
+    room: Option<RoomRef>,
+    number: u64,
+    moment: Moment,
+) -> Result<bool, Memory> {
+    let Some(room) = room else {
+        let told = desk.tell_request(number, Close::Cover, moment)?;
+        return Ok(told);
+    };
+    let told = desk.tell(room, Close::Hit, moment)?;
+    Ok(told)
 }
 
 /// A desk with a live quote on each of its two requests.
@@ -113,31 +98,4 @@ fn quoted_desk(rt: &impl Abort, alloc: Global) -> Result<DealerDesk, Fail> {
         takes(&mut desk, at(rt, 32_410_000), quote.as_slice(), 0)?;
     }
     Ok(desk)
-}
-
-/// The first event is the first request, and the last one the notice of the second.
-fn are_kept(rt: &impl Abort, desk: &DealerDesk) {
-    let events = desk.events();
-    let Some(DealerEvent::Shown { room, ask, moment }) = events.first() else {
-        assert!(rt; false, "the first event is no request");
-        return;
-    };
-    assert!(rt; room.investor == 7 && room.n == 1, "the room");
-    assert!(rt;
-        ask.quantity.get() == 2_000_000 && moment.get() == 32_400_000,
-        "the request"
-    );
-    let Some(
-        DealerEvent::Told {
-            request,
-            close,
-            moment,
-        },
-    ) = events.last()
-    else {
-        assert!(rt; false, "the last event is no notice");
-        return;
-    };
-    assert!(rt; *request == 2 && *close == Close::Cover, "the notice");
-    assert!(rt; moment.get() == 32_460_000, "the moment of the notice");
 }

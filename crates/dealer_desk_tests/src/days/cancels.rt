@@ -1,6 +1,6 @@
 //! The checks of a cancel of one quote, each alone and two at once.
 use super::openings::{BOTH_QUOTED, ONE_QUOTED, WIDE};
-use super::{Day, print_all};
+use super::{Day, Days, print_all};
 use std::test::Fail;
 
 /// Cancels beside a live quote: of another type than 5 and 4, with and without a QuoteID, and of no
@@ -118,19 +118,6 @@ DLR1 5 09:00:22.000 AI 117=a1|297=5|300=99
 ",
 );
 
-#[test]
-fn cancels_of_a_quote(rt: HostRuntime) -> Result<(), Fail> {
-    let days = [
-        OF_NO_QUOTE,
-        OF_A_REFUSED_QUOTE,
-        OF_WITHDRAWN_QUOTES,
-        PAST_THE_DEADLINE,
-        TOO_LATE,
-    ];
-    print_all(&rt, rt.alloc(), WIDE, ONE_QUOTED, &days)?;
-    print_all(&rt, rt.alloc(), WIDE, ONE_QUOTED, BEHIND_THE_NOTICE)
-}
-
 /// A cancel withdraws the quote that it names and no other; the request can be quoted again.
 const OF_ONE_OF_TWO: Day = (
     "of one of two",
@@ -151,7 +138,18 @@ DLR1 10 09:00:25.000 AJ 693=N2|131=R2|694=1|<B>
 ",
 );
 
+const DAYS: &[Days] = &[
+    (
+        WIDE,
+        ONE_QUOTED,
+        &[OF_NO_QUOTE, OF_A_REFUSED_QUOTE, OF_WITHDRAWN_QUOTES],
+    ),
+    (WIDE, ONE_QUOTED, &[PAST_THE_DEADLINE, TOO_LATE]),
+    (WIDE, ONE_QUOTED, BEHIND_THE_NOTICE),
+    (WIDE, BOTH_QUOTED, &[OF_ONE_OF_TWO]),
+];
+
 #[test]
-fn a_cancel_is_of_one_quote(rt: HostRuntime) -> Result<(), Fail> {
-    print_all(&rt, rt.alloc(), WIDE, BOTH_QUOTED, &[OF_ONE_OF_TWO])
+fn a_quote_is_cancelled(rt: HostRuntime) -> Result<(), Fail> {
+    print_all(&rt, rt.alloc(), DAYS)
 }

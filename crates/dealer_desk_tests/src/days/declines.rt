@@ -1,6 +1,6 @@
 //! The checks of a decline, each alone and two at once.
 use super::openings::{NOTHING, TWO_SHOWN, WIDE};
-use super::{Day, print_all};
+use super::{Day, Days, print_all};
 use std::test::Fail;
 
 const NONE_SHOWN: Day = (
@@ -8,11 +8,6 @@ const NONE_SHOWN: Day = (
     "say T1 09:00:00 AG 131=R1|658=10\n",
     "DLR1 1 09:00:00.000 AI 131=R1|297=5|300=99\n",
 );
-
-#[test]
-fn a_decline_of_nothing(rt: HostRuntime) -> Result<(), Fail> {
-    print_all(&rt, rt.alloc(), WIDE, NOTHING, &[NONE_SHOWN])
-}
 
 /// A request without a quote, before its notice and behind it. A decline looks at no deadline.
 const WITHOUT_A_QUOTE: Day = (
@@ -76,8 +71,12 @@ DLR1 7 09:05:00.000 AI 131=R1|297=5|300=4
 ",
 );
 
+const DAYS: &[Days] = &[
+    (WIDE, NOTHING, &[NONE_SHOWN]),
+    (WIDE, TWO_SHOWN, &[WITHOUT_A_QUOTE, BESIDE_QUOTES, CLOSED]),
+];
+
 #[test]
-fn declines(rt: HostRuntime) -> Result<(), Fail> {
-    let days = [WITHOUT_A_QUOTE, BESIDE_QUOTES, CLOSED];
-    print_all(&rt, rt.alloc(), WIDE, TWO_SHOWN, &days)
+fn a_request_is_declined(rt: HostRuntime) -> Result<(), Fail> {
+    print_all(&rt, rt.alloc(), DAYS)
 }

@@ -1,6 +1,6 @@
 //! A cancel of all quotes (298=4), and the drops that follow it one by one.
 use super::openings::{BOTH_QUOTED, FIRST_QUOTED, NOTHING, ONE_QUOTED, TWO_SHOWN, WIDE};
-use super::{Day, Opening, print_all};
+use super::{Day, Days, Opening, print_all};
 use std::test::Fail;
 
 /// Of two quotes one was lifted before its drop. A third drop finds nothing, and so does a cancel
@@ -107,14 +107,6 @@ DLR1 6 09:00:30.000 AI 117=b1|297=17
     ),
 ];
 
-#[test]
-fn two_quotes_are_dropped(rt: HostRuntime) -> Result<(), Fail> {
-    let alloc = rt.alloc();
-    print_all(&rt, alloc, WIDE, TWO_SHOWN, &[WORKED])?;
-    print_all(&rt, alloc, WIDE, BOTH_QUOTED, &[LIKE_A_CANCEL])?;
-    print_all(&rt, alloc, WIDE, BOTH_QUOTED, BEFORE_THE_DROP)
-}
-
 /// Quotes on three requests, the second for 1.
 const THREE_QUOTED: Opening = (
     "shown INV1 BONDA0000001 1 2000000 09:05:00 09:00:00
@@ -219,12 +211,6 @@ DLR1 11 09:00:33.000 AI 297=9
 ",
 );
 
-#[test]
-fn three_quotes_are_dropped(rt: HostRuntime) -> Result<(), Fail> {
-    let days = [MIDDLE_LIFTED, BY_NUMBERS, LAST, TWICE];
-    print_all(&rt, rt.alloc(), WIDE, THREE_QUOTED, &days)
-}
-
 /// With one quote that is known to be lifted, or was withdrawn, or whose request is closed, there
 /// is none to be dropped. What is not known is found by the drop.
 const NONE_LEFT: &[Day] = &[
@@ -325,12 +311,6 @@ DLR1 4 09:00:32.000 AI 117=a1|297=17
     ),
 ];
 
-#[test]
-fn one_quote_is_dropped(rt: HostRuntime) -> Result<(), Fail> {
-    print_all(&rt, rt.alloc(), WIDE, ONE_QUOTED, NONE_LEFT)?;
-    print_all(&rt, rt.alloc(), WIDE, ONE_QUOTED, QUOTE_ID)
-}
-
 /// With nothing quoted on a day there is nothing to be dropped.
 const NOTHING_QUOTED: Day = (
     "nothing quoted",
@@ -379,8 +359,22 @@ DLR1 7 09:00:24.000 AI 131=R2|117=b1|297=0
     ),
 ];
 
+const DAYS: &[Days] = &[
+    (WIDE, TWO_SHOWN, &[WORKED]),
+    (WIDE, BOTH_QUOTED, &[LIKE_A_CANCEL]),
+    (WIDE, BOTH_QUOTED, BEFORE_THE_DROP),
+    (
+        WIDE,
+        THREE_QUOTED,
+        &[MIDDLE_LIFTED, BY_NUMBERS, LAST, TWICE],
+    ),
+    (WIDE, ONE_QUOTED, NONE_LEFT),
+    (WIDE, ONE_QUOTED, QUOTE_ID),
+    (WIDE, NOTHING, &[NOTHING_QUOTED]),
+    ("4 3999999", FIRST_QUOTED, FREES),
+];
+
 #[test]
-fn what_a_drop_leaves(rt: HostRuntime) -> Result<(), Fail> {
-    print_all(&rt, rt.alloc(), WIDE, NOTHING, &[NOTHING_QUOTED])?;
-    print_all(&rt, rt.alloc(), "4 3999999", FIRST_QUOTED, FREES)
+fn all_quotes_are_cancelled(rt: HostRuntime) -> Result<(), Fail> {
+    print_all(&rt, rt.alloc(), DAYS)
 }

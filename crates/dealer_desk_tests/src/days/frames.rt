@@ -1,6 +1,6 @@
 //! Frames written out whole: what the dealer sends, and what it is sent.
 use super::openings::{ONE_SHOWN, WIDE};
-use super::{Day, is_printed, print_all};
+use super::{Day, Days, is_printed, print_all};
 use std::test::Fail;
 
 /// The quote a1, a second one when the day's quotes are used up, a type that no dealer sends, no
@@ -65,9 +65,11 @@ own 09:00:10 8=FIXT.1.1|9=109|35=S|49=DLR1|56=VENUE|34=1|52=20250314-09:00:10.00
     "DLR1 2 09:00:10.000 AI 131=R1|117=a1|297=0\n",
 );
 
+const DAYS: &[Days] = &[(WIDE, ONE_SHOWN, &[NO_FRAMES])];
+
 #[test]
 fn what_is_no_frame_is_dropped(rt: HostRuntime) -> Result<(), Fail> {
-    print_all(&rt, rt.alloc(), WIDE, ONE_SHOWN, &[NO_FRAMES])
+    print_all(&rt, rt.alloc(), DAYS)
 }
 
 /// The quote as a frame, which is cut.

@@ -1,23 +1,24 @@
 //! Prices on the grid of the request's bond.
 use super::openings::{NOTHING, WIDE};
-use super::{Day, Opening, print_all};
+use super::{Day, Days, Opening, print_all};
 use std::test::Fail;
 
 const REQUEST: &str =
     "DLR1 1 09:00:00.000 R 131=R1|146=1|<A>|126=20250314-09:05:00.000|453=1|448=INV1|447=D|452=13
 ";
 
-/// A request on the grid of 256, which is that of a line without a grid too.
-const ON_256: &[Opening] = &[
-    (
-        "shown INV1 BONDA0000001 1 2000000 09:05:00 09:00:00 256\n",
-        REQUEST,
-    ),
-    (
-        "shown INV1 BONDA0000001 1 2000000 09:05:00 09:00:00\n",
-        REQUEST,
-    ),
-];
+const ON_256: Opening = (
+    "shown INV1 BONDA0000001 1 2000000 09:05:00 09:00:00 256
+",
+    REQUEST,
+);
+
+/// A line without a grid means that of 256.
+const WITHOUT_A_GRID: Opening = (
+    "shown INV1 BONDA0000001 1 2000000 09:05:00 09:00:00
+",
+    REQUEST,
+);
 
 const ON_128: Opening = (
     "shown INV1 BONDA0000001 1 2000000 09:05:00 09:00:00 128\n",
@@ -41,17 +42,6 @@ say T1 09:00:12 S 117=a3|131=R1|<a>|133=99.515625
 say T1 09:00:13 S 117=a4|131=R1|<a>|133=99.5
 say T1 09:00:14 S 117=a5|131=R1|<a>|133=99.501953125
 ";
-
-#[test]
-fn prices_above_99_and_a_half(rt: HostRuntime) -> Result<(), Fail> {
-    let alloc = rt.alloc();
-    for opening in ON_256 {
-        print_all(&rt, alloc, WIDE, *opening, &[("256", PRICES, ANSWERS_256)])?;
-    }
-    print_all(&rt, alloc, WIDE, ON_128, &[("128", PRICES, ANSWERS_128)])?;
-    print_all(&rt, alloc, WIDE, ON_64, &[("64", PRICES, ANSWERS_64)])?;
-    print_all(&rt, alloc, WIDE, ON_32, &[("32", PRICES, ANSWERS_32)])
-}
 
 const ANSWERS_256: &str = "DLR1 2 09:00:10.000 AI 131=R1|117=a1|297=0
 DLR1 3 09:00:11.000 AI 131=R1|117=a2|297=0
@@ -121,11 +111,6 @@ DLR1 6 09:00:14.000 AI 117=a1|297=5|300=4
 ",
 );
 
-#[test]
-fn prices_on_the_grid_of_32(rt: HostRuntime) -> Result<(), Fail> {
-    print_all(&rt, rt.alloc(), WIDE, ON_32, &[ENDS, IN_ITS_PLACE])
-}
-
 /// Each request has its own grid, also of one bond, and a bid is on it as an offer is.
 const TWO_GRIDS: Day = (
     "two grids",
@@ -147,7 +132,17 @@ DLR1 7 09:00:13.000 AI 131=R3|117=c1|297=0
 ",
 );
 
+const DAYS: &[Days] = &[
+    (WIDE, ON_256, &[("256", PRICES, ANSWERS_256)]),
+    (WIDE, WITHOUT_A_GRID, &[("none", PRICES, ANSWERS_256)]),
+    (WIDE, ON_128, &[("128", PRICES, ANSWERS_128)]),
+    (WIDE, ON_64, &[("64", PRICES, ANSWERS_64)]),
+    (WIDE, ON_32, &[("32", PRICES, ANSWERS_32)]),
+    (WIDE, ON_32, &[ENDS, IN_ITS_PLACE]),
+    (WIDE, NOTHING, &[TWO_GRIDS]),
+];
+
 #[test]
-fn each_request_has_its_grid(rt: HostRuntime) -> Result<(), Fail> {
-    print_all(&rt, rt.alloc(), WIDE, NOTHING, &[TWO_GRIDS])
+fn prices_are_on_the_grid(rt: HostRuntime) -> Result<(), Fail> {
+    print_all(&rt, rt.alloc(), DAYS)
 }

@@ -1,6 +1,6 @@
 //! Quotes that are lifted, and when that is known.
 use super::openings::{BOTH_QUOTED, FIRST_QUOTED, ONE_SHOWN, WIDE};
-use super::{Day, print_all};
+use super::{Day, Days, print_all};
 use std::test::Fail;
 
 /// A lifting is known by a cancel, or by a quote that would replace. From then on no word is asked
@@ -57,11 +57,6 @@ DLR1 11 09:00:26.000 AI 131=R2|117=a2|297=0
     ),
 ];
 
-#[test]
-fn a_lifting_is_known(rt: HostRuntime) -> Result<(), Fail> {
-    print_all(&rt, rt.alloc(), "4 3999999", FIRST_QUOTED, KNOWN)
-}
-
 /// Liftings of numbers that the dealer can't have, of a quote twice, of one that was withdrawn, and
 /// of one whose number is another's. None of them is seen.
 const WITHOUT_EFFECT: Day = (
@@ -101,12 +96,6 @@ DLR1 9 09:00:24.000 AI 117=b2|297=5|300=4
 ",
 );
 
-#[test]
-fn liftings_of_other_quotes(rt: HostRuntime) -> Result<(), Fail> {
-    let days = [WITHOUT_EFFECT, BEFORE_ITS_QUOTE];
-    print_all(&rt, rt.alloc(), WIDE, BOTH_QUOTED, &days)
-}
-
 /// A quote is not asked its own word when it comes, and the notice names it, known to be lifted or
 /// not.
 const NOTICE_OF_A_LIFTED_QUOTE: &[Day] = &[
@@ -134,7 +123,13 @@ DLR1 4 09:00:20.000 AJ 693=N1|131=R1|117=a1|694=1|<A>|133=99.5
     ),
 ];
 
+const DAYS: &[Days] = &[
+    ("4 3999999", FIRST_QUOTED, KNOWN),
+    (WIDE, BOTH_QUOTED, &[WITHOUT_EFFECT, BEFORE_ITS_QUOTE]),
+    (WIDE, ONE_SHOWN, NOTICE_OF_A_LIFTED_QUOTE),
+];
+
 #[test]
-fn notices_of_lifted_quotes(rt: HostRuntime) -> Result<(), Fail> {
-    print_all(&rt, rt.alloc(), WIDE, ONE_SHOWN, NOTICE_OF_A_LIFTED_QUOTE)
+fn quotes_are_lifted(rt: HostRuntime) -> Result<(), Fail> {
+    print_all(&rt, rt.alloc(), DAYS)
 }

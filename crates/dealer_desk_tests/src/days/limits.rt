@@ -1,5 +1,5 @@
 //! The day's quotes and the exposure, and replacement beside both.
-use super::{Day, Opening, print_all};
+use super::{Day, Days, Opening, print_all};
 use std::test::Fail;
 
 /// INV1 buys 2,000,000 of a bond, and in another request 1 of it. The dealer quotes the first.
@@ -49,11 +49,6 @@ DLR1 10 09:00:26.000 AI 131=R1|117=a3|297=5|300=3
 ",
 );
 
-#[test]
-fn one_past_the_exposure(rt: HostRuntime) -> Result<(), Fail> {
-    print_all(&rt, rt.alloc(), "4 2000000", TWO_OF_A_BOND, &[ONE_PAST])
-}
-
 /// With an exposure of 2,000,001: both quotes reach it, and each is replaced.
 const REACHED: Day = (
     "exactly the exposure",
@@ -101,12 +96,6 @@ DLR1 8 09:00:22.000 AI 131=R3|117=b1|297=0
     ),
 ];
 
-#[test]
-fn exactly_the_exposure(rt: HostRuntime) -> Result<(), Fail> {
-    print_all(&rt, rt.alloc(), "4 2000001", TWO_OF_A_BOND, &[REACHED])?;
-    print_all(&rt, rt.alloc(), "4 2000001", THREE_SHOWN, FREED)
-}
-
 /// With one quote a day: no second one, not as a replacement and not on another request. A
 /// cancelled quote is used up all the same, and so is one whose request is closed.
 const USED_UP: Day = (
@@ -142,12 +131,6 @@ DLR1 6 09:00:22.000 AI 131=R1|117=a3|297=5|300=3
 ",
 );
 
-#[test]
-fn the_quotes_of_a_day(rt: HostRuntime) -> Result<(), Fail> {
-    print_all(&rt, rt.alloc(), "1 10000000", TWO_OF_A_BOND, &[USED_UP])?;
-    print_all(&rt, rt.alloc(), "2 10000000", TWO_OF_A_BOND, &[SECOND])
-}
-
 /// The greatest quantity, and an exposure that has room for a thousand of it.
 const GREATEST: Opening = (
     "shown INV1 BONDA0000001 1 1000000000000 09:05:00 09:00:00\n",
@@ -156,23 +139,30 @@ const GREATEST: Opening = (
 );
 
 /// A quote for it is accepted within an exposure of just that, and refused within one less.
-const FOR_THE_GREATEST: &[Day] = &[(
+const FOR_THE_GREATEST: Day = (
     "the greatest quantity",
     "say T1 09:00:20 S 117=a1|131=R1|<a>|133=99|134=1000000000000\n",
     "DLR1 2 09:00:20.000 AI 131=R1|117=a1|297=0\n",
-)];
+);
 
-const PAST_THE_GREATEST: &[Day] = &[(
+const PAST_THE_GREATEST: Day = (
     "the greatest quantity, and an exposure of one less",
     "say T1 09:00:20 S 117=a1|131=R1|<a>|133=99|135=1000000000000\n",
     "DLR1 2 09:00:20.000 AI 131=R1|117=a1|297=5|300=3\n",
-)];
+);
+
+const DAYS: &[Days] = &[
+    ("4 2000000", TWO_OF_A_BOND, &[ONE_PAST]),
+    ("4 2000001", TWO_OF_A_BOND, &[REACHED]),
+    ("4 2000001", THREE_SHOWN, FREED),
+    ("1 10000000", TWO_OF_A_BOND, &[USED_UP]),
+    ("2 10000000", TWO_OF_A_BOND, &[SECOND]),
+    ("4096 1000000000000000", GREATEST, &[FOR_THE_GREATEST]),
+    ("1 1000000000000", GREATEST, &[FOR_THE_GREATEST]),
+    ("1 999999999999", GREATEST, &[PAST_THE_GREATEST]),
+];
 
 #[test]
-fn the_greatest_quantity(rt: HostRuntime) -> Result<(), Fail> {
-    let alloc = rt.alloc();
-    for limits in ["4096 1000000000000000", "1 1000000000000"] {
-        print_all(&rt, alloc, limits, GREATEST, FOR_THE_GREATEST)?;
-    }
-    print_all(&rt, alloc, "1 999999999999", GREATEST, PAST_THE_GREATEST)
+fn limits_are_kept(rt: HostRuntime) -> Result<(), Fail> {
+    print_all(&rt, rt.alloc(), DAYS)
 }

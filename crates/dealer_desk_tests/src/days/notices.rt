@@ -1,6 +1,6 @@
 //! Closing notices: which of them are sent, and what they say.
 use super::openings::{BOTH_QUOTED, NOTHING, ONE_QUOTED, TWO_SHOWN, WIDE};
-use super::{Day, print_all};
+use super::{Day, Days, print_all};
 use std::test::Fail;
 
 /// Of quotes that were hit, the second request's first. None is sent twice, and none of a request
@@ -45,12 +45,6 @@ const OTHER_ENDS: &[Day] = &[
     ),
 ];
 
-#[test]
-fn notices_of_both_requests(rt: HostRuntime) -> Result<(), Fail> {
-    print_all(&rt, rt.alloc(), WIDE, BOTH_QUOTED, &[HIT])?;
-    print_all(&rt, rt.alloc(), WIDE, BOTH_QUOTED, OTHER_ENDS)
-}
-
 /// Of a hit where no quote is live, as a list that no venue brings about can say: none was made,
 /// one was cancelled. A notice of a request that is shown later is none.
 const WITHOUT_A_QUOTE: Day = (
@@ -90,9 +84,15 @@ DLR1 4 09:01:00.000 AJ 693=N1|131=R1|117=a2|694=1|<A>|133=99.25
 ",
 );
 
+const DAYS: &[Days] = &[
+    (WIDE, BOTH_QUOTED, &[HIT]),
+    (WIDE, BOTH_QUOTED, OTHER_ENDS),
+    (WIDE, TWO_SHOWN, &[WITHOUT_A_QUOTE]),
+    (WIDE, NOTHING, &[NONE_SHOWN]),
+    (WIDE, ONE_QUOTED, &[REPLACED]),
+];
+
 #[test]
-fn notices_without_a_quote(rt: HostRuntime) -> Result<(), Fail> {
-    print_all(&rt, rt.alloc(), WIDE, TWO_SHOWN, &[WITHOUT_A_QUOTE])?;
-    print_all(&rt, rt.alloc(), WIDE, NOTHING, &[NONE_SHOWN])?;
-    print_all(&rt, rt.alloc(), WIDE, ONE_QUOTED, &[REPLACED])
+fn notices_are_sent(rt: HostRuntime) -> Result<(), Fail> {
+    print_all(&rt, rt.alloc(), DAYS)
 }

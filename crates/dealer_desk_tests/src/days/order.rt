@@ -1,6 +1,6 @@
 //! The order of the checks of a quote: the first one that a quote meets gives the reason.
 use super::openings::{FIRST_QUOTED, WIDE};
-use super::{Day, print_all};
+use super::{Day, Days, print_all};
 use std::test::Fail;
 
 /// Two checks at once, neighbours where their reasons differ.
@@ -71,11 +71,6 @@ DLR1 5 09:00:20.000 AI 131=R2|117=a2|297=5|300=4
     ),
 ];
 
-#[test]
-fn of_two_checks_the_first_refuses(rt: HostRuntime) -> Result<(), Fail> {
-    print_all(&rt, rt.alloc(), WIDE, FIRST_QUOTED, PAIRS)
-}
-
 /// The same beside the limits of the day, which the second quote passes: both, or one of them.
 const AT_LIMITS: &[Day] = &[
     (
@@ -99,14 +94,6 @@ const AT_LIMITS: &[Day] = &[
         "DLR1 4 09:00:20.000 AI 131=R2|117=a2|297=5|300=3\n",
     ),
 ];
-
-#[test]
-fn limits_come_behind_what_a_quote_says(rt: HostRuntime) -> Result<(), Fail> {
-    for limits in ["1 10000000", "4 3999999", "1 3999999"] {
-        print_all(&rt, rt.alloc(), limits, FIRST_QUOTED, AT_LIMITS)?;
-    }
-    Ok(())
-}
 
 /// A quote that meets all checks that one quote can, and then one after the other no more. One
 /// quote a day is allowed, and an exposure that has no room for a second.
@@ -185,8 +172,19 @@ DLR1 8 09:00:21.000 AI 117=a1|297=5|300=4
 ",
 );
 
+const DAYS: &[Days] = &[
+    (WIDE, FIRST_QUOTED, PAIRS),
+    ("1 10000000", FIRST_QUOTED, AT_LIMITS),
+    ("4 3999999", FIRST_QUOTED, AT_LIMITS),
+    ("1 3999999", FIRST_QUOTED, AT_LIMITS),
+    (
+        "1 3999999",
+        FIRST_QUOTED,
+        &[ALL, ALL_BESIDE_A_LIFTED_QUOTE, NO_WORD_ASKED],
+    ),
+];
+
 #[test]
-fn each_check_comes_before_those_behind_it(rt: HostRuntime) -> Result<(), Fail> {
-    let days = [ALL, ALL_BESIDE_A_LIFTED_QUOTE, NO_WORD_ASKED];
-    print_all(&rt, rt.alloc(), "1 3999999", FIRST_QUOTED, &days)
+fn the_first_check_refuses(rt: HostRuntime) -> Result<(), Fail> {
+    print_all(&rt, rt.alloc(), DAYS)
 }

@@ -1,9 +1,10 @@
 //! Each check of a quote alone, at its edge. What a check refuses changes nothing, so a day goes on
 //! behind it.
 use super::openings::{FIRST_QUOTED, NOTHING, TWO_SHOWN, WIDE};
-use super::{Day, print_all};
+use super::{Day, Days, print_all};
 use std::test::Fail;
 
+/// Names that only look like a request's. Two of them are 2 in 32 and in 64 bits.
 const UNKNOWN: Day = (
     "names that only look like a request's",
     "say T1 09:00:20 S 117=a2|131=R3|<b>|132=101
@@ -32,12 +33,6 @@ DLR1 14 09:00:20.000 AI 131=R2|117=a2|297=0
 ",
 );
 
-/// Every number behind 2 ^ 32 and 2 ^ 64 that would be 2 in too few bits names nothing either.
-#[test]
-fn a_request_is_named_exactly(rt: HostRuntime) -> Result<(), Fail> {
-    print_all(&rt, rt.alloc(), WIDE, FIRST_QUOTED, &[UNKNOWN])
-}
-
 /// Nothing is shown: not even R1 is known.
 const NONE_SHOWN: Day = (
     "nothing shown",
@@ -48,11 +43,6 @@ say T1 09:00:20 S 117=a1|131=R0|<a>|133=99.5
 DLR1 2 09:00:20.000 AI 131=R0|117=a1|297=5|300=99
 ",
 );
-
-#[test]
-fn a_request_is_quoted_once_it_is_shown(rt: HostRuntime) -> Result<(), Fail> {
-    print_all(&rt, rt.alloc(), WIDE, NOTHING, &[NONE_SHOWN])
-}
 
 /// A decline is for its own request, and a refused decline declines nothing.
 const DECLINED: Day = (
@@ -70,11 +60,6 @@ DLR1 6 09:00:22.000 AI 131=R1|297=5|300=99
 DLR1 7 09:00:23.000 AI 131=R1|117=a2|297=0
 ",
 );
-
-#[test]
-fn a_declined_request_is_not_quoted(rt: HostRuntime) -> Result<(), Fail> {
-    print_all(&rt, rt.alloc(), WIDE, TWO_SHOWN, &[DECLINED])
-}
 
 /// A notice closes its own request from where it stands, whatever its moment is.
 const CLOSED: Day = (
@@ -112,11 +97,6 @@ DLR1 8 09:05:59.999 AI 131=R2|117=a2|297=0
 DLR1 9 09:04:59.999 AI 131=R1|117=a3|297=0
 ",
 );
-
-#[test]
-fn a_quote_comes_too_late(rt: HostRuntime) -> Result<(), Fail> {
-    print_all(&rt, rt.alloc(), WIDE, FIRST_QUOTED, &[CLOSED, DEADLINE])
-}
 
 const BOND: Day = (
     "bond",
@@ -185,11 +165,6 @@ DLR1 12 09:00:30.000 AJ 693=N1|131=R1|117=a2|694=1|<A>|133=999.99609375
 ",
 );
 
-#[test]
-fn the_asked_side_is_quoted(rt: HostRuntime) -> Result<(), Fail> {
-    print_all(&rt, rt.alloc(), WIDE, FIRST_QUOTED, &[BOND, BID, OFFER])
-}
-
 const SIZES: Day = (
     "sizes",
     "say T1 09:00:20 S 117=a2|131=R2|<b>|132=101|134=1999999
@@ -247,12 +222,6 @@ DLR1 8 09:00:21.000 AI 131=R2|117=a3|297=0
 ",
 );
 
-#[test]
-fn what_a_quote_says_beside_its_price(rt: HostRuntime) -> Result<(), Fail> {
-    let days = [SIZES, QUOTE_TYPE, VALID_UNTIL];
-    print_all(&rt, rt.alloc(), WIDE, FIRST_QUOTED, &days)
-}
-
 /// A QuoteID is used up by an accepted quote alone, and for good.
 const QUOTE_ID: Day = (
     "QuoteID",
@@ -291,8 +260,19 @@ DLR1 6 09:00:22.000 AI 131=R2|117=abcdefghijklmnopqrstuvwxyz0123456789!~-1|297=5
 ",
 );
 
+const DAYS: &[Days] = &[
+    (
+        WIDE,
+        FIRST_QUOTED,
+        &[UNKNOWN, CLOSED, DEADLINE, BOND, BID, OFFER],
+    ),
+    (WIDE, FIRST_QUOTED, &[SIZES, QUOTE_TYPE, VALID_UNTIL]),
+    (WIDE, NOTHING, &[NONE_SHOWN]),
+    (WIDE, TWO_SHOWN, &[DECLINED]),
+    ("5 10000000", FIRST_QUOTED, &[QUOTE_ID, LONG_IDS]),
+];
+
 #[test]
-fn a_quote_id_is_used_once(rt: HostRuntime) -> Result<(), Fail> {
-    let days = [QUOTE_ID, LONG_IDS];
-    print_all(&rt, rt.alloc(), "5 10000000", FIRST_QUOTED, &days)
+fn each_check_refuses(rt: HostRuntime) -> Result<(), Fail> {
+    print_all(&rt, rt.alloc(), DAYS)
 }

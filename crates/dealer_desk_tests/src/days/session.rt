@@ -1,7 +1,7 @@
 //! Which messages use up a number, how requests, notices and messages are numbered, and session
 //! faults of each type.
 use super::openings::{NOTHING, ONE_SHOWN, WIDE};
-use super::{Day, print_all};
+use super::{Day, Days, print_all};
 use std::test::Fail;
 
 /// MsgSeqNum (34) that does not stand once and readable: the message is dropped. The number 1 is
@@ -46,12 +46,6 @@ DLR1 8 09:00:11.000 AI 131=R1|117=a2|297=0
 ",
 );
 
-#[test]
-fn numbers_of_messages(rt: HostRuntime) -> Result<(), Fail> {
-    let days = [DROPPED, OUT_OF_SEQUENCE];
-    print_all(&rt, rt.alloc(), WIDE, ONE_SHOWN, &days)
-}
-
 /// Every answer of the market uses up the number of its message, and every number that the dealer
 /// is shown counts what it was sent: messages, requests and notices, each by themselves.
 const COUNTED: Day = (
@@ -86,11 +80,6 @@ DLR1 12 09:00:09.000 R 131=R3|146=1|<A>|126=20250314-09:05:00.000|453=1|448=INV1
 DLR1 13 09:00:10.000 AJ 693=N3|131=R3|694=3|<A>
 ",
 );
-
-#[test]
-fn everything_is_counted(rt: HostRuntime) -> Result<(), Fail> {
-    print_all(&rt, rt.alloc(), WIDE, NOTHING, &[COUNTED])
-}
 
 /// Session faults come before every check of the market: here nothing is shown. Each uses up its
 /// number.
@@ -150,7 +139,12 @@ DLR1 25 09:00:00.000 AI 131=R1|297=5|300=99
 ",
 );
 
+const DAYS: &[Days] = &[
+    (WIDE, ONE_SHOWN, &[DROPPED, OUT_OF_SEQUENCE]),
+    (WIDE, NOTHING, &[COUNTED, FAULTS]),
+];
+
 #[test]
-fn session_faults_come_first(rt: HostRuntime) -> Result<(), Fail> {
-    print_all(&rt, rt.alloc(), WIDE, NOTHING, &[FAULTS])
+fn messages_are_received(rt: HostRuntime) -> Result<(), Fail> {
+    print_all(&rt, rt.alloc(), DAYS)
 }

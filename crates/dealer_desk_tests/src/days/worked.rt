@@ -1,6 +1,6 @@
 //! Worked days.
 use super::openings::{NOTHING, ONE_SHOWN, WIDE};
-use super::{Day, print_all};
+use super::{Day, Days, print_all};
 use std::test::Fail;
 
 /// A quote is replaced at exactly the exposure, the second one is lifted, and its request closed.
@@ -53,12 +53,12 @@ DLR1 9 09:00:09.000 AI 117=x|297=9
 ",
 );
 
-#[test]
-fn a_quote_is_replaced_at_exactly_the_exposure(rt: HostRuntime) -> Result<(), Fail> {
-    print_all(&rt, rt.alloc(), "4 2000000", ONE_SHOWN, &[REPLACEMENT])
-}
+const DAYS: &[Days] = &[
+    ("4 2000000", ONE_SHOWN, &[REPLACEMENT]),
+    (WIDE, NOTHING, &[SESSION]),
+];
 
 #[test]
-fn nothing_was_shown(rt: HostRuntime) -> Result<(), Fail> {
-    print_all(&rt, rt.alloc(), WIDE, NOTHING, &[SESSION])
+fn worked_days(rt: HostRuntime) -> Result<(), Fail> {
+    print_all(&rt, rt.alloc(), DAYS)
 }
