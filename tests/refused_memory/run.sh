@@ -108,13 +108,15 @@ refuse_each "--help" /dev/null "$work/help" --help
 "$program" --version </dev/null >"$work/version"
 refuse_each "--version" /dev/null "$work/version" --version
 
-refuse_in_test dealer_desk tests::memory::a_refused_call_leaves_the_desk always
+refuse_in_test dealer_desk_tests calls::memory::a_refused_call_leaves_the_desk always
 for test in a_refused_call_leaves_the_room a_refused_pass_leaves_the_room a_refused_expiry_leaves_the_room \
     a_hundred_posts_are_refused_in_turn; do
     refuse_in_test request_room_tests "rooms::memory::$test" always
 done
 refuse_in_test quote_messages tests::written::refused_memory_changes_no_answer always
-refuse_in_test fix_fields tests::a_quote_is_written sometimes
-refuse_in_test fix_fields tests::the_longest_frame sometimes
+refuse_in_test fix_fields_tests writing::a_quote_is_written sometimes
+refuse_in_test fix_fields_tests frames::the_longest_frame sometimes
 refuse_in_test quote_word_tests limits::refused_memory_is_asked_for_again always
-refuse_in_test venue_config tests::the_example_has_its_rows sometimes
+for test in the_example_has_its_rows a_copy_has_the_same_rows; do
+    refuse_in_test venue_config_tests "values::$test" sometimes
+done

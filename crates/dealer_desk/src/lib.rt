@@ -58,8 +58,6 @@ mod outcomes;
 mod quotes;
 mod rules;
 mod shown;
-#[cfg(test)]
-mod tests;
 mod verdicts;
 mod wanted;
 

@@ -1,0 +1,8 @@
+//! What calls of a desk answer beside what they send, and desks that are refused memory.
+
+mod answers;
+mod fixtures;
+mod forged;
+mod full_days;
+mod memory;
+mod shown;
