@@ -31,12 +31,19 @@ pub(crate) fn left_text(alloc: Global, left: &Option<Duty>) -> Result<String, Fa
             },
         ) => { unpost_text(alloc, *room, *quote, moment.get()) }
         Some(Duty::Decline { room, moment }) => decline_text(alloc, *room, moment.get()),
+        Some(_) => another_text(alloc),
     }
 }
 
 /// The text where nothing is left to be done.
 fn nothing_text(alloc: Global) -> Result<String, Fail> {
     let text = String::from_str(alloc, "-")?;
+    Ok(text)
+}
+
+/// The text of a duty that no message of a dealer leaves.
+fn another_text(alloc: Global) -> Result<String, Fail> {
+    let text = String::from_str(alloc, "another duty")?;
     Ok(text)
 }
 
