@@ -3,11 +3,13 @@ use Rattle.std.specs.Prelude.{ℕ, ◌+◌, ◌-◌, ◌==◌, Bool, ◌&&◌, n
 use Rattle.std.specs.Prelude.{slice_index, nat_le, nat_lt, codes, Option, Some, None, if◌then◌else◌}
 use Rattle.fix_fields.specs.UtcTimestamp.{is_date}
 use Rattle.venue_config.specs.Rows.{DealerValues}
-use Rattle.venue_config.specs.Texts.{is_name, is_firm_name, is_bond_id, is_among, same_text, text_if}
+use Rattle.venue_config.specs.Texts.{is_name, is_firm_name, is_bond_id}
+use Rattle.venue_config.specs.Texts.{is_among, same_text, text_if}
 use Rattle.quote_messages.specs.Texts.{is_quantity, number_of, number_up_to}
 use Rattle.quote_messages.specs.declared.asks.Ask.{Ask}
 use Rattle.quote_messages.specs.declared.closes.Close.{Close}
-use Rattle.quote_messages.specs.declared.closes.Close.TheVariants.{Hit, Expired, Cover, DoneAway, Pass}
+use Rattle.quote_messages.specs.declared.closes.Close.TheVariants.{Hit, Expired, Cover}
+use Rattle.quote_messages.specs.declared.closes.Close.TheVariants.{DoneAway, Pass}
 use Rattle.step_replay.specs.declared.due.Due.{Due}
 use Rattle.step_replay.specs.declared.due.Due.TheVariants as due
 use Rattle.venue_text.specs.Lines.{parts_of, first_part, behind_part, side_of, time_of}
