@@ -4,7 +4,8 @@ use Rattle.std.specs.Prelude.{string_bytes}
 use Rattle.std.specs.List.{list_any}
 use Rattle.std.specs.Str.{bytes_eq}
 use Rattle.clap.specs.Simple.{Shape, on_top}
-use Rattle.clap.specs.Words.{App, Kinds, Rule, Text, fault_of, new_app, new_rule, with_rule, with_subcommand}
+use Rattle.clap.specs.Words.{App, Kinds, Rule, Text, fault_of, new_app, new_rule, with_rule}
+use Rattle.clap.specs.Words.{with_subcommand}
 use Rattle.clap.specs.declared.builder.action.ArgAction.TheVariants.{SetTrue}
 use Rattle.clap.specs.declared.error.kind.ErrorKind.{ErrorKind}
 use Rattle.clap.specs.declared.error.kind.ErrorKind.TheVariants as kind
@@ -13,7 +14,10 @@ use Rattle.rfq_venue.specs.declared.command.Told.TheVariants as told
 
 -- the flag `--frames`
 abbrev pub frames_flag : Rule
-frames_flag = record (new_rule (codes "frames")) { long = Some (codes "frames"); action = Some SetTrue }
+frames_flag = record (new_rule (codes "frames")) {
+  long = Some (codes "frames");
+  action = Some SetTrue;
+}
 
 -- the command `alone`, which takes the flag
 abbrev pub alone_app : App

@@ -1,6 +1,6 @@
 -- How a run of the program ends.
-use Rattle.std.specs.Prelude.{◌≡◌, ◌<◌, ◌≤◌, ◌⊎◌, ℕ, Bool, true, false, List, [], ◌∷◌, ◌++◌, length, take}
-use Rattle.std.specs.Prelude.{codes, Option, Some, None, Result, Ok, Err}
+use Rattle.std.specs.Prelude.{◌≡◌, ◌<◌, ◌≤◌, ◌⊎◌, ℕ, Bool, true, false, List, [], ◌∷◌, ◌++◌}
+use Rattle.std.specs.Prelude.{length, take, codes, Option, Some, None, Result, Ok, Err}
 use Rattle.std.specs.Option.{IfSome}
 use Rattle.std.specs.Io.KnownBytes.{Appends, Keeps}
 use Rattle.clap.specs.Kinds.{Kinds}
@@ -8,7 +8,8 @@ use Rattle.clap.specs.Walk.{Text}
 use Rattle.venue_text.specs.AloneText.{IsPrinted, first_fault}
 use Rattle.venue_text.specs.Faults.{fault_line}
 use Rattle.venue_text.specs.declared.faults.ProgramFault.{ProgramFault}
-use Rattle.venue_text.specs.declared.faults.ProgramFault.TheVariants.{Read, Input, Parts, Form, Memory, Write}
+use Rattle.venue_text.specs.declared.faults.ProgramFault.TheVariants.{Read, Input, Parts, Form}
+use Rattle.venue_text.specs.declared.faults.ProgramFault.TheVariants.{Memory, Write}
 use Rattle.venue_text.specs.declared.lines.TheConstants.{MOST_INPUT}
 use Rattle.rfq_venue.specs.Arguments.{IsCommand, asks_for_frames, arguments_fault}
 use Rattle.rfq_venue.specs.Arguments.{may_be_help, may_be_mistake}
@@ -62,8 +63,8 @@ pub record HasPrintedPart (with_frames : Bool) (input : List ℕ) (out : Written
 abbrev pub IsFirstOf : ProgramFault → Option (List ℕ) → Type 0
 IsFirstOf fault input = IfSome input (λ all. first_fault all ≡ Some fault)
 
--- What standard output holds after a fault, and what the fault says of the input: nothing was written,
--- but for a part of the text where the output itself refused.
+-- What standard output holds after a fault, and what the fault says of the input: nothing was
+-- written, but for a part of the text where the output itself refused.
 abbrev pub FaultLeaves : Bool → ProgramFault → Option (List ℕ) → Written → Type 0
 FaultLeaves with_frames Read input out = IsUntouched out
 FaultLeaves with_frames Input input out = IsUntouched out × IsFirstOf Input input
@@ -89,8 +90,8 @@ EndsAlone with_frames status streams =
     ((status ≡ 0) × EndsInMessages with_frames streams)
     ⊎ ((status ≡ 1) × EndsInFault with_frames streams)
 
--- How a run ends that prints one text: with status 0 and all of it, or, where the output refused a part,
--- with status 1.
+-- How a run ends that prints one text: with status 0 and all of it, or, where the output refused
+-- a part, with status 1.
 abbrev pub EndsInText : List ℕ → ℕ → Written → Written → Type 0
 EndsInText text status out err =
     ((status ≡ 0) × Gains text out × IsUntouched err)
@@ -102,8 +103,8 @@ pub record EndsInHelp (status : ℕ) (out err : Written) : Type 0 where
   pub filled : 0 < length text
   pub ends : EndsInText text status out err
 
--- wrong arguments: status 2, nothing is printed, and standard error has taken a text that is not empty,
--- or a part of it
+-- wrong arguments: status 2, nothing is printed, and standard error has taken a text that is not
+-- empty, or a part of it
 pub record EndsInMistake (status : ℕ) (out err : Written) : Type 0 where
   pub text : List ℕ
   pub filled : 0 < length text
@@ -123,7 +124,8 @@ EndsTold kinds status out err =
     ⊎ (((may_be_help kinds ≡ true) × EndsInHelp status out err)
     ⊎ ((may_be_mistake kinds ≡ true) × EndsInMistake status out err))
 
--- How a run with arguments ends: as `alone` where nothing is wrong with them, and else it tells what is.
+-- How a run with arguments ends: as `alone` where nothing is wrong with them, and else it tells
+-- what is.
 abbrev pub EndsByFault : Kinds → Bool → ℕ → Streams → Type 0
 EndsByFault [] with_frames status streams = EndsAlone with_frames status streams
 EndsByFault (k ∷ ks) with_frames status streams = EndsTold (k ∷ ks) status streams.out streams.err
@@ -137,20 +139,18 @@ EndsByArguments arguments status streams =
 pub record EndsAsAsked (arguments : List Text) (status : ℕ) (streams : Streams) : Type 0 where
   -- No arguments at all mean `alone`.
   pub none : length arguments ≡ 0 → EndsAlone false status streams
-
   -- Those of a command, and two of them by name.
   pub commands : IsCommand arguments → EndsAlone (asks_for_frames arguments) status streams
   pub alone : arguments ≡ codes "alone" ∷ [] → EndsAlone false status streams
   pub frames : arguments ≡ codes "alone" ∷ codes "--frames" ∷ [] → EndsAlone true status streams
-
   -- All arguments: those of a command run it, others print help or tell what is wrong with them.
   pub some : 0 < length arguments → EndsByArguments arguments status streams
-
   -- Wrong arguments print nothing.
   pub wrong : status ≡ 2 → IsUntouched streams.out
 
 -- the arguments of the process as texts
-abbrev pub as_texts : {A : Type 0} → (A → List Text) → Result A ArgumentFault → Result (List Text) ArgumentFault
+abbrev pub as_texts : {A : Type 0} → (A → List Text) → Result A ArgumentFault
+    → Result (List Text) ArgumentFault
 as_texts texts_of (Ok arguments) = Ok (texts_of arguments)
 as_texts texts_of (Err fault) = Err fault
 

@@ -1,11 +1,12 @@
 //! The arguments of a command.
 ghost use Rattle.std.specs.Prelude.{◌≡◌, ◌↔◌, ℕ, List, [], ◌∷◌, codes, map, IfOk, IfErr};
 ghost use Rattle.clap.specs.Words.{HasKind, app_of, kind_of};
-ghost use Rattle.rfq_venue.specs.Arguments.{IsCommand, IsToldOf, arguments_fault, asks_for_frames, venue_app};
+ghost use Rattle.rfq_venue.specs.Arguments.{IsCommand, IsToldOf, arguments_fault, asks_for_frames};
+ghost use Rattle.rfq_venue.specs.Arguments.{venue_app};
 
+use crate::help::{ABOUT, ALONE, FRAMES, READS, VERSION};
 use clap::error::ErrorKind;
 use clap::{Arg, ArgAction, Command, Error};
-use crate::help::{ABOUT, ALONE, FRAMES, READS, VERSION};
 use fix_fields::Memory;
 use std::alloc::Global;
 use std::convert::AsStr;
@@ -21,8 +22,8 @@ pub(crate) enum Told {
     Memory,
 }
 
-/// Whether the arguments of `alone` ask for frames, or what is wrong with arguments that are not those
-/// of a command.
+/// Whether the arguments of `alone` ask for frames, or what is wrong with arguments that are not
+/// those of a command.
 pub(crate) fn read_command<'a, S: AsStr>(alloc: Global, arguments: &'a [S]) -> Result<bool, Error>
     ensures none { IfOk result (λ _. arguments_fault (map S.text arguments.entry.now) ≡ []) }
     ensures frames { IfOk result (λ with_frames.
@@ -76,14 +77,15 @@ pub(crate) fn told_by(alloc: Global, error: &Error) -> Told
     }
 }
 
-/// The arguments that are a command are `alone` and `alone --frames`, each with `--` behind it or not,
-/// and no others.
+/// The arguments that are a command are `alone` and `alone --frames`, each with `--` behind it or
+/// not, and no others.
 pub fn these_arguments_are_commands()
     ensures { (arguments : List (List ℕ)) → (arguments_fault arguments ≡ []) ↔ IsCommand arguments }
 {}
 
-/// What is wrong with some arguments that are no command: they ask for help or the version, or there is
-/// a mistake in them. [`run_program`](crate::run_program) says how a run with such arguments ends.
+/// What is wrong with some arguments that are no command: they ask for help or the version, or
+/// there is a mistake in them. [`run_program`](crate::run_program) says how a run with such
+/// arguments ends.
 pub fn arguments_have_these_faults()
     ensures help { arguments_fault (codes "--help" ∷ []) ≡ ErrorKind.DisplayHelp ∷ [] }
     ensures short_help { arguments_fault (codes "-h" ∷ []) ≡ ErrorKind.DisplayHelp ∷ [] }
@@ -102,8 +104,8 @@ pub fn arguments_have_these_faults()
 
     ensures frames_of_nothing { arguments_fault (codes "--frames" ∷ [])
         ≡ ErrorKind.UnknownArgument ∷ [] }
-    ensures frames_twice { arguments_fault (codes "alone" ∷ codes "--frames" ∷ codes "--frames" ∷ [])
-        ≡ ErrorKind.ArgumentConflict ∷ [] }
+    ensures frames_twice { arguments_fault
+        (codes "alone" ∷ codes "--frames" ∷ codes "--frames" ∷ []) ≡ ErrorKind.ArgumentConflict ∷ [] }
     ensures one_argument_more { arguments_fault (codes "alone" ∷ codes "x" ∷ [])
         ≡ ErrorKind.UnknownArgument ∷ [] }
     ensures no_command { arguments_fault (codes "replay" ∷ [])

@@ -17,7 +17,7 @@ Standard input is due text, at most 16,777,216 bytes. Its first two lines are
 and then, in the order in which it happens,
   shown INVESTOR BOND SIDE QUANTITY DEADLINE TIME   a request that the dealer is shown
   say TRADER TIME TYPE BODY                         a message of the dealer's own
-  own TIME FRAME                                    the same byte by byte, a vertical bar for each SOH
+  own TIME FRAME                                    its bytes, with a vertical bar for each SOH
   lifted N                                          the dealer's quote N is lifted
   closed N KIND TIME                                the dealer is told how its request N ended:
                                                     1 hit, 3 expired, 4 cover, 5 done away, 6 passed
@@ -32,12 +32,12 @@ One space divides the parts of a line. Empty lines and lines that begin with # a
   QUANTITY        1 to 1000000000000
   TIME, DEADLINE  HH:MM:SS or HH:MM:SS.sss
   TYPE            S a quote, Z a cancel, AG a decline
-  BODY            TAG=VALUE, or several with a vertical bar between two; a frame has at most 4096 bytes
+  BODY            TAG=VALUE|TAG=VALUE|..; the whole frame has at most 4096 bytes
   N               the dealer's own number, from 1
 
 Each message is printed as FIRM MSGSEQNUM TIME TYPE BODY, or with --frames as FIRM FRAME.
-No arguments at all mean `alone`. The status is 0 when done, 1 for a fault, with one line on standard
-error, and 2 for wrong arguments.
+No arguments at all mean `alone`. The status is 0 when done, 1 for a fault, with one line on
+standard error, and 2 for wrong arguments.
 
 Example:
   date 20250314

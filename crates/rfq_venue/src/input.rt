@@ -11,8 +11,10 @@ const CHUNK: usize = 16_384;
 
 /// Reads to the end, or until there are more bytes than an input has at most.
 pub(crate) fn read_input<R: Read>(alloc: Global, input: &mut R) -> Result<Vec<u8>, ProgramFault>
-    ensures ok { IfOk result (λ bytes. IfSome (R.remaining input.old) (λ all. IsReadOf all bytes.items)) }
-    ensures err { IfErr result (λ fault. (fault ≡ ProgramFault.Read) ⊎ (fault ≡ ProgramFault.Memory)) }
+    ensures ok { IfOk result (λ bytes.
+        IfSome (R.remaining input.old) (λ all. IsReadOf all bytes.items)) }
+    ensures err { IfErr result (λ fault.
+        (fault ≡ ProgramFault.Read) ⊎ (fault ≡ ProgramFault.Memory)) }
 {
     let mut bytes = Vec::new(alloc);
     let mut chunk = [0; CHUNK];

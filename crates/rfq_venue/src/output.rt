@@ -5,8 +5,8 @@ ghost use Rattle.rfq_venue.specs.Runs.{GainsPart};
 
 use std::io::Write;
 
-/// Writes a text, and says whether all of it was taken. A write that fails or takes no byte ends it,
-/// an interruption like any other error.
+/// Writes a text, and says whether all of it was taken. A write that fails or takes no byte ends
+/// it, an interruption like any other error.
 pub(crate) fn write_text<W: Write>(out: &mut W, text: &[u8]) -> bool
     ensures whole { OnTrue result (Appends (W.contents out.old) (W.contents out.new) text.now) }
     ensures prefix { GainsPart text.now

@@ -63,10 +63,10 @@ pub(crate) fn run_process<H, R: Read, W: Write, E: Write>(
 ) -> ExitCode
     ensures { spec.EndsProcess (spec.as_texts (λ v. map string_bytes v.items) arguments.now)
         (exit_status result) (record {
-      input = R.remaining input.old;
-      out = record { before = W.contents out.old; after = W.contents out.new };
-      err = record { before = E.contents err.old; after = E.contents err.new };
-    }) }
+          input = R.remaining input.old;
+          out = record { before = W.contents out.old; after = W.contents out.new };
+          err = record { before = E.contents err.old; after = E.contents err.new };
+        }) }
 {
     let status = run_status(rt, alloc, arguments, input, out, err);
     ExitCode::from(status)
@@ -83,10 +83,10 @@ fn run_status<H, R: Read, W: Write, E: Write>(
 ) -> u8
     ensures { spec.EndsProcess (spec.as_texts (λ v. map string_bytes v.items) arguments.now)
         result (record {
-      input = R.remaining input.old;
-      out = record { before = W.contents out.old; after = W.contents out.new };
-      err = record { before = E.contents err.old; after = E.contents err.new };
-    }) }
+          input = R.remaining input.old;
+          out = record { before = W.contents out.old; after = W.contents out.new };
+          err = record { before = E.contents err.old; after = E.contents err.new };
+        }) }
 {
     match arguments {
         Ok(arguments) => run_program(rt, alloc, arguments.as_slice(), input, out, err),

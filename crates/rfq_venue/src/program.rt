@@ -14,9 +14,9 @@ use std::convert::AsStr;
 use std::io::{Read, Write};
 use venue_text::{ProgramFault, alone_text, fault_line};
 
-/// Runs the program: reads what its arguments ask for from `input`, prints it to `out`, and answers the
-/// exit status: 0 is done. A fault is told in one line on `err`, with status 1; wrong arguments have
-/// status 2. No arguments at all mean `alone`.
+/// Runs the program: reads what its arguments ask for from `input`, prints it to `out`, and
+/// answers the exit status: 0 is done. A fault is told in one line on `err`, with status 1; wrong
+/// arguments have status 2. No arguments at all mean `alone`.
 pub fn run_program<H, S: AsStr, R: Read, W: Write, E: Write>(
     _rt: &H,
     alloc: Global,

@@ -21,12 +21,13 @@ abbrev pub first_fault : List ℕ → Option ProgramFault
 first_fault input =
     if nat_lt MOST_INPUT (length input) then Some Input else fault_of_reading (due_text_of input)
 
--- What `alone` prints for an input: the dealer view of what the input spells, a line for each message.
--- An input has one such text at most, since what it spells is a function of its bytes.
+-- What `alone` prints for an input: the dealer view of what the input spells, a line for each
+-- message. An input has one such text at most, since what it spells is a function of its bytes.
 pub record IsPrinted (with_frames : Bool) (input text : List ℕ) : Type 0 where
   pub date : List ℕ
   pub row : DealerRow
   pub dues : List Due
   pub fits : length input ≤ MOST_INPUT
-  pub spelled : due_text_of input ≡ Ok (record { date = date; row = dealer_values row; dues = dues })
+  pub spelled : due_text_of input
+      ≡ Ok (record { date = date; row = dealer_values row; dues = dues })
   pub printed : text ≡ messages_text with_frames row.name (dealer_view date row dues)

@@ -4,15 +4,18 @@ use Rattle.std.specs.Prelude.{slice_index, nat_le, nat_lt, codes, Option, Some, 
 use Rattle.bond_prices.specs.Grid.{finest_grid, grid_of}
 use Rattle.fix_fields.specs.UtcTimestamp.{is_date}
 use Rattle.venue_config.specs.Rows.{DealerValues}
-use Rattle.venue_config.specs.Texts.{is_name, is_firm_name, is_bond_id, is_among, same_text, text_if}
+use Rattle.venue_config.specs.Texts.{is_name, is_firm_name, is_bond_id}
+use Rattle.venue_config.specs.Texts.{is_among, same_text, text_if}
 use Rattle.market_terms.specs.Texts.{is_quantity}
-use Rattle.quote_messages.specs.Texts.{number_of, number_up_to}
 use Rattle.market_terms.specs.declared.asks.Ask.{Ask}
 use Rattle.market_terms.specs.declared.closes.Close.{Close}
-use Rattle.market_terms.specs.declared.closes.Close.TheVariants.{Hit, Expired, Cover, DoneAway, Pass}
+use Rattle.market_terms.specs.declared.closes.Close.TheVariants.{Hit, Expired, Cover}
+use Rattle.market_terms.specs.declared.closes.Close.TheVariants.{DoneAway, Pass}
+use Rattle.quote_messages.specs.Texts.{number_of, number_up_to}
 use Rattle.step_replay.specs.declared.due.Due.{Due}
 use Rattle.step_replay.specs.declared.due.Due.TheVariants as due
-use Rattle.venue_text.specs.Lines.{parts_of, first_part, behind_part, has_part_behind, side_of, time_of}
+use Rattle.venue_text.specs.Lines.{parts_of, first_part, behind_part, has_part_behind}
+use Rattle.venue_text.specs.Lines.{side_of, time_of}
 use Rattle.venue_text.specs.OptionSteps.{◌>>=◌}
 use Rattle.venue_text.specs.SayLine.{Said, said_of, said_message, received_of, has_tag}
 

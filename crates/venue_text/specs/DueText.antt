@@ -1,5 +1,6 @@
 -- Due text: what its bytes spell, or its first fault.
-use Rattle.std.specs.Prelude.{ℕ, Bool, List, [], ◌∷◌, Option, Some, None, Result, Ok, Err, if◌then◌else◌}
+use Rattle.std.specs.Prelude.{ℕ, List, [], ◌∷◌, Option, Some, None, Result, Ok, Err}
+use Rattle.std.specs.Prelude.{if◌then◌else◌}
 use Rattle.venue_config.specs.Rows.{DealerValues}
 use Rattle.step_replay.specs.declared.due.Due.{Due}
 use Rattle.venue_text.specs.DueLines.{date_of, row_of, due_of}
@@ -40,8 +41,8 @@ pub record Spelled : Type 0 where
 abbrev pub undivided_lines : List ℕ → Result Lines ProgramFault
 undivided_lines input = if has_divider input then Err Parts else Ok (spoken_lines input)
 
--- What due text spells, the date's line, the dealer's and then the others, or its first fault: a line
--- that divides it, or else the first line that is not of its form.
+-- What due text spells, the date's line, the dealer's and then the others, or its first fault: a
+-- line that divides it, or else the first line that is not of its form.
 abbrev pub due_text_of : List ℕ → Result Spelled ProgramFault
 due_text_of input = do
   lines ← undivided_lines input

@@ -1,7 +1,8 @@
 -- The texts of faults.
 use Rattle.std.specs.Prelude.{ℕ, List, [], ◌∷◌, ◌++◌, codes, decimal}
 use Rattle.venue_text.specs.declared.faults.ProgramFault.{ProgramFault}
-use Rattle.venue_text.specs.declared.faults.ProgramFault.TheVariants.{Read, Input, Parts, Form, Memory, Write}
+use Rattle.venue_text.specs.declared.faults.ProgramFault.TheVariants.{Read, Input, Parts, Form}
+use Rattle.venue_text.specs.declared.faults.ProgramFault.TheVariants.{Memory, Write}
 
 -- a fault as standard error tells it
 abbrev pub fault_text : ProgramFault → List ℕ

@@ -1,5 +1,5 @@
--- The lines of a text, the parts of a line, and what single parts spell. A line feed is the byte 10, a
--- space 32, `#` 35, a dash 45, an equals sign 61 and a vertical bar 124.
+-- The lines of a text, the parts of a line, and what single parts spell. A line feed is the byte
+-- 10, a space 32, `#` 35, a dash 45, an equals sign 61 and a vertical bar 124.
 use Rattle.std.specs.Prelude.{ℕ, ◌+◌, Bool, true, ◌==◌, List, [], ◌∷◌, ◌++◌, length, nat_le, codes}
 use Rattle.std.specs.Prelude.{Option, Some, None, if◌then◌else◌}
 use Rattle.std.specs.List.{list_any, before_first, after_first, onto_first}
@@ -61,8 +61,8 @@ side_of text =
     else if same_text text (codes "2") then Some Sell
     else None
 
--- TIME, a moment of the day, at most `HH:MM:SS.sss`: what it is as a UTCTimestamp behind the date and
--- a dash
+-- TIME, a moment of the day, at most `HH:MM:SS.sss`: what it is as a UTCTimestamp behind the date
+-- and a dash
 abbrev pub time_of : List ℕ → List ℕ → Option ℕ
 time_of date text =
     if nat_le (length text) 12 then result_ok (moment_of date (date ++ 45 ∷ text)) else None

@@ -1,7 +1,7 @@
 -- Messages that a firm sends, as a line spells them: field by field, `TRADER TIME TYPE BODY` behind
 -- `say`, or byte by byte, `TIME FRAME` behind `own`.
-use Rattle.std.specs.Prelude.{ℕ, Bool, false, ◌&&◌, ◌||◌, ◌==◌, not, List, [], ◌∷◌, ◌++◌, length, map}
-use Rattle.std.specs.Prelude.{nat_le, codes, decimal, Option, Some, None, if◌then◌else◌}
+use Rattle.std.specs.Prelude.{ℕ, Bool, false, ◌&&◌, ◌||◌, ◌==◌, not, List, [], ◌∷◌, ◌++◌}
+use Rattle.std.specs.Prelude.{length, map, nat_le, codes, decimal, Option, Some, None, if◌then◌else◌}
 use Rattle.std.specs.Option.{option_map}
 use Rattle.std.specs.List.{list_all, list_any, before_first, after_first}
 use Rattle.fix_fields.specs.Frame.{Field, frame_text, fields_len}
@@ -43,7 +43,8 @@ behind_equals text = after_first (λ c. c == 61) text
 -- a field as BODY spells it: a tag, an equals sign, and a value
 abbrev pub said_field : List ℕ → Option Field
 said_field text =
-    if (length (before_equals text) == length text) || not (is_plain_value (behind_equals text)) then None
+    if length (before_equals text) == length text then None
+    else if not (is_plain_value (behind_equals text)) then None
     else do
       tag ← tag_of (before_equals text)
       Some (tag, behind_equals text)
@@ -85,8 +86,14 @@ said_of date text = do
   let body = behind_part behind_time
   moment ← time_of date (first_part behind_trader)
   fields ← said_fields body
-  let said : Said = record { trader = trader; moment = moment; msg_type = msg_type; fields = fields }
-  if is_plain_part trader && is_plain_part msg_type && not (length body == 0) then Some said else None
+  let said : Said = record {
+    trader = trader;
+    moment = moment;
+    msg_type = msg_type;
+    fields = fields;
+  }
+  let is_said = is_plain_part trader && is_plain_part msg_type && not (length body == 0)
+  if is_said then Some said else None
 
 -- whether a field of these has the tag
 abbrev pub has_tag : List Field → ℕ → Bool
@@ -117,8 +124,8 @@ with_field fields field = do
   before ← fields
   fitting (before ++ field ∷ [])
 
--- the message that the firm sends: the frame of its type and of the fields behind it, where it is not
--- too long
+-- the message that the firm sends: the frame of its type and of the fields behind it, where it is
+-- not too long
 abbrev pub said_message : List ℕ → List ℕ → ℕ → Said → Option (List ℕ)
 said_message date firm number said =
     option_map frame_text (fitting ((35, said.msg_type) ∷ fields_behind_type date firm number said))

@@ -1,4 +1,5 @@
-//! The lines that due text begins with: `date YYYYMMDD` and `dealer NAME QUOTES EXPOSURE TRADER ..`.
+//! The lines that due text begins with: `date YYYYMMDD` and `dealer NAME QUOTES EXPOSURE TRADER
+//! ..`.
 ghost use Rattle.std.specs.Prelude.{◌≡◌, ◌≤◌, length, IfSome};
 ghost use Rattle.std.specs.Option.{option_map};
 ghost use Rattle.venue_config.specs.Rows.{dealer_values};

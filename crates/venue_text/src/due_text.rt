@@ -27,8 +27,8 @@ pub struct DueText {
     pub dues: Vec<Due>,
 }
 
-/// Reads due text, or gives its first fault ([`ProgramFault::Parts`] or [`ProgramFault::Form`]); memory
-/// may be refused at any point.
+/// Reads due text, or gives its first fault ([`ProgramFault::Parts`] or [`ProgramFault::Form`]);
+/// memory may be refused at any point.
 pub fn read_due_text(alloc: Global, input: &[u8]) -> Result<DueText, ProgramFault>
     requires { length input.now ≤ MOST_INPUT }
     ensures ok { IfOk result (λ text. spec.due_text_of input.now
@@ -74,7 +74,8 @@ fn read_dues(
     firm: &Name,
     lines: SpokenLines<'_>,
 ) -> Result<Vec<Due>, ProgramFault>
-    ensures ok { IfOk result (λ dues. spec.dues_from date.now firm.now 1 lines.entry ≡ Ok dues.items) }
+    ensures ok { IfOk result (λ dues.
+        spec.dues_from date.now firm.now 1 lines.entry ≡ Ok dues.items) }
     ensures err { IfErr result (λ fault.
         fault ≢ ProgramFault.Memory → spec.dues_from date.now firm.now 1 lines.entry ≡ Err fault) }
     ensures unwritten { IfErr result (λ fault. fault ≢ ProgramFault.Write) }

@@ -10,7 +10,8 @@ use std::fmt;
 
 /// A fault of a run, which ends with status 1 and one line on standard error.
 ///
-/// Where several could be told, the one that comes first here is told, but `memory` wherever it is met.
+/// Where several could be told, the one that comes first here is told, but `memory` wherever it
+/// is met.
 #[derive(Clone, Copy, Debug, PartialEq, Eq)]
 pub enum ProgramFault {
     /// Standard input could not be read to its end.

@@ -48,8 +48,8 @@ impl<'a> Field<'a> {
     }
 }
 
-/// The fields that vertical bars divide, one at the end allowed, or none where one of them is not of
-/// the form of a field.
+/// The fields that vertical bars divide, one at the end allowed, or none where one of them is not
+/// of the form of a field.
 pub fn read_fields(alloc: Global, body: &[u8]) -> Result<Option<Vec<Field<'_>>>, Memory>
     ensures { IfOk result (λ fields. option_map (λ f. f.items) fields ≡ spec.said_fields body.now) }
 {

@@ -35,12 +35,7 @@ pub(crate) fn begun_frame(alloc: Global, msg_type: &[u8]) -> Result<Option<Frame
 }
 
 /// A frame with one field more, where that still fits.
-#[tactic(auto, using(
-    crate::proofs::SpellLemmas::push_fits,
-    crate::proofs::SpellLemmas::push_long,
-    crate::proofs::SpellLemmas::push_none,
-    crate::proofs::SpellLemmas::with_field_none
-))]
+#[tactic(auto, using(crate::proofs::SpellLemmas::push_fits, crate::proofs::SpellLemmas::push_long, crate::proofs::SpellLemmas::push_none, crate::proofs::SpellLemmas::with_field_none))]
 fn with_field(
     frame: Option<FrameWriter>,
     tag: u32,
@@ -95,7 +90,10 @@ pub(crate) fn finished(frame: Option<FrameWriter>) -> Result<Option<Message>, Me
 }
 
 /// A frame with the fields of BODY.
-pub(crate) fn with_all(mut frame: Option<FrameWriter>, body: &[Field]) -> Result<Option<FrameWriter>, Memory>
+pub(crate) fn with_all(
+    mut frame: Option<FrameWriter>,
+    body: &[Field],
+) -> Result<Option<FrameWriter>, Memory>
     ensures { IfOk result (λ fields. fields ≡ fold spec.with_field frame body.now) }
 {
     for field in body {

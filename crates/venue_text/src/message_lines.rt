@@ -12,8 +12,8 @@ use venue_config::Name;
 /// SenderCompID (49), TargetCompID (56), MsgSeqNum (34) and SendingTime (52).
 const HEADER_FIELDS: usize = 5;
 
-/// The text of messages that a firm is sent, a line each: `FIRM N TIME TYPE BODY`, or `FIRM FRAME` with a
-/// vertical bar for each SOH.
+/// The text of messages that a firm is sent, a line each: `FIRM N TIME TYPE BODY`, or `FIRM
+/// FRAME` with a vertical bar for each SOH.
 pub fn messages_text(
     alloc: Global,
     with_frames: bool,

@@ -9,9 +9,9 @@ use crate::message_lines::messages_text;
 use std::alloc::Global;
 use step_replay::alone;
 
-/// The messages that one dealer is sent, a line each, by the bytes of its due text; or the first fault of
-/// these, [`ProgramFault::Input`], [`ProgramFault::Parts`] or [`ProgramFault::Form`]. Memory may be
-/// refused at any point.
+/// The messages that one dealer is sent, a line each, by the bytes of its due text; or the first
+/// fault of these, [`ProgramFault::Input`], [`ProgramFault::Parts`] or [`ProgramFault::Form`].
+/// Memory may be refused at any point.
 pub fn alone_text(alloc: Global, with_frames: bool, input: &[u8]) -> Result<Vec<u8>, ProgramFault>
     ensures ok { IfOk result (λ text. spec.IsPrinted with_frames input.now text.items) }
     ensures err { IfErr result (λ fault.

@@ -7,8 +7,8 @@ use fix_fields::{Date, Memory, Moment};
 use quote_messages::Message;
 use std::alloc::Global;
 
-/// What `TIME FRAME` spells, or none where it is not of its form: the moment, and the bytes of FRAME,
-/// which is the rest of the line and not empty, with SOH for each vertical bar.
+/// What `TIME FRAME` spells, or none where it is not of its form: the moment, and the bytes of
+/// FRAME, which is the rest of the line and not empty, with SOH for each vertical bar.
 #[tactic(auto, unfolding(crate::specs::SayLine::received_of))]
 pub fn read_received(
     alloc: Global,

@@ -79,8 +79,9 @@ impl<'a> Said<'a> {
         has_tag(&self.fields, 34)
     }
 
-    /// The message as this firm sends it, or none where its frame would be longer than 4,096 bytes. The
-    /// header, with this number in MsgSeqNum (34), is written but for the fields that BODY has.
+    /// The message as this firm sends it, or none where its frame would be longer than 4,096
+    /// bytes. The header, with this number in MsgSeqNum (34), is written but for the fields that
+    /// BODY has.
     #[tactic(auto, using(crate::proofs::TagLemmas::part_is_value))]
     pub fn message(
         &self,
@@ -107,7 +108,8 @@ impl<'a> Said<'a> {
     }
 }
 
-/// Whether a part may be a trader or a type: it is not empty and has neither a vertical bar nor SOH.
+/// Whether a part may be a trader or a type: it is not empty and has neither a vertical bar nor
+/// SOH.
 fn is_plain_part(part: &[u8]) -> bool
     ensures { result ≡ spec.is_plain_part part.now }
 {

@@ -10,8 +10,8 @@ use quote_messages::{Ask, Close};
 use std::alloc::Global;
 use step_replay::Due;
 
-/// The lines of due text that spell a list, an item each: a message of the dealer's own as an `own` line,
-/// with a vertical bar for each SOH, and times with milliseconds.
+/// The lines of due text that spell a list, an item each: a message of the dealer's own as an
+/// `own` line, with a vertical bar for each SOH, and times with milliseconds.
 pub fn due_lines(alloc: Global, date: &Date, dues: &[Due]) -> Result<Vec<u8>, Memory>
     ensures { IfOk result (λ text. text.items ≡ spec.due_lines date.now dues.now) }
 {
@@ -35,12 +35,7 @@ fn push_due(text: &mut Vec<u8>, date: &Date, due: &Due) -> Result<(), Memory>
 }
 
 /// `own TIME FRAME`.
-fn push_own(
-    text: &mut Vec<u8>,
-    date: &Date,
-    moment: Moment,
-    message: &[u8],
-) -> Result<(), Memory>
+fn push_own(text: &mut Vec<u8>, date: &Date, moment: Moment, message: &[u8]) -> Result<(), Memory>
     ensures { OnOk result (text.new.items
         ≡ text.old.items ++ spec.due_line date.now (Due.Own moment message.now)) }
 {

@@ -83,6 +83,9 @@ fn argument_that_is_no_utf_8_is_wrong(rt: HostRuntime) {
         let (code, out, err) = ended(&rt, &[b"rfq_venue", b"alone", argument]);
         assert!(rt; code == ExitCode::from(2));
         assert!(rt; out.is_empty());
-        assert!(rt; err.as_slice().starts_with(b"error: invalid UTF-8 was detected"));
+        assert!(rt;
+            err.as_slice()
+                .starts_with(b"error: invalid UTF-8 was detected")
+        );
     }
 }

@@ -9,7 +9,7 @@ Standard input is due text, at most 16,777,216 bytes. Its first two lines are
 and then, in the order in which it happens,
   shown INVESTOR BOND SIDE QUANTITY DEADLINE TIME   a request that the dealer is shown
   say TRADER TIME TYPE BODY                         a message of the dealer's own
-  own TIME FRAME                                    the same byte by byte, a vertical bar for each SOH
+  own TIME FRAME                                    its bytes, with a vertical bar for each SOH
   lifted N                                          the dealer's quote N is lifted
   closed N KIND TIME                                the dealer is told how its request N ended:
                                                     1 hit, 3 expired, 4 cover, 5 done away, 6 passed
@@ -24,12 +24,12 @@ One space divides the parts of a line. Empty lines and lines that begin with # a
   QUANTITY        1 to 1000000000000
   TIME, DEADLINE  HH:MM:SS or HH:MM:SS.sss
   TYPE            S a quote, Z a cancel, AG a decline
-  BODY            TAG=VALUE, or several with a vertical bar between two; a frame has at most 4096 bytes
+  BODY            TAG=VALUE|TAG=VALUE|..; the whole frame has at most 4096 bytes
   N               the dealer's own number, from 1
 
 Each message is printed as FIRM MSGSEQNUM TIME TYPE BODY, or with --frames as FIRM FRAME.
-No arguments at all mean `alone`. The status is 0 when done, 1 for a fault, with one line on standard
-error, and 2 for wrong arguments.
+No arguments at all mean `alone`. The status is 0 when done, 1 for a fault, with one line on
+standard error, and 2 for wrong arguments.
 
 Example:
   date 20250314
@@ -54,7 +54,8 @@ Options:
   -V, --version  Print version
 ";
 
-const ALONE: &str = "Prints the messages that one dealer is sent, from its due text on standard input
+const ALONE: &str =
+    "Prints the messages that one dealer is sent, from its due text on standard input
 
 Usage: rfq_venue alone [OPTIONS]
 
@@ -63,7 +64,8 @@ Options:
   -h, --help    Print help
 ";
 
-/// Asserts that arguments print this text before the one that each help ends with, and nothing else.
+/// Asserts that arguments print this text before the one that each help ends with, and nothing
+/// else.
 fn assert_help<T: Abort + AllocGlobal>(rt: &T, arguments: &[&str], head: &str) {
     let (status, out, err) = ran(rt, arguments, b"");
     assert_eq!(rt; status, 0);

@@ -18,7 +18,11 @@ impl<'a> Read for Source<'a> {
             self.failed = true;
             return Err(io::Error::from(io::ErrorKind::Interrupted));
         }
-        let room = if self.failed { self.bytes.len() } else { self.left };
+        let room = if self.failed {
+            self.bytes.len()
+        } else {
+            self.left
+        };
         let count = buf.len().min(self.bytes.len()).min(room);
         let (front, behind) = self.bytes.split_at(count);
         buf[..count].copy_from_slice(front);
@@ -43,8 +47,8 @@ impl Read for Zeros {
     }
 }
 
-/// A writer that takes at most `most` bytes a call and `left` in all, and then fails, or takes none. Its
-/// flush may fail.
+/// A writer that takes at most `most` bytes a call and `left` in all, and then fails, or takes
+/// none. Its flush may fail.
 #[derive(Drop)]
 struct Sink {
     held: Vec<u8>,
