@@ -81,7 +81,8 @@ asked_quantity text = do
 
 -- GRID, where it stands behind TIME: one of the grids that bonds are quoted on, and else the finest
 abbrev pub grid_behind : List ℕ → Option ℕ
-grid_behind text = if has_part_behind text then number_of (behind_part text) >>= grid_of else Some finest_grid
+grid_behind text =
+    if has_part_behind text then number_of (behind_part text) >>= grid_of else Some finest_grid
 
 -- behind `shown`: INVESTOR BOND SIDE QUANTITY DEADLINE TIME, and GRID where it is given
 unfoldable pub shown_of : List ℕ → List ℕ → Option Due

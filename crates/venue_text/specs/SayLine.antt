@@ -1,7 +1,8 @@
 -- Messages that a firm sends, as a line spells them: field by field, `TRADER TIME TYPE BODY` behind
 -- `say`, or byte by byte, `TIME FRAME` behind `own`.
 use Rattle.std.specs.Prelude.{ℕ, Bool, false, ◌&&◌, ◌||◌, ◌==◌, not, List, [], ◌∷◌, ◌++◌}
-use Rattle.std.specs.Prelude.{length, map, nat_le, codes, decimal, Option, Some, None, if◌then◌else◌}
+use Rattle.std.specs.Prelude.{length, map, nat_le, codes, decimal, Option, Some, None}
+use Rattle.std.specs.Prelude.{if◌then◌else◌}
 use Rattle.std.specs.Option.{option_map}
 use Rattle.std.specs.List.{list_all, list_any, before_first, after_first}
 use Rattle.fix_fields.specs.Frame.{Field, frame_text, fields_len}

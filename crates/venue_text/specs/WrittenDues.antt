@@ -31,7 +31,8 @@ abbrev pub due_line : List ℕ → Due → List ℕ
 due_line date (due.Own moment message) =
     codes "own " ++ time_text date moment ++ 32 ∷ map with_bar message ++ 10 ∷ []
 due_line date (due.Shown ask moment) =
-    codes "shown " ++ ask_text date ask ++ 32 ∷ time_text date moment ++ grid_text ask.grid ++ 10 ∷ []
+    codes "shown " ++ ask_text date ask ++ 32 ∷ time_text date moment ++ grid_text ask.grid
+    ++ 10 ∷ []
 due_line date (due.Lifted quote) = codes "lifted " ++ decimal quote ++ 10 ∷ []
 due_line date (due.Closed request close moment) =
     codes "closed " ++ decimal request ++ 32 ∷ decimal (close_code close)

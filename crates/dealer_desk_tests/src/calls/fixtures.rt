@@ -168,6 +168,7 @@ pub(crate) fn left_text(alloc: Global, left: &Option<Duty>) -> Result<String, Me
             },
         ) => unpost_text(alloc, *room, *quote, moment.get()),
         Some(Duty::Decline { room, moment }) => decline_text(alloc, *room, moment.get()),
+        Some(_) => String::from_str(alloc, "another duty"),
     }
 }
 
