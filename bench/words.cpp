@@ -60,7 +60,8 @@ int main() {
         best[3] = std::min(best[3], times(apart, threads_at_once, part, false));
         best[4] = std::min(best[4], times(apart, threads_at_once, words, true) / threads_at_once);
     }
-    const char* names[5] = {"open_alone", "settled_alone", "open_apart", "settled_apart", "one_word"};
+    const char* names[5] = {
+        "open_alone", "settled_alone", "open_apart", "settled_apart", "one_word"};
     for (int i = 0; i < 5; ++i) {
         std::printf("%s %llu\n", names[i], (unsigned long long)(best[i] * 100 / words));
     }

@@ -24,6 +24,7 @@ awk '
         printf "%-14s %12s %12s %6s\n", "nanoseconds", "withdraw", "std::atomic", "ratio"
         for (i = 1; i <= n; ++i) {
             name = names[i]
-            printf "%-14s %12.2f %12.2f %6.2f\n", name, ours[name] / 100, bare[name] / 100, ours[name] / bare[name]
+            ratio = ours[name] / bare[name]
+            printf "%-14s %12.2f %12.2f %6.2f\n", name, ours[name] / 100, bare[name] / 100, ratio
         }
     }' "$make/ours" "$make/theirs"
