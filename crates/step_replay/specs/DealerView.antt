@@ -19,10 +19,13 @@ pub record DealerView : Type 0 where
 
 -- at the start of the day nothing came, and no word is settled
 abbrev pub view_at_start : List ℕ → DealerRow → DealerView
-view_at_start date row =
-    record { desk = record { date = date; row = row; events = [] }; words = replicate row.quotes None }
+view_at_start date row = record {
+  desk = record { date = date; row = row; events = [] };
+  words = replicate row.quotes None;
+}
 
--- what the word of a quote is from then on, where its dealer withdraws it: lifted where it was lifted before
+-- what the word of a quote is from then on, where its dealer withdraws it: lifted where it was
+-- lifted before
 abbrev pub withdrawal_of : List (Option Settled) → ℕ → Settled
 withdrawal_of words quote = answer_of (entry_in words (quote - 1)) Withdrawn
 
@@ -67,7 +70,8 @@ view_after date row dues = fold after_due (view_at_start date row) dues
 abbrev pub sent_at : DeskEvents → List (List ℕ)
 sent_at desk = dealer_output desk.date desk.row desk.events
 
--- The dealer view: every message that a dealer is sent. It takes the date, the dealer's own row and the list of
--- what is due to it, so nothing else of the venue can matter to what the dealer sees.
+-- The dealer view: every message that a dealer is sent. It takes the date, the dealer's own row
+-- and the list of what is due to it, so nothing else of the venue can matter to what the dealer
+-- sees.
 abbrev pub dealer_view : List ℕ → DealerRow → List Due → List (List ℕ)
 dealer_view date row dues = sent_at (view_after date row dues).desk

@@ -13,17 +13,18 @@ use quote_word::{PlainWords, Words};
 use std::alloc::Global;
 use venue_config::DealerRow;
 
-/// Every message that a dealer is sent on a day, for what is due to it and nothing else. It is total:
-/// it fails only for memory. A lifting of a quote that the dealer can't have, or whose word is settled,
-/// has no effect, and neither has a closing notice of a request that was not shown or whose notice was
-/// sent.
+/// Every message that a dealer is sent on a day, for what is due to it and nothing else. It is
+/// total: it fails only for memory. A lifting of a quote that the dealer can't have, or whose
+/// word is settled, has no effect, and neither has a closing notice of a request that was not
+/// shown or whose notice was sent.
 pub fn alone(
     alloc: Global,
     date: &Date,
     row: &DealerRow,
     dues: &[Due],
 ) -> Result<Vec<Message>, Memory>
-    ensures { IfOk result (λ messages. messages.items ≡ spec.dealer_view date.now row.now dues.now) }
+    ensures { IfOk result (λ messages.
+        messages.items ≡ spec.dealer_view date.now row.now dues.now) }
 {
     let mut desk = DealerDesk::new(alloc, *date, row.copy())?;
     let mut words = PlainWords::new(alloc, row.quotes)?;
@@ -98,8 +99,8 @@ fn lift(words: &mut PlainWords, quote: u32)
     words.lift(quote - 1);
 }
 
-/// The dealer view is a function of the date, the dealer's row and the list: two lists that are equal
-/// have equal views, whatever else differs between the two days.
+/// The dealer view is a function of the date, the dealer's row and the list: two lists that are
+/// equal have equal views, whatever else differs between the two days.
 pub fn equal_lists_have_equal_views()
     ensures { (date : List ℕ) (row : DealerRow) (dues others : List Due) → dues ≡ others
         → spec.dealer_view date row dues ≡ spec.dealer_view date row others }

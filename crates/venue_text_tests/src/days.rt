@@ -1,4 +1,5 @@
-//! Days of the worked examples: each value is computed by hand or outside the program from the rules.
+//! Days of the worked examples: each value is computed by hand or outside the program from the
+//! rules.
 use crate::fixtures::{assert_all_go_on, assert_prints, assert_shown_first, assert_text};
 use std::test::Fail;
 

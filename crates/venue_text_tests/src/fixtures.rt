@@ -53,8 +53,8 @@ pub(crate) fn assert_from_start<T: Abort + AllocGlobal>(
     assert_prints(rt, input.as_str(), lines)
 }
 
-/// Asserts what is printed where these lines stand behind the request, and these messages behind its
-/// own.
+/// Asserts what is printed where these lines stand behind the request, and these messages behind
+/// its own.
 pub(crate) fn assert_shown_first<T: Abort + AllocGlobal>(
     rt: &T,
     dues: &str,

@@ -1,4 +1,5 @@
-//! Tests of the program's texts: due text and what is printed for it, lines, and the lines of faults.
+//! Tests of the program's texts: due text and what is printed for it, lines, and the lines of
+//! faults.
 //!
 //! What is wanted is written down beforehand: by hand, and the frames' lengths and checksums by a
 //! program of their own.

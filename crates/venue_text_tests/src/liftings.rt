@@ -3,8 +3,8 @@ use crate::fixtures::{REQUEST, assert_all_go_on, assert_from_start, assert_print
 use std::alloc::Global;
 use std::test::Fail;
 
-/// What is due behind the first quote, and what is printed behind its acceptance: one list for each way in which a
-/// request ends.
+/// What is due behind the first quote, and what is printed behind its acceptance: one list for
+/// each way in which a request ends.
 const ENDS: &[(&str, &str)] = &[
     // awarded to this dealer
     (
@@ -39,7 +39,8 @@ fn notice_says_how_the_request_ended(rt: HostRuntime) -> Result<(), Fail> {
 }
 
 const LIFTINGS: &[(&str, &str)] = &[
-    // lifted thrice: the word is what it was; a quote that is known to be lifted is live until its notice
+    // lifted thrice: the word is what it was; a quote that is known to be lifted is live until
+    // its notice
     (
         "lifted 1
 lifted 1
@@ -236,8 +237,8 @@ fn list_may_begin_with_anything(rt: HostRuntime) -> Result<(), Fail> {
     Ok(())
 }
 
-/// Bytes that are no frame are dropped, and the frame itself is then accepted with the first number. The numbers of
-/// `say` lines do not count it.
+/// Bytes that are no frame are dropped, and the frame itself is then accepted with the first
+/// number. The numbers of `say` lines do not count it.
 #[test]
 fn frame_comes_byte_by_byte(rt: HostRuntime) -> Result<(), Fail> {
     let dues =

@@ -110,8 +110,9 @@ fn message_of_five_thousand_bytes_is_dropped(rt: HostRuntime) -> Result<(), Fail
     assert_prints(&rt, input.as_str(), lines.as_str())
 }
 
-/// A `say` line whose frame has 4,096 bytes is of its form, and one whose frame has 4,097 is not. The body of
-/// this one is `35=S|49=DLR1|56=VENUE|34=1|52=20250314-09:00:00.000|50=T1|58=..|`: 62 bytes without the value.
+/// A `say` line whose frame has 4,096 bytes is of its form, and one whose frame has 4,097 is not.
+/// The body of this one is `35=S|49=DLR1|56=VENUE|34=1|52=20250314-09:00:00.000|50=T1|58=..|`: 62
+/// bytes without the value.
 #[test]
 fn longest_frame_is_of_its_form(rt: HostRuntime) -> Result<(), Fail> {
     let mut line = String::new(rt.alloc());
