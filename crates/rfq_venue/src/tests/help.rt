@@ -7,7 +7,8 @@ Standard input is due text, at most 16,777,216 bytes. Its first two lines are
   date YYYYMMDD
   dealer NAME QUOTES EXPOSURE TRADER ..
 and then, in the order in which it happens,
-  shown INVESTOR BOND SIDE QUANTITY DEADLINE TIME   a request that the dealer is shown
+  shown INVESTOR BOND SIDE QUANTITY DEADLINE TIME [GRID]
+                                                    a request that the dealer is shown
   say TRADER TIME TYPE BODY                         a message of the dealer's own
   own TIME FRAME                                    its bytes, with a vertical bar for each SOH
   lifted N                                          the dealer's quote N is lifted
@@ -22,6 +23,7 @@ One space divides the parts of a line. Empty lines and lines that begin with # a
   BOND            12 capital letters and digits
   SIDE            1 the investor buys, 2 it sells
   QUANTITY        1 to 1000000000000
+  GRID            32, 64, 128 or 256, the steps of a point that prices have; without it 256
   TIME, DEADLINE  HH:MM:SS or HH:MM:SS.sss
   TYPE            S a quote, Z a cancel, AG a decline
   BODY            TAG=VALUE|TAG=VALUE|..; the whole frame has at most 4096 bytes
