@@ -23,16 +23,19 @@ abbrev pub ask_text : List ℕ → Ask → List ℕ
 ask_text date ask = terms_text ask ++ 32 ∷ time_text date ask.deadline
 
 -- GRID behind its space, where it is not the finest
-abbrev pub grid_text : ℕ → List ℕ
+unfoldable pub grid_text : ℕ → List ℕ
 grid_text grid = if grid == finest_grid then [] else 32 ∷ decimal grid
+
+-- TIME and GRID, with which a request's line ends
+unfoldable pub end_text : List ℕ → ℕ → ℕ → List ℕ
+end_text date moment grid = time_text date moment ++ grid_text grid ++ 10 ∷ []
 
 -- an item of what is due as its line of due text; a message of the dealer's own stands byte by byte
 abbrev pub due_line : List ℕ → Due → List ℕ
 due_line date (due.Own moment message) =
     codes "own " ++ time_text date moment ++ 32 ∷ map with_bar message ++ 10 ∷ []
 due_line date (due.Shown ask moment) =
-    codes "shown " ++ ask_text date ask ++ 32 ∷ time_text date moment ++ grid_text ask.grid
-    ++ 10 ∷ []
+    codes "shown " ++ ask_text date ask ++ 32 ∷ end_text date moment ask.grid
 due_line date (due.Lifted quote) = codes "lifted " ++ decimal quote ++ 10 ∷ []
 due_line date (due.Closed request close moment) =
     codes "closed " ++ decimal request ++ 32 ∷ decimal (close_code close)

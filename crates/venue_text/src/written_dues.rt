@@ -55,13 +55,23 @@ fn push_shown(text: &mut Vec<u8>, date: &Date, ask: &Ask, moment: Moment) -> Res
     text.extend_from_slice(b"shown ")?;
     push_ask(text, date, ask)?;
     text.push(b' ')?;
+    push_end(text, date, moment, ask.grid)?;
+    Ok(())
+}
+
+/// TIME and GRID, with which a request's line ends.
+#[tactic(auto, unfolding(crate::specs::WrittenDues::end_text))]
+fn push_end(text: &mut Vec<u8>, date: &Date, moment: Moment, grid: Grid) -> Result<(), Memory>
+    ensures { OnOk result (text.new.items ≡ text.old.items ++ spec.end_text date.now moment grid) }
+{
     push_time(text, date, moment)?;
-    push_grid(text, ask.grid)?;
+    push_grid(text, grid)?;
     text.push(b'\n')?;
     Ok(())
 }
 
 /// GRID behind a space, where it is not the finest.
+#[tactic(auto, unfolding(crate::specs::WrittenDues::grid_text))]
 fn push_grid(text: &mut Vec<u8>, grid: Grid) -> Result<(), Memory>
     ensures { OnOk result (text.new.items ≡ text.old.items ++ spec.grid_text grid) }
 {
