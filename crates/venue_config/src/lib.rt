@@ -19,8 +19,8 @@
 //!   twice, each text has its form, and each number, each array and both sums are within their
 //!   limits.
 //! - In version 1 every bond has the grid 256; from version 2 on each has its own.
-//! - A bond is found by its identifier, a dealer and an investor by their numbers as firms, a number
-//!   by the name: exactly where the configuration has them.
+//! - A bond is found by its identifier, a dealer and an investor by their numbers as firms, a
+//!   number by the name: exactly where the configuration has them.
 //! - [`VenueConfig::has_room`] is true for exactly the requests of configured investors.
 //! - A [`Name`] and a [`BondId`] are made of exactly the texts of their form. Rows and traders are
 //!   copied without memory, and two dealers' rows with equal values are the same row.

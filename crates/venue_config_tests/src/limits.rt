@@ -14,6 +14,7 @@ fn assert_most<T: Abort + AllocGlobal>(
     front: &str,
     back: &str,
 ) -> Result<(), Fail> {
+    assert!(rt; most < usize::MAX);
     let text = with_rows(rt.alloc(), key, most, front, back)?;
     assert!(rt;
         read_config(rt.alloc(), text.as_str()).is_ok(),
@@ -35,6 +36,7 @@ fn assert_number<T: Abort + AllocGlobal>(
     most: u64,
     back: &str,
 ) -> Result<(), Fail> {
+    assert!(rt; most < u64::MAX);
     let text = format!(in rt.alloc(); "{HEAD}{front}{most}{back}")?;
     assert!(rt;
         read_config(rt.alloc(), text.as_str()).is_ok(),

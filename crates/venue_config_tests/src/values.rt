@@ -1,5 +1,5 @@
 //! What is read from a text: the rows, and how they are found.
-use crate::tables::{THREE_DEALERS, THREE_GRIDS};
+use crate::examples::{THREE_DEALERS, THREE_GRIDS};
 use std::test::Fail;
 use venue_config::read_config;
 
