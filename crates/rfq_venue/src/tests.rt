@@ -25,14 +25,18 @@ fn ran<T: AllocGlobal>(rt: &T, arguments: &[&str], mut input: &[u8]) -> (u8, Vec
     (status, out, err)
 }
 
+/// Asserts that these arguments print the messages of the first quote.
+fn assert_messages<T: Abort + AllocGlobal>(rt: &T, arguments: &[&str]) {
+    let (status, out, err) = ran(rt, arguments, FIRST_QUOTE);
+    assert_eq!(rt; status, 0);
+    assert!(rt; out.as_slice() == MESSAGES);
+    assert!(rt; err.is_empty());
+}
+
 #[test]
 fn first_quote_is_answered(rt: HostRuntime) {
-    for arguments in [[].as_slice(), ["alone"].as_slice()] {
-        let (status, out, err) = ran(&rt, arguments, FIRST_QUOTE);
-        assert_eq!(rt; status, 0);
-        assert!(rt; out.as_slice() == MESSAGES);
-        assert!(rt; err.is_empty());
-    }
+    assert_messages(&rt, &[]);
+    assert_messages(&rt, &["alone"]);
     let (status, out, _) = ran(&rt, &["alone", "--frames"], FIRST_QUOTE);
     assert_eq!(rt; status, 0);
     assert!(rt; out.as_slice().ends_with(ACCEPTED_FRAME));

@@ -77,15 +77,20 @@ fn process_has_the_code_of_its_run(rt: HostRuntime) {
     assert!(rt; !err.is_empty());
 }
 
+/// Asserts that a process with this argument ends as after wrong ones.
+fn assert_wrong<T: Abort + AllocGlobal>(rt: &T, argument: &[u8]) {
+    let (code, out, err) = ended(rt, &[b"rfq_venue", b"alone", argument]);
+    assert!(rt; code == ExitCode::from(2));
+    assert!(rt; out.is_empty());
+    assert!(rt;
+        err.as_slice()
+            .starts_with(b"error: invalid UTF-8 was detected")
+    );
+}
+
 #[test]
 fn argument_that_is_no_utf_8_is_wrong(rt: HostRuntime) {
-    for argument in [b"\xff".as_slice(), b"alone\xc3", b"--frames\x80"] {
-        let (code, out, err) = ended(&rt, &[b"rfq_venue", b"alone", argument]);
-        assert!(rt; code == ExitCode::from(2));
-        assert!(rt; out.is_empty());
-        assert!(rt;
-            err.as_slice()
-                .starts_with(b"error: invalid UTF-8 was detected")
-        );
-    }
+    assert_wrong(&rt, b"\xff");
+    assert_wrong(&rt, b"alone\xc3");
+    assert_wrong(&rt, b"--frames\x80");
 }

@@ -89,12 +89,16 @@ fn help_is_whole(rt: HostRuntime) {
     assert_help(&rt, &["alone", "--frames", "--help"], ALONE);
 }
 
+/// Asserts that this argument prints the version.
+fn assert_version<T: Abort + AllocGlobal>(rt: &T, argument: &str) {
+    let (status, out, err) = ran(rt, &[argument], b"");
+    assert_eq!(rt; status, 0);
+    assert!(rt; out.as_slice() == b"rfq_venue 0.1.0\n".as_slice());
+    assert!(rt; err.is_empty());
+}
+
 #[test]
 fn version_is_printed(rt: HostRuntime) {
-    for argument in ["--version", "-V"] {
-        let (status, out, err) = ran(&rt, &[argument], b"");
-        assert_eq!(rt; status, 0);
-        assert!(rt; out.as_slice() == b"rfq_venue 0.1.0\n".as_slice());
-        assert!(rt; err.is_empty());
-    }
+    assert_version(&rt, "--version");
+    assert_version(&rt, "-V");
 }
