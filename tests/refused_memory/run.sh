@@ -114,6 +114,9 @@ for test in a_refused_call_leaves_the_room a_refused_pass_leaves_the_room a_refu
     refuse_in_test request_room_tests "rooms::memory::$test" always
 done
 refuse_in_test quote_messages tests::written::refused_memory_changes_no_answer always
+for test in a_refused_piece_is_fed_again a_refused_piece_with_a_fault_is_fed_again; do
+    refuse_in_test fix_fields_tests "memory::$test" always
+done
 refuse_in_test fix_fields_tests writing::a_quote_is_written sometimes
 refuse_in_test fix_fields_tests frames::the_longest_frame sometimes
 refuse_in_test quote_word_tests limits::refused_memory_is_asked_for_again always
