@@ -7,7 +7,7 @@ make=$(mktemp -d)
 trap 'rm -rf "$make"' EXIT
 mkdir -p "$make/crates/words/src"
 cp -a "$here/../crates/quote_word" "$make/crates/quote_word"
-cp "$here/words.rt" "$make/crates/words/src/main.rt"
+cp "$here/words.rt.txt" "$make/crates/words/src/main.rt"
 printf 'quote_word: logbook\nwords: quote_word\n' >"$make/crates.txt"
 cp "$here/../HANDLES" "$make/HANDLES"
 (cd "$make/crates/words" && rt run >"$make/first" 2>"$make/log") || { cat "$make/log" >&2; exit 1; }
