@@ -21,7 +21,7 @@ pub(crate) struct Slot<'a> {
 impl<'a> Slot<'a> {
     /// A tag that does not stand.
     pub(crate) fn empty() -> Self
-        ensures { said_by result ≡ record { first = None; is_repeated = false } }
+        ensures { result ≡ record { first = None; is_repeated = false } }
     {
         Slot {
             first: None,
