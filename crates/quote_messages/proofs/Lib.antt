@@ -1,3 +1,4 @@
 pub mod NumberLemmas
+pub mod SessionLemmas
 pub mod SlotLemmas
 pub mod TextLemmas

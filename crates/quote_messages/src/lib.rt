@@ -54,6 +54,7 @@ mod requests;
 mod sent_messages;
 mod session_faults;
 mod slots;
+mod tag_reading;
 
 pub use arrivals::Arrival;
 pub use market_terms::{
