@@ -42,6 +42,8 @@
 
 mod arrivals;
 mod characters;
+mod dealer_checks;
+mod header;
 mod messages;
 mod numbers;
 mod out_messages;
@@ -57,6 +59,7 @@ mod slots;
 mod tag_reading;
 
 pub use arrivals::Arrival;
+pub use dealer_checks::read_dealer;
 pub use market_terms::{
     Ask, AskedDealers, Close, Duty, HitRefusal, Id, IdBuf, Offer, Quantity, QuoteLine, QuoteState,
     Reply, RequestLine, RequestState, ResponseRef, RoomRef, Side,

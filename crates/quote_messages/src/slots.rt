@@ -1,10 +1,13 @@
 //! The one walk over the fields of a message.
-ghost use Rattle.std.specs.Prelude.{◌≡◌, ◌≤◌, ◌<◌, Some, None, true, false, IsTrue};
+ghost use Rattle.std.specs.Prelude.{◌≡◌, ◌≤◌, ◌<◌, length, Some, None, true, false, IsTrue};
 ghost use Rattle.quote_messages.specs.SessionLines.{occurrence_of};
 ghost use Rattle.quote_messages.specs.Slots.{AreFilled, place_of, is_checked, said_by, joined};
 
 use fix_fields::{Fields, Frame};
 use std::marker::Model;
+
+/// How many fields a message has at most: as many as its body may have bytes.
+pub(crate) const MOST_BODY: usize = 4_071;
 
 /// How many slots there are: one for each tag that the tables look at, and one for all other tags.
 const SLOTS: usize = 26;
@@ -55,7 +58,7 @@ pub(crate) struct FieldSlots<'a> {
 }
 
 impl<'a> Model for FieldSlots<'a> {
-    ghost use Rattle.std.specs.Prelude.{List};
+    ghost use Rattle.std.specs.Prelude.{List, length, ◌≤◌};
     ghost use Rattle.fix_fields.specs.Frame.{Field};
     ghost use Rattle.quote_messages.specs.Slots.{AreFilled};
 
@@ -63,7 +66,7 @@ impl<'a> Model for FieldSlots<'a> {
 
     ghost view = { λ m. m.fields };
 
-    ghost invariant = { λ m. AreFilled m.slots m.fields };
+    ghost invariant = { λ m. AreFilled m.slots m.fields × (length m.fields ≤ MOST_BODY) };
 }
 
 impl<'a> FieldSlots<'a> {
@@ -87,7 +90,8 @@ impl<'a> FieldSlots<'a> {
 
     /// All fields, first to last.
     pub(crate) fn fields(&self) -> Fields<'a>
-        ensures { result ≡ self.now }
+        ensures all { result ≡ self.now }
+        ensures few { length result ≤ MOST_BODY }
     {
         self.fields.again()
     }

@@ -10,5 +10,5 @@ returns c =
     let tag = c.args.tag in
     ap (λ place. said_by (slot_at slots place)) c.place_of.ensures.place
     ∙ sym (joined-none (said_by (slot_at slots (place_of tag))) tag)
-    ∙ c.self.invariant.each tag c.requires
+    ∙ c.self.invariant.0.each tag c.requires
     ∙ ap (λ fields. occurrence_of tag fields) c.self.view_is
