@@ -1,5 +1,5 @@
-pub mod GroupLemmas
 pub mod NumberLemmas
 pub mod SessionLemmas
 pub mod SlotLemmas
 pub mod TextLemmas
+pub mod WritingLemmas

@@ -1,6 +1,5 @@
 pub mod Arrivals
 pub mod Codes
-pub mod GroupReading
 pub mod PartyGroup
 pub mod SessionChecks
 pub mod SessionLines

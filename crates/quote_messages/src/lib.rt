@@ -43,7 +43,10 @@
 mod arrivals;
 mod characters;
 mod dealer_checks;
+mod dealer_writing;
+mod field_writing;
 mod header;
+mod investor_writing;
 mod messages;
 mod numbers;
 mod out_messages;
@@ -57,8 +60,9 @@ mod sent_messages;
 mod session_faults;
 mod slots;
 mod tag_reading;
+mod writing;
 
-pub use arrivals::Arrival;
+pub use arrivals::{Arrival, expected_number, receive_dealer};
 pub use dealer_checks::read_dealer;
 pub use market_terms::{
     Ask, AskedDealers, Close, Duty, HitRefusal, Id, IdBuf, Offer, Quantity, QuoteLine, QuoteState,
@@ -78,3 +82,4 @@ pub use reject_reasons::{QuoteRejectReason, RequestRejectReason};
 pub use requests::{InvestorMessage, QuoteHit, QuoteRequest, RequestPass};
 pub use sent_messages::SentMessage;
 pub use session_faults::{SessionFault, SessionRejectReason};
+pub use writing::write_out;

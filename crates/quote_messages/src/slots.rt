@@ -3,11 +3,8 @@ ghost use Rattle.std.specs.Prelude.{◌≡◌, ◌≤◌, ◌<◌, length, Some,
 ghost use Rattle.quote_messages.specs.SessionLines.{occurrence_of};
 ghost use Rattle.quote_messages.specs.Slots.{AreFilled, place_of, is_checked, said_by, joined};
 
-use fix_fields::{Fields, Frame};
+use fix_fields::{Fields, Frame, MOST_BODY};
 use std::marker::Model;
-
-/// How many fields a message has at most: as many as its body may have bytes.
-pub(crate) const MOST_BODY: usize = 4_071;
 
 /// How many slots there are: one for each tag that the tables look at, and one for all other tags.
 const SLOTS: usize = 26;
@@ -61,6 +58,7 @@ impl<'a> Model for FieldSlots<'a> {
     ghost use Rattle.std.specs.Prelude.{List, length, ◌≤◌};
     ghost use Rattle.fix_fields.specs.Frame.{Field};
     ghost use Rattle.quote_messages.specs.Slots.{AreFilled};
+    ghost use Rattle.fix_fields.specs.declared.limits.TheConstants.{MOST_BODY};
 
     ghost Value = { List Field };
 
