@@ -8,6 +8,9 @@ use Rattle.std.proofs.lemmas.List.{get_or-set_same, get_or-set_other, get_or-rep
 use Rattle.fix_fields.specs.Frame.{Field, value_of, times_of}
 use Rattle.quote_messages.specs.declared.slots.Slot.{Slot}
 use Rattle.quote_messages.specs.SessionLines.{Occurrence, occurrence_of}
+use Rattle.venue_config.specs.Texts.{text_if}
+use Rattle.quote_messages.specs.Texts.{is_sequence_number}
+use Rattle.quote_messages.specs.Arrivals.{sequence_number}
 use Rattle.quote_messages.specs.Slots.{checked_tags, place_of, is_checked, said_by, slot_at, joined, AreFilledBefore, AreFilled}
 
 -- one value
@@ -127,3 +130,12 @@ filled-none slot fields is = record {
     let here : slot_at (replicate 26 slot) (place_of tag) ≡ slot = get_or-replicate 26 (place_of tag) slot _ (omega arith) in
     ap (λ one. joined (said_by one) (occurrence_of tag fields)) (here ∙ is) ∙ none-joined (occurrence_of tag fields);
 }
+
+stands_once : (v : Bool) (n : ℕ) → v ≡ nat_lt 0 n → v ≡ true → nat_lt 1 n ≡ false → n == 1 ≡ true
+stands_once v n h e f = grind (arith, nat_tests)
+
+-- a MsgSeqNum that stands once is what its value is
+pub stands_readable : (fields : List Field) (value : List ℕ) → value_of 34 fields ≡ Some value → nat_lt 1 (times_of 34 fields) ≡ false → sequence_number fields ≡ text_if is_sequence_number value
+stands_readable fields value first once =
+    let one : times_of 34 fields == 1 ≡ true = stands_once (is_some (value_of 34 fields)) (times_of 34 fields) (stands 34 fields) (ap is_some first) once in
+    rw (one, first) refl

@@ -2,13 +2,14 @@
 ghost use Rattle.std.specs.Prelude.{◌≡◌, ◌+◌, ◌≤◌, [], ◌∷◌, ◌++◌, codes, length, OnOk};
 ghost use Rattle.fix_fields.specs.Frame.{left_of, IsValue};
 ghost use Rattle.quote_messages.specs.Written as spec;
-ghost use Rattle.quote_messages.specs.Written.{refused_request_fields, bond_fields, valid_until_field, shown_quote_fields, party_fields, hit_status, pass_status};
+ghost use Rattle.quote_messages.specs.Written.{refused_request_fields, bond_fields, shown_terms, valid_until_field, shown_quote_fields, party_fields, hit_status, pass_status};
 
 use crate::field_writing::{
     price_tag, price_value, put_answer, put_bond, put_party, put_room_refusal, quote_name,
     size_tag,
 };
-use crate::{HitRefusal, Id, PassStatus, RequestRejectReason, ShownQuote};
+use crate::{HitRefusal, Id, PassStatus, Quantity, RequestRejectReason, ShownQuote, Side};
+use bond_prices::Ticks;
 use fix_fields::{Date, FrameWriter, Memory, Moment, moment_text};
 use venue_config::Name;
 
@@ -60,12 +61,28 @@ pub(crate) fn put_shown_quote(
     writer.text(131, quote.request.as_bytes())?;
     writer.text(117, quote_name(quote.number).as_bytes())?;
     put_bond(writer, quote.bond)?;
-    writer.number(54, quote.side.code())?;
-    writer.text(price_tag(quote.side), price_value(quote.price).as_bytes())?;
-    writer.number(size_tag(quote.side), quote.quantity.get())?;
+    put_shown_terms(writer, quote.side, quote.price, quote.quantity)?;
     put_valid_until(writer, date, quote.valid_until)?;
     writer.text(537, b"1")?;
     put_party(writer, &quote.dealer, b"35")?;
+    Ok(())
+}
+
+/// Side (54), the price on the asked side, and beside it the quantity.
+fn put_shown_terms(
+    writer: &mut FrameWriter,
+    side: Side,
+    price: Ticks,
+    quantity: Quantity,
+) -> Result<(), Memory>
+    requires { 3600 ≤ left_of writer.old }
+    ensures fields { OnOk result (writer.new ≡ writer.old ++ shown_terms side price quantity) }
+    ensures left { OnOk result (left_of writer.old ≤ left_of writer.new + 150) }
+{
+    let price = price_value(price);
+    writer.number(54, side.code())?;
+    writer.text(price_tag(side), price.as_bytes())?;
+    writer.number(size_tag(side), quantity.get())?;
     Ok(())
 }
 
@@ -75,7 +92,7 @@ fn put_valid_until(
     date: &Date,
     until: Option<Moment>,
 ) -> Result<(), Memory>
-    requires { 3500 ≤ left_of writer.old }
+    requires { 3400 ≤ left_of writer.old }
     ensures fields { OnOk result (writer.new ≡ writer.old ++ valid_until_field date.now until) }
     ensures left { OnOk result (left_of writer.old ≤ left_of writer.new + 30) }
 {
