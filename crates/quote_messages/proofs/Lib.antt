@@ -1,3 +1,4 @@
+pub mod GroupLemmas
 pub mod NumberLemmas
 pub mod SessionLemmas
 pub mod SlotLemmas

@@ -4,14 +4,17 @@ ghost use Rattle.fix_fields.specs.Frame.{value_of};
 ghost use Rattle.venue_config.specs.Texts.{text_if};
 ghost use Rattle.quote_messages.specs.Texts.{is_msg_type};
 ghost use Rattle.quote_messages.specs.Arrivals as spec;
-ghost use Rattle.quote_messages.specs.Arrivals.{dealer_arrival, sequence_number, reject_of, out_of_sequence};
+ghost use Rattle.quote_messages.specs.Arrivals.{dealer_arrival, investor_arrival, sequence_number, reject_of, out_of_sequence};
 
 use crate::dealer_checks::judge_dealer;
+use crate::investor_checks::judge_investor;
 use crate::slots::FieldSlots;
 use crate::tag_reading::fault;
-use crate::{DealerMessage, MsgType, Reject, SeqNum, SessionFault, SessionRejectReason};
+use crate::{
+    DealerMessage, InvestorMessage, MsgType, Reject, SeqNum, SessionFault, SessionRejectReason,
+};
 use fix_fields::{Date, read_frame};
-use venue_config::DealerRow;
+use venue_config::{DealerRow, InvestorRow};
 
 /// What becomes of bytes that came from a firm, before the market looks at them.
 #[derive(Drop)]
@@ -47,6 +50,32 @@ pub fn receive_dealer<'a>(
         return Arrival::OutOfSequence(reject_of(&message, number, out_of_sequence()));
     }
     match judge_dealer(date, row, &message) {
+        Ok(read) => Arrival::Taken(read),
+        Err(fault) => Arrival::Rejected(reject_of(&message, number, fault)),
+    }
+}
+
+/// What becomes of bytes that came from an investor, whose next expected MsgSeqNum (34) is this.
+#[tactic(auto, unfolding(crate::specs::Arrivals::investor_arrival))]
+pub fn receive_investor<'a>(
+    date: &Date,
+    row: &InvestorRow,
+    expected: u64,
+    bytes: &'a [u8],
+) -> Arrival<'a, InvestorMessage<'a>>
+    ensures exact { result ≡ investor_arrival date.now row.now expected bytes.now }
+{
+    let Ok(frame) = read_frame(bytes) else {
+        return Arrival::Dropped;
+    };
+    let message = FieldSlots::of(&frame);
+    let Some(number) = sequence_number(&message) else {
+        return Arrival::Dropped;
+    };
+    if number.get() != expected {
+        return Arrival::OutOfSequence(reject_of(&message, number, out_of_sequence()));
+    }
+    match judge_investor(date, row, &message) {
         Ok(read) => Arrival::Taken(read),
         Err(fault) => Arrival::Rejected(reject_of(&message, number, fault)),
     }

@@ -46,11 +46,13 @@ mod dealer_checks;
 mod dealer_writing;
 mod field_writing;
 mod header;
+mod investor_checks;
 mod investor_writing;
 mod messages;
 mod numbers;
 mod out_messages;
 mod parties;
+mod party_group;
 mod quantities;
 mod quotes;
 mod received;
@@ -62,8 +64,9 @@ mod slots;
 mod tag_reading;
 mod writing;
 
-pub use arrivals::{Arrival, expected_number, receive_dealer};
+pub use arrivals::{Arrival, expected_number, receive_dealer, receive_investor};
 pub use dealer_checks::read_dealer;
+pub use investor_checks::read_investor;
 pub use market_terms::{
     Ask, AskedDealers, Close, Duty, HitRefusal, Id, IdBuf, Offer, Quantity, QuoteLine, QuoteState,
     Reply, RequestLine, RequestState, ResponseRef, RoomRef, Side,

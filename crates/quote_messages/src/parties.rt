@@ -2,6 +2,8 @@
 ghost use Rattle.std.specs.Prelude.{◌≡◌};
 ghost use Rattle.quote_messages.specs.PartyGroup.{named_dealers, entries_of, AreWhole};
 
+use crate::Id;
+use crate::party_group::next_dealer;
 use fix_fields::Fields;
 use std::marker::Model;
 
@@ -42,4 +44,17 @@ impl<'a> NamedDealers<'a> {
     }
 }
 
+impl<'a> Iterator for NamedDealers<'a> {
+    ghost use Rattle.std.specs.Iterator.{YieldsFirstBy, item_count};
 
+    type Item = Id<'a>;
+
+    ghost next_gives = { YieldsFirstBy (λ id. id) (λ rest. rest) };
+
+    ghost remaining = { item_count (λ rest. rest) };
+
+    fn next(&mut self) -> Option<Id<'a>> {
+        let id = next_dealer(&mut self.fields)?;
+        Id::new(id)
+    }
+}
