@@ -16,6 +16,7 @@ use crate::{Id, NamedDealers, SessionFault, SessionRejectReason};
 use fix_fields::{Fields, MOST_BODY};
 
 /// The dealers that a message names, or the fault of its party group, whose number of entries (453) is this.
+#[tactic(auto, unfolding(crate::specs::PartyGroup::party_group))]
 pub(crate) fn read_parties<'a>(
     message: &FieldSlots<'a>,
     count: u64,
