@@ -3,32 +3,33 @@
 use Rattle.std.proofs.Common.{◌≡◌, ℕ, ◌+◌, ◌≤◌, Bool, true, false, ◌==◌, ◌&&◌, nat_lt, nat_le, cond, List, [], ◌∷◌, ◌++◌, Option, Some, None, Result, Ok, Err, IfSome, find, arith, refl, sym}
 use Rattle.std.specs.List.{sum_by, list_all}
 use Rattle.std.specs.Option.{option_map}
-use Rattle.std.specs.Str.Parse.{digits_value}
 use Rattle.std.proofs.lemmas.List.Folds.{list_all-append}
 use Rattle.std.proofs.lemmas.List.Elements.{filter_map-append}
 use Rattle.std.proofs.lemmas.Bool.{and_parts}
 use Rattle.std.proofs.lemmas.Bool.Decides.{nat_tests}
-use Rattle.fix_fields.specs.Frame.{Field, frame_of}
-use Rattle.quote_messages.specs.SessionChecks.{session_verdict}
+use Rattle.quote_messages.specs.Arrivals.{dealer_arrival}
+use Rattle.quote_messages.specs.declared.arrivals.Arrival.{Arrival}
+use Rattle.quote_messages.specs.declared.arrivals.Arrival.TheVariants as arrival
+use Rattle.quote_messages.specs.declared.quotes.CancelScope.{CancelScope}
+use Rattle.quote_messages.specs.declared.quotes.CancelScope.TheVariants as cancels
 use Rattle.quote_messages.specs.declared.out_messages.Request.{Request}
 use Rattle.quote_messages.specs.declared.quotes.Quote.{Quote}
 use Rattle.quote_messages.specs.declared.quotes.DealerMessage.{DealerMessage}
 use Rattle.quote_messages.specs.declared.quotes.DealerMessage.TheVariants.{Quote as AQuote, Cancel as ACancel, Decline as ADecline}
-use Rattle.quote_messages.specs.declared.session_faults.SessionFault.{SessionFault}
 use Rattle.quote_messages.specs.declared.reject_reasons.QuoteRejectReason.{QuoteRejectReason}
 use Rattle.quote_word.specs.declared.settled.Settled.{Settled}
 use Rattle.quote_word.specs.declared.settled.Settled.TheVariants.{Withdrawn as IsWithdrawn, Lifted as IsLifted}
 use Rattle.venue_config.specs.declared.dealer_rows.DealerRow.{DealerRow}
 use Rattle.dealer_desk.specs.DealerFacts.{exposure_of, exposure_beside, quotes_of, accepted_quote, quotes_accepted, quote_with_id, is_live, live_quote_on, live_number_on, request_named, expected_number}
 use Rattle.market_terms.specs.Checks.{first_refusal}
-use Rattle.dealer_desk.specs.DealerRules.{standing_checks, terms_checks, day_checks, cancel_checks, decline_checks, quote_refusal, quote_answer, quote_on, quote_kept, quote_verdict, replacing, cancel_verdict, cancel_named, cancel_of, cancel_answer, decline_verdict, decline_of, decline_answer, message_verdict, sequence_verdict, sequence_number, frame_verdict, dealer_verdict, out_of_sequence, reject_of}
+use Rattle.dealer_desk.specs.DealerRules.{standing_checks, terms_checks, day_checks, cancel_checks, decline_checks, quote_refusal, quote_answer, quote_on, quote_kept, quote_verdict, replacing, cancel_verdict, cancel_of, cancel_answer, decline_verdict, decline_of, decline_answer, message_verdict, arrival_verdict, dealer_verdict}
 use Rattle.dealer_desk.specs.DealerOutput.{verdict_facts, word_asked, is_numbered_within}
 use Rattle.dealer_desk.specs.declared.facts.AcceptedQuote.{AcceptedQuote}
 use Rattle.dealer_desk.specs.declared.facts.DealerFact.{DealerFact}
 use Rattle.dealer_desk.specs.declared.facts.DealerFact.TheVariants.{Came, Quoted, Withdrawn, Late, Declined}
 use Rattle.dealer_desk.specs.declared.shown.ShownRequest.{ShownRequest}
 use Rattle.dealer_desk.specs.declared.verdicts.DealerVerdict.{DealerVerdict}
-use Rattle.dealer_desk.specs.declared.verdicts.DealerVerdict.TheVariants.{OutOfSequence, QuoteRefused, QuoteAccepted, QuoteReplaces, CancelRefused, CancelAsks}
+use Rattle.dealer_desk.specs.declared.verdicts.DealerVerdict.TheVariants.{QuoteRefused, QuoteAccepted, QuoteReplaces, CancelRefused, CancelAsks}
 use Rattle.dealer_desk.proofs.ExposureLemmas.{beside_nothing, find_among_live, quantity_in, exposure_with, exposure_replacing}
 use Rattle.dealer_desk.proofs.RefusalLemmas.{both_pass, none_holds}
 
@@ -206,14 +207,11 @@ cancel_of_keeps : (row : DealerRow) (facts : List DealerFact) (id : List ℕ) (q
 cancel_of_keeps row facts id None stands own = record { stands = λ answer. came_alone row facts true stands; asked = tt }
 cancel_of_keeps row facts id (Some quote) stands own = cancel_answer_keeps row facts id quote (first_refusal (cancel_checks facts quote)) stands own
 
-cancel_named_keeps : (row : DealerRow) (facts : List DealerFact) (id : Option (List ℕ)) → Stands row facts → Keeps row facts (cancel_named facts id)
-unfolding quote_with_id
-cancel_named_keeps row facts None stands = cancel_refusal_keeps row facts stands None _
-cancel_named_keeps row facts (Some id) stands = cancel_of_keeps row facts id (quote_with_id facts id) stands (found_within row _ (quotes_of facts) stands.numbered)
-
-either_keeps : (row : DealerRow) (facts : List DealerFact) (b : Bool) (one other : DealerVerdict) → Keeps row facts one → Keeps row facts other → Keeps row facts (cond b one other)
-either_keeps row facts true one other p q = p
-either_keeps row facts false one other p q = q
+cancel_keeps : (row : DealerRow) (facts : List DealerFact) (scope : CancelScope) → Stands row facts → Keeps row facts (cancel_verdict facts scope)
+unfolding cancel_verdict quote_with_id
+cancel_keeps row facts (cancels.One id) stands = cancel_of_keeps row facts id (quote_with_id facts id) stands (found_within row _ (quotes_of facts) stands.numbered)
+cancel_keeps row facts (cancels.All id) stands = cancel_refusal_keeps row facts stands id _
+cancel_keeps row facts (cancels.Other cancel_type id) stands = cancel_refusal_keeps row facts stands id _
 
 -- Declines.
 
@@ -225,29 +223,21 @@ decline_of_keeps : (row : DealerRow) (facts : List DealerFact) (name : List ℕ)
 decline_of_keeps row facts name None stands = record { stands = λ answer. came_alone row facts true stands; asked = tt }
 decline_of_keeps row facts name (Some shown) stands = decline_answer_keeps row facts name shown.request.number (first_refusal (decline_checks facts shown.request.number)) stands
 
--- The session.
+-- All messages.
 
-message_keeps : (row : DealerRow) (facts : List DealerFact) (moment : ℕ) (fields : List Field) (number : List ℕ) (message : Result DealerMessage SessionFault) → Stands row facts → Keeps row facts (message_verdict row facts moment fields number message)
-unfolding quote_verdict cancel_verdict decline_verdict
-message_keeps row facts moment fields number (Err fault) stands = record { stands = λ answer. came_alone row facts true stands; asked = tt }
-message_keeps row facts moment fields number (Ok (AQuote quote)) stands = quote_on_keeps row facts moment quote (request_named facts quote.request) stands
-message_keeps row facts moment fields number (Ok (ACancel cancel)) stands =
-    either_keeps row facts (cancel.cancel_type == 5) (cancel_named facts cancel.id) _ (cancel_named_keeps row facts cancel.id stands) (cancel_refusal_keeps row facts stands cancel.id _)
-message_keeps row facts moment fields number (Ok (ADecline decline)) stands = decline_of_keeps row facts decline.request (request_named facts decline.request) stands
+message_keeps : (row : DealerRow) (facts : List DealerFact) (moment : ℕ) (message : DealerMessage) → Stands row facts → Keeps row facts (message_verdict row facts moment message)
+unfolding quote_verdict decline_verdict
+message_keeps row facts moment (AQuote quote) stands = quote_on_keeps row facts moment quote (request_named facts quote.request) stands
+message_keeps row facts moment (ACancel cancel) stands = cancel_keeps row facts cancel.scope stands
+message_keeps row facts moment (ADecline decline) stands = decline_of_keeps row facts decline.request (request_named facts decline.request) stands
 
-sequence_keeps : (date : List ℕ) (row : DealerRow) (facts : List DealerFact) (moment : ℕ) (fields : List Field) (number : Option (List ℕ)) → Stands row facts → Keeps row facts (sequence_verdict date row facts moment fields number)
-sequence_keeps date row facts moment fields None stands = record { stands = λ answer. came_alone row facts false stands; asked = tt }
-sequence_keeps date row facts moment fields (Some number) stands =
-    either_keeps row facts (digits_value 10 number == expected_number facts)
-    (message_verdict row facts moment fields number (session_verdict date row fields)) (OutOfSequence (reject_of fields number out_of_sequence))
-    (message_keeps row facts moment fields number (session_verdict date row fields) stands)
-    (record { stands = λ answer. came_alone row facts false stands; asked = tt })
-
-frame_keeps : (date : List ℕ) (row : DealerRow) (facts : List DealerFact) (moment : ℕ) (fields : Option (List Field)) → Stands row facts → Keeps row facts (frame_verdict date row facts moment fields)
-frame_keeps date row facts moment None stands = record { stands = λ answer. came_alone row facts false stands; asked = tt }
-frame_keeps date row facts moment (Some fields) stands = sequence_keeps date row facts moment fields (sequence_number fields) stands
+arrival_keeps : (row : DealerRow) (facts : List DealerFact) (moment : ℕ) (came : Arrival DealerMessage) → Stands row facts → Keeps row facts (arrival_verdict row facts moment came)
+arrival_keeps row facts moment arrival.Dropped stands = record { stands = λ answer. came_alone row facts false stands; asked = tt }
+arrival_keeps row facts moment (arrival.OutOfSequence reject) stands = record { stands = λ answer. came_alone row facts false stands; asked = tt }
+arrival_keeps row facts moment (arrival.Rejected reject) stands = record { stands = λ answer. came_alone row facts true stands; asked = tt }
+arrival_keeps row facts moment (arrival.Taken message) stands = message_keeps row facts moment message stands
 
 -- what the verdict on any bytes keeps
 pub verdict_keeps : (date : List ℕ) (row : DealerRow) (facts : List DealerFact) (moment : ℕ) (bytes : List ℕ) → Stands row facts → Keeps row facts (dealer_verdict date row facts moment bytes)
 unfolding dealer_verdict
-verdict_keeps date row facts moment bytes stands = frame_keeps date row facts moment (frame_of bytes) stands
+verdict_keeps date row facts moment bytes stands = arrival_keeps row facts moment (dealer_arrival date row (expected_number facts) bytes) stands

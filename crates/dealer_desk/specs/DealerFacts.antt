@@ -21,7 +21,7 @@ used_number fact = false
 
 -- the MsgSeqNum (34) that the desk expects next
 abbrev pub expected_number : List DealerFact → ℕ
-expected_number facts = 1 + count_by used_number facts
+expected_number facts = count_by used_number facts + 1
 
 -- Requests.
 

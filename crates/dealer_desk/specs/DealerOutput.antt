@@ -18,6 +18,7 @@ use Rattle.quote_messages.specs.declared.out_messages.Request.{Request}
 use Rattle.quote_messages.specs.declared.out_messages.QuotedPrice.{QuotedPrice}
 use Rattle.quote_messages.specs.declared.out_messages.OutMessage.{OutMessage}
 use Rattle.quote_messages.specs.declared.out_messages.OutMessage.TheVariants as out
+use Rattle.quote_messages.specs.declared.out_messages.CancelStatus.TheVariants as status
 use Rattle.dealer_desk.specs.declared.facts.AcceptedQuote.{AcceptedQuote}
 use Rattle.dealer_desk.specs.declared.facts.DealerFact.{DealerFact}
 use Rattle.dealer_desk.specs.declared.facts.DealerFact.TheVariants.{Came, Shown, Quoted, Withdrawn, Late, Declined, Told}
@@ -46,7 +47,7 @@ cancel_facts quote answer = Came true ∷ (if is_withdrawal answer then Withdraw
 
 -- the message that answers the cancel
 abbrev pub cancel_reply : List ℕ → Option Settled → OutMessage
-cancel_reply id answer = if is_withdrawal answer then out.CancelAccepted id else out.CancelRefused (Some id) TooLate
+cancel_reply id answer = if is_withdrawal answer then out.CancelAnswer (Some id) status.Withdrawn else out.CancelAnswer (Some id) (status.Refused TooLate)
 
 -- the facts that a verdict adds
 abbrev pub verdict_facts : DealerVerdict → Option Settled → List DealerFact
@@ -68,15 +69,15 @@ abbrev pub verdict_answer : DealerVerdict → Option Settled → Option OutMessa
 verdict_answer verdict.Dropped answer = None
 verdict_answer (verdict.OutOfSequence reject) answer = Some (out.Reject reject)
 verdict_answer (verdict.Rejected reject) answer = Some (out.Reject reject)
-verdict_answer (verdict.QuoteRefused request id reason) answer = Some (out.QuoteRefused request id reason)
-verdict_answer (verdict.QuoteAccepted request id quote) answer = Some (out.QuoteAccepted request id)
+verdict_answer (verdict.QuoteRefused request id reason) answer = Some (out.QuoteAnswer request id (Some reason))
+verdict_answer (verdict.QuoteAccepted request id quote) answer = Some (out.QuoteAnswer request id None)
 verdict_answer (verdict.QuoteReplaces request id quote replaced) answer =
-    Some (if is_withdrawal answer then out.QuoteAccepted request id else out.QuoteRefused request id TooLate)
-verdict_answer (verdict.CancelRefused id reason) answer = Some (out.CancelRefused id reason)
-verdict_answer (verdict.CancelUnknown id) answer = Some (out.CancelUnknown id)
+    Some (if is_withdrawal answer then out.QuoteAnswer request id None else out.QuoteAnswer request id (Some TooLate))
+verdict_answer (verdict.CancelRefused id reason) answer = Some (out.CancelAnswer id (status.Refused reason))
+verdict_answer (verdict.CancelUnknown id) answer = Some (out.CancelAnswer (Some id) status.Unknown)
 verdict_answer (verdict.CancelAsks id quote request) answer = Some (cancel_reply id answer)
-verdict_answer (verdict.DeclineRefused request reason) answer = Some (out.DeclineRefused request reason)
-verdict_answer (verdict.DeclineAccepted request number) answer = Some (out.DeclineAccepted request)
+verdict_answer (verdict.DeclineRefused request reason) answer = Some (out.DeclineAnswer request (Some reason))
+verdict_answer (verdict.DeclineAccepted request number) answer = Some (out.DeclineAnswer request None)
 
 -- the room of the request with this number
 abbrev pub room_of : List DealerFact → ℕ → Option RoomRef

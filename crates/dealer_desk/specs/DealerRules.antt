@@ -1,27 +1,24 @@
 -- The rules of the market for a dealer: what becomes of a message that came to its desk.
-use Rattle.std.specs.Prelude.{ℕ, ◌+◌, Bool, false, ◌==◌, ◌||◌, not, nat_lt, nat_le, List, [], ◌∷◌, ◌++◌, Option, Some, None, unwrap_or, is_none, is_some, Result, Ok, Err, if◌then◌else◌, option_and_then}
-use Rattle.std.specs.Str.Parse.{digits_value}
+use Rattle.std.specs.Prelude.{ℕ, ◌+◌, Bool, false, ◌==◌, ◌||◌, not, nat_lt, nat_le, List, [], ◌∷◌, ◌++◌, Option, Some, None, unwrap_or, is_none, is_some, Result, Ok, Err, if◌then◌else◌}
 use Rattle.bond_prices.specs.Grid.{on_grid}
 use Rattle.bond_prices.specs.declared.fault.PriceFault.{PriceFault}
-use Rattle.fix_fields.specs.Frame.{Field, frame_of, times_of, value_of}
-use Rattle.venue_config.specs.Texts.{same_text, text_if}
-use Rattle.quote_messages.specs.Texts.{is_msg_type, is_sequence_number}
+use Rattle.venue_config.specs.Texts.{same_text}
 use Rattle.market_terms.specs.Checks.{first_refusal, is_not_after}
-use Rattle.quote_messages.specs.SessionChecks.{session_verdict, text_at}
 use Rattle.dealer_desk.specs.DealerFacts.{expected_number, request_named, quotes_accepted, quote_with_id, live_number_on, exposure_beside, is_declined, is_told, is_withdrawn, is_known_lifted, has_lifted_quote}
 use Rattle.market_terms.specs.declared.asks.Side.{Side}
 use Rattle.market_terms.specs.declared.asks.Side.TheVariants.{Buy, Sell}
 use Rattle.market_terms.specs.declared.asks.Ask.{Ask}
 use Rattle.quote_messages.specs.declared.out_messages.Request.{Request}
-use Rattle.quote_messages.specs.declared.out_messages.Reject.{Reject}
 use Rattle.venue_config.specs.declared.dealer_rows.DealerRow.{DealerRow}
 use Rattle.dealer_desk.specs.declared.shown.ShownRequest.{ShownRequest}
 use Rattle.dealer_desk.specs.declared.facts.AcceptedQuote.{AcceptedQuote}
 use Rattle.dealer_desk.specs.declared.facts.DealerFact.{DealerFact}
-use Rattle.quote_messages.specs.declared.session_faults.SessionFault.{SessionFault}
-use Rattle.quote_messages.specs.declared.session_faults.SessionRejectReason.TheVariants.{ValueIncorrect}
 use Rattle.quote_messages.specs.declared.quotes.Quote.{Quote}
-use Rattle.quote_messages.specs.declared.quotes.QuoteCancel.{QuoteCancel}
+use Rattle.quote_messages.specs.declared.quotes.CancelScope.{CancelScope}
+use Rattle.quote_messages.specs.declared.quotes.CancelScope.TheVariants as cancels
+use Rattle.quote_messages.specs.Arrivals.{dealer_arrival}
+use Rattle.quote_messages.specs.declared.arrivals.Arrival.{Arrival}
+use Rattle.quote_messages.specs.declared.arrivals.Arrival.TheVariants as arrival
 use Rattle.quote_messages.specs.declared.quotes.Decline.{Decline}
 use Rattle.quote_messages.specs.declared.quotes.DealerMessage.{DealerMessage}
 use Rattle.quote_messages.specs.declared.quotes.DealerMessage.TheVariants.{Quote as AQuote, Cancel as ACancel, Decline as ADecline}
@@ -169,14 +166,12 @@ abbrev pub cancel_of : List DealerFact → List ℕ → Option AcceptedQuote →
 cancel_of facts id None = CancelUnknown id
 cancel_of facts id (Some quote) = cancel_answer id quote (first_refusal (cancel_checks facts quote))
 
--- a cancel names a quote by its QuoteID (117)
-abbrev pub cancel_named : List DealerFact → Option (List ℕ) → DealerVerdict
-cancel_named facts None = CancelRefused None Other
-cancel_named facts (Some id) = cancel_of facts id (quote_with_id facts id)
-
--- QuoteCancelType (298) 5 cancels the quote that QuoteID (117) names; every other type is refused
-unfoldable pub cancel_verdict : List DealerFact → QuoteCancel → DealerVerdict
-cancel_verdict facts cancel = if cancel.cancel_type == 5 then cancel_named facts cancel.id else CancelRefused cancel.id Other
+-- the verdict on a cancel: QuoteCancelType (298) 5 cancels the quote that QuoteID (117) names; every other type is
+-- refused
+unfoldable pub cancel_verdict : List DealerFact → CancelScope → DealerVerdict
+cancel_verdict facts (cancels.One id) = cancel_of facts id (quote_with_id facts id)
+cancel_verdict facts (cancels.All id) = CancelRefused id Other
+cancel_verdict facts (cancels.Other cancel_type id) = CancelRefused id Other
 
 -- Declines.
 
@@ -194,44 +189,22 @@ decline_of facts name (Some shown) = decline_answer name shown.request.number (f
 unfoldable pub decline_verdict : List DealerFact → Decline → DealerVerdict
 decline_verdict facts decline = decline_of facts decline.request (request_named facts decline.request)
 
--- The session.
+-- All messages.
 
--- what a Reject says of a message with this MsgSeqNum
-abbrev pub reject_of : List Field → List ℕ → SessionFault → Reject
-reject_of fields number fault = record {
-  number = number;
-  fault = fault;
-  msg_type = option_and_then (text_if is_msg_type) (value_of 35 fields);
-}
+-- the market's verdict on a message
+abbrev pub message_verdict : DealerRow → List DealerFact → ℕ → DealerMessage → DealerVerdict
+message_verdict row facts moment (AQuote quote) = quote_verdict row facts moment quote
+message_verdict row facts moment (ACancel cancel) = cancel_verdict facts cancel.scope
+message_verdict row facts moment (ADecline decline) = decline_verdict facts decline
 
--- the text of MsgSeqNum (34), where it stands once and is readable
-unfoldable pub sequence_number : List Field → Option (List ℕ)
-sequence_number fields = if times_of 34 fields == 1 then text_if is_sequence_number (text_at 34 fields) else None
-
--- the fault of a message that is out of sequence
-abbrev pub out_of_sequence : SessionFault
-out_of_sequence = record { tag = 34; reason = ValueIncorrect }
-
--- a message that came in sequence: its session fault, or the market's verdict
-abbrev pub message_verdict : DealerRow → List DealerFact → ℕ → List Field → List ℕ → Result DealerMessage SessionFault → DealerVerdict
-message_verdict row facts moment fields number (Err fault) = Rejected (reject_of fields number fault)
-message_verdict row facts moment fields number (Ok (AQuote quote)) = quote_verdict row facts moment quote
-message_verdict row facts moment fields number (Ok (ACancel cancel)) = cancel_verdict facts cancel
-message_verdict row facts moment fields number (Ok (ADecline decline)) = decline_verdict facts decline
-
--- a frame with this MsgSeqNum
-abbrev pub sequence_verdict : List ℕ → DealerRow → List DealerFact → ℕ → List Field → Option (List ℕ) → DealerVerdict
-sequence_verdict date row facts moment fields None = Dropped
-sequence_verdict date row facts moment fields (Some number) =
-    if digits_value 10 number == expected_number facts
-    then message_verdict row facts moment fields number (session_verdict date row fields)
-    else OutOfSequence (reject_of fields number out_of_sequence)
-
--- bytes that are no frame are dropped
-abbrev pub frame_verdict : List ℕ → DealerRow → List DealerFact → ℕ → Option (List Field) → DealerVerdict
-frame_verdict date row facts moment None = Dropped
-frame_verdict date row facts moment (Some fields) = sequence_verdict date row facts moment fields (sequence_number fields)
+-- the verdict on what came: the session has the first word, and then the market
+abbrev pub arrival_verdict : DealerRow → List DealerFact → ℕ → Arrival DealerMessage → DealerVerdict
+arrival_verdict row facts moment arrival.Dropped = Dropped
+arrival_verdict row facts moment (arrival.OutOfSequence reject) = OutOfSequence reject
+arrival_verdict row facts moment (arrival.Rejected reject) = Rejected reject
+arrival_verdict row facts moment (arrival.Taken message) = message_verdict row facts moment message
 
 -- what becomes of bytes that came to a dealer's desk at a moment, given the facts that stood
 unfoldable pub dealer_verdict : List ℕ → DealerRow → List DealerFact → ℕ → List ℕ → DealerVerdict
-dealer_verdict date row facts moment bytes = frame_verdict date row facts moment (frame_of bytes)
+dealer_verdict date row facts moment bytes =
+    arrival_verdict row facts moment (dealer_arrival date row (expected_number facts) bytes)

@@ -1,33 +1,43 @@
 //! The rules of the market for what a dealer takes back: cancels of quotes, and declines of requests.
 ghost use Rattle.std.specs.Prelude.{◌≡◌};
 ghost use Rattle.market_terms.specs.Checks.{first_refusal};
-ghost use Rattle.dealer_desk.specs.DealerRules.{cancel_verdict, cancel_checks, decline_verdict, decline_checks};
+ghost use Rattle.dealer_desk.specs.DealerFacts.{quote_with_id};
+ghost use Rattle.dealer_desk.specs.DealerRules.{cancel_verdict, cancel_of, cancel_checks, decline_verdict, decline_checks};
 
 use crate::counts::{is_declined, is_told, request_named};
 use crate::quotes::{is_known_lifted, is_withdrawn, live_number_on, quote_with_id};
 use crate::{AcceptedQuote, DealerFact, DealerVerdict};
-use quote_messages::{Decline, QuoteCancel, QuoteRejectReason};
+use quote_messages::{CancelScope, Decline, Id, QuoteRejectReason};
 
-/// QuoteCancelType (298) of a cancel of the one quote that QuoteID (117) names.
-const ONE_QUOTE: u64 = 5;
-
-/// The verdict on a QuoteCancel.
+/// The verdict on a QuoteCancel of these quotes.
 #[tactic(auto, unfolding(crate::specs::DealerRules::cancel_verdict))]
-pub(crate) fn cancel_verdict<'a>(facts: &[DealerFact], cancel: QuoteCancel<'a>) -> DealerVerdict<'a>
-    ensures { result ≡ cancel_verdict facts.now cancel.entry }
+pub(crate) fn cancel_verdict<'a>(
+    facts: &[DealerFact],
+    scope: CancelScope<'a>,
+) -> DealerVerdict<'a>
+    ensures { result ≡ cancel_verdict facts.now scope.entry }
 {
-    if cancel.cancel_type != ONE_QUOTE {
-        return DealerVerdict::CancelRefused {
-            id: cancel.id,
-            reason: QuoteRejectReason::Other,
-        };
+    match scope {
+        CancelScope::One(id) => cancel_one(facts, id),
+        CancelScope::All(id) => refused(id),
+        CancelScope::Other { id, .. } => refused(id),
     }
-    let Some(id) = cancel.id else {
-        return DealerVerdict::CancelRefused {
-            id: None,
-            reason: QuoteRejectReason::Other,
-        };
-    };
+}
+
+/// A cancel of any other type than that of one quote.
+fn refused(id: Option<Id<'_>>) -> DealerVerdict<'_>
+    ensures { result ≡ DealerVerdict.CancelRefused id.entry QuoteRejectReason.Other }
+{
+    DealerVerdict::CancelRefused {
+        id,
+        reason: QuoteRejectReason::Other,
+    }
+}
+
+/// The verdict on a cancel of the quote with this QuoteID (117).
+fn cancel_one<'a>(facts: &[DealerFact], id: Id<'a>) -> DealerVerdict<'a>
+    ensures { result ≡ cancel_of facts.now id.entry (quote_with_id facts.now id.entry) }
+{
     let Some(quote) = quote_with_id(facts, id.as_bytes()) else {
         return DealerVerdict::CancelUnknown { id };
     };

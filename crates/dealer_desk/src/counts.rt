@@ -15,7 +15,7 @@ pub(crate) fn expected_number(facts: &[DealerFact]) -> u64
     ensures { result ≡ expected_number facts.now }
 {
     let used = facts.iter().filter(|fact| used_number(fact)).count();
-    1 + used as u64
+    used as u64 + 1
 }
 
 /// Whether a message used up its number.

@@ -12,7 +12,7 @@ use crate::{AcceptedQuote, DealerEvent, DealerFact};
 use fix_fields::{Date, Memory, Moment};
 use quote_messages::{
     Ask, Close, ClosingNotice, Duty, Head, Message, OutMessage, QuotedPrice, Request, RoomRef,
-    write_out,
+    SentMessage, write_out,
 };
 use quote_word::Settled;
 use std::alloc::Global;
@@ -30,7 +30,7 @@ pub struct DealerDesk {
     row: DealerRow,
     events: Vec<DealerEvent>,
     facts: Vec<DealerFact>,
-    sent: Vec<Message>,
+    sent: Vec<SentMessage>,
 }
 
 impl Model for DealerDesk {
@@ -197,14 +197,14 @@ impl DealerDesk {
     }
 
     /// The messages that the dealer was sent, the first one first.
-    pub fn sent(&self) -> &[Message]
+    pub fn sent(&self) -> &[SentMessage]
         ensures { result.now ≡ dealer_output self.now.date self.now.row self.now.events }
     {
         self.sent.as_slice()
     }
 
     /// The same messages, taken out of the desk. It takes no memory.
-    pub fn into_sent(self) -> Vec<Message>
+    pub fn into_sent(self) -> Vec<SentMessage>
         ensures { result.items ≡ dealer_output self.date self.row self.events }
     {
         let Self { sent, .. } = self;
@@ -288,10 +288,10 @@ fn next_message(
     alloc: Global,
     date: &Date,
     row: &DealerRow,
-    sent: &[Message],
+    sent: &[SentMessage],
     moment: Moment,
     message: &OutMessage,
-) -> Result<Message, Memory>
+) -> Result<SentMessage, Memory>
     ensures { IfOk result (λ bytes. bytes ≡ next_message date.now row.now sent.now moment message.now) }
 {
     let head = Head {
@@ -309,10 +309,10 @@ fn answer_message(
     alloc: Global,
     date: &Date,
     row: &DealerRow,
-    sent: &[Message],
+    sent: &[SentMessage],
     moment: Moment,
     answer: &Option<OutMessage>,
-) -> Result<Option<Message>, Memory>
+) -> Result<Option<SentMessage>, Memory>
     ensures { IfOk result (λ bytes. sent_with date.now row.now sent.now moment answer.now ≡ sent.now ++ option_to_list bytes) }
 {
     let Some(message) = answer else {

@@ -1,12 +1,12 @@
 //! What a verdict leads to, once the word that it asks has answered.
-ghost use Rattle.std.specs.Prelude.{◌≡◌, Some, true, false, ◌∷◌, ◌++◌, if◌then◌else◌};
+ghost use Rattle.std.specs.Prelude.{◌≡◌, Some, None, true, false, ◌∷◌, ◌++◌, if◌then◌else◌};
 ghost use Rattle.std.specs.Option.{option_map, option_to_list};
 ghost use Rattle.dealer_desk.specs.DealerOutput.{word_asked, is_withdrawal, cancel_facts, cancel_reply, verdict_facts, verdict_answer, verdict_duty, room_of, post_of};
 
 use crate::counts::request_numbered;
 use crate::{AcceptedQuote, DealerFact, DealerVerdict};
 use fix_fields::Moment;
-use quote_messages::{Duty, Id, OutMessage, QuoteRejectReason, RoomRef};
+use quote_messages::{CancelStatus, Duty, Id, OutMessage, QuoteRejectReason, RoomRef};
 use quote_word::Settled;
 
 /// What a verdict adds: facts in their order, and the message that answers.
@@ -65,14 +65,20 @@ pub(crate) fn outcome_of(verdict: DealerVerdict<'_>, answer: Option<Settled>) ->
             quote,
             replaced,
         } => { replacement(request, id, quote, replaced, answer) }
-        DealerVerdict::CancelRefused { id, reason } => refusal(OutMessage::CancelRefused {
+        DealerVerdict::CancelRefused { id, reason } => refusal(OutMessage::CancelAnswer {
             id,
-            reason,
+            status: CancelStatus::Refused(reason),
         }),
-        DealerVerdict::CancelUnknown { id } => refusal(OutMessage::CancelUnknown { id }),
+        DealerVerdict::CancelUnknown { id } => refusal(OutMessage::CancelAnswer {
+            id: Some(id),
+            status: CancelStatus::Unknown,
+        }),
         DealerVerdict::CancelAsks { id, quote, .. } => cancel(id, quote, answer),
         DealerVerdict::DeclineRefused { request, reason } => {
-            refusal(OutMessage::DeclineRefused { request, reason })
+            refusal(OutMessage::DeclineAnswer {
+                request,
+                refusal: Some(reason),
+            })
         }
         DealerVerdict::DeclineAccepted { request, number } => decline_accepted(request, number),
     }
@@ -104,36 +110,43 @@ fn refusal(answer: OutMessage<'_>) -> Outcome<'_>
 
 /// A quote that is refused.
 fn quote_refused<'a>(request: Id<'a>, id: Id<'a>, reason: QuoteRejectReason) -> Outcome<'a>
-    ensures { result ≡ record { came = DealerFact.Came true; settled = None; accepted = None; answer = Some (OutMessage.QuoteRefused request.entry id.entry reason) } }
+    ensures { result ≡ record { came = DealerFact.Came true; settled = None; accepted = None; answer = Some (OutMessage.QuoteAnswer request.entry id.entry (Some reason)) } }
 {
-    refusal(OutMessage::QuoteRefused {
+    refusal(OutMessage::QuoteAnswer {
         request,
         id,
-        reason,
+        refusal: Some(reason),
     })
 }
 
 /// A quote that is accepted.
 fn quote_accepted<'a>(request: Id<'a>, id: Id<'a>, quote: AcceptedQuote) -> Outcome<'a>
-    ensures { result ≡ record { came = DealerFact.Came true; settled = None; accepted = Some (DealerFact.Quoted quote); answer = Some (OutMessage.QuoteAccepted request.entry id.entry) } }
+    ensures { result ≡ record { came = DealerFact.Came true; settled = None; accepted = Some (DealerFact.Quoted quote); answer = Some (OutMessage.QuoteAnswer request.entry id.entry None) } }
 {
     Outcome {
         came: DealerFact::Came { in_sequence: true },
         settled: None,
         accepted: Some(DealerFact::Quoted(quote)),
-        answer: Some(OutMessage::QuoteAccepted { request, id }),
+        answer: Some(OutMessage::QuoteAnswer {
+            request,
+            id,
+            refusal: None,
+        }),
     }
 }
 
 /// A decline that is accepted.
 fn decline_accepted(request: Id<'_>, number: u64) -> Outcome<'_>
-    ensures { result ≡ record { came = DealerFact.Came true; settled = None; accepted = Some (DealerFact.Declined number); answer = Some (OutMessage.DeclineAccepted request.entry) } }
+    ensures { result ≡ record { came = DealerFact.Came true; settled = None; accepted = Some (DealerFact.Declined number); answer = Some (OutMessage.DeclineAnswer request.entry None) } }
 {
     Outcome {
         came: DealerFact::Came { in_sequence: true },
         settled: None,
         accepted: Some(DealerFact::Declined { request: number }),
-        answer: Some(OutMessage::DeclineAccepted { request }),
+        answer: Some(OutMessage::DeclineAnswer {
+            request,
+            refusal: None,
+        }),
     }
 }
 
@@ -165,12 +178,14 @@ fn cancel(id: Id<'_>, quote: u32, answer: Option<Settled>) -> Outcome<'_>
 {
     if !is_withdrawal(answer) {
         let id = Some(id);
-        let reason = QuoteRejectReason::TooLate;
-        let mut late = refusal(OutMessage::CancelRefused { id, reason });
+        let status = CancelStatus::Refused(QuoteRejectReason::TooLate);
+        let mut late = refusal(OutMessage::CancelAnswer { id, status });
         late.settled = Some(DealerFact::Late { quote });
         return late;
     }
-    let mut confirmed = refusal(OutMessage::CancelAccepted { id });
+    let id = Some(id);
+    let status = CancelStatus::Withdrawn;
+    let mut confirmed = refusal(OutMessage::CancelAnswer { id, status });
     confirmed.settled = Some(DealerFact::Withdrawn { quote });
     confirmed
 }

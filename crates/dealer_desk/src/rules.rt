@@ -1,7 +1,7 @@
 //! The rules of the market for a dealer, over the facts of its desk. Each function goes over the facts anew.
 ghost use Rattle.std.specs.Prelude.{◌≡◌, ◌+◌, ◌<◌, ◌≤◌, Some, None, MatchResult};
 ghost use Rattle.market_terms.specs.Checks.{first_refusal, is_not_after};
-ghost use Rattle.dealer_desk.specs.DealerRules.{dealer_verdict, quote_verdict, quote_refusal, standing_checks, terms_checks, day_checks, price_for, reject_of, sequence_number, differs_from, quote_kept, lone_price, if_on_grid, replacing};
+ghost use Rattle.dealer_desk.specs.DealerRules.{dealer_verdict, quote_verdict, quote_refusal, standing_checks, terms_checks, day_checks, price_for, differs_from, quote_kept, lone_price, if_on_grid, replacing};
 ghost use Rattle.dealer_desk.specs.DealerFacts.{exposure_of, live_number_on, quotes_accepted};
 
 use crate::cancels::{cancel_verdict, decline_verdict};
@@ -11,10 +11,10 @@ use crate::quotes::{
 };
 use crate::{AcceptedQuote, DealerFact, DealerVerdict};
 use bond_prices::{Grid, PriceFault, Ticks, on_grid};
-use fix_fields::{Date, Frame, Moment, read_frame};
+use fix_fields::{Date, Moment};
 use quote_messages::{
-    Ask, DealerMessage, IdBuf, MsgType, Quantity, Quote, QuoteRejectReason, Reject, Request,
-    SeqNum, SessionFault, SessionRejectReason, Side, read_dealer,
+    Arrival, Ask, DealerMessage, IdBuf, Quantity, Quote, QuoteRejectReason, Request, Side,
+    receive_dealer,
 };
 use venue_config::DealerRow;
 
@@ -30,47 +30,13 @@ pub(crate) fn dealer_verdict<'a>(
     requires { exposure_of facts.now ≤ 1000000000000000 }
     ensures { result ≡ dealer_verdict date.now row.now facts.now moment bytes.now }
 {
-    let Ok(frame) = read_frame(bytes) else {
-        return DealerVerdict::Dropped;
-    };
-    let Some(number) = sequence_number(&frame) else {
-        return DealerVerdict::Dropped;
-    };
-    if number.get() != expected_number(facts) {
-        let fault = SessionFault {
-            tag: 34,
-            reason: SessionRejectReason::ValueIncorrect,
-        };
-        return DealerVerdict::OutOfSequence(reject_of(&frame, number, fault));
-    }
-    match read_dealer(date, row, &frame) {
-        Err(fault) => DealerVerdict::Rejected(reject_of(&frame, number, fault)),
-        Ok(DealerMessage::Quote(quote)) => quote_verdict(row, facts, moment, quote),
-        Ok(DealerMessage::Cancel(cancel)) => cancel_verdict(facts, cancel),
-        Ok(DealerMessage::Decline(decline)) => decline_verdict(facts, decline),
-    }
-}
-
-/// MsgSeqNum (34), where it stands once and is readable.
-#[tactic(auto, unfolding(crate::specs::DealerRules::sequence_number))]
-fn sequence_number<'a>(frame: &Frame<'a>) -> Option<SeqNum<'a>>
-    ensures { result ≡ sequence_number frame.now }
-{
-    if frame.times(34) != 1 {
-        return None;
-    }
-    SeqNum::new(frame.get(34)?)
-}
-
-/// The Reject of a message with this MsgSeqNum.
-fn reject_of<'a>(frame: &Frame<'a>, number: SeqNum<'a>, fault: SessionFault) -> Reject<'a>
-    ensures { result ≡ reject_of frame.now number.entry fault }
-{
-    let msg_type = frame.get(35).and_then(|text| MsgType::new(text));
-    Reject {
-        number,
-        fault,
-        msg_type,
+    match receive_dealer(date, row, expected_number(facts), bytes) {
+        Arrival::Dropped => DealerVerdict::Dropped,
+        Arrival::OutOfSequence(reject) => DealerVerdict::OutOfSequence(reject),
+        Arrival::Rejected(reject) => DealerVerdict::Rejected(reject),
+        Arrival::Taken(DealerMessage::Quote(quote)) => quote_verdict(row, facts, moment, quote),
+        Arrival::Taken(DealerMessage::Cancel(cancel)) => cancel_verdict(facts, cancel.scope),
+        Arrival::Taken(DealerMessage::Decline(decline)) => decline_verdict(facts, decline),
     }
 }
 

@@ -1,4 +1,6 @@
-pub mod TextLemmas
+pub mod GroupLemmas
 pub mod NumberLemmas
-pub mod WritingLemmas
 pub mod SessionLemmas
+pub mod SlotLemmas
+pub mod TextLemmas
+pub mod WritingLemmas

@@ -8,7 +8,7 @@ ghost use Rattle.step_replay.specs.DealerView as spec;
 use crate::Due;
 use dealer_desk::DealerDesk;
 use fix_fields::{Date, Memory, Moment};
-use quote_messages::{Message, RoomRef};
+use quote_messages::{RoomRef, SentMessage};
 use quote_word::{PlainWords, Words};
 use std::alloc::Global;
 use venue_config::DealerRow;
@@ -22,7 +22,7 @@ pub fn alone(
     date: &Date,
     row: &DealerRow,
     dues: &[Due],
-) -> Result<Vec<Message>, Memory>
+) -> Result<Vec<SentMessage>, Memory>
     ensures { IfOk result (λ messages.
         messages.items ≡ spec.dealer_view date.now row.now dues.now) }
 {

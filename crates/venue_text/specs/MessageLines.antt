@@ -1,9 +1,9 @@
 -- Messages as lines.
 use Rattle.std.specs.Prelude.{ℕ, Bool, ◌==◌, List, [], ◌∷◌, ◌++◌, map, drop, decimal}
-use Rattle.std.specs.Prelude.{Option, Some, None, if◌then◌else◌}
+use Rattle.std.specs.Prelude.{unwrap_or, if◌then◌else◌}
 use Rattle.std.specs.List.{flat_map}
 use Rattle.fix_fields.specs.Frame.{Field, frame_of}
-use Rattle.quote_messages.specs.SessionChecks.{text_at}
+use Rattle.quote_messages.specs.SessionLines.{text_at}
 
 -- a vertical bar stands for SOH
 abbrev pub with_bar : ℕ → ℕ
@@ -37,13 +37,9 @@ abbrev pub fields_line : List ℕ → List Field → List ℕ
 fields_line firm fields =
     firm ++ header_text fields ++ fields_text_behind 32 (fields_behind_header fields) ++ 10 ∷ []
 
--- the same of its bytes; the venue sends frames alone, and other bytes would be shown as they are
+-- the same of a message, whose bytes are a frame
 abbrev pub message_line : List ℕ → List ℕ → List ℕ
-message_line firm message =
-    elim (frame_of message) [
-      | None ↦ frame_line firm message
-      | Some fields ↦ fields_line firm fields
-    ]
+message_line firm message = fields_line firm (unwrap_or (frame_of message) [])
 
 -- the line of a message, in one form or the other
 abbrev pub line_of : Bool → List ℕ → List ℕ → List ℕ

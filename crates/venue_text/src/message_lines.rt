@@ -2,9 +2,9 @@
 ghost use Rattle.std.specs.Prelude.{◌≡◌, ◌++◌, map, IfOk, OnOk};
 ghost use Rattle.venue_text.specs.MessageLines as spec;
 
-use fix_fields::{Fields, Frame, Memory, read_frame};
+use fix_fields::{Fields, Frame, Memory};
 use itoa::Buffer;
-use quote_messages::Message;
+use quote_messages::SentMessage;
 use std::alloc::Global;
 use venue_config::Name;
 
@@ -18,14 +18,14 @@ pub fn messages_text(
     alloc: Global,
     with_frames: bool,
     firm: &Name,
-    messages: &[Message],
+    messages: &[SentMessage],
 ) -> Result<Vec<u8>, Memory>
     ensures { IfOk result (λ text.
         text.items ≡ spec.messages_text with_frames firm.now messages.now) }
 {
     let mut text = Vec::new(alloc);
     for message in messages {
-        push_line(&mut text, with_frames, firm, message.as_bytes())?;
+        push_line(&mut text, with_frames, firm, message)?;
     }
     Ok(text)
 }
@@ -35,13 +35,13 @@ fn push_line(
     text: &mut Vec<u8>,
     with_frames: bool,
     firm: &Name,
-    message: &[u8],
+    message: &SentMessage,
 ) -> Result<(), Memory>
     ensures { OnOk result (text.new.items
         ≡ text.old.items ++ spec.line_of with_frames firm.now message.now) }
 {
     if with_frames {
-        return push_frame_line(text, firm, message);
+        return push_frame_line(text, firm, message.as_bytes());
     }
     push_message_line(text, firm, message)
 }
@@ -69,13 +69,15 @@ pub(crate) fn push_barred(text: &mut Vec<u8>, message: &[u8]) -> Result<(), Memo
 }
 
 /// `FIRM N TIME TYPE BODY`.
-fn push_message_line(text: &mut Vec<u8>, firm: &Name, message: &[u8]) -> Result<(), Memory>
+fn push_message_line(
+    text: &mut Vec<u8>,
+    firm: &Name,
+    message: &SentMessage,
+) -> Result<(), Memory>
     ensures { OnOk result (text.new.items
         ≡ text.old.items ++ spec.message_line firm.now message.now) }
 {
-    let Ok(frame) = read_frame(message) else {
-        return push_frame_line(text, firm, message);
-    };
+    let frame = message.frame();
     text.extend_from_slice(firm.as_bytes())?;
     push_header(text, &frame)?;
     push_fields(text, behind_header(frame.fields()))?;
