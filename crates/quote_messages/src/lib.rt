@@ -55,8 +55,8 @@ mod tests;
 mod writing;
 
 pub use market_terms::{
-    Ask, AskedDealers, Close, Duty, HitRefusal, Id, IdBuf, Offer, Quantity, QuoteLine, QuoteState, Reply,
-    RequestLine, RequestState, ResponseRef, RoomRef, Side,
+    Ask, AskedDealers, Close, Duty, HitRefusal, Id, IdBuf, Offer, Quantity, QuoteLine, QuoteState,
+    Reply, RequestLine, RequestState, ResponseRef, RoomRef, Side,
 };
 pub use messages::Message;
 pub use numbers::{read_long_number, read_number};

@@ -98,7 +98,10 @@ fn a_word_has_one_answer_for_two_threads(rt: HostRuntime) -> Result<(), Fail> {
         || lifts_all(alloc, &board, investor, &here),
     );
     let (withdrawals, lifts) = (withdrawals?, lifts?);
-    assert_eq!(rt; (withdrawals.len(), lifts.len()), (WORDS as usize, WORDS as usize));
+    assert_eq!(rt;
+        (withdrawals.len(), lifts.len()),
+        (WORDS as usize, WORDS as usize)
+    );
     let (withdrawn, lifted) = counts_answers(&rt, &board, withdrawals, lifts);
     assert_eq!(rt; withdrawn.saturating_add(lifted), WORDS);
     Ok(())

@@ -91,5 +91,8 @@ say T1 09:00:20 Z 298=5|117=a1
 
 /// Whether a message has this text.
 fn has(message: &Message, text: &[u8]) -> bool {
-    message.as_bytes().windows(text.len()).any(|part| part == text)
+    message
+        .as_bytes()
+        .windows(text.len())
+        .any(|part| part == text)
 }

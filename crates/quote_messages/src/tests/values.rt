@@ -1,7 +1,7 @@
 //! The small values: texts, numbers, quantities and the codes of enums.
 use super::*;
 use crate::{
-    Message, MsgType, Quantity, IdBuf, QuoteRejectReason, SeqNum, read_long_number, read_number,
+    IdBuf, Message, MsgType, Quantity, QuoteRejectReason, SeqNum, read_long_number, read_number,
     read_quantity,
 };
 

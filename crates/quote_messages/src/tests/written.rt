@@ -1,7 +1,7 @@
 //! Each message that a dealer is sent, byte by byte.
 use super::*;
 use crate::{
-    Ask, Close, ClosingNotice, Head, Message, MsgType, Quantity, IdBuf, QuoteRejectReason,
+    Ask, Close, ClosingNotice, Head, IdBuf, Message, MsgType, Quantity, QuoteRejectReason,
     QuotedPrice, Reject, Request, SeqNum, SessionFault, SessionRejectReason, Side, write_out,
 };
 use bond_prices::{Grid, Ticks};
