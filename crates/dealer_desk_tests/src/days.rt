@@ -6,7 +6,6 @@ use venue_text::alone_text;
 
 mod cancels;
 mod declines;
-mod drops;
 mod frames;
 mod grids;
 mod liftings;
