@@ -93,18 +93,9 @@ say T1 09:00:20 Z 298=5|117=a1
     Ok(())
 }
 
-<<<<<<< HEAD
-/// Whether a message has this text.
-fn has(message: &Message, text: &[u8]) -> bool {
-    message
-        .as_bytes()
-        .windows(text.len())
-        .any(|part| part == text)
-=======
 /// Asserts the QuoteStatus (297) of the last of some messages.
 fn assert_last<T: Abort>(rt: &T, messages: &[Message], status: &[u8]) {
     let message = messages.last().expect(rt, "a message");
     let frame = read_frame(message.as_bytes()).ok().expect(rt, "a frame");
     assert!(rt; frame.get(297) == Some(status));
->>>>>>> w/venue
 }
