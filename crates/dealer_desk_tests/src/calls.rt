@@ -3,6 +3,5 @@
 mod answers;
 mod fixtures;
 mod forged;
-mod full_days;
 mod memory;
 mod shown;

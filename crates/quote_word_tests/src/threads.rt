@@ -1,5 +1,5 @@
 //! Two threads on one board.
-ghost use Rattle.std.specs.Prelude.{◌≡◌, IfOk, All, vec_len};
+ghost use Rattle.std.specs.Prelude.{◌≡◌, IfOk, All};
 ghost use Rattle.quote_word.specs.Board.{Answered};
 
 use quote_word::{Board, BoardSeen, Receipt, Settled};
@@ -7,7 +7,7 @@ use std::alloc::{AllocError, Global};
 use std::process::Abort;
 use std::sync::atomic::{AtomicU64, Ordering};
 use std::test::Fail;
-use std::thread::{Threads, join};
+use std::thread::join;
 
 const WORDS: u32 = 1000;
 
@@ -98,7 +98,10 @@ fn a_word_has_one_answer_for_two_threads(rt: HostRuntime) -> Result<(), Fail> {
         || lifts_all(alloc, &board, investor, &here),
     );
     let (withdrawals, lifts) = (withdrawals?, lifts?);
-    assert_eq!(rt; (withdrawals.len(), lifts.len()), (WORDS as usize, WORDS as usize));
+    assert_eq!(rt;
+        (withdrawals.len(), lifts.len()),
+        (WORDS as usize, WORDS as usize)
+    );
     let (withdrawn, lifted) = counts_answers(&rt, &board, withdrawals, lifts);
     assert_eq!(rt; withdrawn.saturating_add(lifted), WORDS);
     Ok(())

@@ -1,5 +1,5 @@
 -- How a run ends by its arguments.
-use Rattle.std.proofs.Common.{◌≡◌, ◌≢◌, ◌<◌, ◌==◌, length, map, arith, ◌⊎◌, ◌||◌, refl, sym, ap, subst, inl, inr, ℕ, Bool, true, false, List, [], ◌∷◌, Option, codes}
+use Rattle.std.proofs.Common.{◌≡◌, ◌≢◌, ◌==◌, length, map, arith, ◌⊎◌, ◌||◌, refl, sym, ap, subst, inl, inr, ℕ, Bool, true, false, List, [], ◌∷◌, codes}
 use Rattle.std.proofs.lemmas.Bool.{false≢true}
 use Rattle.std.specs.List.{list_any}
 use Rattle.clap.specs.declared.error.Error.{Error}

@@ -1,5 +1,5 @@
 -- What readers and writers hold, where they tell it.
-use Rattle.std.proofs.Common.{◌≡◌, ◌≢◌, ℕ, ◌-◌, ◌<◌, ◌≤◌, List, [], ◌∷◌, ◌++◌, length, take, drop, sym, ap, ◌∙◌, subst, refl, arith, Option, Some, None, append_assoc, Bool, true, nat_lt, inl, inr, Result, Ok, Err}
+use Rattle.std.proofs.Common.{◌≡◌, ◌≢◌, ℕ, ◌-◌, ◌<◌, ◌≤◌, List, [], ◌++◌, length, take, drop, sym, ap, ◌∙◌, subst, refl, arith, Option, Some, None, append_assoc, Bool, true, nat_lt, inl, inr}
 use Rattle.std.specs.Io.KnownBytes.{Appends, Keeps}
 use Rattle.std.proofs.lemmas.List.{append-nil, take-append-drop, take_all, length-drop, length-append}
 use Rattle.std.proofs.Math.Seq.{take-append_seam}
@@ -11,10 +11,6 @@ use Rattle.venue_text.specs.declared.faults.ProgramFault.TheVariants.{Read, Inpu
 use Rattle.std.proofs.lemmas.Bool.{cases_Bool}
 use Rattle.std.proofs.lemmas.Bool.Decides.{nat_tests}
 use Rattle.std.specs.Option.{IfSome}
-use Rattle.std.specs.Result.{OnOk, is_ok}
-use Rattle.std.specs.List.{FoldsTo, concat}
-use Rattle.std.specs.Fmt.{WritesInCalls}
-use Rattle.std.proofs.lemmas.Bool.{false≢true}
 
 -- two texts that were taken one behind the other
 pub appends_both : (old mid new : Option (List ℕ)) (a b : List ℕ) → Appends old mid a → Appends mid new b → Appends old new (a ++ b)

@@ -225,7 +225,7 @@ fn sums_fit(dealers: &[DealerRow], investors: &[InvestorRow]) -> bool
     requires investors_most { length investors.now ≤ VenueConfig.MOST_INVESTORS }
     ensures { result
         ≡ spec.sums_fit (map rows.dealer_values dealers.now)
-            (map rows.investor_values investors.now) }
+        (map rows.investor_values investors.now) }
 {
     quotes_in_all(dealers) <= VenueConfig::MOST_QUOTES_IN_ALL
         && requests_in_all(investors) <= VenueConfig::MOST_REQUESTS_IN_ALL

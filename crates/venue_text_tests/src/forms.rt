@@ -98,8 +98,14 @@ const FAULTS_AT: &[(&[u8], usize)] = &[
     (b"date 20250314\ndealer CLOCK 4 1 T1\n", 2),
     (b"date 20250314\ndealer VENUE 4 1 T1\n", 2),
     (b"date 20250314\ndealer DLR1 4 1 T1 T1\n", 2),
-    (b"date 20250314\ndealer DLR1 4 1 T1\n\nowned 09:00:00 x\n", 4),
-    (b"date 20250314\ndealer DLR1 4 1 T1\nsay T1 09:00:00 S 1=a||2=b\n", 3),
+    (
+        b"date 20250314\ndealer DLR1 4 1 T1\n\nowned 09:00:00 x\n",
+        4,
+    ),
+    (
+        b"date 20250314\ndealer DLR1 4 1 T1\nsay T1 09:00:00 S 1=a||2=b\n",
+        3,
+    ),
 ];
 
 #[test]

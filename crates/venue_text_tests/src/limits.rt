@@ -48,11 +48,20 @@ fn dealers_keep_their_limits(rt: HostRuntime) -> Result<(), Fail> {
 /// Requests that are shown, each with whether its line is of its form.
 const REQUESTS: &[(&str, bool)] = &[
     ("INV1 BONDA0000001 1 1 00:00:00 23:59:59.999", true),
-    ("INV1 BONDA0000001 2 1000000000000 23:59:59.999 00:00:00", true),
-    ("INV1 BONDA0000001 1 0000000000000001 09:00:00 09:00:00.000", true),
+    (
+        "INV1 BONDA0000001 2 1000000000000 23:59:59.999 00:00:00",
+        true,
+    ),
+    (
+        "INV1 BONDA0000001 1 0000000000000001 09:00:00 09:00:00.000",
+        true,
+    ),
     ("INV1 BONDA0000001 1 0 09:00:00 09:00:00", false),
     ("INV1 BONDA0000001 1 1000000000001 09:00:00 09:00:00", false),
-    ("INV1 BONDA0000001 1 00000000000000001 09:00:00 09:00:00", false),
+    (
+        "INV1 BONDA0000001 1 00000000000000001 09:00:00 09:00:00",
+        false,
+    ),
     ("INV1 BONDA0000001 0 1 09:00:00 09:00:00", false),
     ("INV1 BONDA0000001 3 1 09:00:00 09:00:00", false),
     ("INV1 BONDA000001 1 1 09:00:00 09:00:00", false),
@@ -121,7 +130,11 @@ fn longest_frame_is_of_its_form(rt: HostRuntime) -> Result<(), Fail> {
     for _ in 0..4009 {
         line.push('x')?;
     }
-    assert_prints(&rt, line.as_str(), "DLR1 1 09:00:00.000 3 45=1|371=117|372=S|373=1\n")?;
+    assert_prints(
+        &rt,
+        line.as_str(),
+        "DLR1 1 09:00:00.000 3 45=1|371=117|372=S|373=1\n",
+    )?;
     line.push('x')?;
     assert_form(&rt, line.as_str(), Some(3))
 }

@@ -17,7 +17,10 @@ const FAULTS: &[(ProgramFault, &str)] = &[
     (ProgramFault::Form { line: 1 }, "line 1: form\n"),
     (ProgramFault::Form { line: 9_999 }, "line 9999: form\n"),
     (ProgramFault::Form { line: 10_000 }, "line 10000: form\n"),
-    (ProgramFault::Form { line: usize::MAX }, "line 18446744073709551615: form\n"),
+    (
+        ProgramFault::Form { line: usize::MAX },
+        "line 18446744073709551615: form\n",
+    ),
     (ProgramFault::Memory, "memory\n"),
     (ProgramFault::Write, "write\n"),
 ];
@@ -87,8 +90,16 @@ fn line_has_parts(rt: HostRuntime) {
 fn skipped_lines_are_counted(rt: HostRuntime) {
     let text = b"\n# x\nfirst\n\nsecond";
     let mut lines = SpokenLines::new(text);
-    assert!(&rt; lines.next().is_some_and(|(line, text)| line == 3 && same_text(text, b"first")));
-    assert!(&rt; lines.next().is_some_and(|(line, text)| line == 5 && same_text(text, b"second")));
+    assert!(&rt;
+        lines
+            .next()
+            .is_some_and(|(line, text)| line == 3 && same_text(text, b"first"))
+    );
+    assert!(&rt;
+        lines
+            .next()
+            .is_some_and(|(line, text)| line == 5 && same_text(text, b"second"))
+    );
     assert!(&rt; lines.next().is_none());
     assert_eq!(&rt; one_past(text), 6);
     assert_eq!(&rt; one_past(b"x\n"), 2);
@@ -103,7 +114,9 @@ fn sides_and_times_are_read(rt: HostRuntime) {
     assert!(&rt; read_side(b"01").is_none());
     let date = Date::new(b"20250314").expect(&rt, "a date");
     assert!(&rt; read_time(&date, b"00:00:00").is_some_and(|moment| moment.get() == 0));
-    assert!(&rt; read_time(&date, b"23:59:59.999").is_some_and(|moment| moment.get() == 86_399_999));
+    assert!(&rt;
+        read_time(&date, b"23:59:59.999").is_some_and(|moment| moment.get() == 86_399_999)
+    );
     assert!(&rt; read_time(&date, b"09:00:00.0001").is_none());
     assert!(&rt; read_time(&date, b"9:00:00").is_none());
 }

@@ -65,8 +65,11 @@ fn said_message_is_its_frame(rt: HostRuntime) -> Result<(), Fail> {
     let said = Said::read(rt.alloc(), &date, text)?.expect(&rt, "a say line");
     assert!(&rt; !said.is_numbered());
     assert_eq!(&rt; said.moment().get(), 32_410_000);
-    let message = said.message(rt.alloc(), &date, &firm, 1)?.expect(&rt, "a frame");
-    let frame = b"DLR1 8=FIXT.1.1|9=109|35=S|49=DLR1|56=VENUE|34=1|52=20250314-09:00:10.000|50=T1|117=a1|131=R1|48=BONDA0000001|22=4|133=99.50390625|10=039|\n";
+    let message = said
+        .message(rt.alloc(), &date, &firm, 1)?
+        .expect(&rt, "a frame");
+    let frame =
+        b"DLR1 8=FIXT.1.1|9=109|35=S|49=DLR1|56=VENUE|34=1|52=20250314-09:00:10.000|50=T1|117=a1|131=R1|48=BONDA0000001|22=4|133=99.50390625|10=039|\n";
     let line = messages_text(rt.alloc(), true, &firm, &[message])?;
     assert!(&rt; line.as_slice() == frame.as_slice());
     Ok(())
@@ -98,8 +101,10 @@ fn say_lines_have_a_form(rt: HostRuntime) -> Result<(), Fail> {
 #[test]
 fn frame_comes_with_bars(rt: HostRuntime) -> Result<(), Fail> {
     let date = Date::new(b"20250314").expect(&rt, "a date");
-    let (moment, message) = read_received(rt.alloc(), &date, b"00:00:01.002 a|b\x01 |")?
-        .expect(&rt, "a message");
+    let (moment, message) = read_received(rt.alloc(), &date, b"00:00:01.002 a|b\x01 |")?.expect(
+        &rt,
+        "a message",
+    );
     assert_eq!(&rt; moment.get(), 1_002);
     assert!(&rt; message.as_bytes() == b"a\x01b\x01 \x01".as_slice());
     assert!(&rt; read_received(rt.alloc(), &date, b"00:00:01 ")?.is_none());
