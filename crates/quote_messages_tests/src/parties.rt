@@ -3,7 +3,7 @@ use crate::investor::{REQUEST, finds_each};
 use crate::support::{Change, changed, day};
 use fix_fields::read_frame;
 use message_fixtures::{frame, investor_row};
-use quote_messages::{InvestorMessage, read_investor};
+use quote_messages::{InvestorMessage, QuoteRequest, read_investor};
 use std::alloc::Global;
 use std::process::Abort;
 use std::test::Fail;
@@ -72,20 +72,28 @@ const WHOLE: [(&str, &[&[u8]]); 10] = [
     ("453=1|448=DLR9|447=D|452=35|117=|", &[b"DLR9"]),
 ];
 
+/// Asserts that a request names these dealers, in this order.
+fn are_named(rt: &impl Abort, request: &QuoteRequest, dealers: &[&[u8]]) -> Result<(), Fail> {
+    assert_eq!(rt; request.dealers.again().count(), dealers.len());
+    let mut left = request.dealers.again();
+    for dealer in dealers {
+        let named = left.next().ok_or("too few")?;
+        assert!(rt; named.as_bytes() == *dealer);
+    }
+    Ok(())
+}
+
 /// Asserts that a group names these dealers, in this order.
 fn names(rt: &impl Abort, alloc: Global, group: &str, dealers: &[&[u8]]) -> Result<(), Fail> {
     let row = investor_row().ok_or("no row")?;
     let body = changed(alloc, REQUEST, GROUP, group)?;
     let bytes = frame(alloc, body.as_str())?;
     let read = read_frame(bytes.as_slice()).ok().ok_or("no frame")?;
-    let Ok(InvestorMessage::Request(request)) = read_investor(&day()?, &row, &read) else {
+    let message = read_investor(&day()?, &row, &read);
+    let Ok(InvestorMessage::Request(request)) = message else {
         return Err(Fail::from("no request"));
     };
-    assert_eq!(rt; request.dealers.again().count(), dealers.len(), "{group}");
-    for (named, dealer) in request.dealers.again().zip(dealers) {
-        assert!(rt; named.as_bytes() == *dealer, "{group}");
-    }
-    Ok(())
+    are_named(rt, &request, dealers)
 }
 
 #[test]
