@@ -11,10 +11,7 @@ use quote_messages::{CancelScope, Decline, Id, QuoteRejectReason};
 
 /// The verdict on a QuoteCancel of these quotes.
 #[tactic(auto, unfolding(crate::specs::DealerRules::cancel_verdict))]
-pub(crate) fn cancel_verdict<'a>(
-    facts: &[DealerFact],
-    scope: CancelScope<'a>,
-) -> DealerVerdict<'a>
+pub(crate) fn cancel_verdict<'a>(facts: &[DealerFact], scope: CancelScope<'a>) -> DealerVerdict<'a>
     ensures { result ≡ cancel_verdict facts.now scope.entry }
 {
     match scope {

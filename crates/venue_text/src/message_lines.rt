@@ -69,11 +69,7 @@ pub(crate) fn push_barred(text: &mut Vec<u8>, message: &[u8]) -> Result<(), Memo
 }
 
 /// `FIRM N TIME TYPE BODY`.
-fn push_message_line(
-    text: &mut Vec<u8>,
-    firm: &Name,
-    message: &SentMessage,
-) -> Result<(), Memory>
+fn push_message_line(text: &mut Vec<u8>, firm: &Name, message: &SentMessage) -> Result<(), Memory>
     ensures { OnOk result (text.new.items
         ≡ text.old.items ++ spec.message_line firm.now message.now) }
 {
