@@ -1,5 +1,5 @@
 -- The cover is the best of the quotes of the other dealers.
-use Rattle.std.proofs.Common.{◌≡◌, ◌≢◌, ◌↔◌, ℕ, suc, zero, ◌<◌, Bool, true, false, ◌&&◌, ◌||◌, ◌==◌}
+use Rattle.std.proofs.Common.{◌≡◌, ◌≢◌, ◌↔◌, ℕ, suc, zero, ◌<◌, Bool, true, false, ◌==◌}
 use Rattle.std.proofs.Common.{not, cond, List, [], ◌∷◌, length, Option, Some, None, IfSome, filter}
 use Rattle.std.proofs.Common.{find, get_or, ltb, refl, ap, sym, ◌∙◌, arith}
 use Rattle.std.specs.Cmp.{IsStrictWeakOrder}

@@ -1,6 +1,6 @@
 -- What a room keeps after one event more, with its book best first, and what it answers from it.
-use Rattle.std.proofs.Common.{◌≡◌, ℕ, suc, ◌+◌, ◌<◌, ◌≤◌, Bool, true, false, ◌&&◌, ◌==◌, not, cond}
-use Rattle.std.proofs.Common.{List, [], ◌∷◌, ◌++◌, length, map, Option, Some, None, is_some}
+use Rattle.std.proofs.Common.{◌≡◌, ℕ, ◌+◌, ◌≤◌, Bool, true, false, ◌&&◌, ◌==◌, not, cond}
+use Rattle.std.proofs.Common.{List, [], ◌∷◌, ◌++◌, length, Option, Some, None, is_some}
 use Rattle.std.proofs.Common.{is_none, Ok, Err}
 use Rattle.std.proofs.Common.{filter, find, fold, refl, ap, sym, ◌∙◌, arith, length-append}
 use Rattle.std.specs.List.{list_any, best_of as best_so_far}
@@ -15,7 +15,7 @@ use Rattle.request_room.specs.declared.events.RoomEvent.{RoomEvent}
 use Rattle.request_room.specs.declared.events.RoomEvent.TheVariants as event
 use Rattle.request_room.specs.declared.quotes.StandingQuote.{StandingQuote}
 use Rattle.request_room.specs.declared.requests.RoomRequest.{RoomRequest}
-use Rattle.request_room.specs.RoomFacts.{RoomFact, Unposted, request_of, end_of, is_vacant}
+use Rattle.request_room.specs.RoomFacts.{RoomFact, request_of, end_of, is_vacant}
 use Rattle.request_room.specs.RoomFacts.{is_opening, is_open, takes_quotes}
 use Rattle.request_room.specs.Book.{book_of, others, stands, is_quote_of, is_better}
 use Rattle.request_room.specs.Book.{has_better_price, best_of, cover_of, cover_for, quote_meant}
@@ -23,14 +23,12 @@ use Rattle.request_room.specs.Book.{quote_posted, hit_outcome, may_expire, passe
 use Rattle.request_room.specs.Book.{room_after}
 use Rattle.request_room.specs.Kept.{Keeps, KeepsRoom, Ranks, IsPostedIn, quotes_in, rank_in, ranked}
 use Rattle.request_room.specs.Kept.{earliest_of, is_kept_of}
-use Rattle.request_room.proofs.FactLemmas.{left_by}
 use Rattle.request_room.proofs.CoverLemmas.{best_is_so_far}
 use Rattle.request_room.proofs.RankLemmas.{filter-ranked, ranked-push, any-ranked, earliest-ranked}
 use Rattle.request_room.proofs.KeptLemmas.{kept_vacant, kept_open, kept_ready, kept_post}
 use Rattle.request_room.proofs.KeptLemmas.{kept_post_refused, kept_unpost, kept_unpost_refused}
 use Rattle.request_room.proofs.KeptLemmas.{kept_decline, kept_pass, kept_pass_refused, kept_expire}
 use Rattle.request_room.proofs.KeptLemmas.{kept_expire_refused, kept_hit, kept_hit_refused}
-use Rattle.request_room.proofs.KeptLemmas.{room_after_nothing}
 
 -- The book.
 

@@ -1,10 +1,9 @@
 -- A book that is kept best first against the list of its quotes in the order of their posting.
-use Rattle.std.proofs.Common.{◌≡◌, ◌≢◌, ℕ, suc, zero, ◌+◌, ◌<◌, ◌≤◌, Bool, true, false, ◌&&◌}
-use Rattle.std.proofs.Common.{◌||◌, ◌==◌, not, cond, nat_lt, List, [], ◌∷◌, ◌++◌, length, map, take}
-use Rattle.std.proofs.Common.{drop}
+use Rattle.std.proofs.Common.{◌≡◌, ℕ, suc, ◌+◌, ◌<◌, ◌≤◌, Bool, true, false, ◌&&◌}
+use Rattle.std.proofs.Common.{◌||◌, ◌==◌, not, cond, nat_lt, List, [], ◌∷◌, ◌++◌, length}
 use Rattle.std.proofs.Common.{Option, Some, None, IfSome, filter, find, fold, refl, ap, sym, ◌∙◌}
 use Rattle.std.proofs.Common.{arith, unwrap_or}
-use Rattle.std.specs.List.{list_any, insert, position, position_or_len, best_of as best_so_far}
+use Rattle.std.specs.List.{list_any, insert, position, position_or_len}
 use Rattle.std.specs.Option.{option_map, option_or}
 use Rattle.std.proofs.lemmas.Bool.Decides.{nat_tests}
 use Rattle.std.proofs.lemmas.List.Sums.{fold-append, prefix_len-le-length}
@@ -12,7 +11,7 @@ use Rattle.market_terms.specs.declared.asks.Side.{Side}
 use Rattle.market_terms.specs.declared.asks.Side.TheVariants.{Buy, Sell}
 use Rattle.request_room.specs.declared.book.RankedQuote.{RankedQuote}
 use Rattle.request_room.specs.declared.quotes.StandingQuote.{StandingQuote}
-use Rattle.request_room.specs.Book.{is_better, has_better_price}
+use Rattle.request_room.specs.Book.{is_better}
 use Rattle.request_room.specs.Kept.{rank_in, ranked, bears, comes_first, earlier_of, earliest_of}
 use Rattle.request_room.specs.Kept.{quotes_in, IsPostedIn}
 

@@ -22,7 +22,7 @@ use Rattle.request_room.specs.declared.events.RoomEvent.TheVariants as event
 use Rattle.request_room.specs.declared.quotes.StandingQuote.{StandingQuote}
 use Rattle.request_room.specs.declared.requests.RoomRequest.{RoomRequest}
 use Rattle.request_room.specs.RoomFacts.{RoomFact, Opened, Readied, Posted, Unposted, Noted, Ended}
-use Rattle.request_room.specs.RoomFacts.{request_of, is_vacant, is_ready, end_of, is_opening}
+use Rattle.request_room.specs.RoomFacts.{request_of, is_vacant, is_opening}
 use Rattle.request_room.specs.RoomFacts.{is_open, takes_quotes}
 
 -- The book.

@@ -1,5 +1,4 @@
 use Rattle.std.proofs.Common.{◌&&◌, ◌∙◌, ap}
-use Rattle.request_room.specs.RoomFacts.{takes_quotes}
 use Rattle.request_room.specs.Book.{book_of, stands, room_after}
 use Rattle.request_room.proofs.KeptRoomLemmas.{stands_is}
 use Rattle.request_room.proofs.rooms.Room.may_unpost.Goals as goal
