@@ -2,7 +2,6 @@ use Rattle.std.proofs.Common.{◌≡◌, ◌++◌, ◌%◌, ◌^◌, List, ℕ, 
 use Rattle.fix_fields.specs.Envelope.{envelopes_of}
 use Rattle.fix_fields_c.proofs.fix_fields_cut.Given as goal
 
-
 abbrev pub invariant-loop-rest : goal.invariant-loop-rest
 invariant-loop-rest l =
     (before : List ℕ) × (before ++ l.rest ≡ l.stream) × ((envelopes_of before).rest ≡ l.splitter)
