@@ -4,7 +4,7 @@ use fix_fields::Date;
 use std::process::Abort;
 use std::test::Fail;
 use venue_config::Name;
-use venue_text::{Said, messages_text, read_fields, read_received};
+use venue_text::{Said, read_fields, read_received};
 
 /// MsgSeqNum counts the lines whose BODY has none.
 #[test]
@@ -68,10 +68,8 @@ fn said_message_is_its_frame(rt: HostRuntime) -> Result<(), Fail> {
     let message = said
         .message(rt.alloc(), &date, &firm, 1)?
         .expect(&rt, "a frame");
-    let frame =
-        b"DLR1 8=FIXT.1.1|9=109|35=S|49=DLR1|56=VENUE|34=1|52=20250314-09:00:10.000|50=T1|117=a1|131=R1|48=BONDA0000001|22=4|133=99.50390625|10=039|\n";
-    let line = messages_text(rt.alloc(), true, &firm, &[message])?;
-    assert!(&rt; line.as_slice() == frame.as_slice());
+    let frame = b"8=FIXT.1.1\x019=109\x0135=S\x0149=DLR1\x0156=VENUE\x0134=1\x0152=20250314-09:00:10.000\x0150=T1\x01117=a1\x01131=R1\x0148=BONDA0000001\x0122=4\x01133=99.50390625\x0110=039\x01";
+    assert!(&rt; message.as_bytes() == frame.as_slice());
     Ok(())
 }
 
