@@ -80,6 +80,7 @@ pub(crate) enum Turn<'a> {
 }
 
 /// Whether it is the turn of bytes, where this MsgSeqNum (34) is expected.
+#[inline(always)]
 fn turn_of<'a>(expected: u64, bytes: &'a [u8]) -> Turn<'a>
     ensures { result ≡ turns.turn_of expected (frame_of bytes.now) }
 {
