@@ -1,4 +1,5 @@
+pub mod Arrivals
 pub mod DealerFacts
 pub mod DealerOutput
 pub mod DealerRules
-pub mod FactScans
+pub mod QuoteLines

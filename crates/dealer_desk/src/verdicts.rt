@@ -4,7 +4,8 @@ use crate::AcceptedQuote;
 use quote_messages::{Id, QuoteRejectReason, Reject};
 
 /// The verdict on a message that came to a dealer's desk. Two of them leave the last word to the word of a quote:
-/// a replacement and a cancel stand where that word is withdrawn, and come too late where it is lifted.
+/// a quote that replaces another, and a cancel, take effect where that word is withdrawn, and come too late where it is
+/// lifted.
 #[derive(Drop)]
 pub enum DealerVerdict<'a> {
     /// The bytes are no frame, or have no readable MsgSeqNum (34): nothing is sent.
@@ -22,7 +23,7 @@ pub enum DealerVerdict<'a> {
         /// QuoteRejectReason (300): that of the first check that it does not pass.
         reason: QuoteRejectReason,
     },
-    /// A quote is accepted.
+    /// A quote is accepted, unless it would replace one that was lifted.
     QuoteAccepted {
         /// QuoteReqID (131) as received.
         request: Id<'a>,
@@ -30,38 +31,35 @@ pub enum DealerVerdict<'a> {
         id: Id<'a>,
         /// What the desk keeps of it.
         quote: AcceptedQuote,
+        /// The own number of the dealer's live quote on the same request, where there is one: it is replaced, and its
+        /// word is asked.
+        replaced: Option<u32>,
     },
-    /// A quote is accepted if the dealer's live quote on the same request is withdrawn for it.
-    QuoteReplaces {
-        /// QuoteReqID (131) as received.
-        request: Id<'a>,
-        /// QuoteID (117) as received.
-        id: Id<'a>,
-        /// What the desk keeps of it.
-        quote: AcceptedQuote,
-        /// The own number of the quote that it replaces, whose word is asked.
-        replaced: u32,
-    },
-    /// A cancel is refused.
+    /// A cancel of one quote is refused.
     CancelRefused {
         /// QuoteID (117) as received, where it stood.
         id: Option<Id<'a>>,
         /// QuoteRejectReason (300): that of the first check that it does not pass.
         reason: QuoteRejectReason,
     },
-    /// A cancel names no quote that was accepted.
+    /// A cancel finds no quote: none that was accepted has its QuoteID, or none can be dropped.
     CancelUnknown {
-        /// QuoteID (117) as received.
-        id: Id<'a>,
+        /// QuoteID (117) as received, where it stood.
+        id: Option<Id<'a>>,
     },
-    /// A cancel is confirmed if its quote's word is withdrawn.
-    CancelAsks {
+    /// A cancel of one quote is confirmed, unless the quote was lifted.
+    CancelAccepted {
         /// QuoteID (117) as received.
         id: Id<'a>,
         /// The own number of the quote, whose word is asked.
         quote: u32,
         /// Which of the requests shown to the dealer the quote answers.
         request: u64,
+    },
+    /// A cancel of all quotes: they are dropped one by one, up to this own number.
+    DropsFollow {
+        /// The own number of the dealer's last accepted quote.
+        last: u32,
     },
     /// A decline is refused.
     DeclineRefused {

@@ -1,4 +1,0 @@
-pub mod RefusalLemmas
-pub mod ExposureLemmas
-pub mod VerdictLemmas
-pub mod DeskLemmas
