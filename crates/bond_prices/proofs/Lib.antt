@@ -7,3 +7,5 @@ pub mod Printed
 pub mod Built
 pub mod Meaning
 pub mod ReadBack
+pub mod Grids
+pub mod Quotation

@@ -1,2 +1,4 @@
 pub mod Decimal
+pub mod Grid
 pub mod Price
+pub mod ThirtySeconds

@@ -28,6 +28,8 @@
 
 mod decimal;
 mod fault;
+mod grid;
+mod quoting;
 mod read;
 #[cfg(test)]
 mod tests;
@@ -35,6 +37,8 @@ mod text;
 mod ticks;
 
 pub use fault::PriceFault;
+pub use grid::{Grid, on_grid};
+pub use quoting::thirty_seconds;
 pub use read::read_price;
 pub use text::price_text;
 pub use ticks::Ticks;

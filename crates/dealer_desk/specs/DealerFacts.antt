@@ -5,8 +5,8 @@ use Rattle.std.specs.List.{list_any, sum_by}
 use Rattle.std.specs.Option.{option_map, option_or}
 use Rattle.venue_config.specs.Texts.{same_text}
 use Rattle.quote_messages.specs.Written.{request_name}
-use Rattle.quote_messages.specs.declared.asks.Ask.{Ask}
-use Rattle.quote_messages.specs.declared.closes.Close.{Close}
+use Rattle.market_terms.specs.declared.asks.Ask.{Ask}
+use Rattle.market_terms.specs.declared.closes.Close.{Close}
 use Rattle.dealer_desk.specs.declared.accepted.AcceptedQuote.{AcceptedQuote}
 
 -- what withdrew a quote: the dealer's next quote on its request, or a cancel, of this quote or of all

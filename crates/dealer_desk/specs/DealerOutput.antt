@@ -4,9 +4,9 @@ use Rattle.std.specs.Prelude.{ℕ, ◌+◌, ◌-◌, Bool, true, false, ◌&&◌
 use Rattle.std.specs.List.{filter_map}
 use Rattle.std.specs.Option.{option_map, option_to_list}
 use Rattle.quote_messages.specs.Written.{written}
-use Rattle.quote_messages.specs.declared.asks.Ask.{Ask}
-use Rattle.quote_messages.specs.declared.closes.Close.{Close}
-use Rattle.quote_messages.specs.declared.rooms.RoomRef.{RoomRef}
+use Rattle.market_terms.specs.declared.asks.Ask.{Ask}
+use Rattle.market_terms.specs.declared.closes.Close.{Close}
+use Rattle.market_terms.specs.declared.rooms.RoomRef.{RoomRef}
 use Rattle.quote_messages.specs.declared.reject_reasons.QuoteRejectReason.TheVariants.{TooLate}
 use Rattle.quote_messages.specs.declared.out_messages.Request.{Request}
 use Rattle.quote_messages.specs.declared.out_messages.QuotedPrice.{QuotedPrice}
@@ -15,8 +15,8 @@ use Rattle.quote_messages.specs.declared.out_messages.OutMessage.TheVariants as 
 use Rattle.quote_word.specs.declared.settled.Settled.{Settled}
 use Rattle.quote_word.specs.declared.settled.Settled.TheVariants as settled
 use Rattle.venue_config.specs.declared.dealer_rows.DealerRow.{DealerRow}
-use Rattle.dealer_desk.specs.declared.standins.Duty.{Duty}
-use Rattle.dealer_desk.specs.declared.standins.Duty.TheVariants as duty
+use Rattle.market_terms.specs.declared.duties.Duty.{Duty}
+use Rattle.market_terms.specs.declared.duties.Duty.TheVariants as duty
 use Rattle.dealer_desk.specs.Arrivals.{cancel_unknown}
 use Rattle.dealer_desk.specs.DealerFacts.{DealerFact, Came, Shown, Quoted, Withdrawn, Late, Dropped, Declined, Told, Withdrawal, ByReplacement, ByCancel, StandingRequest, Standing, requests_shown, request_numbered, notices_told, live_quote_on, quote_to_drop, number_to_drop}
 use Rattle.dealer_desk.specs.DealerRules.{dealer_verdict}

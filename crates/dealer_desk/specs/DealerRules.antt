@@ -2,10 +2,10 @@
 use Rattle.std.specs.Prelude.{ℕ, ◌+◌, Bool, true, false, ◌==◌, ◌||◌, not, nat_lt, nat_le, List, [], ◌∷◌, Option, Some, None, unwrap_or, is_none, is_some, Result, Ok, Err, if◌then◌else◌}
 use Rattle.bond_prices.specs.declared.fault.PriceFault.{PriceFault}
 use Rattle.venue_config.specs.Texts.{same_text}
-use Rattle.quote_messages.specs.Checks.{first_refusal, is_not_after}
-use Rattle.quote_messages.specs.declared.sides.Side.{Side}
-use Rattle.quote_messages.specs.declared.sides.Side.TheVariants.{Buy, Sell}
-use Rattle.quote_messages.specs.declared.asks.Ask.{Ask}
+use Rattle.market_terms.specs.Checks.{first_refusal, is_not_after}
+use Rattle.market_terms.specs.declared.asks.Side.{Side}
+use Rattle.market_terms.specs.declared.asks.Side.TheVariants.{Buy, Sell}
+use Rattle.market_terms.specs.declared.asks.Ask.{Ask}
 use Rattle.quote_messages.specs.declared.quotes.Quote.{Quote}
 use Rattle.quote_messages.specs.declared.quotes.QuoteCancel.{QuoteCancel}
 use Rattle.quote_messages.specs.declared.quotes.Decline.{Decline}

@@ -1,10 +1,10 @@
 -- The blotter of a dealer: a line for each accepted quote, with what became of it.
 use Rattle.std.specs.Prelude.{ℕ, Bool, true, false, List, map, Option, Some, None}
-use Rattle.quote_messages.specs.declared.closes.Close.{Close}
-use Rattle.quote_messages.specs.declared.closes.Close.TheVariants as closes
-use Rattle.dealer_desk.specs.declared.standins.QuoteLine.{QuoteLine}
-use Rattle.dealer_desk.specs.declared.standins.QuoteState.{QuoteState}
-use Rattle.dealer_desk.specs.declared.standins.QuoteState.TheVariants as state
+use Rattle.market_terms.specs.declared.closes.Close.{Close}
+use Rattle.market_terms.specs.declared.closes.Close.TheVariants as closes
+use Rattle.market_terms.specs.declared.lines.QuoteLine.{QuoteLine}
+use Rattle.market_terms.specs.declared.lines.QuoteState.{QuoteState}
+use Rattle.market_terms.specs.declared.lines.QuoteState.TheVariants as state
 use Rattle.dealer_desk.specs.DealerFacts.{DealerFact, Withdrawal, ByReplacement, ByCancel, Standing, standings}
 
 -- what became of a quote that was live when its request was closed so

@@ -2,7 +2,7 @@
 
 use bond_prices::Ticks;
 use fix_fields::Moment;
-use quote_messages::{Quantity, QuoteId, Side};
+use market_terms::{IdBuf, Quantity, Side};
 use venue_config::{BondId, Name};
 
 /// A quote that was accepted.
@@ -11,7 +11,7 @@ pub struct AcceptedQuote {
     /// Its own number: which of the dealer's accepted quotes it is, from 1.
     pub number: u32,
     /// QuoteID (117).
-    pub id: QuoteId,
+    pub id: IdBuf,
     /// Which of the requests shown to the dealer it answers, from 1.
     pub request: u64,
     /// The trader that sent it (SenderSubID 50).

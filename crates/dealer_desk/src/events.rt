@@ -1,7 +1,8 @@
 //! The events at a dealer's desk.
 
 use fix_fields::Moment;
-use quote_messages::{Ask, Close, Message, RoomRef};
+use market_terms::{Ask, Close, RoomRef};
+use quote_messages::Message;
 use quote_word::Settled;
 
 /// What comes to a desk, in the order in which it came.

@@ -1,7 +1,8 @@
 //! What a desk decides of a message.
 
 use crate::AcceptedQuote;
-use quote_messages::{Id, QuoteRejectReason, Reject};
+use market_terms::Id;
+use quote_messages::{QuoteRejectReason, Reject};
 
 /// The verdict on a message that came to a dealer's desk. Two of them leave the last word to the word of a quote:
 /// a quote that replaces another, and a cancel, take effect where that word is withdrawn, and come too late where it is

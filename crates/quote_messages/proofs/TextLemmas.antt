@@ -9,32 +9,17 @@ use Rattle.fix_fields.specs.TextLaws.{utf8_if_all, value_if_all}
 use Rattle.std.specs.Str.{IsUtf8}
 use Rattle.std.proofs.lemmas.Bool.{and_parts}
 use Rattle.std.proofs.lemmas.Bool.Decides.{nat_tests}
-use Rattle.quote_messages.specs.Texts.{is_id, is_id_character, is_sequence_number, is_msg_type, is_point}
-
-pub id_character-low : (c : ℕ) → is_id_character c ≡ true → c < 128
-id_character-low c h = grind (arith, nat_tests)
-
-pub id_is_utf8 : (text : List ℕ) → is_id text ≡ true → IsUtf8 text
-id_is_utf8 text h = utf8_if_all is_id_character id_character-low text (and_parts (nat_le 1 (length text) && nat_le (length text) 40) (list_all is_id_character text) h).1
+use Rattle.quote_messages.specs.Texts.{is_sequence_number, is_msg_type, is_point}
 
 -- digits are UTF-8
 pub digits_are_utf8 : (text : List ℕ) → list_all is_ascii_digit text ≡ true → IsUtf8 text
 digits_are_utf8 text h = utf8_if_all is_ascii_digit (λ c e. grind (arith, nat_tests)) text h
-
-pub id_is_short : (text : List ℕ) → is_id text ≡ true → length text ≤ 40
-id_is_short text h = grind (arith, nat_tests, and_parts)
-
-id_character-apart : (c : ℕ) → is_id_character c ≡ true → c ≢ 1
-id_character-apart c h = λ e. grind (arith, nat_tests)
 
 digit-apart : (c : ℕ) → is_ascii_digit c ≡ true → c ≢ 1
 digit-apart c h = λ e. grind (arith, nat_tests)
 
 alphanumeric-apart : (c : ℕ) → is_ascii_alphanumeric c ≡ true → c ≢ 1
 alphanumeric-apart c h = λ e. grind (arith, nat_tests)
-
-pub id_is_value : (text : List ℕ) → is_id text ≡ true → IsValue text
-id_is_value text h = value_if_all is_id_character id_character-apart text (and_parts (nat_le 1 (length text) && nat_le (length text) 40) (list_all is_id_character text) h).1
 
 pub sequence_number_is_value : (text : List ℕ) → is_sequence_number text ≡ true → IsValue text
 sequence_number_is_value text h =

@@ -1,4 +1,3 @@
-pub mod Checks
 pub mod SessionChecks
 pub mod TagReading
 pub mod Texts

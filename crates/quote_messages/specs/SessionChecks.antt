@@ -12,7 +12,8 @@ use Rattle.fix_fields.specs.UtcTimestamp.{moment_of}
 use Rattle.fix_fields.specs.declared.fault.MomentFault.{MomentFault}
 use Rattle.fix_fields.specs.declared.fault.MomentFault.TheVariants.{Form as MomentForm, OtherDay}
 use Rattle.venue_config.specs.Texts.{is_among, same_text}
-use Rattle.quote_messages.specs.Texts.{is_id, number_of, is_point, has_quantity_form, is_quantity}
+use Rattle.market_terms.specs.Texts.{is_id, is_quantity}
+use Rattle.quote_messages.specs.Texts.{number_of, is_point, has_quantity_form}
 use Rattle.venue_config.specs.declared.dealer_rows.DealerRow.{DealerRow}
 use Rattle.quote_messages.specs.declared.session_faults.SessionRejectReason.{SessionRejectReason}
 use Rattle.quote_messages.specs.declared.session_faults.SessionRejectReason.TheVariants.{RequiredTagMissing, TagWithoutValue, ValueIncorrect, IncorrectDataFormat, CompIdProblem, InvalidMsgType, TagMoreThanOnce}

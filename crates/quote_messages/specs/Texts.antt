@@ -1,16 +1,8 @@
 -- The forms of the short texts and numbers of a message.
-use Rattle.std.specs.Prelude.{ℕ, ◌+◌, Bool, ◌&&◌, ◌==◌, List, length, nat_le, not, Option, Some, None, if◌then◌else◌}
+use Rattle.std.specs.Prelude.{ℕ, ◌+◌, Bool, ◌&&◌, ◌==◌, List, length, nat_le, Option, Some, None, if◌then◌else◌}
 use Rattle.std.specs.List.{list_all}
 use Rattle.std.specs.Str.Parse.{digits_value}
 use Rattle.std.specs.Char.{is_ascii_digit, is_ascii_alphanumeric}
-
--- a printing character that may stand in an identifier: 0x21 to 0x7E other than the vertical bar
-abbrev pub is_id_character : ℕ → Bool
-is_id_character c = (nat_le 33 c && nat_le c 126) && not (c == 124)
-
--- an identifier that a firm chooses (117, 131, 693, 48, 448): 1 to 40 such characters
-abbrev pub is_id : List ℕ → Bool
-is_id text = (nat_le 1 (length text) && nat_le (length text) 40) && list_all is_id_character text
 
 -- the number that 1 to most digits write, and nothing for another text
 abbrev pub number_up_to : ℕ → List ℕ → Option ℕ
@@ -30,10 +22,6 @@ abbrev pub has_quantity_form : List ℕ → List ℕ → Bool
 has_quantity_form whole decimals =
     (nat_le 1 (length whole + length decimals) && nat_le (length whole + length decimals) 15)
     && (list_all is_ascii_digit whole && list_all is_ascii_digit decimals)
-
--- a quantity that may be asked or quoted
-abbrev pub is_quantity : ℕ → Bool
-is_quantity units = nat_le 1 units && nat_le units 1000000000000
 
 -- a readable MsgSeqNum (34): 1 to 9 digits that write at least 1
 abbrev pub is_sequence_number : List ℕ → Bool

@@ -3,14 +3,15 @@ use Rattle.std.specs.Prelude.{ℕ, Bool, true, false, if◌then◌else◌, List,
 use Rattle.bond_prices.specs.Price.{price_digits}
 use Rattle.fix_fields.specs.Frame.{Field, frame_text}
 use Rattle.fix_fields.specs.UtcTimestamp.{timestamp_text}
-use Rattle.quote_messages.specs.declared.sides.Side.{Side}
-use Rattle.quote_messages.specs.declared.sides.Side.TheVariants.{Buy, Sell}
+use Rattle.market_terms.specs.Codes.{side_code, close_code}
+use Rattle.market_terms.specs.declared.asks.Side.{Side}
+use Rattle.market_terms.specs.declared.asks.Side.TheVariants.{Buy, Sell}
 use Rattle.quote_messages.specs.declared.session_faults.SessionRejectReason.{SessionRejectReason}
 use Rattle.quote_messages.specs.declared.session_faults.SessionRejectReason.TheVariants.{RequiredTagMissing, TagWithoutValue, ValueIncorrect, IncorrectDataFormat, CompIdProblem, InvalidMsgType, TagMoreThanOnce}
 use Rattle.quote_messages.specs.declared.reject_reasons.QuoteRejectReason.{QuoteRejectReason}
 use Rattle.quote_messages.specs.declared.reject_reasons.QuoteRejectReason.TheVariants.{UnknownSymbol, ExceedsLimit, TooLate, DuplicateQuote, InvalidPrice, Other}
-use Rattle.quote_messages.specs.declared.closes.Close.{Close}
-use Rattle.quote_messages.specs.declared.closes.Close.TheVariants.{Hit, Expired, Cover, DoneAway, Pass}
+use Rattle.market_terms.specs.declared.closes.Close.{Close}
+use Rattle.market_terms.specs.declared.closes.Close.TheVariants.{Hit, Expired, Cover, DoneAway, Pass}
 use Rattle.quote_messages.specs.declared.out_messages.Head.{Head}
 use Rattle.quote_messages.specs.declared.out_messages.Reject.{Reject}
 use Rattle.quote_messages.specs.declared.out_messages.Request.{Request}
@@ -37,19 +38,6 @@ quote_reject_code TooLate = 4
 quote_reject_code DuplicateQuote = 6
 quote_reject_code InvalidPrice = 8
 quote_reject_code Other = 99
-
--- the digit of Side (54)
-abbrev pub side_code : Side → ℕ
-side_code Buy = 1
-side_code Sell = 2
-
--- the digit of QuoteRespType (694)
-abbrev pub close_code : Close → ℕ
-close_code Hit = 1
-close_code Expired = 3
-close_code Cover = 4
-close_code DoneAway = 5
-close_code Pass = 6
 
 -- QuoteReqID (131) of a request shown to a dealer: `R` and its number
 abbrev pub request_name : ℕ → List ℕ

@@ -4,8 +4,8 @@
 //! A message comes as a frame of `fix_fields`, a list of tags and values. This crate reads the three types that
 //! a dealer sends: a Quote (35=S), a QuoteCancel (35=Z), and a QuoteRequestReject (35=AG), by which it declines a
 //! request. What the venue answers is a decision of the market and is not made here: a desk makes it, as an
-//! [`OutMessage`], and this crate writes it. The types that a desk, a room and an investor share stand here too:
-//! [`Ask`], [`Side`], [`Close`], [`Duty`], [`RoomRef`], [`Reply`].
+//! [`OutMessage`], and this crate writes it. The terms of `market_terms` that a
+//! message or a desk speaks of are given out here again.
 //!
 //! # Example
 //!
@@ -34,17 +34,13 @@
 //!   number and moment. It fails for nothing but memory, since whatever can be asked for fits into a frame.
 //! - A closing notice bears a QuoteID (117) and a price only where the dealer's own quote was hit, whatever its
 //!   [`ClosingNotice::quote`] is.
-//! - An [`Id`], a [`QuoteId`], a [`SeqNum`], a [`MsgType`] and a [`Quantity`] are never anything but what their
+//! - An [`Id`], a [`IdBuf`], a [`SeqNum`], a [`MsgType`] and a [`Quantity`] are never anything but what their
 //!   forms allow, so what is written of them needs no check.
 //!
 //! No call has a condition, each returns, and only [`write_out`] and [`Message::copy_of`] take memory.
 #![tactic(auto)]
 
-mod asks;
 mod characters;
-mod closes;
-mod duties;
-mod ids;
 mod messages;
 mod numbers;
 mod out_messages;
@@ -52,29 +48,23 @@ mod quantities;
 mod quotes;
 mod received;
 mod reject_reasons;
-mod replies;
-mod rooms;
 mod session_checks;
 mod session_faults;
-mod sides;
 #[cfg(test)]
 mod tests;
 mod writing;
 
-pub use asks::Ask;
-pub use closes::Close;
-pub use duties::Duty;
-pub use ids::{Id, QuoteId};
+pub use market_terms::{
+    Ask, AskedDealers, Close, Duty, HitRefusal, Id, IdBuf, Offer, Quantity, QuoteLine, QuoteState, Reply,
+    RequestLine, RequestState, ResponseRef, RoomRef, Side,
+};
 pub use messages::Message;
 pub use numbers::{read_long_number, read_number};
 pub use out_messages::{ClosingNotice, Head, OutMessage, QuotedPrice, Reject, Request};
-pub use quantities::{Quantity, read_quantity};
+pub use quantities::read_quantity;
 pub use quotes::{DealerMessage, Decline, Quote, QuoteCancel};
 pub use received::{MsgType, SeqNum};
 pub use reject_reasons::QuoteRejectReason;
-pub use replies::{HitRefusal, Reply};
-pub use rooms::RoomRef;
 pub use session_checks::read_dealer;
 pub use session_faults::{SessionFault, SessionRejectReason};
-pub use sides::Side;
 pub use writing::write_out;

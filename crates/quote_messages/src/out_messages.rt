@@ -1,7 +1,7 @@
 //! The messages that a dealer is sent.
 
 use crate::received::{MsgType, SeqNum};
-use crate::{Ask, Close, Id, QuoteId, QuoteRejectReason, SessionFault};
+use crate::{Ask, Close, Id, IdBuf, QuoteRejectReason, SessionFault};
 use bond_prices::Ticks;
 use fix_fields::{Date, Moment};
 use venue_config::Name;
@@ -130,7 +130,7 @@ pub struct ClosingNotice {
 #[derive(Drop)]
 pub struct QuotedPrice {
     /// QuoteID (117).
-    pub id: QuoteId,
+    pub id: IdBuf,
     /// The price on the asked side (BidPx 132 or OfferPx 133).
     pub price: Ticks,
 }

@@ -1,54 +1,11 @@
-//! Quantities.
-ghost use Rattle.std.specs.Prelude.{◌≡◌, ◌==◌, ℕ, ◌+◌, ◌≤◌, length, Some, None, if◌then◌else◌};
+//! Quantities as they are written.
+ghost use Rattle.std.specs.Prelude.{◌≡◌, ◌==◌, ◌+◌, ◌≤◌, length};
 ghost use Rattle.std.specs.List.{list_all, position, before_first, after_first};
-ghost use Rattle.quote_messages.specs.Texts.{is_quantity, is_point};
+ghost use Rattle.quote_messages.specs.Texts.{is_point};
 ghost use Rattle.quote_messages.specs.SessionChecks.{quantity_of};
 
 use crate::numbers::are_digits;
-use crate::{SessionRejectReason, read_long_number};
-use std::marker::Model;
-
-/// A quantity of a bond (OrderQty 38, BidSize 134, OfferSize 135): a whole number from 1 to 1,000,000,000,000.
-#[derive(Clone, Copy)]
-pub struct Quantity {
-    units: u64,
-}
-
-impl Model for Quantity {
-    ghost use Rattle.std.specs.Prelude.{ℕ, ◌≤◌};
-
-    ghost Value = { ℕ };
-
-    ghost view = { λ q. q.units };
-
-    ghost invariant = { λ q. (1 ≤ q.units) × (q.units ≤ 1000000000000) };
-
-    ghost inverse = { λ units. record { units = units } };
-}
-
-impl Quantity {
-    /// The greatest quantity.
-    pub const MOST: u64 = 1_000_000_000_000;
-
-    /// That many units, or none for 0 and for more than [`Quantity::MOST`].
-    pub fn new(units: u64) -> Option<Self>
-        ensures { result ≡ (if is_quantity units then Some units else None) }
-    {
-        if units < 1 || units > Self::MOST {
-            return None;
-        }
-        Some(Quantity { units })
-    }
-
-    /// The number of units.
-    pub fn get(self) -> u64
-        ensures value { result ≡ self }
-        ensures least { 1 ≤ result }
-        ensures most { result ≤ 1000000000000 }
-    {
-        self.units
-    }
-}
+use crate::{Quantity, SessionRejectReason, read_long_number};
 
 /// The quantity that 1 to 15 digits with at most one point write: of wrong form, not whole or out of its
 /// limits is the reason given.

@@ -1,8 +1,8 @@
 -- An award has a winner, whose dealer is not the cover; without an award there is neither.
 use Rattle.std.proofs.Common.{◌≡◌, ◌≢◌, ℕ, Bool, true, false, ◌&&◌, not, if◌then◌else◌, List, [], ◌∷◌, Option, Some, None, IfSome, is_none, Ok, Err, fold, refl, ap}
 use Rattle.std.specs.Option.{option_or, option_map}
-use Rattle.quote_messages.specs.declared.replies.HitRefusal.{HitRefusal}
-use Rattle.quote_messages.specs.declared.replies.HitRefusal.TheVariants as refusal
+use Rattle.market_terms.specs.declared.closes.HitRefusal.{HitRefusal}
+use Rattle.market_terms.specs.declared.closes.HitRefusal.TheVariants as refusal
 use Rattle.quote_word.specs.declared.settled.Settled.{Settled}
 use Rattle.request_room.specs.declared.ends.End.{End}
 use Rattle.request_room.specs.declared.ends.EndKind.TheVariants.{Awarded}
@@ -11,7 +11,7 @@ use Rattle.request_room.specs.declared.events.RoomEvent.TheVariants as event
 use Rattle.request_room.specs.declared.quotes.StandingQuote.{StandingQuote}
 use Rattle.request_room.specs.declared.requests.RoomRequest.{RoomRequest}
 use Rattle.request_room.specs.RoomFacts.{RoomFact, Opened, Readied, Posted, Unposted, Noted, Ended, ended_as, end_of, is_open, is_vacant, is_opening, takes_quotes, request_of}
-use Rattle.quote_messages.specs.Checks.{first_refusal}
+use Rattle.market_terms.specs.Checks.{first_refusal}
 use Rattle.request_room.specs.Book.{IsEndOf, book_of, stands, quote_meant, cover_for, cover_of, is_past_deadline, is_expired, open_checks, hit_refusal, hit_settled, award_of, is_lift, passed, expired, may_expire, quote_posted, where_so, end_by, event_facts, after_event, room_after}
 use Rattle.request_room.proofs.FactLemmas.{said_append}
 use Rattle.request_room.proofs.CoverLemmas.{cover_is_another}

@@ -6,8 +6,8 @@ use Rattle.std.proofs.lemmas.List.{get_or_default}
 use Rattle.std.proofs.lemmas.Bool.Decides.{nat_tests}
 use Rattle.std.proofs.lemmas.List.Folds.{list_any_none, list_any_at}
 use Rattle.std.proofs.lemmas.List.MinMax.{IsFirstBest-from_best_of, IsStrictWeakOrder-by_number, IsStrictWeakOrder-flip}
-use Rattle.quote_messages.specs.declared.sides.Side.{Side}
-use Rattle.quote_messages.specs.declared.sides.Side.TheVariants.{Buy, Sell}
+use Rattle.market_terms.specs.declared.asks.Side.{Side}
+use Rattle.market_terms.specs.declared.asks.Side.TheVariants.{Buy, Sell}
 use Rattle.request_room.specs.declared.quotes.StandingQuote.{StandingQuote}
 use Rattle.request_room.specs.Search.{is_best_other}
 use Rattle.request_room.specs.Book.{has_better_price, others, best_of, cover_of, IsBest}

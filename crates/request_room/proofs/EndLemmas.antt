@@ -4,13 +4,13 @@ use Rattle.std.proofs.lemmas.List.{append-nil}
 use Rattle.std.proofs.lemmas.List.Elements.{filter-append}
 use Rattle.std.proofs.lemmas.List.Folds.{fold_stays}
 use Rattle.std.proofs.lemmas.List.Sums.{fold-append}
-use Rattle.quote_messages.specs.declared.replies.HitRefusal.{HitRefusal}
-use Rattle.quote_messages.specs.declared.replies.HitRefusal.TheVariants as refusal
+use Rattle.market_terms.specs.declared.closes.HitRefusal.{HitRefusal}
+use Rattle.market_terms.specs.declared.closes.HitRefusal.TheVariants as refusal
 use Rattle.request_room.specs.declared.ends.End.{End}
 use Rattle.request_room.specs.declared.events.RoomEvent.{RoomEvent}
 use Rattle.request_room.specs.declared.events.RoomEvent.TheVariants as event
 use Rattle.request_room.specs.RoomFacts.{RoomFact, Opened, Readied, Posted, Unposted, Noted, Ended, is_ended, is_ready, is_vacant, is_opening, is_open, takes_quotes, is_ending, is_award, is_awarded_kind, request_of}
-use Rattle.quote_messages.specs.Checks.{first_refusal}
+use Rattle.market_terms.specs.Checks.{first_refusal}
 use Rattle.request_room.specs.Book.{book_of, stands, open_checks, hit_refusal, hit_settled, award_of, may_expire, is_past_deadline, passed, expired, quote_posted, where_so, end_by, event_facts, after_event, room_after}
 
 and_false : (b : Bool) → (b && false) ≡ false

@@ -2,8 +2,8 @@
 use Rattle.std.proofs.Common.{◌≡◌, ℕ, Bool, true, false, ◌&&◌, not, List, [], ◌∷◌, ◌++◌, Option, Some, None, is_some, is_none, Ok, Err, refl, ap, sym, ◌∙◌}
 use Rattle.std.proofs.lemmas.List.{append-nil}
 use Rattle.std.proofs.lemmas.List.Sums.{fold-append}
-use Rattle.quote_messages.specs.declared.replies.HitRefusal.{HitRefusal}
-use Rattle.quote_messages.specs.declared.replies.HitRefusal.TheVariants as refusal
+use Rattle.market_terms.specs.declared.closes.HitRefusal.{HitRefusal}
+use Rattle.market_terms.specs.declared.closes.HitRefusal.TheVariants as refusal
 use Rattle.quote_word.specs.declared.settled.Settled.{Settled}
 use Rattle.request_room.specs.declared.ends.End.{End}
 use Rattle.request_room.specs.declared.events.RoomEvent.{RoomEvent}
@@ -11,7 +11,7 @@ use Rattle.request_room.specs.declared.events.RoomEvent.TheVariants as event
 use Rattle.request_room.specs.declared.quotes.StandingQuote.{StandingQuote}
 use Rattle.request_room.specs.declared.requests.RoomRequest.{RoomRequest}
 use Rattle.request_room.specs.RoomFacts.{RoomFact, Opened, Readied, Posted, Unposted, Noted, Ended, opened_for, ended_as, request_of, end_of, is_ready, is_vacant, is_opening, is_open, takes_quotes}
-use Rattle.quote_messages.specs.Checks.{first_refusal}
+use Rattle.market_terms.specs.Checks.{first_refusal}
 use Rattle.request_room.specs.Book.{Keeps, book_of, others, stands, hit_outcome, may_expire, passed, expired, quote_posted, where_so, end_by, open_checks, hit_refusal, hit_settled, award_of, event_facts, after_event, room_after}
 use Rattle.request_room.proofs.FactLemmas.{said_by_others, said_first, ready_as_before, ready_now, left_by, book_after, book_opened, book_readied, book_noted, book_ended, book_unposted}
 

@@ -2,13 +2,13 @@
 use Rattle.std.specs.Prelude.{◌≡◌, ◌≢◌, ℕ, Bool, true, false, ◌&&◌, ◌==◌, not, nat_lt, nat_le, List, [], ◌∷◌, ◌++◌, Option, Some, None, IfSome, is_none, Result, Ok, Err, fold, find, filter, length, slice_index_or, if◌then◌else◌}
 use Rattle.std.specs.List.{list_any, IsFirstBest}
 use Rattle.std.specs.Option.{option_map}
-use Rattle.quote_messages.specs.Checks.{first_refusal, is_not_after}
-use Rattle.quote_messages.specs.declared.sides.Side.{Side}
-use Rattle.quote_messages.specs.declared.sides.Side.TheVariants.{Buy, Sell}
-use Rattle.quote_messages.specs.declared.replies.HitRefusal.{HitRefusal}
-use Rattle.quote_messages.specs.declared.replies.HitRefusal.TheVariants as refusal
-use Rattle.quote_messages.specs.declared.replies.Reply.{Reply}
-use Rattle.quote_messages.specs.declared.replies.Reply.TheVariants as reply
+use Rattle.market_terms.specs.Checks.{first_refusal, is_not_after}
+use Rattle.market_terms.specs.declared.asks.Side.{Side}
+use Rattle.market_terms.specs.declared.asks.Side.TheVariants.{Buy, Sell}
+use Rattle.market_terms.specs.declared.closes.HitRefusal.{HitRefusal}
+use Rattle.market_terms.specs.declared.closes.HitRefusal.TheVariants as refusal
+use Rattle.market_terms.specs.declared.closes.Reply.{Reply}
+use Rattle.market_terms.specs.declared.closes.Reply.TheVariants as reply
 use Rattle.quote_word.specs.declared.settled.Settled.{Settled}
 use Rattle.quote_word.specs.declared.settled.Settled.TheVariants.{Withdrawn, Lifted}
 use Rattle.request_room.specs.declared.ends.End.{End}

@@ -1,7 +1,7 @@
 -- What the private search for the cover says of one quote: it looks at the whole book, and not at a list of the others.
 use Rattle.std.specs.Prelude.{ℕ, Bool, ◌&&◌, ◌==◌, not, List}
 use Rattle.std.specs.List.{list_any}
-use Rattle.quote_messages.specs.declared.sides.Side.{Side}
+use Rattle.market_terms.specs.declared.asks.Side.{Side}
 use Rattle.request_room.specs.declared.quotes.StandingQuote.{StandingQuote}
 use Rattle.request_room.specs.Book.{has_better_price}
 

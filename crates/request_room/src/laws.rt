@@ -1,6 +1,6 @@
 //! Laws over the definitions of a room, each the contract of a function that does nothing.
 ghost use Rattle.std.specs.Prelude.{◌≡◌, ◌≢◌, ◌≤◌, ◌↔◌, ℕ, List, [], ◌++◌, length, filter, AllPairs, IfSome, IsTrue};
-ghost use Rattle.quote_messages.specs.declared.sides.Side.{Side};
+ghost use Rattle.market_terms.specs.declared.asks.Side.{Side};
 ghost use Rattle.request_room.specs.declared.events.RoomEvent.{RoomEvent};
 ghost use Rattle.request_room.specs.declared.quotes.StandingQuote.{StandingQuote};
 ghost use Rattle.request_room.specs.RoomFacts.{RoomFact, end_of, is_award, is_ended, is_ending};

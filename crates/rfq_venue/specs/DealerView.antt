@@ -3,7 +3,7 @@ use Rattle.std.specs.Prelude.{ℕ, ◌-◌, ◌&&◌, nat_le, List, [], length, 
 use Rattle.quote_word.specs.PlainWords.{entry_in, answer_of, after_exchange}
 use Rattle.quote_word.specs.declared.settled.Settled.{Settled}
 use Rattle.quote_word.specs.declared.settled.Settled.TheVariants.{Withdrawn, Lifted}
-use Rattle.quote_messages.specs.declared.rooms.RoomRef.{RoomRef}
+use Rattle.market_terms.specs.declared.rooms.RoomRef.{RoomRef}
 use Rattle.venue_config.specs.declared.dealer_rows.DealerRow.{DealerRow}
 use Rattle.dealer_desk.specs.DealerOutput.{DeskEvents, dealer_output, verdict_at, word_asked, with_event, with_notice}
 use Rattle.dealer_desk.specs.declared.events.DealerEvent.TheVariants as event

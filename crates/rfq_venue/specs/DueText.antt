@@ -3,10 +3,11 @@ use Rattle.std.specs.Prelude.{ℕ, ◌+◌, Bool, ◌&&◌, List, [], ◌∷◌,
 use Rattle.std.specs.Option.{option_map, option_and_then}
 use Rattle.fix_fields.specs.UtcTimestamp.{is_date}
 use Rattle.venue_config.specs.Texts.{is_name, is_firm_name, is_bond_id, is_among, same_text, text_if}
-use Rattle.quote_messages.specs.Texts.{is_quantity, number_of, number_up_to}
-use Rattle.quote_messages.specs.declared.sides.Side.{Side}
-use Rattle.quote_messages.specs.declared.closes.Close.{Close}
-use Rattle.quote_messages.specs.declared.closes.Close.TheVariants.{Hit, Expired, Cover, DoneAway, Pass}
+use Rattle.market_terms.specs.Texts.{is_quantity}
+use Rattle.quote_messages.specs.Texts.{number_of, number_up_to}
+use Rattle.market_terms.specs.declared.asks.Side.{Side}
+use Rattle.market_terms.specs.declared.closes.Close.{Close}
+use Rattle.market_terms.specs.declared.closes.Close.TheVariants.{Hit, Expired, Cover, DoneAway, Pass}
 use Rattle.venue_config.specs.Rows.{DealerValues}
 use Rattle.rfq_venue.specs.declared.due.Due.{Due}
 use Rattle.rfq_venue.specs.declared.due.Due.TheVariants as due

@@ -5,8 +5,8 @@ use Rattle.std.specs.List.{list_any, before_first, after_first, onto_first}
 use Rattle.std.specs.Result.{result_ok}
 use Rattle.fix_fields.specs.UtcTimestamp.{moment_of}
 use Rattle.venue_config.specs.Texts.{same_text}
-use Rattle.quote_messages.specs.declared.sides.Side.{Side}
-use Rattle.quote_messages.specs.declared.sides.Side.TheVariants.{Buy, Sell}
+use Rattle.market_terms.specs.declared.asks.Side.{Side}
+use Rattle.market_terms.specs.declared.asks.Side.TheVariants.{Buy, Sell}
 
 -- the parts of a text that a byte ends, the last one also without it
 abbrev pub parts_of : ℕ → List ℕ → List (List ℕ)

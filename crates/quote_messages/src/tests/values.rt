@@ -1,7 +1,7 @@
 //! The small values: texts, numbers, quantities and the codes of enums.
 use super::*;
 use crate::{
-    Message, MsgType, Quantity, QuoteId, QuoteRejectReason, SeqNum, read_long_number, read_number,
+    Message, MsgType, Quantity, IdBuf, QuoteRejectReason, SeqNum, read_long_number, read_number,
     read_quantity,
 };
 
@@ -20,7 +20,7 @@ const NO_IDS: [&[u8]; 6] = [
 fn identifiers(rt: HostRuntime) -> Result<(), Fail> {
     let longest = id(LONGEST_ID)?;
     assert!(rt; longest.as_bytes() == LONGEST_ID);
-    let kept = QuoteId::of(&longest);
+    let kept = IdBuf::of(&longest);
     assert!(rt; kept.as_bytes() == LONGEST_ID);
     assert!(rt; kept.copy().as_bytes() == LONGEST_ID);
     assert!(rt; Id::new(b"!").is_some());

@@ -1,7 +1,7 @@
 //! Each message that a dealer is sent, byte by byte.
 use super::*;
 use crate::{
-    Ask, Close, ClosingNotice, Head, Message, MsgType, Quantity, QuoteId, QuoteRejectReason,
+    Ask, Close, ClosingNotice, Head, Message, MsgType, Quantity, IdBuf, QuoteRejectReason,
     QuotedPrice, Reject, Request, SeqNum, SessionFault, SessionRejectReason, Side, write_out,
 };
 use bond_prices::Ticks;
@@ -209,7 +209,7 @@ fn decline_answers(rt: HostRuntime) -> Result<(), Fail> {
 /// A dealer's quote.
 fn quoted(name: &[u8], ticks: u32) -> Result<Option<QuotedPrice>, Fail> {
     Ok(Some(QuotedPrice {
-        id: QuoteId::of(&id(name)?),
+        id: IdBuf::of(&id(name)?),
         price: Ticks::new(ticks).ok_or("no price")?,
     }))
 }

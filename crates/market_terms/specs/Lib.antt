@@ -1,0 +1,4 @@
+pub mod Checks
+pub mod Codes
+pub mod Dealers
+pub mod Texts
