@@ -8,11 +8,11 @@ use Rattle.quote_messages.specs.Written.{request_name}
 use Rattle.market_terms.specs.declared.asks.Ask.{Ask}
 use Rattle.market_terms.specs.declared.closes.Close.{Close}
 use Rattle.dealer_desk.specs.declared.accepted.AcceptedQuote.{AcceptedQuote}
-
--- what withdrew a quote: the dealer's next quote on its request, or a cancel, of this quote or of all
-pub data Withdrawal : Type 0 where
-  ByReplacement : Withdrawal
-  ByCancel : Withdrawal
+use Rattle.dealer_desk.specs.declared.standing.StandingRequest.{StandingRequest}
+use Rattle.dealer_desk.specs.declared.standing.StandingQuote.{StandingQuote}
+use Rattle.dealer_desk.specs.declared.standing.Withdrawal.{Withdrawal}
+use Rattle.dealer_desk.specs.declared.standing.QuoteEnd.{QuoteEnd}
+use Rattle.dealer_desk.specs.declared.standing.QuoteEnd.TheVariants as end
 
 -- What became so at a desk. Quotes and requests stand in it by the dealer's own numbers, from 1.
 pub data DealerFact : Type 0 where
@@ -25,197 +25,193 @@ pub data DealerFact : Type 0 where
   Declined : ℕ → DealerFact  -- the dealer declined this request
   Told : ℕ → Close → ℕ → DealerFact  -- the dealer was told how this request ended, at this moment
 
--- Numbers.
+-- What one fact says.
 
 -- whether a message used up the number that was expected
 abbrev pub used_number : DealerFact → Bool
 used_number (Came moment bytes used) = used
 used_number fact = false
 
--- the MsgSeqNum (34) that the desk expects next
-abbrev pub expected_number : List DealerFact → ℕ
-expected_number facts = 1 + count_by used_number facts
-
--- whether a number stands and is this one
-abbrev pub is_number : ℕ → Option ℕ → Bool
-is_number number None = false
-is_number number (Some found) = found == number
-
--- the request that a fact declines
-abbrev pub declined : DealerFact → Option ℕ
-declined (Declined request) = Some request
-declined fact = None
-
--- the request that a fact closes
-abbrev pub told : DealerFact → Option ℕ
-told (Told request close moment) = Some request
-told fact = None
-
--- the quote that a fact says is known to be lifted
-abbrev pub late : DealerFact → Option ℕ
-late (Late quote) = Some quote
-late fact = None
-
 -- whether a fact is a closing notice
 abbrev pub is_notice : DealerFact → Bool
 is_notice (Told request close moment) = true
 is_notice fact = false
 
--- how many closing notices were sent
-abbrev pub notices_told : List DealerFact → ℕ
-notices_told facts = count_by is_notice facts
+-- whether it is the closing notice of this request
+abbrev pub tells : ℕ → DealerFact → Bool
+tells number (Told request close moment) = request == number
+tells number fact = false
 
--- Requests.
+-- whether a fact declines this request
+abbrev pub declines : ℕ → DealerFact → Bool
+declines number (Declined request) = request == number
+declines number fact = false
 
--- a request as it stands: its number among those that the dealer was shown, what is asked for, whether the dealer
--- declined it, and whether its closing notice was sent
-pub record StandingRequest : Type 0 where
-  pub number : ℕ
-  pub ask : Ask
-  pub is_declined : Bool
-  pub is_told : Bool
+-- whether a fact says that this quote is known to be lifted
+abbrev pub finds_lifted : ℕ → DealerFact → Bool
+finds_lifted number (Late quote) = quote == number
+finds_lifted number fact = false
 
--- a request as it stands by the facts behind it
+-- how a fact ends this quote: it withdraws it, or closes its request
+abbrev pub ends : AcceptedQuote → DealerFact → Option QuoteEnd
+ends own (Withdrawn quote by) = if quote == own.number then Some (end.Withdrawn by) else None
+ends own (Told request close moment) = if request == own.request then Some (end.Closed close) else None
+ends own fact = None
+
+-- Requests and quotes as they stand by the facts behind them.
+
+-- a request, by the facts behind it
 abbrev pub standing_request : ℕ → Ask → List DealerFact → StandingRequest
 standing_request number ask later = record {
   number = number;
   ask = ask;
-  is_declined = list_any (λ fact. is_number number (declined fact)) later;
-  is_told = list_any (λ fact. is_number number (told fact)) later;
+  is_declined = list_any (declines number) later;
+  is_told = list_any (tells number) later;
 }
 
--- the requests as they stand, numbered onward from a number
+-- the requests that the dealer was shown, numbered onward from a number
 abbrev pub requests_from : ℕ → List DealerFact → List StandingRequest
 requests_from number [] = []
 requests_from number (Shown ask moment ∷ later) = standing_request number ask later ∷ requests_from (number + 1) later
 requests_from number (fact ∷ later) = requests_from number later
 
--- the requests that the dealer was shown, as they stand, numbered from 1
-abbrev pub requests_of : List DealerFact → List StandingRequest
-requests_of facts = requests_from 1 facts
-
--- how many requests the dealer was shown
-abbrev pub requests_shown : List DealerFact → ℕ
-requests_shown facts = length (requests_of facts)
-
--- the request that a QuoteReqID (131) names
-unfoldable pub request_named : List DealerFact → List ℕ → Option StandingRequest
-request_named facts name = find (λ request. same_text (request_name request.number) name) (requests_of facts)
-
--- the request with this number
-unfoldable pub request_numbered : List DealerFact → ℕ → Option StandingRequest
-request_numbered facts number = find (λ request. request.number == number) (requests_of facts)
-
--- Quotes.
-
--- what the first fact says that says something
+-- what the first of some facts says that says something
 abbrev pub first_said : {A : Type 0} → (DealerFact → Option A) → List DealerFact → Option A
 first_said says [] = None
 first_said says (fact ∷ later) = option_or (says fact) (first_said says later)
 
--- how a fact withdraws this quote
-abbrev pub withdraws : ℕ → DealerFact → Option Withdrawal
-withdraws number (Withdrawn quote by) = if quote == number then Some by else None
-withdraws number fact = None
-
--- how a fact closes this request
-abbrev pub closes : ℕ → DealerFact → Option Close
-closes number (Told request close moment) = if request == number then Some close else None
-closes number fact = None
-
--- a quote as it stands: what was accepted, what withdrew it where something did, whether it is known to be lifted, and
--- how its request was closed where it was
-pub record Standing : Type 0 where
-  pub quote : AcceptedQuote
-  pub withdrawal : Option Withdrawal
-  pub is_known_lifted : Bool
-  pub close : Option Close
-
--- a quote as it stands by the facts behind it
-abbrev pub standing : AcceptedQuote → List DealerFact → Standing
-standing quote later = record {
+-- a quote, by the facts behind it
+abbrev pub standing_quote : AcceptedQuote → List DealerFact → StandingQuote
+standing_quote quote later = record {
   quote = quote;
-  withdrawal = first_said (withdraws quote.number) later;
-  is_known_lifted = list_any (λ fact. is_number quote.number (late fact)) later;
-  close = first_said (closes quote.request) later;
+  is_known_lifted = list_any (finds_lifted quote.number) later;
+  end = first_said (ends quote) later;
 }
 
--- the accepted quotes as they stand, the first one first
-abbrev pub standings : List DealerFact → List Standing
+-- the quotes that were accepted, the first one first
+abbrev pub standings : List DealerFact → List StandingQuote
 standings [] = []
-standings (Quoted quote ∷ later) = standing quote later ∷ standings later
+standings (Quoted quote ∷ later) = standing_quote quote later ∷ standings later
 standings (fact ∷ later) = standings later
 
+-- The book of a desk: what stands by its facts, which every rule asks. It is how many messages used up a number, how many
+-- closing notices were sent, the requests and the quotes.
+pub record DealerBook : Type 0 where
+  pub used : ℕ
+  pub notices : ℕ
+  pub requests : List StandingRequest
+  pub quotes : List StandingQuote
+
+-- the book by the facts that stand; requests are numbered from 1
+abbrev pub book_of : List DealerFact → DealerBook
+book_of facts = record {
+  used = count_by used_number facts;
+  notices = count_by is_notice facts;
+  requests = requests_from 1 facts;
+  quotes = standings facts;
+}
+
+-- Numbers.
+
+-- the MsgSeqNum (34) that the desk expects next
+abbrev pub expected_number : DealerBook → ℕ
+expected_number book = 1 + book.used
+
+-- how many requests the dealer was shown
+abbrev pub requests_shown : DealerBook → ℕ
+requests_shown book = length book.requests
+
 -- how many quotes were accepted in the day
-abbrev pub quotes_accepted : List DealerFact → ℕ
-quotes_accepted facts = length (standings facts)
+abbrev pub quotes_accepted : DealerBook → ℕ
+quotes_accepted book = length book.quotes
+
+-- Requests.
+
+-- the request that a QuoteReqID (131) names
+unfoldable pub request_named : DealerBook → List ℕ → Option StandingRequest
+request_named book name = find (λ request. same_text (request_name request.number) name) book.requests
+
+-- the request with this number
+unfoldable pub request_numbered : DealerBook → ℕ → Option StandingRequest
+request_numbered book number = find (λ request. request.number == number) book.requests
+
+-- Quotes.
 
 -- the accepted quote with this QuoteID (117)
-unfoldable pub quote_with_id : List DealerFact → List ℕ → Option Standing
-quote_with_id facts id = find (λ own. same_text own.quote.id id) (standings facts)
+unfoldable pub quote_with_id : DealerBook → List ℕ → Option StandingQuote
+quote_with_id book id = find (λ own. same_text own.quote.id id) book.quotes
 
 -- whether a quote was withdrawn, by a cancel or by its replacement
-abbrev pub is_withdrawn : Standing → Bool
-is_withdrawn own = not (is_none own.withdrawal)
+abbrev pub is_withdrawal : Option QuoteEnd → Bool
+is_withdrawal (Some (end.Withdrawn by)) = true
+is_withdrawal (Some (end.Closed close)) = false
+is_withdrawal None = false
 
--- whether the closing notice of a quote's request was sent
-abbrev pub is_closed : Standing → Bool
-is_closed own = not (is_none own.close)
+-- whether it ended with its request
+abbrev pub is_closing : Option QuoteEnd → Bool
+is_closing (Some (end.Withdrawn by)) = false
+is_closing (Some (end.Closed close)) = true
+is_closing None = false
 
--- a quote is live until it is withdrawn or its request's closing notice was sent
-abbrev pub is_live : Standing → Bool
-is_live own = is_none own.withdrawal && is_none own.close
-
--- the live quotes, the first one first
-abbrev pub live_quotes : List DealerFact → List Standing
-live_quotes facts = filter is_live (standings facts)
+-- A quote is live until it is withdrawn or its request's closing notice was sent.
+abbrev pub is_live : StandingQuote → Bool
+is_live own = is_none own.end
 
 -- whether a quote is live and answers this request
-abbrev pub is_live_on : ℕ → Standing → Bool
+abbrev pub is_live_on : ℕ → StandingQuote → Bool
 is_live_on request own = is_live own && (own.quote.request == request)
 
+-- the live quotes, the first one first
+abbrev pub live_quotes : DealerBook → List StandingQuote
+live_quotes book = filter is_live book.quotes
+
 -- the dealer's live quote on a request
-unfoldable pub live_quote_on : List DealerFact → ℕ → Option Standing
-live_quote_on facts request = find (is_live_on request) (standings facts)
+unfoldable pub live_quote_on : DealerBook → ℕ → Option StandingQuote
+live_quote_on book request = find (is_live_on request) book.quotes
 
 -- the own number of the dealer's live quote on a request
-abbrev pub live_number_on : List DealerFact → ℕ → Option ℕ
-live_number_on facts request = option_map (λ own. own.quote.number) (live_quote_on facts request)
+abbrev pub live_number_on : DealerBook → ℕ → Option ℕ
+live_number_on book request = option_map (λ own. own.quote.number) (live_quote_on book request)
 
 -- whether a quote answers this request and is known to be lifted
-abbrev pub is_lifted_on : ℕ → Standing → Bool
+abbrev pub is_lifted_on : ℕ → StandingQuote → Bool
 is_lifted_on request own = own.is_known_lifted && (own.quote.request == request)
 
 -- whether the dealer's quote on a request is known to be lifted
-abbrev pub has_lifted_quote : List DealerFact → ℕ → Bool
-has_lifted_quote facts request = list_any (is_lifted_on request) (standings facts)
+unfoldable pub has_lifted_quote : DealerBook → ℕ → Bool
+has_lifted_quote book request = list_any (is_lifted_on request) book.quotes
 
 -- a quote is droppable while it is live and not known to be lifted
-abbrev pub is_droppable : Standing → Bool
+abbrev pub is_droppable : StandingQuote → Bool
 is_droppable own = is_live own && not own.is_known_lifted
 
 -- the quote that a drop of the quotes up to this one takes: of the droppable ones the one with the lowest number
-unfoldable pub quote_to_drop : List DealerFact → ℕ → Option Standing
-quote_to_drop facts last = find (λ own. is_droppable own && nat_le own.quote.number last) (standings facts)
+unfoldable pub quote_to_drop : DealerBook → ℕ → Option StandingQuote
+quote_to_drop book last = find (λ own. is_droppable own && nat_le own.quote.number last) book.quotes
 
 -- its own number
-abbrev pub number_to_drop : List DealerFact → ℕ → Option ℕ
-number_to_drop facts last = option_map (λ own. own.quote.number) (quote_to_drop facts last)
+abbrev pub number_to_drop : DealerBook → ℕ → Option ℕ
+number_to_drop book last = option_map (λ own. own.quote.number) (quote_to_drop book last)
 
 -- Exposure.
 
 -- what a quote adds to the exposure: its quantity while it is live
-abbrev pub live_quantity : Standing → ℕ
+abbrev pub live_quantity : StandingQuote → ℕ
 live_quantity own = if is_live own then own.quote.quantity else 0
 
 -- the exposure: the sum of the quantities of the live quotes
-abbrev pub exposure_of : List DealerFact → ℕ
-exposure_of facts = sum_by live_quantity (standings facts)
+unfoldable pub exposure_of : DealerBook → ℕ
+exposure_of book = sum_by live_quantity book.quotes
 
--- what a quote adds to the exposure beside one that is to be replaced, where one is
-abbrev pub quantity_beside : Option ℕ → Standing → ℕ
-quantity_beside replaced own = if is_number own.quote.number replaced then 0 else live_quantity own
+-- whether a quote is the one that is to be replaced, where one is
+abbrev pub is_number : Option ℕ → ℕ → Bool
+is_number None number = false
+is_number (Some replaced) number = number == replaced
+
+-- what a quote adds to the exposure beside one that is to be replaced
+abbrev pub quantity_beside : Option ℕ → StandingQuote → ℕ
+quantity_beside replaced own = if is_number replaced own.quote.number then 0 else live_quantity own
 
 -- the exposure beside a quote that is to be replaced: the sum of the quantities of the other live quotes
-abbrev pub exposure_beside : List DealerFact → Option ℕ → ℕ
-exposure_beside facts replaced = sum_by (quantity_beside replaced) (standings facts)
+unfoldable pub exposure_beside : DealerBook → Option ℕ → ℕ
+exposure_beside book replaced = sum_by (quantity_beside replaced) book.quotes

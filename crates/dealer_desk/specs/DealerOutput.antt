@@ -18,9 +18,13 @@ use Rattle.venue_config.specs.declared.dealer_rows.DealerRow.{DealerRow}
 use Rattle.market_terms.specs.declared.duties.Duty.{Duty}
 use Rattle.market_terms.specs.declared.duties.Duty.TheVariants as duty
 use Rattle.dealer_desk.specs.Arrivals.{cancel_unknown}
-use Rattle.dealer_desk.specs.DealerFacts.{DealerFact, Came, Shown, Quoted, Withdrawn, Late, Dropped, Declined, Told, Withdrawal, ByReplacement, ByCancel, StandingRequest, Standing, requests_shown, request_numbered, notices_told, live_quote_on, quote_to_drop, number_to_drop}
+use Rattle.dealer_desk.specs.DealerFacts.{DealerFact, Came, Shown, Quoted, Withdrawn, Late, Dropped, Declined, Told, DealerBook, book_of, requests_shown, request_numbered, live_quote_on, quote_to_drop, number_to_drop}
 use Rattle.dealer_desk.specs.DealerRules.{dealer_verdict}
 use Rattle.dealer_desk.specs.declared.accepted.AcceptedQuote.{AcceptedQuote}
+use Rattle.dealer_desk.specs.declared.standing.StandingRequest.{StandingRequest}
+use Rattle.dealer_desk.specs.declared.standing.StandingQuote.{StandingQuote}
+use Rattle.dealer_desk.specs.declared.standing.Withdrawal.{Withdrawal}
+use Rattle.dealer_desk.specs.declared.standing.Withdrawal.TheVariants as by
 use Rattle.dealer_desk.specs.declared.events.DealerEvent.{DealerEvent}
 use Rattle.dealer_desk.specs.declared.events.DealerEvent.TheVariants as event
 use Rattle.dealer_desk.specs.declared.verdicts.DealerVerdict.{DealerVerdict}
@@ -35,26 +39,26 @@ word_asked (verdict.CancelAccepted id quote request) = Some quote
 word_asked other = None
 
 -- whether a word was asked and is withdrawn
-abbrev pub is_withdrawal : Option Settled → Bool
-is_withdrawal (Some settled.Withdrawn) = true
-is_withdrawal (Some settled.Lifted) = false
-is_withdrawal None = false
+abbrev pub is_withdrawn : Option Settled → Bool
+is_withdrawn (Some settled.Withdrawn) = true
+is_withdrawn (Some settled.Lifted) = false
+is_withdrawn None = false
 
 -- whether nothing stands against what was decided: no word is asked, or the word is withdrawn
 abbrev pub goes_through : Option ℕ → Option Settled → Bool
 goes_through None answer = true
-goes_through (Some quote) answer = is_withdrawal answer
+goes_through (Some quote) answer = is_withdrawn answer
 
 -- the fact that the answer of a quote's word is
 abbrev pub answer_facts : ℕ → Withdrawal → Option Settled → List DealerFact
-answer_facts quote by (Some settled.Withdrawn) = Withdrawn quote by ∷ []
-answer_facts quote by (Some settled.Lifted) = Late quote ∷ []
-answer_facts quote by None = []
+answer_facts quote how (Some settled.Withdrawn) = Withdrawn quote how ∷ []
+answer_facts quote how (Some settled.Lifted) = Late quote ∷ []
+answer_facts quote how None = []
 
 -- the same of the word that is asked, where one is
 abbrev pub settled_facts : Option ℕ → Withdrawal → Option Settled → List DealerFact
-settled_facts None by answer = []
-settled_facts (Some quote) by answer = answer_facts quote by answer
+settled_facts None how answer = []
+settled_facts (Some quote) how answer = answer_facts quote how answer
 
 -- Facts.
 
@@ -67,8 +71,8 @@ uses_number other = true
 -- the facts that a verdict adds, with the answer of the word that it asks
 abbrev pub verdict_facts : DealerVerdict → Option Settled → List DealerFact
 verdict_facts (verdict.QuoteAccepted request id quote replaced) answer =
-    settled_facts replaced ByReplacement answer ++ (if goes_through replaced answer then Quoted quote ∷ [] else [])
-verdict_facts (verdict.CancelAccepted id quote request) answer = answer_facts quote ByCancel answer
+    settled_facts replaced by.Replacement answer ++ (if goes_through replaced answer then Quoted quote ∷ [] else [])
+verdict_facts (verdict.CancelAccepted id quote request) answer = answer_facts quote by.Cancel answer
 verdict_facts (verdict.DeclineAccepted request number) answer = Declined number ∷ []
 verdict_facts other answer = []
 
@@ -78,22 +82,22 @@ untold None = None
 untold (Some request) = if request.is_told then None else Some request
 
 -- the same by the request's number
-unfoldable pub closable : List DealerFact → ℕ → Option StandingRequest
-closable facts number = untold (request_numbered facts number)
+unfoldable pub closable : DealerBook → ℕ → Option StandingRequest
+closable book number = untold (request_numbered book number)
 
 -- the fact that an event adds that brings bytes
 abbrev pub came : ℕ → List ℕ → DealerVerdict → Option Settled → List DealerFact
 came moment bytes verdict answer = Came moment bytes (uses_number verdict) ∷ verdict_facts verdict answer
 
--- the facts that an event adds to those that stand
-unfoldable pub event_facts : List ℕ → DealerRow → List DealerFact → DealerEvent → List DealerFact
-event_facts date row facts (event.Own moment bytes answer) =
-    came moment bytes (dealer_verdict date row facts moment bytes) answer
-event_facts date row facts (event.Shown room ask moment) = Shown ask moment ∷ []
-event_facts date row facts (event.Told request close moment) =
-    if is_some (closable facts request) then Told request close moment ∷ [] else []
-event_facts date row facts (event.Drop last moment answer) =
-    Dropped last moment ∷ settled_facts (number_to_drop facts last) ByCancel answer
+-- the facts that an event adds, given the book as it stood
+unfoldable pub event_facts : List ℕ → DealerRow → DealerBook → DealerEvent → List DealerFact
+event_facts date row book (event.Own moment bytes answer) =
+    came moment bytes (dealer_verdict date row book moment bytes) answer
+event_facts date row book (event.Shown room ask moment) = Shown ask moment ∷ []
+event_facts date row book (event.Told request close moment) =
+    if is_some (closable book request) then Told request close moment ∷ [] else []
+event_facts date row book (event.Drop last moment answer) =
+    Dropped last moment ∷ settled_facts (number_to_drop book last) by.Cancel answer
 
 -- Messages.
 
@@ -108,42 +112,42 @@ verdict_message (verdict.QuoteAccepted request id quote replaced) answer =
 verdict_message (verdict.CancelRefused id reason) answer = Some (out.CancelRefused id reason)
 verdict_message (verdict.CancelUnknown id) answer = Some (cancel_unknown id)
 verdict_message (verdict.CancelAccepted id quote request) answer =
-    Some (if is_withdrawal answer then out.CancelAccepted id else out.CancelRefused (Some id) TooLate)
+    Some (if is_withdrawn answer then out.CancelAccepted id else out.CancelRefused (Some id) TooLate)
 verdict_message (verdict.DropsFollow last) answer = None
 verdict_message (verdict.DeclineRefused request reason) answer = Some (out.DeclineRefused request reason)
 verdict_message (verdict.DeclineAccepted request number) answer = Some (out.DeclineAccepted request)
 
 -- the request that is shown next
-abbrev pub next_request : List DealerFact → Ask → OutMessage
-next_request facts ask = out.Request (record { number = requests_shown facts + 1; ask = ask })
+abbrev pub next_request : DealerBook → Ask → OutMessage
+next_request book ask = out.Request (record { number = requests_shown book + 1; ask = ask })
 
 -- what a closing notice says of the dealer's live quote
-abbrev pub quoted_price : Standing → QuotedPrice
+abbrev pub quoted_price : StandingQuote → QuotedPrice
 quoted_price own = record { id = own.quote.id; price = own.quote.price }
 
 -- the closing notice of a request
-abbrev pub notice_of : List DealerFact → Close → StandingRequest → OutMessage
-notice_of facts close request = out.ClosingNotice (record {
-  number = notices_told facts + 1;
+abbrev pub notice_of : DealerBook → Close → StandingRequest → OutMessage
+notice_of book close request = out.ClosingNotice (record {
+  number = book.notices + 1;
   request = record { number = request.number; ask = request.ask };
   close = close;
-  quote = option_map quoted_price (live_quote_on facts request.number);
+  quote = option_map quoted_price (live_quote_on book request.number);
 })
 
 -- what the dealer is told of a quote that a drop takes, with the answer of its word
-abbrev pub drop_message : Option Settled → Standing → OutMessage
+abbrev pub drop_message : Option Settled → StandingQuote → OutMessage
 drop_message answer own =
-    if is_withdrawal answer then out.CancelAccepted own.quote.id else out.CancelRefused (Some own.quote.id) TooLate
+    if is_withdrawn answer then out.CancelAccepted own.quote.id else out.CancelRefused (Some own.quote.id) TooLate
 
 -- the message that an event sends, if it sends one
-unfoldable pub event_message : List ℕ → DealerRow → List DealerFact → DealerEvent → Option OutMessage
-event_message date row facts (event.Own moment bytes answer) =
-    verdict_message (dealer_verdict date row facts moment bytes) answer
-event_message date row facts (event.Shown room ask moment) = Some (next_request facts ask)
-event_message date row facts (event.Told request close moment) =
-    option_map (notice_of facts close) (closable facts request)
-event_message date row facts (event.Drop last moment answer) =
-    option_map (drop_message answer) (quote_to_drop facts last)
+unfoldable pub event_message : List ℕ → DealerRow → DealerBook → DealerEvent → Option OutMessage
+event_message date row book (event.Own moment bytes answer) =
+    verdict_message (dealer_verdict date row book moment bytes) answer
+event_message date row book (event.Shown room ask moment) = Some (next_request book ask)
+event_message date row book (event.Told request close moment) =
+    option_map (notice_of book close) (closable book request)
+event_message date row book (event.Drop last moment answer) =
+    option_map (drop_message answer) (quote_to_drop book last)
 
 -- the moment of an event, which its message bears
 abbrev pub moment_of : DealerEvent → ℕ
@@ -168,12 +172,16 @@ abbrev pub next_message : List ℕ → DealerRow → List (List ℕ) → ℕ →
 next_message date row sent moment message =
     written (record { date = date; firm = row.name; number = length sent + 1; moment = moment }) message
 
+-- what is sent with the message of an event, if it sends one
+abbrev pub sent_with : List ℕ → DealerRow → List (List ℕ) → ℕ → Option OutMessage → List (List ℕ)
+sent_with date row sent moment None = sent
+sent_with date row sent moment (Some message) = sent ++ next_message date row sent moment message ∷ []
+
 -- a desk after one event more
 abbrev pub after_event : List ℕ → DealerRow → DeskState → DealerEvent → DeskState
 after_event date row desk event = record {
-  facts = desk.facts ++ event_facts date row desk.facts event;
-  sent = desk.sent
-    ++ option_to_list (option_map (next_message date row desk.sent (moment_of event)) (event_message date row desk.facts event));
+  facts = desk.facts ++ event_facts date row (book_of desk.facts) event;
+  sent = sent_with date row desk.sent (moment_of event) (event_message date row (book_of desk.facts) event);
 }
 
 -- a desk after these events
@@ -188,7 +196,7 @@ dealer_output date row events = (desk_after date row events).sent
 
 -- the word that a fact says was asked, with its answer
 abbrev pub answered_word : DealerFact → Option (ℕ × Settled)
-answered_word (Withdrawn quote by) = Some (quote, settled.Withdrawn)
+answered_word (Withdrawn quote how) = Some (quote, settled.Withdrawn)
 answered_word (Late quote) = Some (quote, settled.Lifted)
 answered_word fact = None
 
@@ -203,12 +211,12 @@ asked_word (Some quote) None = []
 asked_word None answer = []
 
 -- the word that an event asks, with its answer
-abbrev pub asked_by : List ℕ → DealerRow → List DealerFact → DealerEvent → List (ℕ × Settled)
-asked_by date row facts (event.Own moment bytes answer) =
-    asked_word (word_asked (dealer_verdict date row facts moment bytes)) answer
-asked_by date row facts (event.Shown room ask moment) = []
-asked_by date row facts (event.Told request close moment) = []
-asked_by date row facts (event.Drop last moment answer) = asked_word (number_to_drop facts last) answer
+abbrev pub asked_by : List ℕ → DealerRow → DealerBook → DealerEvent → List (ℕ × Settled)
+asked_by date row book (event.Own moment bytes answer) =
+    asked_word (word_asked (dealer_verdict date row book moment bytes)) answer
+asked_by date row book (event.Shown room ask moment) = []
+asked_by date row book (event.Told request close moment) = []
+asked_by date row book (event.Drop last moment answer) = asked_word (number_to_drop book last) answer
 
 -- Rooms. They stand beside the facts, and nothing that is sent can read them.
 
@@ -249,23 +257,23 @@ abbrev pub verdict_duty : List RoomRef → ℕ → DealerVerdict → Option Sett
 verdict_duty rooms moment (verdict.QuoteAccepted request id quote replaced) answer =
     if goes_through replaced answer then option_map (post_of quote) (room_of rooms quote.request) else None
 verdict_duty rooms moment (verdict.CancelAccepted id quote request) answer =
-    if is_withdrawal answer then option_map (λ room. duty.Unpost room quote moment) (room_of rooms request) else None
+    if is_withdrawn answer then option_map (λ room. duty.Unpost room quote moment) (room_of rooms request) else None
 verdict_duty rooms moment (verdict.DropsFollow last) answer = Some (duty.Drop last moment)
 verdict_duty rooms moment (verdict.DeclineAccepted request number) answer =
     option_map (λ room. duty.Decline room moment) (room_of rooms number)
 verdict_duty rooms moment other answer = None
 
 -- what a drop leaves to be done in the room of the quote that it takes
-abbrev pub unpost_dropped : List RoomRef → ℕ → Option Settled → Option Standing → Option Duty
+abbrev pub unpost_dropped : List RoomRef → ℕ → Option Settled → Option StandingQuote → Option Duty
 unpost_dropped rooms moment answer None = None
 unpost_dropped rooms moment answer (Some own) =
-    if is_withdrawal answer
+    if is_withdrawn answer
     then option_map (λ room. duty.Unpost room own.quote.number moment) (room_of rooms own.quote.request)
     else None
 
 -- the same drop once more, where another quote is left to be dropped
-abbrev pub further_drop : List DealerFact → ℕ → ℕ → Option Duty
-further_drop facts last moment = if is_some (quote_to_drop facts last) then Some (duty.Drop last moment) else None
+abbrev pub further_drop : DealerBook → ℕ → ℕ → Option Duty
+further_drop book last moment = if is_some (quote_to_drop book last) then Some (duty.Drop last moment) else None
 
 -- What a contract sees of a dealer's desk.
 pub record DeskEvents : Type 0 where
@@ -281,17 +289,21 @@ with_event desk event = record desk { events = desk.events ++ event ∷ [] }
 abbrev pub facts_at : DeskEvents → List DealerFact
 facts_at desk = (desk_after desk.date desk.row desk.events).facts
 
+-- its book
+abbrev pub book_at : DeskEvents → DealerBook
+book_at desk = book_of (facts_at desk)
+
 -- the rooms of the requests that were shown at a desk
 abbrev pub rooms_at : DeskEvents → List RoomRef
 rooms_at desk = rooms_of desk.events
 
 -- the verdict on bytes that come to a desk
 abbrev pub verdict_at : DeskEvents → ℕ → List ℕ → DealerVerdict
-verdict_at desk moment bytes = dealer_verdict desk.date desk.row (facts_at desk) moment bytes
+verdict_at desk moment bytes = dealer_verdict desk.date desk.row (book_at desk) moment bytes
 
 -- whether a notice of a request may be sent from a desk
 abbrev pub may_close : DeskEvents → ℕ → Bool
-may_close desk request = is_some (closable (facts_at desk) request)
+may_close desk request = is_some (closable (book_at desk) request)
 
 -- a desk to which a notice came: it stays as it was where no notice is due
 abbrev pub with_notice : DeskEvents → ℕ → Close → ℕ → DeskEvents

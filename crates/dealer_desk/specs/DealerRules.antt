@@ -1,6 +1,7 @@
 -- The rules of the market for a dealer: what becomes of a message that came to its desk.
 use Rattle.std.specs.Prelude.{ℕ, ◌+◌, Bool, true, false, ◌==◌, ◌||◌, not, nat_lt, nat_le, List, [], ◌∷◌, Option, Some, None, unwrap_or, is_none, is_some, Result, Ok, Err, if◌then◌else◌}
 use Rattle.bond_prices.specs.declared.fault.PriceFault.{PriceFault}
+use Rattle.bond_prices.specs.Grid.{on_grid}
 use Rattle.venue_config.specs.Texts.{same_text}
 use Rattle.market_terms.specs.Checks.{first_refusal, is_not_after}
 use Rattle.market_terms.specs.declared.asks.Side.{Side}
@@ -15,8 +16,10 @@ use Rattle.quote_messages.specs.declared.reject_reasons.QuoteRejectReason.{Quote
 use Rattle.quote_messages.specs.declared.reject_reasons.QuoteRejectReason.TheVariants.{UnknownSymbol, ExceedsLimit, TooLate, DuplicateQuote, InvalidPrice, Other}
 use Rattle.venue_config.specs.declared.dealer_rows.DealerRow.{DealerRow}
 use Rattle.dealer_desk.specs.Arrivals.{Arrival, Dropped, OutOfSequence, Rejected, Taken, dealer_arrival}
-use Rattle.dealer_desk.specs.DealerFacts.{DealerFact, StandingRequest, Standing, expected_number, request_named, quotes_accepted, quote_with_id, live_number_on, exposure_beside, is_withdrawn, is_closed, has_lifted_quote, quote_to_drop}
+use Rattle.dealer_desk.specs.DealerFacts.{DealerBook, expected_number, request_named, quotes_accepted, quote_with_id, live_number_on, exposure_beside, is_withdrawal, is_closing, has_lifted_quote, quote_to_drop}
 use Rattle.dealer_desk.specs.declared.accepted.AcceptedQuote.{AcceptedQuote}
+use Rattle.dealer_desk.specs.declared.standing.StandingRequest.{StandingRequest}
+use Rattle.dealer_desk.specs.declared.standing.StandingQuote.{StandingQuote}
 use Rattle.dealer_desk.specs.declared.verdicts.DealerVerdict.{DealerVerdict}
 use Rattle.dealer_desk.specs.declared.verdicts.DealerVerdict.TheVariants as verdict
 
@@ -32,16 +35,21 @@ abbrev pub other_price : Side → Quote → Option (Result ℕ PriceFault)
 other_price Buy quote = quote.bid
 other_price Sell quote = quote.offer
 
--- a price that is in range and on the grid, with none on the other side
+-- a price that is read as 256ths, with none on the other side
 abbrev pub lone_price : Option (Result ℕ PriceFault) → Option (Result ℕ PriceFault) → Option ℕ
 lone_price (Some (Ok price)) None = Some price
 lone_price (Some (Ok price)) (Some other) = None
 lone_price (Some (Err fault)) other = None
 lone_price None other = None
 
+-- a price, where it is on the grid of the bond
+abbrev pub if_on_grid : ℕ → Option ℕ → Option ℕ
+if_on_grid grid None = None
+if_on_grid grid (Some price) = if on_grid price grid then Some price else None
+
 -- the price at which a quote answers an ask, if it is a lawful answer
 unfoldable pub price_for : Ask → Quote → Option ℕ
-price_for ask quote = lone_price (asked_price ask.side quote) (other_price ask.side quote)
+price_for ask quote = if_on_grid ask.grid (lone_price (asked_price ask.side quote) (other_price ask.side quote))
 
 -- The conditions of the checks.
 
@@ -55,44 +63,39 @@ abbrev pub of_request : Option StandingRequest → (StandingRequest → Bool) �
 of_request None holds = false
 of_request (Some request) holds = holds request
 
--- whether a quote was found of which this holds
-abbrev pub of_quote : Option Standing → (Standing → Bool) → Bool
-of_quote None holds = false
-of_quote (Some own) holds = holds own
-
 -- the quantity of a quote that answers this ask, with those of the dealer's other live quotes
-abbrev pub exposure_with : List DealerFact → StandingRequest → ℕ
-exposure_with facts request = request.ask.quantity + exposure_beside facts (live_number_on facts request.number)
+abbrev pub exposure_with : DealerBook → StandingRequest → ℕ
+exposure_with book request = request.ask.quantity + exposure_beside book (live_number_on book request.number)
 
 -- Quotes.
 
 -- The checks of a quote in their order, line by line of the rule book's table: a condition, and the reason that it
 -- gives. The last line of that table is the word of the quote that this one would replace: the verdict names that quote,
 -- and its word is asked where none of these lines refuses.
-abbrev pub quote_checks : DealerRow → List DealerFact → ℕ → Quote → Option StandingRequest → List (Bool × QuoteRejectReason)
-quote_checks row facts moment quote request =
+abbrev pub quote_checks : DealerRow → DealerBook → ℕ → Quote → Option StandingRequest → List (Bool × QuoteRejectReason)
+quote_checks row book moment quote request =
     (is_none request, Other)
     ∷ (of_request request (λ shown. shown.is_declined), Other)
-    ∷ (of_request request (λ shown. shown.is_told || has_lifted_quote facts shown.number), TooLate)
+    ∷ (of_request request (λ shown. shown.is_told || has_lifted_quote book shown.number), TooLate)
     ∷ (of_request request (λ shown. nat_le shown.ask.deadline moment), TooLate)
     ∷ (of_request request (λ shown. not (same_text quote.bond shown.ask.bond)), UnknownSymbol)
     ∷ (of_request request (λ shown. is_none (price_for shown.ask quote)), InvalidPrice)
     ∷ (of_request request (λ shown. differs_from shown.ask.quantity quote.bid_size || differs_from shown.ask.quantity quote.offer_size), Other)
     ∷ (differs_from 1 quote.quote_type, Other)
-    ∷ (is_some (quote_with_id facts quote.id), DuplicateQuote)
+    ∷ (is_some (quote_with_id book quote.id), DuplicateQuote)
     ∷ (is_not_after moment quote.valid_until, Other)
-    ∷ (nat_le row.quotes (quotes_accepted facts), ExceedsLimit)
-    ∷ (of_request request (λ shown. nat_lt row.exposure (exposure_with facts shown)), ExceedsLimit)
+    ∷ (nat_le row.quotes (quotes_accepted book), ExceedsLimit)
+    ∷ (of_request request (λ shown. nat_lt row.exposure (exposure_with book shown)), ExceedsLimit)
     ∷ []
 
 -- why a quote is refused before any word is asked, if it is
-unfoldable pub quote_refusal : DealerRow → List DealerFact → ℕ → Quote → Option StandingRequest → Option QuoteRejectReason
-quote_refusal row facts moment quote request = first_refusal (quote_checks row facts moment quote request)
+unfoldable pub quote_refusal : DealerRow → DealerBook → ℕ → Quote → Option StandingRequest → Option QuoteRejectReason
+quote_refusal row book moment quote request = first_refusal (quote_checks row book moment quote request)
 
 -- what is kept of an accepted quote
-abbrev pub quote_kept : List DealerFact → ℕ → Quote → StandingRequest → AcceptedQuote
-quote_kept facts moment quote request = record {
-  number = quotes_accepted facts + 1;
+abbrev pub quote_kept : DealerBook → ℕ → Quote → StandingRequest → AcceptedQuote
+quote_kept book moment quote request = record {
+  number = quotes_accepted book + 1;
   id = quote.id;
   request = request.number;
   trader = [];
@@ -109,70 +112,70 @@ abbrev pub quote_refused : Quote → QuoteRejectReason → DealerVerdict
 quote_refused quote reason = verdict.QuoteRefused quote.request quote.id reason
 
 -- a quote on a request that no check refuses is accepted; it replaces the dealer's live quote there, where there is one
-abbrev pub quote_answer : List DealerFact → ℕ → Quote → Option StandingRequest → Option QuoteRejectReason → DealerVerdict
-quote_answer facts moment quote request (Some reason) = quote_refused quote reason
-quote_answer facts moment quote None None = quote_refused quote Other
-quote_answer facts moment quote (Some request) None =
-    verdict.QuoteAccepted quote.request quote.id (quote_kept facts moment quote request) (live_number_on facts request.number)
+abbrev pub quote_answer : DealerBook → ℕ → Quote → Option StandingRequest → Option QuoteRejectReason → DealerVerdict
+quote_answer book moment quote request (Some reason) = quote_refused quote reason
+quote_answer book moment quote None None = quote_refused quote Other
+quote_answer book moment quote (Some request) None =
+    verdict.QuoteAccepted quote.request quote.id (quote_kept book moment quote request) (live_number_on book request.number)
 
 -- the verdict on a quote on this request
-abbrev pub quote_on : DealerRow → List DealerFact → ℕ → Quote → Option StandingRequest → DealerVerdict
-quote_on row facts moment quote request =
-    quote_answer facts moment quote request (quote_refusal row facts moment quote request)
+abbrev pub quote_on : DealerRow → DealerBook → ℕ → Quote → Option StandingRequest → DealerVerdict
+quote_on row book moment quote request =
+    quote_answer book moment quote request (quote_refusal row book moment quote request)
 
 -- the verdict on a quote: QuoteReqID (131) names its request
-unfoldable pub quote_verdict : DealerRow → List DealerFact → ℕ → Quote → DealerVerdict
-quote_verdict row facts moment quote = quote_on row facts moment quote (request_named facts quote.request)
+unfoldable pub quote_verdict : DealerRow → DealerBook → ℕ → Quote → DealerVerdict
+quote_verdict row book moment quote = quote_on row book moment quote (request_named book quote.request)
 
 -- Cancels.
 
 -- the checks of a cancel of one quote that was accepted, line by line; the last line of the rule book's table is the
 -- word of the quote
-abbrev pub cancel_checks : Standing → List (Bool × QuoteRejectReason)
+abbrev pub cancel_checks : StandingQuote → List (Bool × QuoteRejectReason)
 cancel_checks own =
-    (is_withdrawn own, Other)
-    ∷ (is_closed own || own.is_known_lifted, TooLate)
+    (is_withdrawal own.end, Other)
+    ∷ (is_closing own.end || own.is_known_lifted, TooLate)
     ∷ []
 
 -- a refusal, or else the word of the quote is asked
-abbrev pub cancel_answer : List ℕ → Standing → Option QuoteRejectReason → DealerVerdict
+abbrev pub cancel_answer : List ℕ → StandingQuote → Option QuoteRejectReason → DealerVerdict
 cancel_answer id own (Some reason) = verdict.CancelRefused (Some id) reason
 cancel_answer id own None = verdict.CancelAccepted id own.quote.number own.quote.request
 
 -- a cancel of a QuoteID that no accepted quote has is told so
-abbrev pub cancel_of : List ℕ → Option Standing → DealerVerdict
+abbrev pub cancel_of : List ℕ → Option StandingQuote → DealerVerdict
 cancel_of id None = verdict.CancelUnknown (Some id)
 cancel_of id (Some own) = cancel_answer id own (first_refusal (cancel_checks own))
 
 -- a cancel of one quote names it by its QuoteID (117)
-abbrev pub cancel_named : List DealerFact → Option (List ℕ) → DealerVerdict
-cancel_named facts None = verdict.CancelRefused None Other
-cancel_named facts (Some id) = cancel_of id (quote_with_id facts id)
+abbrev pub cancel_named : DealerBook → Option (List ℕ) → DealerVerdict
+cancel_named book None = verdict.CancelRefused None Other
+cancel_named book (Some id) = cancel_of id (quote_with_id book id)
 
 -- a cancel of all quotes: the droppable ones of those that were accepted so far are dropped one by one, and where none
 -- is droppable that is told at once
-abbrev pub cancel_all : List DealerFact → Option (List ℕ) → DealerVerdict
-cancel_all facts id =
-    if is_none (quote_to_drop facts (quotes_accepted facts))
+abbrev pub cancel_all : DealerBook → Option (List ℕ) → DealerVerdict
+cancel_all book id =
+    if is_none (quote_to_drop book (quotes_accepted book))
     then verdict.CancelUnknown id
-    else verdict.DropsFollow (quotes_accepted facts)
+    else verdict.DropsFollow (quotes_accepted book)
 
 -- the verdict on a cancel: QuoteCancelType (298) 5 cancels the quote that QuoteID (117) names, 4 cancels all quotes, and
 -- every other type is refused
-unfoldable pub cancel_verdict : List DealerFact → QuoteCancel → DealerVerdict
-cancel_verdict facts cancel =
-    if cancel.cancel_type == 5 then cancel_named facts cancel.id
-    else (if cancel.cancel_type == 4 then cancel_all facts cancel.id else verdict.CancelRefused cancel.id Other)
+unfoldable pub cancel_verdict : DealerBook → QuoteCancel → DealerVerdict
+cancel_verdict book cancel =
+    if cancel.cancel_type == 5 then cancel_named book cancel.id
+    else (if cancel.cancel_type == 4 then cancel_all book cancel.id else verdict.CancelRefused cancel.id Other)
 
 -- Declines.
 
 -- the checks of a decline, line by line
-abbrev pub decline_checks : List DealerFact → Option StandingRequest → List (Bool × QuoteRejectReason)
-decline_checks facts request =
+abbrev pub decline_checks : DealerBook → Option StandingRequest → List (Bool × QuoteRejectReason)
+decline_checks book request =
     (is_none request, Other)
     ∷ (of_request request (λ shown. shown.is_declined), Other)
     ∷ (of_request request (λ shown. shown.is_told), TooLate)
-    ∷ (of_request request (λ shown. is_some (live_number_on facts shown.number)), Other)
+    ∷ (of_request request (λ shown. is_some (live_number_on book shown.number)), Other)
     ∷ []
 
 -- a refusal, or else the decline is accepted
@@ -182,29 +185,29 @@ decline_answer name None None = verdict.DeclineRefused name Other
 decline_answer name (Some request) None = verdict.DeclineAccepted name request.number
 
 -- the verdict on a decline of this request
-abbrev pub decline_on : List DealerFact → List ℕ → Option StandingRequest → DealerVerdict
-decline_on facts name request = decline_answer name request (first_refusal (decline_checks facts request))
+abbrev pub decline_on : DealerBook → List ℕ → Option StandingRequest → DealerVerdict
+decline_on book name request = decline_answer name request (first_refusal (decline_checks book request))
 
 -- the verdict on a decline: QuoteReqID (131) names its request
-unfoldable pub decline_verdict : List DealerFact → Decline → DealerVerdict
-decline_verdict facts decline = decline_on facts decline.request (request_named facts decline.request)
+unfoldable pub decline_verdict : DealerBook → Decline → DealerVerdict
+decline_verdict book decline = decline_on book decline.request (request_named book decline.request)
 
 -- All messages.
 
 -- the market's verdict on a message
-abbrev pub message_verdict : DealerRow → List DealerFact → ℕ → DealerMessage → DealerVerdict
-message_verdict row facts moment (AQuote quote) = quote_verdict row facts moment quote
-message_verdict row facts moment (ACancel cancel) = cancel_verdict facts cancel
-message_verdict row facts moment (ADecline decline) = decline_verdict facts decline
+abbrev pub message_verdict : DealerRow → DealerBook → ℕ → DealerMessage → DealerVerdict
+message_verdict row book moment (AQuote quote) = quote_verdict row book moment quote
+message_verdict row book moment (ACancel cancel) = cancel_verdict book cancel
+message_verdict row book moment (ADecline decline) = decline_verdict book decline
 
 -- the verdict on what came: the session has the first word, and then the market
-abbrev pub arrival_verdict : DealerRow → List DealerFact → ℕ → Arrival → DealerVerdict
-arrival_verdict row facts moment Dropped = verdict.Dropped
-arrival_verdict row facts moment (OutOfSequence reject) = verdict.OutOfSequence reject
-arrival_verdict row facts moment (Rejected reject) = verdict.Rejected reject
-arrival_verdict row facts moment (Taken message) = message_verdict row facts moment message
+abbrev pub arrival_verdict : DealerRow → DealerBook → ℕ → Arrival → DealerVerdict
+arrival_verdict row book moment Dropped = verdict.Dropped
+arrival_verdict row book moment (OutOfSequence reject) = verdict.OutOfSequence reject
+arrival_verdict row book moment (Rejected reject) = verdict.Rejected reject
+arrival_verdict row book moment (Taken message) = message_verdict row book moment message
 
--- what becomes of bytes that came to a dealer's desk at a moment, given the facts that stood
-unfoldable pub dealer_verdict : List ℕ → DealerRow → List DealerFact → ℕ → List ℕ → DealerVerdict
-dealer_verdict date row facts moment bytes =
-    arrival_verdict row facts moment (dealer_arrival date row (expected_number facts) bytes)
+-- what becomes of bytes that came to a dealer's desk at a moment, given the book as it stood
+unfoldable pub dealer_verdict : List ℕ → DealerRow → DealerBook → ℕ → List ℕ → DealerVerdict
+dealer_verdict date row book moment bytes =
+    arrival_verdict row book moment (dealer_arrival date row (expected_number book) bytes)

@@ -3,8 +3,10 @@
 
 mod accepted;
 mod events;
+mod standing;
 mod verdicts;
 
 pub use accepted::AcceptedQuote;
 pub use events::DealerEvent;
+pub use standing::{QuoteEnd, StandingQuote, StandingRequest, Withdrawal};
 pub use verdicts::DealerVerdict;
