@@ -141,6 +141,10 @@ request_numbered book number = find (λ request. request.number == number) book.
 unfoldable pub quote_with_id : DealerBook → List ℕ → Option StandingQuote
 quote_with_id book id = find (λ own. same_text own.quote.id id) book.quotes
 
+-- the accepted quote with this own number
+unfoldable pub quote_numbered : DealerBook → ℕ → Option StandingQuote
+quote_numbered book number = find (λ own. own.quote.number == number) book.quotes
+
 -- whether a quote was withdrawn, by a cancel or by its replacement
 abbrev pub is_withdrawal : Option QuoteEnd → Bool
 is_withdrawal (Some (end.Withdrawn by)) = true

@@ -3,7 +3,9 @@
 
 mod accepted;
 mod events;
+mod index;
 mod standing;
+mod table;
 mod verdicts;
 
 pub use accepted::AcceptedQuote;
