@@ -86,6 +86,17 @@ impl<'a> Model for Fields<'a> {
     ghost invariant = { λ fields. IsFieldsText fields.rest.now };
 }
 
+impl<'a> Fields<'a> {
+    ghost use Rattle.std.specs.Prelude.{◌≡◌};
+
+    /// The same fields once more, to be gone through apart.
+    pub fn again(&self) -> Self
+        ensures { result ≡ self.now }
+    {
+        Fields { rest: self.rest }
+    }
+}
+
 impl<'a> Iterator for Fields<'a> {
     ghost use Rattle.std.specs.Iterator.{YieldsFirstBy, item_count};
 

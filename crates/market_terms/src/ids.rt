@@ -87,6 +87,15 @@ impl IdBuf {
         IdBuf { text: self.text }
     }
 
+    /// The identifier as a message bears it.
+    pub fn as_id(&self) -> Id<'_>
+        ensures { result ≡ self.now }
+    {
+        Id {
+            text: self.text.as_bytes(),
+        }
+    }
+
     /// The characters.
     #[tactic(auto, using(crate::proofs::TextLemmas::id_is_value))]
     pub fn as_bytes(&self) -> &[u8]

@@ -1,4 +1,2 @@
-pub mod TextLemmas
 pub mod NumberLemmas
-pub mod WritingLemmas
-pub mod SessionLemmas
+pub mod TextLemmas

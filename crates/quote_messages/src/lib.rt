@@ -40,31 +40,37 @@
 //! No call has a condition, each returns, and only [`write_out`] and [`Message::copy_of`] take memory.
 #![tactic(auto)]
 
+mod arrivals;
 mod characters;
 mod messages;
 mod numbers;
 mod out_messages;
+mod parties;
 mod quantities;
 mod quotes;
 mod received;
 mod reject_reasons;
-mod session_checks;
+mod requests;
+mod sent_messages;
 mod session_faults;
-#[cfg(test)]
-mod tests;
-mod writing;
+mod slots;
 
+pub use arrivals::Arrival;
 pub use market_terms::{
-    Ask, AskedDealers, Close, Duty, HitRefusal, Id, IdBuf, Offer, Quantity, QuoteLine, QuoteState, Reply,
-    RequestLine, RequestState, ResponseRef, RoomRef, Side,
+    Ask, AskedDealers, Close, Duty, HitRefusal, Id, IdBuf, Offer, Quantity, QuoteLine, QuoteState,
+    Reply, RequestLine, RequestState, ResponseRef, RoomRef, Side,
 };
 pub use messages::Message;
 pub use numbers::{read_long_number, read_number};
-pub use out_messages::{ClosingNotice, Head, OutMessage, QuotedPrice, Reject, Request};
+pub use out_messages::{
+    CancelStatus, ClosingNotice, Head, OutMessage, PassStatus, QuotedPrice, Reject, Request,
+    ShownQuote,
+};
+pub use parties::NamedDealers;
 pub use quantities::read_quantity;
-pub use quotes::{DealerMessage, Decline, Quote, QuoteCancel};
+pub use quotes::{CancelScope, DealerMessage, Decline, Quote, QuoteCancel};
 pub use received::{MsgType, SeqNum};
-pub use reject_reasons::QuoteRejectReason;
-pub use session_checks::read_dealer;
+pub use reject_reasons::{QuoteRejectReason, RequestRejectReason};
+pub use requests::{InvestorMessage, QuoteHit, QuoteRequest, RequestPass};
+pub use sent_messages::SentMessage;
 pub use session_faults::{SessionFault, SessionRejectReason};
-pub use writing::write_out;

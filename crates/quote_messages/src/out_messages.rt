@@ -1,10 +1,13 @@
-//! The messages that a dealer is sent.
+//! The messages that a firm is sent.
 
 use crate::received::{MsgType, SeqNum};
-use crate::{Ask, Close, Id, IdBuf, QuoteRejectReason, SessionFault};
+use crate::{
+    Ask, Close, HitRefusal, Id, IdBuf, Quantity, QuoteRejectReason, RequestRejectReason,
+    SessionFault, Side,
+};
 use bond_prices::Ticks;
 use fix_fields::{Date, Moment};
-use venue_config::Name;
+use venue_config::{BondId, Name};
 
 /// The header of a written message: SenderCompID (49) is always `VENUE`.
 #[derive(Drop)]
@@ -19,60 +22,100 @@ pub struct Head {
     pub moment: Moment,
 }
 
-/// A message that a dealer is sent, with the values that it bears.
+/// A message that a firm is sent, with the values that it bears.
 #[derive(Drop)]
 pub enum OutMessage<'a> {
-    /// Reject (35=3): the session does not take a message.
+    /// Reject (35=3): the session does not take a message of the firm.
     Reject(Reject<'a>),
-    /// QuoteRequest (35=R): the dealer is shown a request.
+    /// QuoteRequest (35=R): a dealer is shown a request.
     Request(Request),
-    /// QuoteStatusReport (35=AI) with 297=0: a quote is accepted.
-    QuoteAccepted {
+    /// QuoteStatusReport (35=AI) on a dealer's quote: accepted (297=0) or refused (297=5).
+    QuoteAnswer {
         /// QuoteReqID (131) as received.
         request: Id<'a>,
         /// QuoteID (117) as received.
         id: Id<'a>,
+        /// QuoteRejectReason (300), where it is refused.
+        refusal: Option<QuoteRejectReason>,
     },
-    /// QuoteStatusReport (35=AI) with 297=5: a quote is refused.
-    QuoteRefused {
-        /// QuoteReqID (131) as received.
-        request: Id<'a>,
-        /// QuoteID (117) as received.
-        id: Id<'a>,
-        /// QuoteRejectReason (300).
-        reason: QuoteRejectReason,
-    },
-    /// QuoteStatusReport (35=AI) with 297=17: a quote is withdrawn.
-    CancelAccepted {
-        /// QuoteID (117) as received.
-        id: Id<'a>,
-    },
-    /// QuoteStatusReport (35=AI) with 297=9: no quote of the dealer has the QuoteID of a cancel.
-    CancelUnknown {
-        /// QuoteID (117) as received.
-        id: Id<'a>,
-    },
-    /// QuoteStatusReport (35=AI) with 297=5: a cancel is refused.
-    CancelRefused {
+    /// QuoteStatusReport (35=AI) on a dealer's cancel.
+    CancelAnswer {
         /// QuoteID (117) as received, where it stood.
         id: Option<Id<'a>>,
-        /// QuoteRejectReason (300).
-        reason: QuoteRejectReason,
+        /// What became of the cancel.
+        status: CancelStatus,
     },
-    /// QuoteStatusReport (35=AI) with 297=11: a decline is accepted.
-    DeclineAccepted {
+    /// QuoteStatusReport (35=AI) on a dealer's decline: accepted (297=11) or refused (297=5).
+    DeclineAnswer {
         /// QuoteReqID (131) as received.
         request: Id<'a>,
+        /// QuoteRejectReason (300), where it is refused.
+        refusal: Option<QuoteRejectReason>,
     },
-    /// QuoteStatusReport (35=AI) with 297=5: a decline is refused.
-    DeclineRefused {
-        /// QuoteReqID (131) as received.
-        request: Id<'a>,
-        /// QuoteRejectReason (300).
-        reason: QuoteRejectReason,
-    },
-    /// QuoteResponse (35=AJ): a closing notice, by which the dealer is told how a request ended.
+    /// QuoteResponse (35=AJ): a closing notice, by which a dealer is told how a request ended.
     ClosingNotice(ClosingNotice),
+    /// QuoteStatusReport (35=AI) with 297=0: an investor's request is accepted.
+    RequestAccepted {
+        /// QuoteReqID (131) as received.
+        request: Id<'a>,
+    },
+    /// QuoteRequestReject (35=AG): an investor's request is refused.
+    RequestRefused {
+        /// QuoteReqID (131) as received.
+        request: Id<'a>,
+        /// SecurityID (48) as received.
+        bond: Id<'a>,
+        /// QuoteRequestRejectReason (658).
+        reason: RequestRejectReason,
+    },
+    /// Quote (35=S): an investor is shown a quote.
+    ShownQuote(ShownQuote<'a>),
+    /// QuoteStatusReport (35=AI) with 297=17: an investor is told that a quote is gone.
+    QuoteGone {
+        /// QuoteReqID (131), the investor's.
+        request: Id<'a>,
+        /// Which of the quotes shown to this investor it is, from 1: QuoteID (117) is `Q` and this number.
+        quote: u64,
+    },
+    /// QuoteStatusReport (35=AI) with 297=11: an investor is told that a dealer declined its request.
+    DealerDeclined {
+        /// QuoteReqID (131), the investor's.
+        request: Id<'a>,
+        /// The dealer (PartyID 448).
+        dealer: Name,
+    },
+    /// QuoteStatusReport (35=AI) on an investor's hit: awarded (297=0) or refused (297=5).
+    HitAnswer {
+        /// QuoteRespID (693) as received.
+        id: Id<'a>,
+        /// QuoteReqID (131) of the request that the quote answers.
+        request: Id<'a>,
+        /// The number in the QuoteID (117) as received, `Q` and this number.
+        quote: u64,
+        /// Why it is refused, where it is.
+        refusal: Option<HitRefusal>,
+    },
+    /// QuoteStatusReport (35=AI) with 297=9: no quote that was shown to the investor has the QuoteID of its hit.
+    HitUnknown {
+        /// QuoteRespID (693) as received.
+        id: Id<'a>,
+        /// QuoteID (117) as received.
+        quote: Id<'a>,
+    },
+    /// QuoteStatusReport (35=AI) on an investor's pass.
+    PassAnswer {
+        /// QuoteRespID (693) as received.
+        id: Id<'a>,
+        /// QuoteReqID (131) as received.
+        request: Id<'a>,
+        /// What became of the pass.
+        status: PassStatus,
+    },
+    /// QuoteStatusReport (35=AI) with 297=7: an investor's request expired.
+    RequestExpired {
+        /// QuoteReqID (131), the investor's.
+        request: Id<'a>,
+    },
 }
 
 impl<'a> OutMessage<'a> {
@@ -89,16 +132,34 @@ impl<'a> OutMessage<'a> {
         match self {
             OutMessage::Reject(_) => b"3",
             OutMessage::Request(_) => b"R",
-            OutMessage::QuoteAccepted { .. } => b"AI",
-            OutMessage::QuoteRefused { .. } => b"AI",
-            OutMessage::CancelAccepted { .. } => b"AI",
-            OutMessage::CancelUnknown { .. } => b"AI",
-            OutMessage::CancelRefused { .. } => b"AI",
-            OutMessage::DeclineAccepted { .. } => b"AI",
-            OutMessage::DeclineRefused { .. } => b"AI",
             OutMessage::ClosingNotice(_) => b"AJ",
+            OutMessage::RequestRefused { .. } => b"AG",
+            OutMessage::ShownQuote(_) => b"S",
+            _ => b"AI",
         }
     }
+}
+
+/// What became of a dealer's QuoteCancel.
+#[derive(Clone, Copy)]
+pub enum CancelStatus {
+    /// 297=17: the quote is withdrawn.
+    Withdrawn,
+    /// 297=9: there is no such quote, or none to cancel.
+    Unknown,
+    /// 297=5: it is refused, with QuoteRejectReason (300).
+    Refused(QuoteRejectReason),
+}
+
+/// What became of an investor's pass.
+#[derive(Clone, Copy)]
+pub enum PassStatus {
+    /// 297=11: the request is passed.
+    Passed,
+    /// 297=5: the request is not open.
+    NotOpen,
+    /// 297=9: no accepted request of the investor has the QuoteReqID (131) of the pass.
+    Unknown,
 }
 
 /// What a Reject (35=3) says of the message that is not taken.
@@ -110,6 +171,15 @@ pub struct Reject<'a> {
     pub fault: SessionFault,
     /// RefMsgType (372), where the received MsgType is 1 to 4 letters or digits.
     pub msg_type: Option<MsgType<'a>>,
+}
+
+/// A request that a dealer was shown.
+#[derive(Drop)]
+pub struct Request {
+    /// Which of the requests shown to this dealer it is, from 1: QuoteReqID (131) is `R` and this number.
+    pub number: u64,
+    /// What is asked for.
+    pub ask: Ask,
 }
 
 /// How a request ended for a dealer.
@@ -135,11 +205,23 @@ pub struct QuotedPrice {
     pub price: Ticks,
 }
 
-/// A request that a dealer was shown.
+/// A quote as its investor is shown it. QuoteType (537) is 1, tradeable.
 #[derive(Drop)]
-pub struct Request {
-    /// Which of the requests shown to this dealer it is, from 1: QuoteReqID (131) is `R` and this number.
+pub struct ShownQuote<'a> {
+    /// QuoteReqID (131), the investor's.
+    pub request: Id<'a>,
+    /// Which of the quotes shown to this investor it is, from 1: QuoteID (117) is `Q` and this number.
     pub number: u64,
-    /// What is asked for.
-    pub ask: Ask,
+    /// SecurityID (48).
+    pub bond: BondId,
+    /// Side (54), the investor's.
+    pub side: Side,
+    /// The price on the asked side: OfferPx (133) where the investor buys, and else BidPx (132).
+    pub price: Ticks,
+    /// The quantity of the request: OfferSize (135) or BidSize (134), beside the price.
+    pub quantity: Quantity,
+    /// The moment from which on it can't be hit (ValidUntilTime 62), where one was given.
+    pub valid_until: Option<Moment>,
+    /// The dealer that quotes (PartyID 448).
+    pub dealer: Name,
 }

@@ -2,14 +2,14 @@
 ghost use Rattle.std.specs.Prelude.{◌≡◌, ◌==◌, ◌+◌, ◌≤◌, length};
 ghost use Rattle.std.specs.List.{list_all, position, before_first, after_first};
 ghost use Rattle.quote_messages.specs.Texts.{is_point};
-ghost use Rattle.quote_messages.specs.SessionChecks.{quantity_of};
+ghost use Rattle.quote_messages.specs.ValueForms.{quantity_of};
 
 use crate::numbers::are_digits;
 use crate::{Quantity, SessionRejectReason, read_long_number};
 
 /// The quantity that 1 to 15 digits with at most one point write: of wrong form, not whole or out of its
 /// limits is the reason given.
-#[tactic(auto, unfolding(crate::specs::SessionChecks::quantity_of))]
+#[tactic(auto, unfolding(crate::specs::ValueForms::quantity_of))]
 pub fn read_quantity(text: &[u8]) -> Result<Quantity, SessionRejectReason>
     ensures { result ≡ quantity_of text.now }
 {

@@ -3,6 +3,7 @@
 use crate::{Id, Quantity};
 use bond_prices::{PriceFault, Ticks};
 use fix_fields::Moment;
+use venue_config::Name;
 
 /// A message of a dealer that met no session fault.
 #[derive(Drop)]
@@ -18,13 +19,15 @@ pub enum DealerMessage<'a> {
 /// A Quote (35=S) as it was received: each field absent, or its value as its form reads it.
 #[derive(Drop)]
 pub struct Quote<'a> {
+    /// SenderSubID (50): the trader of the dealer that sent it.
+    pub trader: Name,
     /// QuoteID (117).
     pub id: Id<'a>,
     /// QuoteReqID (131): the request that it answers.
     pub request: Id<'a>,
     /// SecurityID (48).
     pub bond: Id<'a>,
-    /// BidPx (132): the price at which the dealer buys. Out of range or off the grid is no session fault.
+    /// BidPx (132): the price at which the dealer buys. Out of range or off the grid of 256ths is no session fault.
     pub bid: Option<Result<Ticks, PriceFault>>,
     /// OfferPx (133): the price at which the dealer sells.
     pub offer: Option<Result<Ticks, PriceFault>>,
@@ -41,15 +44,33 @@ pub struct Quote<'a> {
 /// A QuoteCancel (35=Z) as it was received.
 #[derive(Drop)]
 pub struct QuoteCancel<'a> {
-    /// QuoteCancelType (298); 5 cancels the one quote that QuoteID (117) names.
-    pub cancel_type: u64,
-    /// QuoteID (117), which is there where the type is 5.
-    pub id: Option<Id<'a>>,
+    /// SenderSubID (50): the trader of the dealer that sent it.
+    pub trader: Name,
+    /// Which quotes it cancels.
+    pub scope: CancelScope<'a>,
+}
+
+/// Which quotes a QuoteCancel cancels, by its QuoteCancelType (298). QuoteID (117) has to stand for one quote alone.
+#[derive(Drop)]
+pub enum CancelScope<'a> {
+    /// 5: the quote with this QuoteID (117).
+    One(Id<'a>),
+    /// 4: all quotes of the dealer, with QuoteID (117) as received, where it stood.
+    All(Option<Id<'a>>),
+    /// Any other type.
+    Other {
+        /// QuoteCancelType (298).
+        cancel_type: u64,
+        /// QuoteID (117) as received, where it stood.
+        id: Option<Id<'a>>,
+    },
 }
 
 /// A QuoteRequestReject (35=AG) with QuoteRequestRejectReason 658=10, the only one that a dealer gives.
 #[derive(Drop)]
 pub struct Decline<'a> {
+    /// SenderSubID (50): the trader of the dealer that sent it.
+    pub trader: Name,
     /// QuoteReqID (131): the request that is declined.
     pub request: Id<'a>,
 }

@@ -17,11 +17,13 @@ pub enum SessionRejectReason {
     InvalidMsgType,
     /// 13: the tag stands more than once.
     TagMoreThanOnce,
+    /// 16: the party group is not one run of as many entries as NoPartyIDs (453) says.
+    IncorrectNumInGroup,
 }
 
 impl SessionRejectReason {
     ghost use Rattle.std.specs.Prelude.{◌≡◌, ◌<◌};
-    ghost use Rattle.quote_messages.specs.Written.{session_reject_code};
+    ghost use Rattle.quote_messages.specs.Codes.{session_reject_code};
 
     /// The number that stands in the field 373.
     pub fn code(self) -> u64
@@ -36,6 +38,7 @@ impl SessionRejectReason {
             SessionRejectReason::CompIdProblem => 9,
             SessionRejectReason::InvalidMsgType => 11,
             SessionRejectReason::TagMoreThanOnce => 13,
+            SessionRejectReason::IncorrectNumInGroup => 16,
         }
     }
 }

@@ -1,0 +1,36 @@
+//! The dealers that a request names.
+ghost use Rattle.std.specs.Prelude.{◌≡◌, ℕ, ◌≤◌, List, Some, None, IsTrue, codes};
+ghost use Rattle.quote_messages.specs.PartyGroup.{named_dealers, entries_of, entries_fault};
+
+use crate::Id;
+use fix_fields::Fields;
+use std::marker::Model;
+
+/// The dealers that the party group (453) of a QuoteRequest names, in their order: the PartyID (448) of each entry with
+/// PartyIDSource 447=D and PartyRole 452=35. It is an iterator over them, and borrows the bytes of the message.
+#[derive(Drop)]
+pub struct NamedDealers<'a> {
+    fields: Fields<'a>,
+}
+
+impl<'a> Model for NamedDealers<'a> {
+    ghost use Rattle.std.specs.Prelude.{◌≡◌, ℕ, List, None};
+    ghost use Rattle.quote_messages.specs.PartyGroup.{named_dealers, entries_of, AreWhole};
+
+    ghost Value = { List (List ℕ) };
+
+    ghost view = { λ dealers. named_dealers dealers.fields };
+
+    ghost invariant = { λ dealers. AreWhole (entries_of dealers.fields) };
+}
+
+impl<'a> NamedDealers<'a> {
+    /// The same dealers once more, to be gone through apart.
+    pub fn again(&self) -> Self
+        ensures { result ≡ self.now }
+    {
+        NamedDealers {
+            fields: self.fields.again(),
+        }
+    }
+}
