@@ -115,7 +115,7 @@ book_of facts = record {
 
 -- the MsgSeqNum (34) that the desk expects next
 abbrev pub expected_number : DealerBook → ℕ
-expected_number book = 1 + book.used
+expected_number book = book.used + 1
 
 -- how many requests the dealer was shown
 abbrev pub requests_shown : DealerBook → ℕ

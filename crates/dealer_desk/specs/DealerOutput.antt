@@ -12,12 +12,13 @@ use Rattle.quote_messages.specs.declared.out_messages.Request.{Request}
 use Rattle.quote_messages.specs.declared.out_messages.QuotedPrice.{QuotedPrice}
 use Rattle.quote_messages.specs.declared.out_messages.OutMessage.{OutMessage}
 use Rattle.quote_messages.specs.declared.out_messages.OutMessage.TheVariants as out
+use Rattle.quote_messages.specs.declared.out_messages.CancelStatus.{CancelStatus}
+use Rattle.quote_messages.specs.declared.out_messages.CancelStatus.TheVariants as status
 use Rattle.quote_word.specs.declared.settled.Settled.{Settled}
 use Rattle.quote_word.specs.declared.settled.Settled.TheVariants as settled
 use Rattle.venue_config.specs.declared.dealer_rows.DealerRow.{DealerRow}
 use Rattle.market_terms.specs.declared.duties.Duty.{Duty}
 use Rattle.market_terms.specs.declared.duties.Duty.TheVariants as duty
-use Rattle.dealer_desk.specs.Arrivals.{cancel_unknown}
 use Rattle.dealer_desk.specs.DealerFacts.{DealerFact, Came, Shown, Quoted, Withdrawn, Late, Dropped, Declined, Told, DealerBook, book_of, requests_shown, request_numbered, live_quote_on, quote_to_drop, number_to_drop}
 use Rattle.dealer_desk.specs.DealerRules.{dealer_verdict}
 use Rattle.dealer_desk.specs.declared.accepted.AcceptedQuote.{AcceptedQuote}
@@ -101,21 +102,22 @@ event_facts date row book (event.Drop last moment answer) =
 
 -- Messages.
 
+-- the status of a cancel whose quote's word gave this answer
+abbrev pub cancel_status : Option Settled → CancelStatus
+cancel_status answer = if is_withdrawn answer then status.Withdrawn else status.Refused TooLate
+
 -- the message that answers a verdict, if one does, with the answer of the word that it asks
 abbrev pub verdict_message : DealerVerdict → Option Settled → Option OutMessage
 verdict_message verdict.Dropped answer = None
 verdict_message (verdict.OutOfSequence reject) answer = Some (out.Reject reject)
 verdict_message (verdict.Rejected reject) answer = Some (out.Reject reject)
-verdict_message (verdict.QuoteRefused request id reason) answer = Some (out.QuoteRefused request id reason)
+verdict_message (verdict.Refused message) answer = Some message
 verdict_message (verdict.QuoteAccepted request id quote replaced) answer =
-    Some (if goes_through replaced answer then out.QuoteAccepted request id else out.QuoteRefused request id TooLate)
-verdict_message (verdict.CancelRefused id reason) answer = Some (out.CancelRefused id reason)
-verdict_message (verdict.CancelUnknown id) answer = Some (cancel_unknown id)
+    Some (out.QuoteAnswer request id (if goes_through replaced answer then None else Some TooLate))
 verdict_message (verdict.CancelAccepted id quote request) answer =
-    Some (if is_withdrawn answer then out.CancelAccepted id else out.CancelRefused (Some id) TooLate)
+    Some (out.CancelAnswer (Some id) (cancel_status answer))
 verdict_message (verdict.DropsFollow last) answer = None
-verdict_message (verdict.DeclineRefused request reason) answer = Some (out.DeclineRefused request reason)
-verdict_message (verdict.DeclineAccepted request number) answer = Some (out.DeclineAccepted request)
+verdict_message (verdict.DeclineAccepted request number) answer = Some (out.DeclineAnswer request None)
 
 -- the request that is shown next
 abbrev pub next_request : DealerBook → Ask → OutMessage
@@ -136,8 +138,7 @@ notice_of book close request = out.ClosingNotice (record {
 
 -- what the dealer is told of a quote that a drop takes, with the answer of its word
 abbrev pub drop_message : Option Settled → StandingQuote → OutMessage
-drop_message answer own =
-    if is_withdrawn answer then out.CancelAccepted own.quote.id else out.CancelRefused (Some own.quote.id) TooLate
+drop_message answer own = out.CancelAnswer (Some own.quote.id) (cancel_status answer)
 
 -- the message that an event sends, if it sends one
 unfoldable pub event_message : List ℕ → DealerRow → DealerBook → DealerEvent → Option OutMessage

@@ -1,21 +1,27 @@
 -- The rules of the market for a dealer: what becomes of a message that came to its desk.
-use Rattle.std.specs.Prelude.{ℕ, ◌+◌, Bool, true, false, ◌==◌, ◌||◌, not, nat_lt, nat_le, List, [], ◌∷◌, Option, Some, None, unwrap_or, is_none, is_some, Result, Ok, Err, if◌then◌else◌}
-use Rattle.bond_prices.specs.declared.fault.PriceFault.{PriceFault}
+use Rattle.std.specs.Prelude.{ℕ, ◌+◌, Bool, false, ◌==◌, ◌||◌, not, nat_lt, nat_le}
+use Rattle.std.specs.Prelude.{List, [], ◌∷◌, Option, Some, None, unwrap_or, is_none, is_some, Result, Ok, Err, if◌then◌else◌}
 use Rattle.bond_prices.specs.Grid.{on_grid}
+use Rattle.bond_prices.specs.declared.fault.PriceFault.{PriceFault}
 use Rattle.venue_config.specs.Texts.{same_text}
+use Rattle.venue_config.specs.declared.dealer_rows.DealerRow.{DealerRow}
 use Rattle.market_terms.specs.Checks.{first_refusal, is_not_after}
+use Rattle.market_terms.specs.declared.asks.Ask.{Ask}
 use Rattle.market_terms.specs.declared.asks.Side.{Side}
 use Rattle.market_terms.specs.declared.asks.Side.TheVariants.{Buy, Sell}
-use Rattle.market_terms.specs.declared.asks.Ask.{Ask}
+use Rattle.quote_messages.specs.Arrivals.{dealer_arrival}
+use Rattle.quote_messages.specs.declared.arrivals.Arrival.{Arrival}
+use Rattle.quote_messages.specs.declared.arrivals.Arrival.TheVariants.{Dropped, OutOfSequence, Rejected, Taken}
 use Rattle.quote_messages.specs.declared.quotes.Quote.{Quote}
-use Rattle.quote_messages.specs.declared.quotes.QuoteCancel.{QuoteCancel}
+use Rattle.quote_messages.specs.declared.quotes.CancelScope.{CancelScope}
+use Rattle.quote_messages.specs.declared.quotes.CancelScope.TheVariants as cancels
 use Rattle.quote_messages.specs.declared.quotes.Decline.{Decline}
 use Rattle.quote_messages.specs.declared.quotes.DealerMessage.{DealerMessage}
-use Rattle.quote_messages.specs.declared.quotes.DealerMessage.TheVariants.{Quote as AQuote, Cancel as ACancel, Decline as ADecline}
+use Rattle.quote_messages.specs.declared.quotes.DealerMessage.TheVariants as message
+use Rattle.quote_messages.specs.declared.out_messages.OutMessage.TheVariants as out
+use Rattle.quote_messages.specs.declared.out_messages.CancelStatus.TheVariants as status
 use Rattle.quote_messages.specs.declared.reject_reasons.QuoteRejectReason.{QuoteRejectReason}
 use Rattle.quote_messages.specs.declared.reject_reasons.QuoteRejectReason.TheVariants.{UnknownSymbol, ExceedsLimit, TooLate, DuplicateQuote, InvalidPrice, Other}
-use Rattle.venue_config.specs.declared.dealer_rows.DealerRow.{DealerRow}
-use Rattle.dealer_desk.specs.Arrivals.{Arrival, Dropped, OutOfSequence, Rejected, Taken, dealer_arrival}
 use Rattle.dealer_desk.specs.DealerFacts.{DealerBook, expected_number, request_named, quotes_accepted, quote_with_id, live_number_on, exposure_beside, is_withdrawal, is_closing, has_lifted_quote, quote_to_drop}
 use Rattle.dealer_desk.specs.declared.accepted.AcceptedQuote.{AcceptedQuote}
 use Rattle.dealer_desk.specs.declared.standing.StandingRequest.{StandingRequest}
@@ -58,6 +64,10 @@ abbrev pub differs_from : ℕ → Option ℕ → Bool
 differs_from wanted None = false
 differs_from wanted (Some found) = not (found == wanted)
 
+-- whether BidSize (134) or OfferSize (135) stands and is not the quantity that is asked for
+abbrev pub sizes_differ : ℕ → Quote → Bool
+sizes_differ quantity quote = differs_from quantity quote.bid_size || differs_from quantity quote.offer_size
+
 -- whether a request was found of which this holds
 abbrev pub of_request : Option StandingRequest → (StandingRequest → Bool) → Bool
 of_request None holds = false
@@ -70,8 +80,8 @@ exposure_with book request = request.ask.quantity + exposure_beside book (live_n
 -- Quotes.
 
 -- The checks of a quote in their order, line by line of the rule book's table: a condition, and the reason that it
--- gives. The last line of that table is the word of the quote that this one would replace: the verdict names that quote,
--- and its word is asked where none of these lines refuses.
+-- gives. The last line of that table is the word of the quote that this one would replace: the verdict names that
+-- quote, and its word is asked where none of these lines refuses.
 abbrev pub quote_checks : DealerRow → DealerBook → ℕ → Quote → Option StandingRequest → List (Bool × QuoteRejectReason)
 quote_checks row book moment quote request =
     (is_none request, Other)
@@ -80,7 +90,7 @@ quote_checks row book moment quote request =
     ∷ (of_request request (λ shown. nat_le shown.ask.deadline moment), TooLate)
     ∷ (of_request request (λ shown. not (same_text quote.bond shown.ask.bond)), UnknownSymbol)
     ∷ (of_request request (λ shown. is_none (price_for shown.ask quote)), InvalidPrice)
-    ∷ (of_request request (λ shown. differs_from shown.ask.quantity quote.bid_size || differs_from shown.ask.quantity quote.offer_size), Other)
+    ∷ (of_request request (λ shown. sizes_differ shown.ask.quantity quote), Other)
     ∷ (differs_from 1 quote.quote_type, Other)
     ∷ (is_some (quote_with_id book quote.id), DuplicateQuote)
     ∷ (is_not_after moment quote.valid_until, Other)
@@ -98,7 +108,7 @@ quote_kept book moment quote request = record {
   number = quotes_accepted book + 1;
   id = quote.id;
   request = request.number;
-  trader = [];
+  trader = quote.trader;
   bond = request.ask.bond;
   side = request.ask.side;
   quantity = request.ask.quantity;
@@ -109,7 +119,7 @@ quote_kept book moment quote request = record {
 
 -- the refusal of a quote
 abbrev pub quote_refused : Quote → QuoteRejectReason → DealerVerdict
-quote_refused quote reason = verdict.QuoteRefused quote.request quote.id reason
+quote_refused quote reason = verdict.Refused (out.QuoteAnswer quote.request quote.id (Some reason))
 
 -- a quote on a request that no check refuses is accepted; it replaces the dealer's live quote there, where there is one
 abbrev pub quote_answer : DealerBook → ℕ → Quote → Option StandingRequest → Option QuoteRejectReason → DealerVerdict
@@ -139,33 +149,28 @@ cancel_checks own =
 
 -- a refusal, or else the word of the quote is asked
 abbrev pub cancel_answer : List ℕ → StandingQuote → Option QuoteRejectReason → DealerVerdict
-cancel_answer id own (Some reason) = verdict.CancelRefused (Some id) reason
+cancel_answer id own (Some reason) = verdict.Refused (out.CancelAnswer (Some id) (status.Refused reason))
 cancel_answer id own None = verdict.CancelAccepted id own.quote.number own.quote.request
 
 -- a cancel of a QuoteID that no accepted quote has is told so
 abbrev pub cancel_of : List ℕ → Option StandingQuote → DealerVerdict
-cancel_of id None = verdict.CancelUnknown (Some id)
+cancel_of id None = verdict.Refused (out.CancelAnswer (Some id) status.Unknown)
 cancel_of id (Some own) = cancel_answer id own (first_refusal (cancel_checks own))
-
--- a cancel of one quote names it by its QuoteID (117)
-abbrev pub cancel_named : DealerBook → Option (List ℕ) → DealerVerdict
-cancel_named book None = verdict.CancelRefused None Other
-cancel_named book (Some id) = cancel_of id (quote_with_id book id)
 
 -- a cancel of all quotes: the droppable ones of those that were accepted so far are dropped one by one, and where none
 -- is droppable that is told at once
 abbrev pub cancel_all : DealerBook → Option (List ℕ) → DealerVerdict
 cancel_all book id =
     if is_none (quote_to_drop book (quotes_accepted book))
-    then verdict.CancelUnknown id
+    then verdict.Refused (out.CancelAnswer id status.Unknown)
     else verdict.DropsFollow (quotes_accepted book)
 
--- the verdict on a cancel: QuoteCancelType (298) 5 cancels the quote that QuoteID (117) names, 4 cancels all quotes, and
--- every other type is refused
-unfoldable pub cancel_verdict : DealerBook → QuoteCancel → DealerVerdict
-cancel_verdict book cancel =
-    if cancel.cancel_type == 5 then cancel_named book cancel.id
-    else (if cancel.cancel_type == 4 then cancel_all book cancel.id else verdict.CancelRefused cancel.id Other)
+-- the verdict on a cancel: QuoteCancelType (298) 5 cancels the quote that QuoteID (117) names, 4 cancels all quotes,
+-- and every other type is refused
+unfoldable pub cancel_verdict : DealerBook → CancelScope → DealerVerdict
+cancel_verdict book (cancels.One id) = cancel_of id (quote_with_id book id)
+cancel_verdict book (cancels.All id) = cancel_all book id
+cancel_verdict book (cancels.Other cancel_type id) = verdict.Refused (out.CancelAnswer id (status.Refused Other))
 
 -- Declines.
 
@@ -180,8 +185,8 @@ decline_checks book request =
 
 -- a refusal, or else the decline is accepted
 abbrev pub decline_answer : List ℕ → Option StandingRequest → Option QuoteRejectReason → DealerVerdict
-decline_answer name request (Some reason) = verdict.DeclineRefused name reason
-decline_answer name None None = verdict.DeclineRefused name Other
+decline_answer name request (Some reason) = verdict.Refused (out.DeclineAnswer name (Some reason))
+decline_answer name None None = verdict.Refused (out.DeclineAnswer name (Some Other))
 decline_answer name (Some request) None = verdict.DeclineAccepted name request.number
 
 -- the verdict on a decline of this request
@@ -189,19 +194,19 @@ abbrev pub decline_on : DealerBook → List ℕ → Option StandingRequest → D
 decline_on book name request = decline_answer name request (first_refusal (decline_checks book request))
 
 -- the verdict on a decline: QuoteReqID (131) names its request
-unfoldable pub decline_verdict : DealerBook → Decline → DealerVerdict
-decline_verdict book decline = decline_on book decline.request (request_named book decline.request)
+unfoldable pub decline_verdict : DealerBook → List ℕ → DealerVerdict
+decline_verdict book name = decline_on book name (request_named book name)
 
 -- All messages.
 
 -- the market's verdict on a message
 abbrev pub message_verdict : DealerRow → DealerBook → ℕ → DealerMessage → DealerVerdict
-message_verdict row book moment (AQuote quote) = quote_verdict row book moment quote
-message_verdict row book moment (ACancel cancel) = cancel_verdict book cancel
-message_verdict row book moment (ADecline decline) = decline_verdict book decline
+message_verdict row book moment (message.Quote quote) = quote_verdict row book moment quote
+message_verdict row book moment (message.Cancel cancel) = cancel_verdict book cancel.scope
+message_verdict row book moment (message.Decline decline) = decline_verdict book decline.request
 
 -- the verdict on what came: the session has the first word, and then the market
-abbrev pub arrival_verdict : DealerRow → DealerBook → ℕ → Arrival → DealerVerdict
+abbrev pub arrival_verdict : DealerRow → DealerBook → ℕ → Arrival DealerMessage → DealerVerdict
 arrival_verdict row book moment Dropped = verdict.Dropped
 arrival_verdict row book moment (OutOfSequence reject) = verdict.OutOfSequence reject
 arrival_verdict row book moment (Rejected reject) = verdict.Rejected reject

@@ -1,7 +1,7 @@
-pub mod Arrivals
 pub mod BookChanges
 pub mod DealerFacts
 pub mod DealerOutput
 pub mod DealerRules
 pub mod DealerTable
 pub mod QuoteLines
+pub mod RuleCuts

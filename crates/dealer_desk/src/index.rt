@@ -72,7 +72,7 @@ impl DealerIndex {
     pub(crate) fn expected_number(&self) -> u64
         ensures { result ≡ facts.expected_number self.now.book }
     {
-        1 + self.used
+        self.used + 1
     }
 
     /// How many closing notices were sent.
@@ -194,10 +194,9 @@ impl DealerIndex {
 
     /// The room of the request with this number.
     pub(crate) fn room_of(&self, number: u64) -> Option<RoomRef>
-        requires { 1 ≤ number }
         ensures { result ≡ output.room_of self.now.rooms number }
     {
-        self.rooms.get(number as usize - 1).copied()
+        self.rooms.get(number.saturating_sub(1) as usize).copied()
     }
 
     /// The lines of the blotter.

@@ -2,11 +2,11 @@
 
 use crate::AcceptedQuote;
 use market_terms::Id;
-use quote_messages::{QuoteRejectReason, Reject};
+use quote_messages::{OutMessage, Reject};
 
 /// The verdict on a message that came to a dealer's desk. Two of them leave the last word to the word of a quote:
-/// a quote that replaces another, and a cancel, take effect where that word is withdrawn, and come too late where it is
-/// lifted.
+/// a quote that replaces another, and a cancel, take effect where that word is withdrawn, and come too late
+/// where it is lifted.
 #[derive(Drop)]
 pub enum DealerVerdict<'a> {
     /// The bytes are no frame, or have no readable MsgSeqNum (34): nothing is sent.
@@ -15,15 +15,8 @@ pub enum DealerVerdict<'a> {
     OutOfSequence(Reject<'a>),
     /// The message used up its number and met a session fault.
     Rejected(Reject<'a>),
-    /// A quote is refused.
-    QuoteRefused {
-        /// QuoteReqID (131) as received.
-        request: Id<'a>,
-        /// QuoteID (117) as received.
-        id: Id<'a>,
-        /// QuoteRejectReason (300): that of the first check that it does not pass.
-        reason: QuoteRejectReason,
-    },
+    /// The market refuses the message, by this answer: that of the first check that it does not pass.
+    Refused(OutMessage<'a>),
     /// A quote is accepted, unless it would replace one that was lifted.
     QuoteAccepted {
         /// QuoteReqID (131) as received.
@@ -32,21 +25,9 @@ pub enum DealerVerdict<'a> {
         id: Id<'a>,
         /// What the desk keeps of it.
         quote: AcceptedQuote,
-        /// The own number of the dealer's live quote on the same request, where there is one: it is replaced, and its
-        /// word is asked.
+        /// The own number of the dealer's live quote on the same request, where there is one: it is replaced, and
+        /// its word is asked.
         replaced: Option<u32>,
-    },
-    /// A cancel of one quote is refused.
-    CancelRefused {
-        /// QuoteID (117) as received, where it stood.
-        id: Option<Id<'a>>,
-        /// QuoteRejectReason (300): that of the first check that it does not pass.
-        reason: QuoteRejectReason,
-    },
-    /// A cancel finds no quote: none that was accepted has its QuoteID, or none can be dropped.
-    CancelUnknown {
-        /// QuoteID (117) as received, where it stood.
-        id: Option<Id<'a>>,
     },
     /// A cancel of one quote is confirmed, unless the quote was lifted.
     CancelAccepted {
@@ -61,13 +42,6 @@ pub enum DealerVerdict<'a> {
     DropsFollow {
         /// The own number of the dealer's last accepted quote.
         last: u32,
-    },
-    /// A decline is refused.
-    DeclineRefused {
-        /// QuoteReqID (131) as received.
-        request: Id<'a>,
-        /// QuoteRejectReason (300): that of the first check that it does not pass.
-        reason: QuoteRejectReason,
     },
     /// A decline is accepted.
     DeclineAccepted {
