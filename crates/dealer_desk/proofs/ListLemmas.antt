@@ -1,6 +1,6 @@
 -- What stands at a place of a list, and what is found in it, after an element is put behind it, written into it or changed
 -- throughout.
-use Rattle.std.proofs.Common.{◌≡◌, ◌<◌, ◌≤◌, ◌⊎◌, ℕ, zero, suc, ◌+◌, Bool, true, false, cond, List, [], ◌∷◌, ◌++◌, length, map, set, filter, find, Option, Some, None, option_map, slice_get, get_or, inl, inr, refl, sym, ap, ◌∙◌, arith}
+use Rattle.std.proofs.Common.{◌≡◌, ◌<◌, ◌≤◌, ◌⊎◌, ℕ, zero, suc, ◌+◌, Bool, true, false, ◌||◌, cond, List, [], ◌∷◌, ◌++◌, length, map, set, filter, find, Option, Some, None, option_map, slice_get, get_or, inl, inr, refl, sym, ap, ◌∙◌, arith}
 use Rattle.std.specs.List.{list_any, position_or_len}
 use Rattle.std.proofs.lemmas.Option.{none-some, same_Some, slice_get-get_or, get_or_from_slice_get}
 use Rattle.std.proofs.lemmas.List.Sums.{position_or_len_is, fails_before_first}
@@ -9,6 +9,10 @@ use Rattle.std.proofs.lemmas.List.Sums.{position_or_len_is, fails_before_first}
 pub ruled_out : (b : Bool) → (b ≡ true → ⊥) → b ≡ false
 ruled_out true never = absurd (never refl)
 ruled_out false never = refl
+
+none_of : (b c : Bool) → b ≡ false → c ≡ false → (b || c) ≡ false
+none_of true c e h = cc
+none_of false c e h = h
 
 fewer_first : (b c : Bool) → (b ≡ true → c ≡ true) → (m n : ℕ) → m ≤ n → cond b 1 0 + m ≤ cond c 1 0 + n
 fewer_first true true only m n h = omega arith
@@ -34,6 +38,12 @@ module _ {A : Type 0} where
   set_at (z ∷ xs) (suc i) v (suc k) y within h =
       let below : i < length xs = omega arith in
       elim (set_at xs i v k y below h) [ inl p ↦ inl (ap suc p.0, p.1) | inr p ↦ inr ((λ e. let f : k ≡ i = cc in p.0 f), p.1) ]
+
+  -- a write of what stands there
+  pub set_same : (xs : List A) (i : ℕ) (x : A) → slice_get xs i ≡ Some x → set xs i x ≡ xs
+  set_same [] i x at = absurd (none-some x at)
+  set_same (z ∷ xs) zero x at = ap (λ (y : A). y ∷ xs) (sym (same_Some z x at))
+  set_same (z ∷ xs) (suc i) x at = ap (λ (ys : List A). z ∷ ys) (set_same xs i x at)
 
   -- a change that leaves each element as it is
   pub all_fixed : (f : A → A) (xs : List A) → ((k : ℕ) (y : A) → slice_get xs k ≡ Some y → f y ≡ y) → map f xs ≡ xs
@@ -89,6 +99,10 @@ module _ {A : Type 0} where
   pub find_none : (p : A → Bool) (xs : List A) → ((k : ℕ) (y : A) → slice_get xs k ≡ Some y → p y ≡ false) → find p xs ≡ None
   find_none p [] fails = refl
   find_none p (x ∷ xs) fails = none_first (p x) x (find p xs) (fails zero x refl) (find_none p xs (λ k y at. fails (suc k) y at))
+
+  pub any_none : (p : A → Bool) (xs : List A) → ((k : ℕ) (y : A) → slice_get xs k ≡ Some y → p y ≡ false) → list_any p xs ≡ false
+  any_none p [] fails = refl
+  any_none p (x ∷ xs) fails = none_of (p x) (list_any p xs) (fails zero x refl) (any_none p xs (λ k y at. fails (suc k) y at))
 
   -- where nothing is found no element passes
   not_first : (b : Bool) (z : A) (rest : Option A) → cond b (Some z) rest ≡ None → (b ≡ false) × (rest ≡ None)
@@ -211,10 +225,6 @@ module _ {A : Type 0} (p : A → Bool) where
   -- none passes before the first place
   pub before_place : (xs : List A) (k : ℕ) (y : A) → k < position_or_len p xs → slice_get xs k ≡ Some y → p y ≡ false
   before_place xs k y below at = ap p (sym (get_or_from_slice_get xs k y y at)) ∙ fails_before_first p xs k y below
-
-  place_step : (b : Bool) (m n : ℕ) → m ≤ n → cond b 0 (m + 1) ≤ n + 1
-  place_step true m n h = omega arith
-  place_step false m n h = omega arith
 
 -- what stands at a place of a list that was changed throughout
 pub mapped_at : {A B : Type 0} (f : A → B) (xs : List A) (k : ℕ) (y : B) → slice_get (map f xs) k ≡ Some y → (x : A) × (slice_get xs k ≡ Some x) × (f x ≡ y)

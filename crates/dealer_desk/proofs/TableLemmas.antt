@@ -1,5 +1,5 @@
 -- What a table keeps when one of its quotes changes.
-use Rattle.std.proofs.Common.{◌≡◌, ◌<◌, ◌≤◌, ◌⊎◌, ℕ, zero, suc, ◌+◌, ◌-◌, Bool, true, false, ◌&&◌, ◌||◌, ◌==◌, cond, not, List, [], ◌∷◌, ◌++◌, length, map, set, filter, find, Option, Some, None, is_none, option_map, slice_get, slice_set, slice_index_or, get_or, inl, inr, refl, sym, ap, subst, ◌∙◌, arith, length-set}
+use Rattle.std.proofs.Common.{◌≡◌, ◌<◌, ◌≤◌, ◌⊎◌, ℕ, zero, suc, ◌+◌, ◌-◌, Bool, true, false, ◌&&◌, ◌||◌, ◌==◌, cond, not, List, [], ◌∷◌, ◌++◌, length, map, set, filter, find, Option, Some, None, is_none, option_map, slice_get, slice_set, slice_index_or, get_or, inl, inr, refl, sym, ap, subst, ◌∙◌, arith, length-set, get_or-set_same}
 use Rattle.std.specs.List.{list_any, sum_by, position_or_len}
 use Rattle.std.specs.Option.{option_or}
 use Rattle.std.proofs.lemmas.Bool.{eqb-true, eq-eqb}
@@ -18,8 +18,10 @@ use Rattle.dealer_desk.specs.declared.accepted.AcceptedQuote.{AcceptedQuote}
 use Rattle.dealer_desk.specs.declared.standing.StandingRequest.{StandingRequest}
 use Rattle.dealer_desk.specs.declared.standing.StandingQuote.{StandingQuote}
 use Rattle.dealer_desk.specs.declared.standing.QuoteEnd.{QuoteEnd}
+use Rattle.dealer_desk.specs.declared.standing.QuoteEnd.TheVariants as end
+use Rattle.market_terms.specs.declared.closes.Close.TheVariants as closes
 use Rattle.dealer_desk.specs.declared.table.RequestRow.{RequestRow}
-use Rattle.dealer_desk.proofs.ListLemmas.{set_at, set_map, mapped_at, find_none, find_mapped, any_mapped, lone_others, within_from, stands_within, ruled_out, before_place}
+use Rattle.dealer_desk.proofs.ListLemmas.{set_at, set_map, set_same, mapped_at, find_none, find_mapped, any_mapped, lone_others, within_from, stands_within, ruled_out, before_place}
 use Rattle.dealer_desk.proofs.SoundLemmas.{sound_mapped}
 
 -- Changes of one quote.
@@ -159,3 +161,251 @@ row_ended requests quotes f place i own row sound change live dead known was = r
   lifted_is = was.lifted_is ∙ sym (any_mapped (is_lifted_on (i + 1)) f quotes (λ k y at.
     ap (λ (b : Bool). b && ((f y).quote.request == (i + 1))) (known y) ∙ ap (λ (q : AcceptedQuote). y.is_known_lifted && (q.request == (i + 1))) (change.keeps y)));
 }
+
+-- the row of a request whose live quote was found lifted
+pub row_late : (quotes : List StandingQuote) (f : StandingQuote → StandingQuote) (place i : ℕ) (own : StandingQuote) (row : RequestRow)
+    → Changes quotes f place i own → ((y : StandingQuote) → is_live (f y) ≡ is_live y) → (f own).is_known_lifted ≡ true
+    → IsRow quotes (i + 1) row → IsRow (map f quotes) (i + 1) (record row { has_lifted = true })
+row_late quotes f place i own row change lives known was = record {
+  live_is = was.live_is ∙ sym (find_mapped (λ (q : StandingQuote). q.quote.number) (is_live_on (i + 1)) f quotes
+    (λ y. ap (λ (q : AcceptedQuote). q.number) (change.keeps y))
+    (λ k y at. ap (λ (b : Bool). b && ((f y).quote.request == (i + 1))) (lives y) ∙ ap (λ (q : AcceptedQuote). is_live y && (q.request == (i + 1))) (change.keeps y)));
+  lifted_is =
+    let within : place < length quotes = within_from quotes place own change.stands in
+    let inside : place < length (map f quotes) = omega (arith, length-map quotes f) in
+    let there : get_or (map f quotes) place (f own) ≡ f own = get_or-map f quotes place own (f own) within ∙ ap f (get_or_from_slice_get quotes place own own change.stands) in
+    let on_it : is_lifted_on (i + 1) (f own) ≡ true = both_true (f own).is_known_lifted ((f own).quote.request == (i + 1)) known
+      (ap (λ (q : AcceptedQuote). q.request == (i + 1)) (change.keeps own) ∙ eq-eqb own.quote.request (i + 1) change.request_is) in
+    sym (list_any_at (is_lifted_on (i + 1)) (map f quotes) place (f own) inside (ap (is_lifted_on (i + 1)) there ∙ on_it));
+}
+
+-- the requests, after a write of a row that leaves its request as it is
+requests_kept : (rows : List RequestRow) (i : ℕ) (row other : RequestRow) → slice_get rows i ≡ Some row → other.request ≡ row.request
+    → map (λ (r : RequestRow). r.request) (set rows i other) ≡ map (λ (r : RequestRow). r.request) rows
+requests_kept rows i row other at same =
+    map-set (λ (r : RequestRow). r.request) rows i other
+    ∙ ap (set (map (λ (r : RequestRow). r.request) rows) i) same
+    ∙ sym (map-set (λ (r : RequestRow). r.request) rows i row)
+    ∙ ap (map (λ (r : RequestRow). r.request)) (set_same rows i row at)
+
+-- the lines, after a write of a quote and of the state of its line
+lines_changed : (quotes : List StandingQuote) (lines : List QuoteLine) (place : ℕ) (own after : StandingQuote) (line : QuoteLine)
+    → lines ≡ map line_of quotes → slice_get quotes place ≡ Some own → slice_get lines place ≡ Some line → after.quote ≡ own.quote
+    → set lines place (record line { state = state_of after }) ≡ map line_of (set quotes place after)
+lines_changed quotes lines place own after line are stands at same =
+    let from = mapped_at line_of quotes place line (ap (λ (l : List QuoteLine). slice_get l place) (sym are) ∙ at) in
+    let here : own ≡ from.0 = same_Some own from.0 (sym stands ∙ from.1) in
+    let was : line_of own ≡ line = ap line_of here ∙ from.2 in
+    let now : record line { state = state_of after } ≡ line_of after =
+      ap (λ (l : QuoteLine). record l { state = state_of after }) (sym was)
+      ∙ ap (λ (q : AcceptedQuote). line_of (record after { quote = q })) (sym same) in
+    ap (λ (l : List QuoteLine). set l place (record line { state = state_of after })) are
+    ∙ ap (set (map line_of quotes) place) now
+    ∙ sym (map-set line_of quotes place after)
+
+-- the sum of what the live quotes add, after a write
+sum_changed : (quotes : List StandingQuote) (place : ℕ) (own after : StandingQuote) → slice_get quotes place ≡ Some own
+    → sum_by live_quantity (set quotes place after) + live_quantity own ≡ sum_by live_quantity quotes + live_quantity after
+sum_changed quotes place own after stands =
+    let within : place < length quotes = within_from quotes place own stands in
+    ap (λ (q : StandingQuote). sum_by live_quantity (set quotes place after) + live_quantity q) (sym (get_or_from_slice_get quotes place own own stands))
+    ∙ sum_by-set live_quantity quotes place after own within
+
+quantity_live : (own : StandingQuote) → is_live own ≡ true → live_quantity own ≡ own.quote.quantity
+quantity_live own live = rw live refl
+
+-- what a live quote adds is within the exposure
+pub quantity_within : (rows : List RequestRow) (quotes : List StandingQuote) (lines : List QuoteLine) (exposure first place : ℕ) (own : StandingQuote)
+    → IsTable rows quotes lines exposure first → slice_get quotes place ≡ Some own → is_live own ≡ true → own.quote.quantity ≤ exposure
+quantity_within rows quotes lines exposure first place own table stands live =
+    let sum = sum_changed quotes place own (record own { end = Some (end.Closed closes.Pass) }) stands in
+    let adds = quantity_live own live in
+    let is = table.exposure_is in
+    omega arith
+
+-- the table after the live quote at a place ended
+pub ended_table : (rows : List RequestRow) (quotes : List StandingQuote) (lines : List QuoteLine) (exposure first place i : ℕ) (how : QuoteEnd) (own : StandingQuote) (row : RequestRow) (line : QuoteLine)
+    → IsTable rows quotes lines exposure first → slice_get quotes place ≡ Some own → is_live own ≡ true → own.quote.request ≡ i + 1
+    → slice_get rows i ≡ Some row → slice_get lines place ≡ Some line
+    → IsTable (set rows i (record row { live = None })) (set quotes place (record own { end = Some how })) (set lines place (record line { state = state_of (record own { end = Some how }) }))
+      (exposure - own.quote.quantity) (position_or_len is_droppable (set quotes place (record own { end = Some how })))
+ended_table rows quotes lines exposure first place i how own row line table stands live request_is at_row at_line =
+    let sound = table.sound in
+    let same : place + 1 ≡ own.quote.number = sym (sound.quotes_numbered place own stands) in
+    let after : ended_at (place + 1) how own ≡ record own { end = Some how } = ended_own (place + 1) how own same live in
+    let others : (k : ℕ) (y : StandingQuote) → slice_get quotes k ≡ Some y → (k ≡ place → ⊥) → ended_at (place + 1) how y ≡ y =
+      λ k y at other. chosen (place + 1 == y.quote.number) (record y { end = option_or y.end (Some how) }) y (other_number (map (λ (r : RequestRow). r.request) rows) quotes (place + 1) place k y sound refl at other) in
+    let as_map : set quotes place (record own { end = Some how }) ≡ map (ended_at (place + 1) how) quotes =
+      ap (set quotes place) (sym after) ∙ set_map (ended_at (place + 1) how) quotes place own stands others in
+    let change : Changes quotes (ended_at (place + 1) how) place i own = record {
+      keeps = ended_keeps (place + 1) how; lives = ended_lives (place + 1) how; others = others; stands = stands; request_is = request_is } in
+    let requests = requests_kept rows i row (record row { live = None }) at_row refl in
+    let sum = sum_changed quotes place own (record own { end = Some how }) stands in
+    let adds = quantity_live own live in
+    let is = table.exposure_is in
+    let fits = table.exposure_fits in
+    let few = table.few in
+    record {
+      sound = subst (λ (rs : List StandingRequest). IsSound rs (set quotes place (record own { end = Some how }))) (sym requests)
+        (subst (IsSound (map (λ (r : RequestRow). r.request) rows)) (sym as_map)
+          (sound_mapped (map (λ (r : RequestRow). r.request) rows) quotes (ended_at (place + 1) how) (ended_keeps (place + 1) how) (ended_lives (place + 1) how) sound));
+      rows_are = λ k r at. subst (λ (qs : List StandingQuote). IsRow qs (k + 1) r) (sym as_map)
+        (rows_changed rows quotes (ended_at (place + 1) how) place i own (record row { live = None }) change (within_from rows i row at_row) table.rows_are
+          (row_ended (map (λ (r2 : RequestRow). r2.request) rows) quotes (ended_at (place + 1) how) place i own row sound change live (ap is_live after) (ended_known (place + 1) how) (table.rows_are i row at_row)) k r at);
+      lines_are = lines_changed quotes lines place own (record own { end = Some how }) line table.lines_are stands at_line refl;
+      exposure_is = omega arith;
+      exposure_fits = omega arith;
+      first_is = refl;
+      few = omega (arith, length-set quotes place (record own { end = Some how }));
+    }
+
+-- the same as a change of all quotes
+pub ended_quotes : (rows : List RequestRow) (quotes : List StandingQuote) (lines : List QuoteLine) (exposure first place : ℕ) (how : QuoteEnd) (own : StandingQuote)
+    → IsTable rows quotes lines exposure first → slice_get quotes place ≡ Some own → is_live own ≡ true
+    → set quotes place (record own { end = Some how }) ≡ map (ended_at (place + 1) how) quotes
+ended_quotes rows quotes lines exposure first place how own table stands live =
+    let sound = table.sound in
+    let same : place + 1 ≡ own.quote.number = sym (sound.quotes_numbered place own stands) in
+    ap (set quotes place) (sym (ended_own (place + 1) how own same live))
+    ∙ set_map (ended_at (place + 1) how) quotes place own stands
+      (λ k y at other. chosen (place + 1 == y.quote.number) (record y { end = option_or y.end (Some how) }) y (other_number (map (λ (r : RequestRow). r.request) rows) quotes (place + 1) place k y sound refl at other))
+
+-- the table after the live quote at a place was found lifted
+pub late_table : (rows : List RequestRow) (quotes : List StandingQuote) (lines : List QuoteLine) (exposure first place i : ℕ) (own : StandingQuote) (row : RequestRow) (line : QuoteLine)
+    → IsTable rows quotes lines exposure first → slice_get quotes place ≡ Some own → own.quote.request ≡ i + 1
+    → slice_get rows i ≡ Some row → slice_get lines place ≡ Some line
+    → IsTable (set rows i (record row { has_lifted = true })) (set quotes place (record own { is_known_lifted = true })) (set lines place (record line { state = state_of (record own { is_known_lifted = true }) }))
+      exposure (position_or_len is_droppable (set quotes place (record own { is_known_lifted = true })))
+late_table rows quotes lines exposure first place i own row line table stands request_is at_row at_line =
+    let sound = table.sound in
+    let same : place + 1 ≡ own.quote.number = sym (sound.quotes_numbered place own stands) in
+    let after : late_at (place + 1) own ≡ record own { is_known_lifted = true } = late_own (place + 1) own same in
+    let others : (k : ℕ) (y : StandingQuote) → slice_get quotes k ≡ Some y → (k ≡ place → ⊥) → late_at (place + 1) y ≡ y =
+      λ k y at other. chosen (place + 1 == y.quote.number) (record y { is_known_lifted = true }) y (other_number (map (λ (r : RequestRow). r.request) rows) quotes (place + 1) place k y sound refl at other) in
+    let as_map : set quotes place (record own { is_known_lifted = true }) ≡ map (late_at (place + 1)) quotes =
+      ap (set quotes place) (sym after) ∙ set_map (late_at (place + 1)) quotes place own stands others in
+    let lives : (y : StandingQuote) → is_live (late_at (place + 1) y) ≡ true → is_live y ≡ true = λ y h. sym (late_lives (place + 1) y) ∙ h in
+    let change : Changes quotes (late_at (place + 1)) place i own = record {
+      keeps = late_keeps (place + 1); lives = lives; others = others; stands = stands; request_is = request_is } in
+    let requests = requests_kept rows i row (record row { has_lifted = true }) at_row refl in
+    let sum = sum_changed quotes place own (record own { is_known_lifted = true }) stands in
+    let is = table.exposure_is in
+    let fits = table.exposure_fits in
+    let few = table.few in
+    record {
+      sound = subst (λ (rs : List StandingRequest). IsSound rs (set quotes place (record own { is_known_lifted = true }))) (sym requests)
+        (subst (IsSound (map (λ (r : RequestRow). r.request) rows)) (sym as_map)
+          (sound_mapped (map (λ (r : RequestRow). r.request) rows) quotes (late_at (place + 1)) (late_keeps (place + 1)) lives sound));
+      rows_are = λ k r at. subst (λ (qs : List StandingQuote). IsRow qs (k + 1) r) (sym as_map)
+        (rows_changed rows quotes (late_at (place + 1)) place i own (record row { has_lifted = true }) change (within_from rows i row at_row) table.rows_are
+          (row_late quotes (late_at (place + 1)) place i own row change (late_lives (place + 1)) (ap (λ (q : StandingQuote). q.is_known_lifted) after) (table.rows_are i row at_row)) k r at);
+      lines_are = lines_changed quotes lines place own (record own { is_known_lifted = true }) line table.lines_are stands at_line refl;
+      exposure_is = omega arith;
+      exposure_fits = fits;
+      first_is = refl;
+      few = omega (arith, length-set quotes place (record own { is_known_lifted = true }));
+    }
+
+-- the same as a change of all quotes
+pub late_quotes : (rows : List RequestRow) (quotes : List StandingQuote) (lines : List QuoteLine) (exposure first place : ℕ) (own : StandingQuote)
+    → IsTable rows quotes lines exposure first → slice_get quotes place ≡ Some own
+    → set quotes place (record own { is_known_lifted = true }) ≡ map (late_at (place + 1)) quotes
+late_quotes rows quotes lines exposure first place own table stands =
+    let sound = table.sound in
+    let same : place + 1 ≡ own.quote.number = sym (sound.quotes_numbered place own stands) in
+    ap (set quotes place) (sym (late_own (place + 1) own same))
+    ∙ set_map (late_at (place + 1)) quotes place own stands
+      (λ k y at other. chosen (place + 1 == y.quote.number) (record y { is_known_lifted = true }) y (other_number (map (λ (r : RequestRow). r.request) rows) quotes (place + 1) place k y sound refl at other))
+
+-- What the code reads and writes.
+
+-- what is read within a list stands there
+pub read_at : {A : Type 0} (xs : List A) (i : ℕ) (x : A) → i < length xs → x ≡ get_or xs i x → slice_get xs i ≡ Some x
+read_at xs i x within is = slice_get-get_or xs i x within ∙ ap Some (sym is)
+
+-- a live quote that is read by its number
+pub record IsRead (rows : List RequestRow) (quotes : List StandingQuote) (lines : List QuoteLine) (number : ℕ) (own : StandingQuote) : Type 0 where
+  pub stands : slice_get quotes (number - 1) ≡ Some own
+  pub live : is_live own ≡ true
+  pub number_is : number ≡ (number - 1) + 1
+  pub within : number - 1 < length quotes
+  pub line_within : number - 1 < length lines
+  pub request_is : own.quote.request ≡ (own.quote.request - 1) + 1
+  pub row_within : own.quote.request - 1 < length rows
+
+pub is_read : (rows : List RequestRow) (quotes : List StandingQuote) (lines : List QuoteLine) (exposure first number : ℕ) (own : StandingQuote)
+    → IsTable rows quotes lines exposure first → IsLiveNumber quotes number → own ≡ get_or quotes (number - 1) own → IsRead rows quotes lines number own
+is_read rows quotes lines exposure first number own table lives is =
+    let here : number ≡ lives.place + 1 = lives.number_is in
+    let place : number - 1 ≡ lives.place = omega arith in
+    let inside = within_from quotes lives.place lives.own lives.stands in
+    let within : number - 1 < length quotes = omega arith in
+    let stands : slice_get quotes (number - 1) ≡ Some own = read_at quotes (number - 1) own within is in
+    let same : lives.own ≡ own = same_Some lives.own own (sym lives.stands ∙ ap (slice_get quotes) (sym place) ∙ stands) in
+    let first_request = table.sound.from_first (number - 1) own stands in
+    let last_request = table.sound.to_last (number - 1) own stands in
+    let many : length lines ≡ length quotes = ap (λ (l : List QuoteLine). length l) table.lines_are ∙ length-map quotes line_of in
+    record {
+      stands = stands;
+      live = ap is_live (sym same) ∙ lives.live;
+      number_is = omega arith;
+      within = within;
+      line_within = omega arith;
+      request_is = omega arith;
+      row_within = omega (arith, length-map rows (λ (r : RequestRow). r.request));
+    }
+
+-- a quote that is read again behind its write
+read_again : (quotes : List StandingQuote) (place : ℕ) (after read : StandingQuote) → place < length quotes → read ≡ get_or (set quotes place after) place read → read ≡ after
+read_again quotes place after read within is = is ∙ get_or-set_same quotes place after read within
+
+pub end_live_table : (rows : List RequestRow) (quotes : List StandingQuote) (lines : List QuoteLine) (exposure first number : ℕ) (how : QuoteEnd)
+    (own : StandingQuote) (row : RequestRow) (line : QuoteLine) (read : StandingQuote) (state : QuoteState) (quantity : ℕ) (seen : List StandingQuote) (next : ℕ)
+    → IsTable rows quotes lines exposure first → IsLiveNumber quotes number → own ≡ get_or quotes (number - 1) own
+    → row ≡ get_or rows (own.quote.request - 1) row → line ≡ get_or lines (number - 1) line
+    → read ≡ get_or (set quotes (number - 1) (record own { end = Some how })) (number - 1) read → state ≡ state_of read
+    → quantity ≡ own.quote.quantity → seen ≡ set quotes (number - 1) (record own { end = Some how }) → next ≡ position_or_len is_droppable seen
+    → IsTable (set rows (own.quote.request - 1) (record row { live = None })) (set quotes (number - 1) (record own { end = Some how }))
+      (set lines (number - 1) (record line { state = state })) (exposure - quantity) next
+end_live_table rows quotes lines exposure first number how own row line read state quantity seen next table lives is row_is line_is read_is state_is quantity_is seen_is next_is =
+    let r = is_read rows quotes lines exposure first number own table lives is in
+    let after = ended_table rows quotes lines exposure first (number - 1) (own.quote.request - 1) how own row line table r.stands r.live r.request_is
+      (read_at rows (own.quote.request - 1) row r.row_within row_is) (read_at lines (number - 1) line r.line_within line_is) in
+    let state_same : state ≡ state_of (record own { end = Some how }) = state_is ∙ ap state_of (read_again quotes (number - 1) (record own { end = Some how }) read r.within read_is) in
+    subst (λ (s : QuoteState). IsTable (set rows (own.quote.request - 1) (record row { live = None })) (set quotes (number - 1) (record own { end = Some how })) (set lines (number - 1) (record line { state = s })) (exposure - quantity) next) (sym state_same)
+      (subst (λ (q : ℕ). IsTable (set rows (own.quote.request - 1) (record row { live = None })) (set quotes (number - 1) (record own { end = Some how })) (set lines (number - 1) (record line { state = state_of (record own { end = Some how }) })) (exposure - q) next) (sym quantity_is)
+        (subst (λ (n : ℕ). IsTable (set rows (own.quote.request - 1) (record row { live = None })) (set quotes (number - 1) (record own { end = Some how })) (set lines (number - 1) (record line { state = state_of (record own { end = Some how }) })) (exposure - own.quote.quantity) n)
+          (sym (next_is ∙ ap (position_or_len is_droppable) seen_is)) after))
+
+pub end_live_quotes : (rows : List RequestRow) (quotes : List StandingQuote) (lines : List QuoteLine) (exposure first number : ℕ) (how : QuoteEnd) (own : StandingQuote)
+    → IsTable rows quotes lines exposure first → IsLiveNumber quotes number → own ≡ get_or quotes (number - 1) own
+    → set quotes (number - 1) (record own { end = Some how }) ≡ map (ended_at number how) quotes
+end_live_quotes rows quotes lines exposure first number how own table lives is =
+    let r = is_read rows quotes lines exposure first number own table lives is in
+    ended_quotes rows quotes lines exposure first (number - 1) how own table r.stands r.live ∙ ap (λ (n : ℕ). map (ended_at n how) quotes) (sym r.number_is)
+
+-- the row of a quote's request, written without a change of the request
+pub row_kept : (rows : List RequestRow) (quotes : List StandingQuote) (lines : List QuoteLine) (exposure first number : ℕ) (own : StandingQuote) (row other : RequestRow)
+    → IsTable rows quotes lines exposure first → IsLiveNumber quotes number → own ≡ get_or quotes (number - 1) own
+    → row ≡ get_or rows (own.quote.request - 1) row → other.request ≡ row.request
+    → map (λ (r : RequestRow). r.request) (set rows (own.quote.request - 1) other) ≡ map (λ (r : RequestRow). r.request) rows
+row_kept rows quotes lines exposure first number own row other table lives is row_is same =
+    let r = is_read rows quotes lines exposure first number own table lives is in
+    requests_kept rows (own.quote.request - 1) row other (read_at rows (own.quote.request - 1) row r.row_within row_is) same
+
+dead_end : (b c : Bool) → b ≡ false → (b && c) ≡ false
+dead_end b c e = left_false b c e
+
+-- none before the first droppable place begins to be droppable where one quote ends
+pub none_before : (quotes : List StandingQuote) (place first : ℕ) (after : StandingQuote) → place < length quotes → first ≡ position_or_len is_droppable quotes → is_droppable after ≡ false
+    → (k : ℕ) (y : StandingQuote) → k < first → slice_get (set quotes place after) k ≡ Some y → is_droppable y ≡ false
+none_before quotes place first after within is gone k y below at = elim (set_at quotes place after k y within at) [
+    inl here ↦ ap is_droppable (sym here.1) ∙ gone
+  | inr there ↦ before_place is_droppable quotes k y (subst (λ (n : ℕ). k < n) is below) there.1 ]
+
+pub first_within : (rows : List RequestRow) (quotes : List StandingQuote) (lines : List QuoteLine) (exposure first place : ℕ) (after : StandingQuote)
+    → IsTable rows quotes lines exposure first → first ≤ length (set quotes place after)
+first_within rows quotes lines exposure first place after table =
+    let most = prefix_len-le-length (λ (q : StandingQuote). not (is_droppable q)) quotes in
+    let is = table.first_is in
+    omega (arith, length-set quotes place after)
