@@ -4,7 +4,7 @@ use Rattle.std.specs.List.{list_any, sum_by, position_or_len}
 use Rattle.std.specs.Option.{option_or}
 use Rattle.std.proofs.lemmas.Bool.{eqb-true, eq-eqb}
 use Rattle.std.proofs.lemmas.Bool.Decides.{eqb_tells}
-use Rattle.std.proofs.lemmas.Option.{none-some, same_Some, get_or_from_slice_get, slice_get-get_or}
+use Rattle.std.proofs.lemmas.Option.{none-some, same_Some, get_or_from_slice_get, slice_get-get_or, slice_get-map}
 use Rattle.std.proofs.lemmas.List.{map-set, length-map, get_or-map}
 use Rattle.std.proofs.lemmas.List.Sums.{sum_by-set, prefix_len-le-length}
 use Rattle.std.proofs.lemmas.List.Folds.{list_any_at}
@@ -12,17 +12,18 @@ use Rattle.market_terms.specs.declared.lines.QuoteLine.{QuoteLine}
 use Rattle.market_terms.specs.declared.lines.QuoteState.{QuoteState}
 use Rattle.dealer_desk.specs.DealerFacts.{is_live, is_live_on, is_lifted_on, is_droppable, live_quantity}
 use Rattle.dealer_desk.specs.QuoteLines.{state_of, line_of}
-use Rattle.dealer_desk.specs.BookChanges.{IsSound, IsLiveNumber, ended_at, late_at}
+use Rattle.dealer_desk.specs.BookChanges.{IsSound, IsLiveNumber, ended_at, late_at, closed_on, declined_at, told_at}
 use Rattle.dealer_desk.specs.DealerTable.{IsTable, IsRow, live_number_among}
 use Rattle.dealer_desk.specs.declared.accepted.AcceptedQuote.{AcceptedQuote}
 use Rattle.dealer_desk.specs.declared.standing.StandingRequest.{StandingRequest}
 use Rattle.dealer_desk.specs.declared.standing.StandingQuote.{StandingQuote}
 use Rattle.dealer_desk.specs.declared.standing.QuoteEnd.{QuoteEnd}
 use Rattle.dealer_desk.specs.declared.standing.QuoteEnd.TheVariants as end
+use Rattle.market_terms.specs.declared.closes.Close.{Close}
 use Rattle.market_terms.specs.declared.closes.Close.TheVariants as closes
 use Rattle.dealer_desk.specs.declared.table.RequestRow.{RequestRow}
-use Rattle.dealer_desk.proofs.ListLemmas.{set_at, set_map, set_same, mapped_at, find_none, find_mapped, any_mapped, lone_others, within_from, stands_within, ruled_out, before_place}
-use Rattle.dealer_desk.proofs.SoundLemmas.{sound_mapped}
+use Rattle.dealer_desk.proofs.ListLemmas.{set_at, set_map, set_same, all_fixed, find_stands, fails_where_none, mapped_at, find_none, find_mapped, any_mapped, lone_others, within_from, stands_within, ruled_out, before_place}
+use Rattle.dealer_desk.proofs.SoundLemmas.{sound_mapped, sound_requests, none_live}
 
 -- Changes of one quote.
 
@@ -409,3 +410,193 @@ first_within rows quotes lines exposure first place after table =
     let most = prefix_len-le-length (λ (q : StandingQuote). not (is_droppable q)) quotes in
     let is = table.first_is in
     omega (arith, length-set quotes place after)
+
+pub find_lifted_table : (rows : List RequestRow) (quotes : List StandingQuote) (lines : List QuoteLine) (exposure first number : ℕ)
+    (own : StandingQuote) (row : RequestRow) (line : QuoteLine) (read : StandingQuote) (state : QuoteState) (seen : List StandingQuote) (next : ℕ)
+    → IsTable rows quotes lines exposure first → IsLiveNumber quotes number → own ≡ get_or quotes (number - 1) own
+    → row ≡ get_or rows (own.quote.request - 1) row → line ≡ get_or lines (number - 1) line
+    → read ≡ get_or (set quotes (number - 1) (record own { is_known_lifted = true })) (number - 1) read → state ≡ state_of read
+    → seen ≡ set quotes (number - 1) (record own { is_known_lifted = true }) → next ≡ position_or_len is_droppable seen
+    → IsTable (set rows (own.quote.request - 1) (record row { has_lifted = true })) (set quotes (number - 1) (record own { is_known_lifted = true }))
+      (set lines (number - 1) (record line { state = state })) exposure next
+find_lifted_table rows quotes lines exposure first number own row line read state seen next table lives is row_is line_is read_is state_is seen_is next_is =
+    let r = is_read rows quotes lines exposure first number own table lives is in
+    let after = late_table rows quotes lines exposure first (number - 1) (own.quote.request - 1) own row line table r.stands r.request_is
+      (read_at rows (own.quote.request - 1) row r.row_within row_is) (read_at lines (number - 1) line r.line_within line_is) in
+    let state_same : state ≡ state_of (record own { is_known_lifted = true }) = state_is ∙ ap state_of (read_again quotes (number - 1) (record own { is_known_lifted = true }) read r.within read_is) in
+    subst (λ (s : QuoteState). IsTable (set rows (own.quote.request - 1) (record row { has_lifted = true })) (set quotes (number - 1) (record own { is_known_lifted = true })) (set lines (number - 1) (record line { state = s })) exposure next) (sym state_same)
+      (subst (λ (n : ℕ). IsTable (set rows (own.quote.request - 1) (record row { has_lifted = true })) (set quotes (number - 1) (record own { is_known_lifted = true })) (set lines (number - 1) (record line { state = state_of (record own { is_known_lifted = true }) })) exposure n)
+        (sym (next_is ∙ ap (position_or_len is_droppable) seen_is)) after)
+
+pub find_lifted_quotes : (rows : List RequestRow) (quotes : List StandingQuote) (lines : List QuoteLine) (exposure first number : ℕ) (own : StandingQuote)
+    → IsTable rows quotes lines exposure first → IsLiveNumber quotes number → own ≡ get_or quotes (number - 1) own
+    → set quotes (number - 1) (record own { is_known_lifted = true }) ≡ map (late_at number) quotes
+find_lifted_quotes rows quotes lines exposure first number own table lives is =
+    let r = is_read rows quotes lines exposure first number own table lives is in
+    late_quotes rows quotes lines exposure first (number - 1) own table r.stands ∙ ap (λ (n : ℕ). map (late_at n) quotes) (sym r.number_is)
+
+-- Requests.
+
+-- a row whose request alone changed
+row_same : (quotes : List StandingQuote) (number : ℕ) (row other : RequestRow) → other.live ≡ row.live → other.has_lifted ≡ row.has_lifted → IsRow quotes number row → IsRow quotes number other
+row_same quotes number row other live lifted is = record { live_is = live ∙ is.live_is; lifted_is = lifted ∙ is.lifted_is }
+
+chosen_request : (b : Bool) (x y : StandingRequest) → b ≡ false → cond b x y ≡ y
+chosen_request true x y e = cc
+chosen_request false x y e = refl
+
+first_request : (b : Bool) (x y : StandingRequest) → b ≡ true → cond b x y ≡ x
+first_request true x y e = refl
+first_request false x y e = cc
+
+-- the requests after a change g of the one with a number
+pub requests_changed : (rows : List RequestRow) (quotes : List StandingQuote) (number : ℕ) (row : RequestRow) (after : StandingRequest) (g : StandingRequest → StandingRequest)
+    → IsSound (map (λ (r : RequestRow). r.request) rows) quotes → 1 ≤ number → number ≤ length rows → row ≡ get_or rows (number - 1) row
+    → ((request : StandingRequest) → number ≡ request.number → request ≡ row.request → g request ≡ after)
+    → ((request : StandingRequest) → (number == request.number) ≡ false → g request ≡ request)
+    → map (λ (r : RequestRow). r.request) (set rows (number - 1) (record row { request = after })) ≡ map g (map (λ (r : RequestRow). r.request) rows)
+requests_changed rows quotes number row after g sound first last is here others =
+    let within : number - 1 < length rows = omega arith in
+    let stands : slice_get rows (number - 1) ≡ Some row = read_at rows (number - 1) row within is in
+    let requests = map (λ (r : RequestRow). r.request) rows in
+    let request_stands : slice_get requests (number - 1) ≡ Some row.request = slice_get-map (λ (r : RequestRow). r.request) rows (number - 1) ∙ ap (option_map (λ (r : RequestRow). r.request)) stands in
+    let numbered : row.request.number ≡ (number - 1) + 1 = sound.requests_numbered (number - 1) row.request request_stands in
+    let same : number ≡ row.request.number = omega arith in
+    map-set (λ (r : RequestRow). r.request) rows (number - 1) (record row { request = after })
+    ∙ ap (set requests (number - 1)) (sym (here row.request same refl))
+    ∙ set_map g requests (number - 1) row.request request_stands (λ k y at other. others y (ruled_out (number == y.number) (λ so.
+        let equal : number ≡ y.number = eqb-true number y.number so in
+        let there : y.number ≡ k + 1 = sound.requests_numbered k y at in
+        let e : k ≡ number - 1 = omega arith in other e)))
+
+pub request_table : (rows : List RequestRow) (quotes : List StandingQuote) (lines : List QuoteLine) (exposure first number : ℕ) (row : RequestRow) (after : StandingRequest) (g : StandingRequest → StandingRequest)
+    → IsTable rows quotes lines exposure first → 1 ≤ number → number ≤ length rows → row ≡ get_or rows (number - 1) row
+    → ((request : StandingRequest) → (g request).number ≡ request.number)
+    → map (λ (r : RequestRow). r.request) (set rows (number - 1) (record row { request = after })) ≡ map g (map (λ (r : RequestRow). r.request) rows)
+    → IsTable (set rows (number - 1) (record row { request = after })) quotes lines exposure first
+request_table rows quotes lines exposure first number row after g table least last is keeps changed =
+    let within : number - 1 < length rows = omega arith in
+    let stands : slice_get rows (number - 1) ≡ Some row = read_at rows (number - 1) row within is in
+    record {
+      sound = subst (λ (rs : List StandingRequest). IsSound rs quotes) (sym changed) (sound_requests (map (λ (r : RequestRow). r.request) rows) quotes g keeps table.sound);
+      rows_are = λ k r at. elim (set_at rows (number - 1) (record row { request = after }) k r within at) [
+          inl here ↦ subst (λ (n : ℕ). IsRow quotes (n + 1) r) (sym here.0)
+            (subst (λ (w : RequestRow). IsRow quotes ((number - 1) + 1) w) here.1 (row_same quotes ((number - 1) + 1) row (record row { request = after }) refl refl (table.rows_are (number - 1) row stands)))
+        | inr there ↦ table.rows_are k r there.1 ];
+      lines_are = table.lines_are;
+      exposure_is = table.exposure_is;
+      exposure_fits = table.exposure_fits;
+      first_is = table.first_is;
+      few = table.few;
+    }
+
+number_kept : (b : Bool) (x y : StandingRequest) → x.number ≡ y.number → (cond b x y).number ≡ y.number
+number_kept true x y e = e
+number_kept false x y e = refl
+
+pub declined_keeps : (number : ℕ) (request : StandingRequest) → (declined_at number request).number ≡ request.number
+declined_keeps number request = number_kept (number == request.number) (record request { is_declined = true }) request refl
+
+pub told_keeps : (number : ℕ) (request : StandingRequest) → (told_at number request).number ≡ request.number
+told_keeps number request = number_kept (number == request.number) (record request { is_told = true }) request refl
+
+pub declined_requests : (rows : List RequestRow) (quotes : List StandingQuote) (number : ℕ) (row : RequestRow)
+    → IsSound (map (λ (r : RequestRow). r.request) rows) quotes → 1 ≤ number → number ≤ length rows → row ≡ get_or rows (number - 1) row
+    → map (λ (r : RequestRow). r.request) (set rows (number - 1) (record row { request = record row.request { is_declined = true } })) ≡ map (declined_at number) (map (λ (r : RequestRow). r.request) rows)
+declined_requests rows quotes number row sound first last is =
+    requests_changed rows quotes number row (record row.request { is_declined = true }) (declined_at number) sound first last is
+      (λ request same here. first_request (number == request.number) (record request { is_declined = true }) request (eq-eqb number request.number same) ∙ ap (λ (r : StandingRequest). record r { is_declined = true }) here)
+      (λ request other. chosen_request (number == request.number) (record request { is_declined = true }) request other)
+
+pub told_requests : (rows : List RequestRow) (quotes : List StandingQuote) (number : ℕ) (row : RequestRow)
+    → IsSound (map (λ (r : RequestRow). r.request) rows) quotes → 1 ≤ number → number ≤ length rows → row ≡ get_or rows (number - 1) row
+    → map (λ (r : RequestRow). r.request) (set rows (number - 1) (record row { request = record row.request { is_told = true } })) ≡ map (told_at number) (map (λ (r : RequestRow). r.request) rows)
+told_requests rows quotes number row sound first last is =
+    requests_changed rows quotes number row (record row.request { is_told = true }) (told_at number) sound first last is
+      (λ request same here. first_request (number == request.number) (record request { is_told = true }) request (eq-eqb number request.number same) ∙ ap (λ (r : StandingRequest). record r { is_told = true }) here)
+      (λ request other. chosen_request (number == request.number) (record request { is_told = true }) request other)
+
+-- The closing of a request.
+
+-- what ended already stays
+stays : (was how : Option QuoteEnd) → is_none was ≡ false → option_or was how ≡ was
+stays None how live = cc
+stays (Some by) how live = refl
+
+absurd_test : (c : Bool) → c ≡ true → c ≡ false → true ≡ false
+absurd_test c e h = sym e ∙ h
+
+not_left : (b c : Bool) → c ≡ true → (b && c) ≡ false → b ≡ false
+not_left true c e h = absurd_test c e h
+not_left false c e h = refl
+
+closed_fixed : (b : Bool) (close : Close) (own : StandingQuote) → (b ≡ true → is_live own ≡ false) → cond b (record own { end = option_or own.end (Some (end.Closed close)) }) own ≡ own
+closed_fixed true close own dead = ap (λ (e : Option QuoteEnd). record own { end = e }) (stays own.end (Some (end.Closed close)) (dead refl))
+closed_fixed false close own dead = refl
+
+-- a quote that is not live on a request sees nothing of its closing
+pub closed_others : (number : ℕ) (close : Close) (own : StandingQuote) → is_live_on number own ≡ false → closed_on number close own ≡ own
+closed_others number close own apart = closed_fixed (number == own.quote.request) close own (λ so.
+    let same : number ≡ own.quote.request = eqb-true number own.quote.request so in
+    not_left (is_live own) (own.quote.request == number) (eq-eqb own.quote.request number (sym same)) apart)
+
+pub closed_own : (number : ℕ) (close : Close) (own : StandingQuote) → own.quote.request ≡ number → is_live own ≡ true → closed_on number close own ≡ record own { end = Some (end.Closed close) }
+closed_own number close own same live =
+    chosen_first (number == own.quote.request) (record own { end = option_or own.end (Some (end.Closed close)) }) own (eq-eqb number own.quote.request (sym same))
+    ∙ ap (λ (e : Option QuoteEnd). record own { end = option_or e (Some (end.Closed close)) }) (nothing own.end live)
+
+-- where no quote on it is live
+pub closed_none : (quotes : List StandingQuote) (number : ℕ) (close : Close) → live_number_among quotes number ≡ None → quotes ≡ map (closed_on number close) quotes
+closed_none quotes number close none = sym (all_fixed (closed_on number close) quotes (λ k y at.
+    closed_others number close y (fails_where_none (is_live_on number) quotes (none_live quotes number none) k y at)))
+
+first_holds : (b c : Bool) → (b && c) ≡ true → b ≡ true
+first_holds true c h = refl
+first_holds false c h = h
+
+second_holds : (b c : Bool) → (b && c) ≡ true → c ≡ true
+second_holds true c h = h
+second_holds false c h = cc
+
+-- the live quote on a request, found
+live_found : (requests : List StandingRequest) (quotes : List StandingQuote) (request number : ℕ) → IsSound requests quotes → (found : Option StandingQuote) → find (is_live_on request) quotes ≡ found
+    → option_map (λ (q : StandingQuote). q.quote.number) found ≡ Some number → IsLiveNumber quotes number
+live_found requests quotes request number sound None at is = absurd (none-some number is)
+live_found requests quotes request number sound (Some own) at is =
+    let stands = find_stands (is_live_on request) quotes own at in
+    record {
+      own = own;
+      place = stands.0;
+      number_is = sym (same_Some own.quote.number number is) ∙ sound.quotes_numbered stands.0 own stands.1;
+      stands = stands.1;
+      live = first_holds (is_live own) (own.quote.request == request) stands.2;
+    }
+
+closed_found : (requests : List StandingRequest) (quotes : List StandingQuote) (request number : ℕ) (close : Close) → IsSound requests quotes → (found : Option StandingQuote) → find (is_live_on request) quotes ≡ found
+    → option_map (λ (q : StandingQuote). q.quote.number) found ≡ Some number → map (ended_at number (end.Closed close)) quotes ≡ map (closed_on request close) quotes
+closed_found requests quotes request number close sound None at is = absurd (none-some number is)
+closed_found requests quotes request number close sound (Some own) at is =
+    let stands = find_stands (is_live_on request) quotes own at in
+    let live = first_holds (is_live own) (own.quote.request == request) stands.2 in
+    let on_it : own.quote.request ≡ request = eqb-true own.quote.request request (second_holds (is_live own) (own.quote.request == request) stands.2) in
+    let number_is : number ≡ own.quote.number = sym (same_Some own.quote.number number is) in
+    let place_is : number ≡ stands.0 + 1 = number_is ∙ sound.quotes_numbered stands.0 own stands.1 in
+    sym (ap (set quotes stands.0) (sym (ended_own number (end.Closed close) own number_is live))
+      ∙ set_map (ended_at number (end.Closed close)) quotes stands.0 own stands.1
+        (λ k y there other. chosen (number == y.quote.number) (record y { end = option_or y.end (Some (end.Closed close)) }) y (other_number requests quotes number stands.0 k y sound place_is there other)))
+    ∙ (ap (set quotes stands.0) (sym (closed_own request close own on_it live))
+      ∙ set_map (closed_on request close) quotes stands.0 own stands.1
+        (λ k y there other. closed_others request close y (lone_others (is_live_on request) quotes stands.0 own (sound.lone request) stands.1 stands.2 k y there other)))
+
+-- where one is
+pub live_stands : (requests : List StandingRequest) (quotes : List StandingQuote) (request number : ℕ) → IsSound requests quotes → live_number_among quotes request ≡ Some number → IsLiveNumber quotes number
+live_stands requests quotes request number sound is = live_found requests quotes request number sound (find (is_live_on request) quotes) refl is
+
+pub closed_live : (requests : List StandingRequest) (quotes : List StandingQuote) (request number : ℕ) (close : Close) → IsSound requests quotes → live_number_among quotes request ≡ Some number
+    → map (ended_at number (end.Closed close)) quotes ≡ map (closed_on request close) quotes
+closed_live requests quotes request number close sound is = closed_found requests quotes request number close sound (find (is_live_on request) quotes) refl is
+
+-- a quote that is known to be lifted is not droppable
+pub lifted_stays : (live : Bool) → (live && not true) ≡ false
+lifted_stays true = refl
+lifted_stays false = refl
