@@ -2,15 +2,16 @@
 use Rattle.std.proofs.Common.{◌≡◌, ◌<◌, ◌≤◌, ◌⊎◌, ℕ, zero, suc, ◌+◌, ◌-◌, Bool, true, false, ◌&&◌, ◌||◌, ◌==◌, cond, not, List, [], ◌∷◌, ◌++◌, length, map, set, filter, find, Option, Some, None, is_none, option_map, slice_get, slice_set, slice_index_or, get_or, inl, inr, refl, sym, ap, subst, ◌∙◌, arith, length-set, get_or-set_same}
 use Rattle.std.specs.List.{list_any, sum_by, position_or_len}
 use Rattle.std.specs.Option.{option_or}
+use Rattle.std.proofs.Math.Dec.{eqb}
 use Rattle.std.proofs.lemmas.Bool.{eqb-true, eq-eqb}
 use Rattle.std.proofs.lemmas.Bool.Decides.{eqb_tells}
 use Rattle.std.proofs.lemmas.Option.{none-some, same_Some, get_or_from_slice_get, slice_get-get_or, slice_get-map}
-use Rattle.std.proofs.lemmas.List.{map-set, length-map, get_or-map}
-use Rattle.std.proofs.lemmas.List.Sums.{sum_by-set, prefix_len-le-length}
-use Rattle.std.proofs.lemmas.List.Folds.{list_any_at}
+use Rattle.std.proofs.lemmas.List.{map-set, map-append, length-map, length-append, get_or-map}
+use Rattle.std.proofs.lemmas.List.Sums.{sum_by-set, sum_by_push, prefix_len-le-length}
+use Rattle.std.proofs.lemmas.List.Folds.{list_any_at, list_any-append, find-append, position_or_len_push}
 use Rattle.market_terms.specs.declared.lines.QuoteLine.{QuoteLine}
 use Rattle.market_terms.specs.declared.lines.QuoteState.{QuoteState}
-use Rattle.dealer_desk.specs.DealerFacts.{is_live, is_live_on, is_lifted_on, is_droppable, live_quantity}
+use Rattle.dealer_desk.specs.DealerFacts.{standing_request, standing_quote, is_live, is_live_on, is_lifted_on, is_droppable, live_quantity}
 use Rattle.dealer_desk.specs.QuoteLines.{state_of, line_of}
 use Rattle.dealer_desk.specs.BookChanges.{IsSound, IsLiveNumber, ended_at, late_at, closed_on, declined_at, told_at}
 use Rattle.dealer_desk.specs.DealerTable.{IsTable, IsRow, live_number_among}
@@ -19,11 +20,12 @@ use Rattle.dealer_desk.specs.declared.standing.StandingRequest.{StandingRequest}
 use Rattle.dealer_desk.specs.declared.standing.StandingQuote.{StandingQuote}
 use Rattle.dealer_desk.specs.declared.standing.QuoteEnd.{QuoteEnd}
 use Rattle.dealer_desk.specs.declared.standing.QuoteEnd.TheVariants as end
+use Rattle.market_terms.specs.declared.asks.Ask.{Ask}
 use Rattle.market_terms.specs.declared.closes.Close.{Close}
 use Rattle.market_terms.specs.declared.closes.Close.TheVariants as closes
 use Rattle.dealer_desk.specs.declared.table.RequestRow.{RequestRow}
-use Rattle.dealer_desk.proofs.ListLemmas.{set_at, set_map, set_same, all_fixed, find_stands, fails_where_none, mapped_at, find_none, find_mapped, any_mapped, lone_others, within_from, stands_within, ruled_out, before_place}
-use Rattle.dealer_desk.proofs.SoundLemmas.{sound_mapped, sound_requests, none_live}
+use Rattle.dealer_desk.proofs.ListLemmas.{set_at, set_map, pushed_at, any_none, set_same, all_fixed, find_stands, fails_where_none, mapped_at, find_none, find_mapped, any_mapped, lone_others, within_from, stands_within, ruled_out, before_place}
+use Rattle.dealer_desk.proofs.SoundLemmas.{sound_mapped, sound_requests, sound_shown, sound_quoted, none_live}
 
 -- Changes of one quote.
 
@@ -600,3 +602,107 @@ closed_live requests quotes request number close sound is = closed_found request
 pub lifted_stays : (live : Bool) → (live && not true) ≡ false
 lifted_stays true = refl
 lifted_stays false = refl
+
+-- a row that is read by the number of its request
+pub row_read : (rows : List RequestRow) (quotes : List StandingQuote) (lines : List QuoteLine) (exposure first number : ℕ) (row : RequestRow)
+    → IsTable rows quotes lines exposure first → 1 ≤ number → number ≤ length rows → row ≡ get_or rows (number - 1) row → IsRow quotes number row
+row_read rows quotes lines exposure first number row table least last is =
+    let within : number - 1 < length rows = omega arith in
+    let place : (number - 1) + 1 ≡ number = omega arith in
+    subst (λ (n : ℕ). IsRow quotes n row) place (table.rows_are (number - 1) row (read_at rows (number - 1) row within is))
+
+-- rows of the same requests are as many
+pub as_many_rows : (rows others : List RequestRow) → map (λ (r : RequestRow). r.request) rows ≡ map (λ (r : RequestRow). r.request) others → length rows ≡ length others
+as_many_rows rows others same =
+    sym (length-map rows (λ (r : RequestRow). r.request)) ∙ ap (λ (rs : List StandingRequest). length rs) same ∙ length-map others (λ (r : RequestRow). r.request)
+
+-- A request behind the others.
+pub push_request_table : (rows : List RequestRow) (quotes : List StandingQuote) (lines : List QuoteLine) (exposure first : ℕ) (ask : Ask)
+    → IsTable rows quotes lines exposure first
+    → IsTable (rows ++ record { request = standing_request (length rows + 1) ask []; live = None; has_lifted = false } ∷ []) quotes lines exposure first
+push_request_table rows quotes lines exposure first ask table =
+    let many : length (map (λ (r : RequestRow). r.request) rows) ≡ length rows = length-map rows (λ (r : RequestRow). r.request) in
+    let after : (k : ℕ) (y : StandingQuote) → slice_get quotes k ≡ Some y → (y.quote.request == (length rows + 1)) ≡ false = λ k y at.
+      ruled_out (y.quote.request == (length rows + 1)) (λ so.
+        let same : y.quote.request ≡ length rows + 1 = eqb-true y.quote.request (length rows + 1) so in
+        let last = table.sound.to_last k y at in
+        let never : ⊥ = omega arith in never) in
+    record {
+      sound = subst (λ (rs : List StandingRequest). IsSound rs quotes)
+        (ap (λ (n : ℕ). map (λ (r : RequestRow). r.request) rows ++ standing_request (n + 1) ask [] ∷ []) many
+          ∙ sym (map-append (λ (r : RequestRow). r.request) rows (record { request = standing_request (length rows + 1) ask []; live = None; has_lifted = false } ∷ [])))
+        (sound_shown (map (λ (r : RequestRow). r.request) rows) quotes ask table.sound);
+      rows_are = λ k row at. elim (pushed_at rows (record { request = standing_request (length rows + 1) ask []; live = None; has_lifted = false }) k row at) [
+          inl was ↦ table.rows_are k row was
+        | inr new ↦ subst (λ (w : RequestRow). IsRow quotes (k + 1) w) new.1 (subst (λ (n : ℕ). IsRow quotes (n + 1) (record { request = standing_request (length rows + 1) ask []; live = None; has_lifted = false })) (sym new.0)
+            (record {
+              live_is = sym (ap (option_map (λ (q : StandingQuote). q.quote.number)) (find_none (is_live_on (length rows + 1)) quotes (λ j y there. and_false (is_live y) (y.quote.request == (length rows + 1)) (after j y there))));
+              lifted_is = sym (any_none (is_lifted_on (length rows + 1)) quotes (λ j y there. and_false y.is_known_lifted (y.quote.request == (length rows + 1)) (after j y there)));
+            })) ];
+      lines_are = table.lines_are;
+      exposure_is = table.exposure_is;
+      exposure_fits = table.exposure_fits;
+      first_is = table.first_is;
+      few = table.few;
+    }
+
+-- A quote behind the others.
+
+or_false : (b : Bool) → (b || false) ≡ b
+or_false true = refl
+or_false false = refl
+
+or_none : {A : Type 0} (o : Option A) → option_or o None ≡ o
+or_none None = refl
+or_none (Some x) = refl
+
+-- the row of the request of a quote that was put behind the others
+row_pushed : (quotes : List StandingQuote) (quote : AcceptedQuote) (row : RequestRow) → find (is_live_on quote.request) quotes ≡ None
+    → IsRow quotes quote.request row → IsRow (quotes ++ standing_quote quote [] ∷ []) quote.request (record row { live = Some quote.number })
+row_pushed quotes quote row none was =
+    let here : (quote.request == quote.request) ≡ true = eq-eqb quote.request quote.request refl in
+    record {
+      live_is = sym (ap (option_map (λ (q : StandingQuote). q.quote.number)) (find-append (is_live_on quote.request) quotes (standing_quote quote [] ∷ []) ∙ ap (λ (o : Option StandingQuote). option_or o (find (is_live_on quote.request) (standing_quote quote [] ∷ []))) none
+        ∙ ap (λ (b : Bool). cond b (Some (standing_quote quote [])) None) here));
+      lifted_is = was.lifted_is ∙ sym (list_any-append (is_lifted_on quote.request) quotes (standing_quote quote [] ∷ []) ∙ or_false (list_any (is_lifted_on quote.request) quotes));
+    }
+
+-- the row of another request
+row_beside : (quotes : List StandingQuote) (quote : AcceptedQuote) (number : ℕ) (row : RequestRow) → (quote.request == number) ≡ false
+    → IsRow quotes number row → IsRow (quotes ++ standing_quote quote [] ∷ []) number row
+row_beside quotes quote number row other was = record {
+  live_is = was.live_is ∙ sym (ap (option_map (λ (q : StandingQuote). q.quote.number)) (find-append (is_live_on number) quotes (standing_quote quote [] ∷ [])
+    ∙ ap (λ (b : Bool). option_or (find (is_live_on number) quotes) (cond b (Some (standing_quote quote [])) None)) other ∙ or_none (find (is_live_on number) quotes)));
+  lifted_is = was.lifted_is ∙ sym (list_any-append (is_lifted_on number) quotes (standing_quote quote [] ∷ []) ∙ or_false (list_any (is_lifted_on number) quotes));
+}
+
+first_stays : (b : Bool) (at len : ℕ) → eqb at len ≡ b → cond b (len + 0) at ≡ at
+first_stays true at len e = let same : at ≡ len = eqb-true at len e in omega arith
+first_stays false at len e = refl
+
+pub push_quote_table : (rows : List RequestRow) (quotes : List StandingQuote) (lines : List QuoteLine) (exposure first : ℕ) (quote : AcceptedQuote) (row : RequestRow) (line : QuoteLine)
+    → IsTable rows quotes lines exposure first → quote.number ≡ length quotes + 1 → length quotes < 4294967295
+    → 1 ≤ quote.request → quote.request ≤ length rows → live_number_among quotes quote.request ≡ None → exposure + quote.quantity ≤ 1000000000000000
+    → row ≡ get_or rows (quote.request - 1) row → line ≡ line_of (standing_quote quote [])
+    → IsTable (set rows (quote.request - 1) (record row { live = Some quote.number })) (quotes ++ standing_quote quote [] ∷ []) (lines ++ line ∷ []) (exposure + quote.quantity) first
+push_quote_table rows quotes lines exposure first quote row line table number few least last alone fits row_is line_is =
+    let within : quote.request - 1 < length rows = omega arith in
+    let place : (quote.request - 1) + 1 ≡ quote.request = omega arith in
+    let at_row : slice_get rows (quote.request - 1) ≡ Some row = read_at rows (quote.request - 1) row within row_is in
+    let requests = requests_kept rows (quote.request - 1) row (record row { live = Some quote.number }) at_row refl in
+    let most : quote.request ≤ length (map (λ (r : RequestRow). r.request) rows) = subst (λ (n : ℕ). quote.request ≤ n) (sym (length-map rows (λ (r : RequestRow). r.request))) last in
+    let was : IsRow quotes quote.request row = subst (λ (n : ℕ). IsRow quotes n row) place (table.rows_are (quote.request - 1) row at_row) in
+    record {
+      sound = subst (λ (rs : List StandingRequest). IsSound rs (quotes ++ standing_quote quote [] ∷ [])) (sym requests)
+        (sound_quoted (map (λ (r : RequestRow). r.request) rows) quotes quote number least most alone table.sound);
+      rows_are = λ k r at. elim (set_at rows (quote.request - 1) (record row { live = Some quote.number }) k r within at) [
+          inl here ↦ subst (λ (n : ℕ). IsRow (quotes ++ standing_quote quote [] ∷ []) n r) (sym place ∙ ap (λ (n : ℕ). n + 1) (sym here.0))
+            (subst (λ (w : RequestRow). IsRow (quotes ++ standing_quote quote [] ∷ []) quote.request w) here.1 (row_pushed quotes quote row (none_live quotes quote.request alone) was))
+        | inr there ↦ row_beside quotes quote (k + 1) r (ruled_out (quote.request == (k + 1)) (λ so.
+            let same : quote.request ≡ k + 1 = eqb-true quote.request (k + 1) so in let e : k ≡ quote.request - 1 = omega arith in there.0 e)) (table.rows_are k r there.1) ];
+      lines_are = ap (λ (l : List QuoteLine). l ++ line ∷ []) table.lines_are ∙ ap (λ (l : QuoteLine). map line_of quotes ++ l ∷ []) line_is ∙ sym (map-append line_of quotes (standing_quote quote [] ∷ []));
+      exposure_is = ap (λ (n : ℕ). n + quote.quantity) table.exposure_is ∙ sym (sum_by_push live_quantity quotes (standing_quote quote []));
+      exposure_fits = fits;
+      first_is = table.first_is ∙ sym (position_or_len_push is_droppable quotes (standing_quote quote []) ∙ first_stays (eqb (position_or_len is_droppable quotes) (length quotes)) (position_or_len is_droppable quotes) (length quotes) refl);
+      few = omega (arith, length-append quotes (standing_quote quote [] ∷ []));
+    }
