@@ -706,3 +706,10 @@ push_quote_table rows quotes lines exposure first quote row line table number fe
       first_is = table.first_is ∙ sym (position_or_len_push is_droppable quotes (standing_quote quote []) ∙ first_stays (eqb (position_or_len is_droppable quotes) (length quotes)) (position_or_len is_droppable quotes) (length quotes) refl);
       few = omega (arith, length-append quotes (standing_quote quote [] ∷ []));
     }
+
+-- the requests, after a write of the row of a number that leaves its request as it is
+pub request_row_kept : (rows : List RequestRow) (number : ℕ) (row other : RequestRow) → 1 ≤ number → number ≤ length rows → row ≡ get_or rows (number - 1) row → other.request ≡ row.request
+    → map (λ (r : RequestRow). r.request) (set rows (number - 1) other) ≡ map (λ (r : RequestRow). r.request) rows
+request_row_kept rows number row other least last is same =
+    let within : number - 1 < length rows = omega arith in
+    requests_kept rows (number - 1) row other (read_at rows (number - 1) row within is) same
