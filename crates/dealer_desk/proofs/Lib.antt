@@ -1,3 +1,5 @@
+mod BookLemmas
 mod ListLemmas
+mod MapLemmas
 mod SoundLemmas
 mod TableLemmas

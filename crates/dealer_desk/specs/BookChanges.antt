@@ -2,7 +2,7 @@
 use Rattle.std.specs.Prelude.{◌≡◌, ◌≤◌, ◌<◌, ℕ, ◌+◌, Bool, true, ◌==◌, ◌||◌, List, [], ◌∷◌, ◌++◌, length, filter, map, slice_get, Option, Some, None, if◌then◌else◌}
 use Rattle.std.specs.Option.{option_or}
 use Rattle.market_terms.specs.declared.asks.Ask.{Ask}
-use Rattle.dealer_desk.specs.DealerFacts.{DealerFact, Came, Shown, Quoted, Withdrawn, Late, Dropped, Declined, Told, DealerBook, used_number, is_notice, tells, declines, finds_lifted, ends, standing_request, standing_quote, is_live, is_live_on, quotes_accepted, requests_shown, live_number_on, exposure_beside}
+use Rattle.dealer_desk.specs.DealerFacts.{DealerFact, Came, Shown, Quoted, Withdrawn, Late, Dropped, Declined, Told, DealerBook, used_number, is_notice, tells, declines, finds_lifted, ends, standing_request, standing_quote, is_live, is_live_on, quotes_accepted, requests_shown, quote_with_id, live_number_on, exposure_beside}
 use Rattle.dealer_desk.specs.declared.accepted.AcceptedQuote.{AcceptedQuote}
 use Rattle.dealer_desk.specs.declared.standing.StandingRequest.{StandingRequest}
 use Rattle.dealer_desk.specs.declared.standing.StandingQuote.{StandingQuote}
@@ -83,6 +83,7 @@ pub record IsLiveNumber (quotes : List StandingQuote) (number : ℕ) : Type 0 wh
 -- a quote that can be put into a book, in the place of a live one on its request where there is one
 pub record FitsBook (book : DealerBook) (quote : AcceptedQuote) (replaced : Option ℕ) : Type 0 where
   pub number_is : quote.number ≡ quotes_accepted book + 1
+  pub id_is_new : quote_with_id book quote.id ≡ None
   pub few : quotes_accepted book < 4294967295
   pub from_first : 1 ≤ quote.request
   pub to_last : quote.request ≤ requests_shown book
