@@ -1,4 +1,5 @@
 mod BookLemmas
+mod IndexLemmas
 mod ListLemmas
 mod MapLemmas
 mod SoundLemmas
