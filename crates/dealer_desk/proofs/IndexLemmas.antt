@@ -64,3 +64,9 @@ closed_keeps number close own = closed_by (number == own.quote.request) close ow
 pub unchanged : (quotes : List StandingQuote) → quotes ≡ map (λ (q : StandingQuote). q) quotes
 unchanged [] = refl
 unchanged (quote ∷ quotes) = ap (λ (qs : List StandingQuote). quote ∷ qs) (unchanged quotes)
+
+-- a request's number is within the rows
+pub most_rows : (now : IndexView) (used notices : ℕ) (rows : List RequestRow) (quotes : List StandingQuote) (rooms : List RoomRef) (number : ℕ)
+    → record { book = book_with used notices (requests_in rows) quotes; rooms = rooms } ≡ now → number ≤ length now.book.requests → number ≤ length rows
+most_rows now used notices rows quotes rooms number is last =
+    subst (λ (n : ℕ). number ≤ n) (length-map rows (λ (r : RequestRow). r.request)) (subst (λ (i : IndexView). number ≤ length i.book.requests) (sym is) last)
