@@ -1,20 +1,25 @@
 -- What an index keeps when its table changes.
-use Rattle.std.proofs.Common.{◌≡◌, ◌<◌, ◌≤◌, ℕ, ◌+◌, ◌^◌, ◌==◌, Bool, cond, true, false, List, [], ◌∷◌, ◌++◌, length, map, Option, Some, None, refl, sym, ap, subst, ◌∙◌, arith}
+use Rattle.std.proofs.Common.{◌≡◌, ◌<◌, ◌≤◌, ℕ, ◌+◌, ◌^◌, ◌==◌, Bool, cond, true, false, List, [], ◌∷◌, ◌++◌, length, map, Option, Some, None, option_map, find, slice_get, get_or, ◌-◌, ◌⊎◌, inl, inr, refl, sym, ap, subst, ◌∙◌, arith}
+use Rattle.std.specs.List.{list_any}
+use Rattle.std.proofs.lemmas.Bool.{eqb-true, eq-eqb}
+use Rattle.std.proofs.lemmas.Option.{none-some, same_Some, slice_get-map}
 use Rattle.std.specs.Option.{option_or}
 use Rattle.std.specs.BTreeMap.{BTreeMap}
 use Rattle.std.proofs.lemmas.List.{length-map}
 use Rattle.market_terms.specs.declared.closes.Close.{Close}
 use Rattle.market_terms.specs.declared.lines.QuoteLine.{QuoteLine}
 use Rattle.market_terms.specs.declared.rooms.RoomRef.{RoomRef}
-use Rattle.dealer_desk.specs.DealerFacts.{DealerFact, DealerBook}
-use Rattle.dealer_desk.specs.BookChanges.{book_after, closed_on}
+use Rattle.dealer_desk.specs.DealerFacts.{DealerFact, DealerBook, request_numbered, quote_numbered, live_number_on, live_quote_on, has_lifted_quote, is_live_on, is_lifted_on}
+use Rattle.dealer_desk.specs.BookChanges.{IsSound, book_after, closed_on}
 use Rattle.dealer_desk.specs.DealerTable.{IsIndex, IsIdMap, IsTable, IndexView, with_fact}
 use Rattle.dealer_desk.specs.declared.accepted.AcceptedQuote.{AcceptedQuote}
 use Rattle.dealer_desk.specs.declared.standing.StandingRequest.{StandingRequest}
 use Rattle.dealer_desk.specs.declared.standing.StandingQuote.{StandingQuote}
 use Rattle.dealer_desk.specs.declared.standing.QuoteEnd.TheVariants as end
 use Rattle.dealer_desk.specs.declared.table.RequestRow.{RequestRow}
+use Rattle.dealer_desk.proofs.ListLemmas.{find_unique, find_none, find_stands, within_from, ruled_out}
 use Rattle.dealer_desk.proofs.MapLemmas.{ids_kept}
+use Rattle.dealer_desk.proofs.TableLemmas.{read_at, row_read}
 
 -- the requests of rows
 abbrev pub requests_in : List RequestRow → List StandingRequest
@@ -70,3 +75,97 @@ pub most_rows : (now : IndexView) (used notices : ℕ) (rows : List RequestRow) 
     → record { book = book_with used notices (requests_in rows) quotes; rooms = rooms } ≡ now → number ≤ length now.book.requests → number ≤ length rows
 most_rows now used notices rows quotes rooms number is last =
     subst (λ (n : ℕ). number ≤ n) (length-map rows (λ (r : RequestRow). r.request)) (subst (λ (i : IndexView). number ≤ length i.book.requests) (sym is) last)
+
+-- What the readers of an index find.
+
+-- the one with a number, among those that are numbered from 1
+pub number_found : {A : Type 0} (num : A → ℕ) (xs : List A) (number : ℕ) (x : A) → ((k : ℕ) (y : A) → slice_get xs k ≡ Some y → num y ≡ k + 1)
+    → 1 ≤ number → slice_get xs (number - 1) ≡ Some x → find (λ y. num y == number) xs ≡ Some x
+number_found {A} num xs number x numbered least at =
+    let place : (number - 1) + 1 ≡ number = omega arith in
+    find_unique (λ y. num y == number) xs (number - 1) x at (eq-eqb (num x) number (numbered (number - 1) x at ∙ place))
+      (λ k y there other. ruled_out (num y == number) (λ so.
+        let same : num y ≡ number = eqb-true (num y) number so in
+        let there2 : num y ≡ k + 1 = numbered k y there in
+        let e : k ≡ number - 1 = omega arith in other e))
+
+-- none has a number past them
+pub number_missing : {A : Type 0} (num : A → ℕ) (xs : List A) (number : ℕ) → ((k : ℕ) (y : A) → slice_get xs k ≡ Some y → num y ≡ k + 1)
+    → (number < 1) ⊎ (length xs < number) → find (λ y. num y == number) xs ≡ None
+number_missing {A} num xs number numbered past = find_none (λ y. num y == number) xs (λ k y at. ruled_out (num y == number) (λ so.
+    let same : num y ≡ number = eqb-true (num y) number so in
+    let here : num y ≡ k + 1 = numbered k y at in
+    let within = within_from xs k y at in
+    elim past [ inl few ↦ (let never : ⊥ = omega arith in never) | inr many ↦ (let never : ⊥ = omega arith in never) ]))
+
+-- the request with a number
+pub request_found : (used notices : ℕ) (rows : List RequestRow) (quotes : List StandingQuote) (lines : List QuoteLine) (exposure first number : ℕ) (row : RequestRow)
+    → IsTable rows quotes lines exposure first → 1 ≤ number → number ≤ length rows → row ≡ get_or rows (number - 1) row
+    → request_numbered (book_with used notices (requests_in rows) quotes) number ≡ Some row.request
+unfolding request_numbered
+request_found used notices rows quotes lines exposure first number row table least last is =
+    let within : number - 1 < length rows = omega arith in
+    number_found (λ (r : StandingRequest). r.number) (requests_in rows) number row.request table.sound.requests_numbered least
+      (slice_get-map (λ (r : RequestRow). r.request) rows (number - 1) ∙ ap (option_map (λ (r : RequestRow). r.request)) (read_at rows (number - 1) row within is))
+
+pub request_missing : (used notices : ℕ) (rows : List RequestRow) (quotes : List StandingQuote) (lines : List QuoteLine) (exposure first number : ℕ)
+    → IsTable rows quotes lines exposure first → (number < 1) ⊎ (length rows < number)
+    → request_numbered (book_with used notices (requests_in rows) quotes) number ≡ None
+unfolding request_numbered
+request_missing used notices rows quotes lines exposure first number table past =
+    number_missing (λ (r : StandingRequest). r.number) (requests_in rows) number table.sound.requests_numbered
+      (elim past [ inl few ↦ inl few | inr many ↦ inr (subst (λ (n : ℕ). n < number) (sym (length-map rows (λ (r : RequestRow). r.request))) many) ])
+
+-- the number of the request of the row that was read
+row_number : (rows : List RequestRow) (quotes : List StandingQuote) (lines : List QuoteLine) (exposure first number : ℕ) (row : RequestRow)
+    → IsTable rows quotes lines exposure first → 1 ≤ number → number ≤ length rows → row ≡ get_or rows (number - 1) row → number ≡ row.request.number
+row_number rows quotes lines exposure first number row table least last is =
+    let within : number - 1 < length rows = omega arith in
+    let here : row.request.number ≡ (number - 1) + 1 = table.sound.requests_numbered (number - 1) row.request
+      (slice_get-map (λ (r : RequestRow). r.request) rows (number - 1) ∙ ap (option_map (λ (r : RequestRow). r.request)) (read_at rows (number - 1) row within is)) in
+    omega arith
+
+-- what its row says of its quotes
+pub row_live : (used notices : ℕ) (rows : List RequestRow) (quotes : List StandingQuote) (lines : List QuoteLine) (exposure first number : ℕ) (row : RequestRow)
+    → IsTable rows quotes lines exposure first → 1 ≤ number → number ≤ length rows → row ≡ get_or rows (number - 1) row
+    → row.live ≡ live_number_on (book_with used notices (requests_in rows) quotes) row.request.number
+unfolding live_quote_on
+row_live used notices rows quotes lines exposure first number row table least last is =
+    (row_read rows quotes lines exposure first number row table least last is).live_is
+    ∙ ap (λ (n : ℕ). option_map (λ (q : StandingQuote). q.quote.number) (find (is_live_on n) quotes)) (row_number rows quotes lines exposure first number row table least last is)
+
+pub row_lifted : (used notices : ℕ) (rows : List RequestRow) (quotes : List StandingQuote) (lines : List QuoteLine) (exposure first number : ℕ) (row : RequestRow)
+    → IsTable rows quotes lines exposure first → 1 ≤ number → number ≤ length rows → row ≡ get_or rows (number - 1) row
+    → row.has_lifted ≡ has_lifted_quote (book_with used notices (requests_in rows) quotes) row.request.number
+unfolding has_lifted_quote
+row_lifted used notices rows quotes lines exposure first number row table least last is =
+    (row_read rows quotes lines exposure first number row table least last is).lifted_is
+    ∙ ap (λ (n : ℕ). list_any (is_lifted_on n) quotes) (row_number rows quotes lines exposure first number row table least last is)
+
+-- the quote with a number
+pub quote_found : (used notices : ℕ) (requests : List StandingRequest) (quotes : List StandingQuote) (number : ℕ) (own : StandingQuote)
+    → IsSound requests quotes → 1 ≤ number → number ≤ length quotes → own ≡ get_or quotes (number - 1) own
+    → quote_numbered (book_with used notices requests quotes) number ≡ Some own
+unfolding quote_numbered
+quote_found used notices requests quotes number own sound least last is =
+    let within : number - 1 < length quotes = omega arith in
+    number_found (λ (q : StandingQuote). q.quote.number) quotes number own sound.quotes_numbered least (read_at quotes (number - 1) own within is)
+
+pub quote_missing : (used notices : ℕ) (requests : List StandingRequest) (quotes : List StandingQuote) (number : ℕ)
+    → IsSound requests quotes → (number < 1) ⊎ (length quotes < number) → quote_numbered (book_with used notices requests quotes) number ≡ None
+unfolding quote_numbered
+quote_missing used notices requests quotes number sound past = number_missing (λ (q : StandingQuote). q.quote.number) quotes number sound.quotes_numbered past
+
+-- a quote that was found by a test is that of its number
+pub found_by_number : (used notices : ℕ) (requests : List StandingRequest) (quotes : List StandingQuote) (p : StandingQuote → Bool)
+    → IsSound requests quotes → (found : Option StandingQuote) → find p quotes ≡ found → (number : ℕ) → option_map (λ (q : StandingQuote). q.quote.number) found ≡ Some number
+    → quote_numbered (book_with used notices requests quotes) number ≡ find p quotes
+unfolding quote_numbered
+found_by_number used notices requests quotes p sound None at number is = absurd (none-some number is)
+found_by_number used notices requests quotes p sound (Some own) at number is =
+    let stands = find_stands p quotes own at in
+    let here : own.quote.number ≡ stands.0 + 1 = sound.quotes_numbered stands.0 own stands.1 in
+    let same : own.quote.number ≡ number = same_Some own.quote.number number is in
+    let least : 1 ≤ number = omega arith in
+    let place : number - 1 ≡ stands.0 = omega arith in
+    number_found (λ (q : StandingQuote). q.quote.number) quotes number own sound.quotes_numbered least (ap (slice_get quotes) place ∙ stands.1) ∙ sym at

@@ -160,6 +160,24 @@ module _ {A : Type 0} where
       let rest : length (filter p xs) ≤ 1 = omega arith in
       lone_others p xs place x rest at pass k y there (λ e. other (ap suc e))
 
+  -- the only one that passes is found
+  found_here : (b : Bool) (z x : A) (rest : Option A) → b ≡ true → z ≡ x → cond b (Some z) rest ≡ Some x
+  found_here true z x rest e h = ap Some h
+  found_here false z x rest e h = cc
+
+  found_later : (b : Bool) (z x : A) (rest : Option A) → b ≡ false → rest ≡ Some x → cond b (Some z) rest ≡ Some x
+  found_later true z x rest e h = cc
+  found_later false z x rest e h = h
+
+  pub find_unique : (p : A → Bool) (xs : List A) (place : ℕ) (x : A) → slice_get xs place ≡ Some x → p x ≡ true
+      → ((k : ℕ) (y : A) → slice_get xs k ≡ Some y → (k ≡ place → ⊥) → p y ≡ false) → find p xs ≡ Some x
+  find_unique p [] place x at pass others = absurd (none-some x at)
+  find_unique p (z ∷ xs) zero x at pass others =
+      let same : z ≡ x = same_Some z x at in found_here (p z) z x (find p xs) (ap p same ∙ pass) same
+  find_unique p (z ∷ xs) (suc place) x at pass others =
+      found_later (p z) z x (find p xs) (others zero z refl (λ e. cc))
+        (find_unique p xs place x at pass (λ k y there other. others (suc k) y there (λ e. let g : k ≡ place = cc in other g)))
+
   -- where one at most passes, the one that does is found
   first_found : (b : Bool) (z : A) (rest : Option A) (x : A) → b ≡ false → rest ≡ Some x → cond b (Some z) rest ≡ Some x
   first_found true z rest x e h = cc
