@@ -6,10 +6,13 @@ use Rattle.std.proofs.lemmas.Option.{none-some, same_Some, slice_get-map}
 use Rattle.std.specs.Option.{option_or}
 use Rattle.std.specs.BTreeMap.{BTreeMap}
 use Rattle.std.proofs.lemmas.List.{length-map}
+use Rattle.std.proofs.lemmas.Slice.Eq.{bytes_eq-Decides}
+use Rattle.venue_config.specs.Texts.{same_text}
+use Rattle.quote_messages.specs.Written.{request_name}
 use Rattle.market_terms.specs.declared.closes.Close.{Close}
 use Rattle.market_terms.specs.declared.lines.QuoteLine.{QuoteLine}
 use Rattle.market_terms.specs.declared.rooms.RoomRef.{RoomRef}
-use Rattle.dealer_desk.specs.DealerFacts.{DealerFact, DealerBook, request_numbered, quote_numbered, live_number_on, live_quote_on, has_lifted_quote, is_live_on, is_lifted_on}
+use Rattle.dealer_desk.specs.DealerFacts.{DealerFact, DealerBook, request_named, request_numbered, quote_numbered, live_number_on, live_quote_on, has_lifted_quote, is_live_on, is_lifted_on}
 use Rattle.dealer_desk.specs.BookChanges.{IsSound, book_after, closed_on}
 use Rattle.dealer_desk.specs.DealerTable.{IsIndex, IsIdMap, IsTable, IndexView, with_fact}
 use Rattle.dealer_desk.specs.declared.accepted.AcceptedQuote.{AcceptedQuote}
@@ -17,7 +20,7 @@ use Rattle.dealer_desk.specs.declared.standing.StandingRequest.{StandingRequest}
 use Rattle.dealer_desk.specs.declared.standing.StandingQuote.{StandingQuote}
 use Rattle.dealer_desk.specs.declared.standing.QuoteEnd.TheVariants as end
 use Rattle.dealer_desk.specs.declared.table.RequestRow.{RequestRow}
-use Rattle.dealer_desk.proofs.ListLemmas.{find_unique, find_none, find_stands, within_from, ruled_out}
+use Rattle.dealer_desk.proofs.ListLemmas.{find_unique, fails_where_none, find_none, find_stands, within_from, ruled_out}
 use Rattle.dealer_desk.proofs.MapLemmas.{ids_kept}
 use Rattle.dealer_desk.proofs.TableLemmas.{read_at, row_read}
 
@@ -169,3 +172,58 @@ found_by_number used notices requests quotes p sound (Some own) at number is =
     let least : 1 ≤ number = omega arith in
     let place : number - 1 ≡ stands.0 = omega arith in
     number_found (λ (q : StandingQuote). q.quote.number) quotes number own sound.quotes_numbered least (ap (slice_get quotes) place ∙ stands.1) ∙ sym at
+
+-- The request that a QuoteReqID names.
+
+absurd_bool : {b : Bool} → b ≡ true → b ≡ false → ⊥
+absurd_bool {b} t f = let never : true ≡ false = sym t ∙ f in cc
+
+-- of requests that are numbered from 1 and so few
+pub named_missing : (used notices : ℕ) (rows : List RequestRow) (quotes : List StandingQuote) (name : List ℕ) → IsSound (requests_in rows) quotes → length rows < 2 ^ 64
+    → ((number : ℕ) → number < 2 ^ 64 → request_name number ≡ name → ⊥) → request_named (book_with used notices (requests_in rows) quotes) name ≡ None
+unfolding request_named
+named_missing used notices rows quotes name sound few never =
+    find_none (λ (r : StandingRequest). same_text (request_name r.number) name) (requests_in rows) (λ k y at.
+      ruled_out (same_text (request_name y.number) name) (λ so.
+        let within : k < length (requests_in rows) = within_from (requests_in rows) k y at in
+        let number : y.number ≡ k + 1 = sound.requests_numbered k y at in
+        let many : length (requests_in rows) ≡ length rows = length-map rows (λ (r : RequestRow). r.request) in
+        let fits : y.number < 2 ^ 64 = omega arith in
+        never y.number fits ((bytes_eq-Decides (request_name y.number) name).0 so)))
+
+pub named_found : (used notices : ℕ) (rows : List RequestRow) (quotes : List StandingQuote) (name : List ℕ) (number : ℕ) (request : StandingRequest) → IsSound (requests_in rows) quotes → length rows < 2 ^ 64
+    → same_text (request_name number) name ≡ true → ((other : ℕ) → other < 2 ^ 64 → request_name other ≡ name → Some number ≡ Some other)
+    → request_numbered (book_with used notices (requests_in rows) quotes) number ≡ Some request
+    → request_named (book_with used notices (requests_in rows) quotes) name ≡ Some request
+unfolding request_named request_numbered
+named_found used notices rows quotes name number request sound few known only at =
+    let stands = find_stands (λ (r : StandingRequest). r.number == number) (requests_in rows) request at in
+    let same : request.number ≡ number = eqb-true request.number number stands.2 in
+    let here : request.number ≡ stands.0 + 1 = sound.requests_numbered stands.0 request stands.1 in
+    find_unique (λ (r : StandingRequest). same_text (request_name r.number) name) (requests_in rows) stands.0 request stands.1
+      (ap (λ (n : ℕ). same_text (request_name n) name) same ∙ known)
+      (λ k y there other. ruled_out (same_text (request_name y.number) name) (λ so.
+        let within : k < length (requests_in rows) = within_from (requests_in rows) k y there in
+        let number2 : y.number ≡ k + 1 = sound.requests_numbered k y there in
+        let many : length (requests_in rows) ≡ length rows = length-map rows (λ (r : RequestRow). r.request) in
+        let fits : y.number < 2 ^ 64 = omega arith in
+        let equal : number ≡ y.number = same_Some number y.number (only y.number fits ((bytes_eq-Decides (request_name y.number) name).0 so)) in
+        let e : k ≡ stands.0 = omega arith in other e))
+
+-- a named number that no request has
+pub named_past : (used notices : ℕ) (rows : List RequestRow) (quotes : List StandingQuote) (name : List ℕ) (number : ℕ) → IsSound (requests_in rows) quotes → length rows < 2 ^ 64
+    → ((other : ℕ) → other < 2 ^ 64 → request_name other ≡ name → Some number ≡ Some other)
+    → request_numbered (book_with used notices (requests_in rows) quotes) number ≡ None
+    → request_named (book_with used notices (requests_in rows) quotes) name ≡ None
+unfolding request_named request_numbered
+named_past used notices rows quotes name number sound few only none =
+    find_none (λ (r : StandingRequest). same_text (request_name r.number) name) (requests_in rows) (λ k y at.
+      ruled_out (same_text (request_name y.number) name) (λ so.
+        let within : k < length (requests_in rows) = within_from (requests_in rows) k y at in
+        let number2 : y.number ≡ k + 1 = sound.requests_numbered k y at in
+        let many : length (requests_in rows) ≡ length rows = length-map rows (λ (r : RequestRow). r.request) in
+        let fits : y.number < 2 ^ 64 = omega arith in
+        let equal : number ≡ y.number = same_Some number y.number (only y.number fits ((bytes_eq-Decides (request_name y.number) name).0 so)) in
+        let passes : (y.number == number) ≡ true = eq-eqb y.number number (sym equal) in
+        let fails : (y.number == number) ≡ false = fails_where_none (λ (r : StandingRequest). r.number == number) (requests_in rows) none k y at in
+        absurd_bool passes fails))

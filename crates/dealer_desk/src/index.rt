@@ -1,5 +1,5 @@
 //! What a desk keeps of its day: the book, found again without a walk. It holds no events.
-ghost use Rattle.std.specs.Prelude.{◌≡◌, ◌↔◌, ◌+◌, ◌≤◌, ◌<◌, ◌^◌, ◌∷◌, [], ◌++◌, ℕ, List, true, length, option_map, Some, None, IfSome, OnOk, OnErr, IsTrue};
+ghost use Rattle.std.specs.Prelude.{◌≡◌, ◌+◌, ◌≤◌, ◌<◌, ◌^◌, ◌∷◌, [], ◌++◌, ℕ, List, true, length, option_map, Some, None, IfSome, OnOk, OnErr};
 ghost use Rattle.venue_config.specs.Texts.{same_text};
 ghost use Rattle.quote_messages.specs.Written.{request_name};
 ghost use Rattle.market_terms.specs.declared.rooms.RoomRef.{RoomRef};
@@ -297,18 +297,38 @@ impl DealerIndex {
     }
 }
 
-/// The number that a QuoteReqID (131) writes behind `R`.
+/// The number of which a QuoteReqID (131) is the name: `R` and its digits, without leading zeros.
 fn number_named(name: &[u8]) -> Option<u64>
-    ensures { (number : ℕ) → number < 2 ^ 64 → (Some number ≡ result) ↔ IsTrue (same_text (request_name number) name.now) }
+    ensures known { IfSome result (λ number. same_text (request_name number) name.now ≡ true) }
+    ensures unknown { (number : ℕ) → number < 2 ^ 64 → request_name number ≡ name.now → result ≡ Some number }
 {
-    let (first, digits) = name.split_first()?;
-    if *first != b'R' {
-        return None;
-    }
-    let number = str::from_utf8(digits).ok()?.parse::<u64>().ok()?;
-    let mut buffer = Buffer::new();
-    if buffer.format(number).as_bytes() != digits {
+    let number = number_behind(name)?;
+    if !is_request_name(name, number) {
         return None;
     }
     Some(number)
+}
+
+/// The number that stands behind the first character of a QuoteReqID (131), however it is spelled.
+fn number_behind(name: &[u8]) -> Option<u64>
+    ensures { (number : ℕ) → number < 2 ^ 64 → request_name number ≡ name.now → result ≡ Some number }
+{
+    let (_, digits) = name.split_first()?;
+    let text = str::from_utf8(digits).ok()?;
+    text.parse().ok()
+}
+
+/// Whether a QuoteReqID (131) is `R` and this number.
+fn is_request_name(name: &[u8], number: u64) -> bool
+    ensures { result ≡ same_text (request_name number) name.now }
+{
+    let mut buffer = Buffer::new();
+    let digits = buffer.format(number).as_bytes();
+    let Some((first, rest)) = name.split_first() else {
+        return false;
+    };
+    if *first != b'R' {
+        return false;
+    }
+    digits == rest
 }
