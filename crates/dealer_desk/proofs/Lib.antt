@@ -1,6 +1,11 @@
 mod BookLemmas
+mod BookPush
+mod DeskLemmas
 mod IndexLemmas
 mod ListLemmas
 mod MapLemmas
 mod SoundLemmas
+mod StandLemmas
 mod TableLemmas
+mod VerdictLemmas
+mod WordLemmas

@@ -7,6 +7,7 @@ mod cancels;
 mod desks;
 mod events;
 mod index;
+mod laws;
 mod outcomes;
 mod pending;
 mod rules;

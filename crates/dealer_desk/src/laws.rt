@@ -1,0 +1,46 @@
+//! Laws over the definitions of a desk, each the contract of a function that does nothing.
+ghost use Rattle.std.specs.Prelude.{◌≡◌, ◌≤◌, ℕ, List, [], ◌∷◌, ◌++◌, Option, None, length, filter};
+ghost use Rattle.venue_config.specs.declared.dealer_rows.DealerRow.{DealerRow};
+ghost use Rattle.quote_word.specs.declared.settled.Settled.{Settled};
+ghost use Rattle.dealer_desk.specs.declared.events.DealerEvent.{DealerEvent};
+ghost use Rattle.dealer_desk.specs.declared.events.DealerEvent.TheVariants as event;
+ghost use Rattle.dealer_desk.specs.DealerFacts.{DealerBook, book_of, exposure_of, is_live_on, number_to_drop, quotes_accepted};
+ghost use Rattle.dealer_desk.specs.DealerRules.{dealer_verdict};
+ghost use Rattle.dealer_desk.specs.DealerOutput.{desk_after, event_facts, answered_words, asked_by, word_asked};
+
+/// The facts after one event more are those before it, and behind them what this event adds: a function of the book as
+/// it stood, of the day and of the dealer's row.
+pub fn facts_after_one_event_more()
+    ensures { (date : List ℕ) (row : DealerRow) (events : List DealerEvent) (more : DealerEvent)
+        → (desk_after date row (events ++ more ∷ [])).facts
+            ≡ (desk_after date row events).facts ++ event_facts date row (book_of (desk_after date row events).facts) more }
+{}
+
+/// The words that were asked stand in the facts, each with its answer: one event more adds the word that it asks, if it
+/// asks one, and changes none of those before it.
+pub fn words_are_asked_event_by_event()
+    ensures { (date : List ℕ) (row : DealerRow) (events : List DealerEvent) (more : DealerEvent)
+        → answered_words (desk_after date row (events ++ more ∷ [])).facts
+            ≡ answered_words (desk_after date row events).facts ++ asked_by date row (book_of (desk_after date row events).facts) more }
+{}
+
+/// An answer that comes where no word is asked changes no fact.
+pub fn an_answer_unasked_changes_nothing()
+    ensures own { (date : List ℕ) (row : DealerRow) (book : DealerBook) (moment : ℕ) (bytes : List ℕ) (answer : Option Settled)
+        → word_asked (dealer_verdict date row book moment bytes) ≡ None
+        → event_facts date row book (event.Own moment bytes answer) ≡ event_facts date row book (event.Own moment bytes None) }
+    ensures drop { (date : List ℕ) (row : DealerRow) (book : DealerBook) (last : ℕ) (moment : ℕ) (answer : Option Settled)
+        → number_to_drop book last ≡ None
+        → event_facts date row book (event.Drop last moment answer) ≡ event_facts date row book (event.Drop last moment None) }
+{}
+
+/// Of a dealer's quotes on one request at most one is live, and the limits of the dealer's row are kept: no more quotes
+/// than it may have in a day, and no more exposure.
+pub fn limits_are_kept()
+    ensures lone { (date : List ℕ) (row : DealerRow) (events : List DealerEvent) (request : ℕ)
+        → length (filter (is_live_on request) (book_of (desk_after date row events).facts).quotes) ≤ 1 }
+    ensures quotes { (date : List ℕ) (row : DealerRow) (events : List DealerEvent)
+        → quotes_accepted (book_of (desk_after date row events).facts) ≤ row.quotes }
+    ensures exposure { (date : List ℕ) (row : DealerRow) (events : List DealerEvent)
+        → exposure_of (book_of (desk_after date row events).facts) ≤ row.exposure }
+{}
