@@ -1,7 +1,9 @@
 mod BookLemmas
 mod BookPush
 mod DeskLemmas
+mod DutyLemmas
 mod IndexLemmas
+mod KeptLemmas
 mod ListLemmas
 mod MapLemmas
 mod SoundLemmas

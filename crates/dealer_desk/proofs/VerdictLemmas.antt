@@ -199,7 +199,7 @@ lawful_note row book other answer stands holds = tt
 
 -- The quote whose word is asked is one of the day's.
 
-live_within : (row : DealerRow) (requests : List StandingRequest) (quotes : List StandingQuote) (number : ℕ) → Stands row requests quotes → IsLiveNumber quotes number → (1 ≤ number) × (number ≤ row.quotes)
+pub live_within : (row : DealerRow) (requests : List StandingRequest) (quotes : List StandingQuote) (number : ℕ) → Stands row requests quotes → IsLiveNumber quotes number → (1 ≤ number) × (number ≤ row.quotes)
 live_within row requests quotes number stands live =
     let inside : live.place < length quotes = within_from quotes live.place live.own live.stands in
     let is : number ≡ live.place + 1 = live.number_is in

@@ -108,10 +108,10 @@ impl DealerDesk {
         verdict: DealerVerdict<'_>,
         answer: Option<Settled>,
     ) -> Result<Option<Duty>, Memory>
-        requires judged { verdict.entry ≡ verdict_at self.old moment bytes.now }
-        requires answered { is_some answer ≡ is_some (word_asked verdict.entry) }
+        requires judged { verdict ≡ verdict_at self.old moment bytes.now }
+        requires answered { is_some answer ≡ is_some (word_asked verdict) }
         ensures ok { OnOk result (self.new ≡ with_event self.old (DealerEvent.Own moment bytes.now answer)) }
-        ensures duty { IfOk result (λ duty. duty ≡ verdict_duty (rooms_at self.old) moment verdict.entry answer) }
+        ensures duty { IfOk result (λ duty. duty ≡ verdict_duty (rooms_at self.old) moment verdict answer) }
         ensures err { OnErr result (self.new ≡ self.old) }
     {
         let message = Message::copy_of(self.alloc, bytes)?;

@@ -1,12 +1,13 @@
 //! Laws over the definitions of a desk, each the contract of a function that does nothing.
-ghost use Rattle.std.specs.Prelude.{◌≡◌, ◌≤◌, ℕ, List, [], ◌∷◌, ◌++◌, Option, None, length, filter};
+ghost use Rattle.std.specs.Prelude.{◌≡◌, ◌≤◌, ℕ, true, List, [], ◌∷◌, ◌++◌, Option, None, is_some, IfSome, length, filter};
 ghost use Rattle.venue_config.specs.declared.dealer_rows.DealerRow.{DealerRow};
 ghost use Rattle.quote_word.specs.declared.settled.Settled.{Settled};
 ghost use Rattle.dealer_desk.specs.declared.events.DealerEvent.{DealerEvent};
 ghost use Rattle.dealer_desk.specs.declared.events.DealerEvent.TheVariants as event;
-ghost use Rattle.dealer_desk.specs.DealerFacts.{DealerBook, book_of, exposure_of, is_live_on, number_to_drop, quotes_accepted};
+ghost use Rattle.dealer_desk.specs.DealerFacts.{DealerBook, book_of, exposure_of, is_live_on, number_to_drop, quote_to_drop, quotes_accepted};
 ghost use Rattle.dealer_desk.specs.DealerRules.{dealer_verdict};
-ghost use Rattle.dealer_desk.specs.DealerOutput.{desk_after, event_facts, answered_words, asked_by, word_asked};
+ghost use Rattle.dealer_desk.specs.DealerOutput.{DeskEvents, desk_after, event_facts, answered_words, asked_by, word_asked, book_at, rooms_at, verdict_at, room_of, verdict_duty, unpost_dropped};
+ghost use Rattle.dealer_desk.specs.DeskLaws.{IsOfDay, request_meant};
 
 /// The facts after one event more are those before it, and behind them what this event adds: a function of the book as
 /// it stood, of the day and of the dealer's row.
@@ -43,4 +44,17 @@ pub fn limits_are_kept()
         → quotes_accepted (book_of (desk_after date row events).facts) ≤ row.quotes }
     ensures exposure { (date : List ℕ) (row : DealerRow) (events : List DealerEvent)
         → exposure_of (book_of (desk_after date row events).facts) ≤ row.exposure }
+{}
+
+/// What a message or a drop leaves to be done names a quote of the day, from 1 to the quotes of the dealer's row, and the
+/// request of an accepted quote, cancel or decline and of a dropped quote has a room: so the duty is there.
+pub fn what_is_left_is_of_the_day()
+    ensures message { (desk : DeskEvents) (moment : ℕ) (bytes : List ℕ) (answer : Option Settled)
+        → IfSome (verdict_duty (rooms_at desk) moment (verdict_at desk moment bytes) answer) (IsOfDay desk.row) }
+    ensures room { (desk : DeskEvents) (moment : ℕ) (bytes : List ℕ)
+        → IfSome (request_meant (verdict_at desk moment bytes)) (λ request. is_some (room_of (rooms_at desk) request) ≡ true) }
+    ensures drop { (desk : DeskEvents) (last : ℕ) (moment : ℕ) (answer : Option Settled)
+        → IfSome (unpost_dropped (rooms_at desk) moment answer (quote_to_drop (book_at desk) last)) (IsOfDay desk.row) }
+    ensures drop_room { (desk : DeskEvents) (last : ℕ)
+        → IfSome (quote_to_drop (book_at desk) last) (λ own. is_some (room_of (rooms_at desk) own.quote.request) ≡ true) }
 {}
