@@ -240,9 +240,7 @@ desk_sound date row events =
     stood_events date row no_facts events 0 0 (length events) (length (rooms_of events)) many as_many
       (record { stands = stands_empty row; counts = omega arith; as_many = omega arith })
 
--- so the limits are kept
-pub limits_stand : ((date : List ℕ) (row : DealerRow) (events : List DealerEvent) (request : ℕ) → length (filter (is_live_on request) (book_of (desk_after date row events).facts).quotes) ≤ 1)
-    × ((date : List ℕ) (row : DealerRow) (events : List DealerEvent) → quotes_accepted (book_of (desk_after date row events).facts) ≤ row.quotes)
-    × ((date : List ℕ) (row : DealerRow) (events : List DealerEvent) → exposure_of (book_of (desk_after date row events).facts) ≤ row.exposure)
+-- so the exposure is within the limit of the row
+pub within_limit : (date : List ℕ) (row : DealerRow) (events : List DealerEvent) → exposure_of (book_of (desk_after date row events).facts) ≤ row.exposure
 unfolding exposure_of
-limits_stand = ((λ date row events request. (desk_sound date row events).stands.sound.lone request), (λ date row events. (desk_sound date row events).stands.few), (λ date row events. (desk_sound date row events).stands.within))
+within_limit date row events = (desk_sound date row events).stands.within
