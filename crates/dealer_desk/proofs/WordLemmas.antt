@@ -1,12 +1,13 @@
 -- The words that were asked, event by event.
-use Rattle.std.proofs.Common.{◌≡◌, ℕ, Bool, true, false, cond, List, [], ◌∷◌, ◌++◌, Option, Some, None, is_some, refl, sym, ap, ◌∙◌}
-use Rattle.std.specs.List.{filter_map}
+use Rattle.std.proofs.Common.{◌≡◌, ℕ, Bool, true, false, ◌||◌, ◌==◌, cond, List, [], ◌∷◌, ◌++◌, Option, Some, None, is_some, refl, sym, ap, ◌∙◌}
+use Rattle.std.specs.List.{filter_map, list_any}
 use Rattle.std.proofs.lemmas.List.Elements.{filter_map-append}
 use Rattle.venue_config.specs.declared.dealer_rows.DealerRow.{DealerRow}
 use Rattle.market_terms.specs.declared.closes.Close.{Close}
 use Rattle.quote_word.specs.declared.settled.Settled.{Settled}
 use Rattle.quote_word.specs.declared.settled.Settled.TheVariants as settled
-use Rattle.dealer_desk.specs.DealerFacts.{DealerFact, Came, Told, Dropped, DealerBook, book_of, number_to_drop}
+use Rattle.dealer_desk.specs.DealerFacts.{DealerFact, Came, Withdrawn, Late, Told, Dropped, DealerBook, book_of, number_to_drop, finds_lifted}
+use Rattle.dealer_desk.specs.DeskLaws.{withdraws, says_lifted, says_withdrawn}
 use Rattle.dealer_desk.specs.DealerRules.{dealer_verdict}
 use Rattle.dealer_desk.specs.DealerOutput.{desk_after, event_facts, verdict_facts, settled_facts, uses_number, came, closable, answered_word, answered_words, asked_word, asked_by, word_asked}
 use Rattle.dealer_desk.specs.declared.standing.Withdrawal.{Withdrawal}
@@ -78,3 +79,17 @@ pub unasked_drop : (date : List ℕ) (row : DealerRow) (book : DealerBook) (last
 unfolding event_facts
 unasked_drop date row book last moment answer none =
     ap (λ (facts : List DealerFact). Dropped last moment ∷ facts) (unasked_settled (number_to_drop book last) by.Cancel answer none)
+
+-- The facts and the words that were asked say the same of a quote.
+
+pub lifted_words : (facts : List DealerFact) (number : ℕ) → list_any (finds_lifted number) facts ≡ list_any (says_lifted number) (answered_words facts)
+lifted_words [] number = refl
+lifted_words (Late quote ∷ facts) number = ap (λ (b : Bool). (quote == number) || b) (lifted_words facts number)
+lifted_words (Withdrawn quote how ∷ facts) number = lifted_words facts number
+lifted_words (fact ∷ facts) number = lifted_words facts number
+
+pub withdrawn_words : (facts : List DealerFact) (number : ℕ) → list_any (withdraws number) facts ≡ list_any (says_withdrawn number) (answered_words facts)
+withdrawn_words [] number = refl
+withdrawn_words (Withdrawn quote how ∷ facts) number = ap (λ (b : Bool). (quote == number) || b) (withdrawn_words facts number)
+withdrawn_words (Late quote ∷ facts) number = withdrawn_words facts number
+withdrawn_words (fact ∷ facts) number = withdrawn_words facts number

@@ -4,10 +4,11 @@ ghost use Rattle.venue_config.specs.declared.dealer_rows.DealerRow.{DealerRow};
 ghost use Rattle.quote_word.specs.declared.settled.Settled.{Settled};
 ghost use Rattle.dealer_desk.specs.declared.events.DealerEvent.{DealerEvent};
 ghost use Rattle.dealer_desk.specs.declared.events.DealerEvent.TheVariants as event;
-ghost use Rattle.dealer_desk.specs.DealerFacts.{DealerBook, book_of, exposure_of, is_live_on, number_to_drop, quote_to_drop, quotes_accepted};
+ghost use Rattle.dealer_desk.specs.DealerFacts.{DealerBook, DealerFact, book_of, exposure_of, finds_lifted, is_live_on, number_to_drop, quote_to_drop, quotes_accepted};
 ghost use Rattle.dealer_desk.specs.DealerRules.{dealer_verdict};
 ghost use Rattle.dealer_desk.specs.DealerOutput.{DeskEvents, desk_after, event_facts, answered_words, asked_by, word_asked, book_at, rooms_at, verdict_at, room_of, verdict_duty, unpost_dropped};
-ghost use Rattle.dealer_desk.specs.DeskLaws.{IsOfDay, request_meant};
+ghost use Rattle.dealer_desk.specs.DeskLaws.{IsOfDay, request_meant, says_lifted, says_withdrawn, withdraws};
+ghost use Rattle.std.specs.List.{list_any};
 
 /// The facts after one event more are those before it, and behind them what this event adds: a function of the book as
 /// it stood, of the day and of the dealer's row.
@@ -23,6 +24,14 @@ pub fn words_are_asked_event_by_event()
     ensures { (date : List ℕ) (row : DealerRow) (events : List DealerEvent) (more : DealerEvent)
         → answered_words (desk_after date row (events ++ more ∷ [])).facts
             ≡ answered_words (desk_after date row events).facts ++ asked_by date row (book_of (desk_after date row events).facts) more }
+{}
+
+/// A quote is late or withdrawn in the facts exactly where its word was asked and answered so.
+pub fn facts_say_how_words_were_answered()
+    ensures late { (facts : List DealerFact) (quote : ℕ)
+        → list_any (finds_lifted quote) facts ≡ list_any (says_lifted quote) (answered_words facts) }
+    ensures withdrawn { (facts : List DealerFact) (quote : ℕ)
+        → list_any (withdraws quote) facts ≡ list_any (says_withdrawn quote) (answered_words facts) }
 {}
 
 /// An answer that comes where no word is asked changes no fact.
