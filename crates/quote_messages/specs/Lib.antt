@@ -3,6 +3,8 @@ pub mod Codes
 pub mod PartyGroup
 pub mod SessionChecks
 pub mod SessionLines
+pub mod Slots
+pub mod TagReading
 pub mod Texts
 pub mod ValueForms
 pub mod Written

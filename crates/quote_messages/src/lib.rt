@@ -53,6 +53,7 @@ mod reject_reasons;
 mod requests;
 mod sent_messages;
 mod session_faults;
+mod slots;
 
 pub use arrivals::Arrival;
 pub use market_terms::{
