@@ -1,8 +1,8 @@
 -- What an index keeps when its table changes.
-use Rattle.std.proofs.Common.{◌≡◌, ◌<◌, ◌≤◌, ℕ, zero, suc, ◌+◌, ◌^◌, ◌==◌, Bool, cond, true, false, ◌&&◌, not, nat_le, is_some, List, [], ◌∷◌, ◌++◌, length, map, Option, Some, None, option_map, find, slice_get, get_or, ◌-◌, ◌⊎◌, inl, inr, refl, sym, ap, subst, ◌∙◌, arith}
+use Rattle.std.proofs.Common.{◌≡◌, ◌<◌, ◌≤◌, ℕ, zero, suc, ◌+◌, ◌^◌, ◌==◌, Bool, cond, true, false, ◌&&◌, not, nat_le, nat_lt, is_some, List, [], ◌∷◌, ◌++◌, length, map, Option, Some, None, option_map, find, slice_get, get_or, ◌-◌, ◌⊎◌, inl, inr, refl, sym, ap, subst, ◌∙◌, arith}
 use Rattle.std.specs.List.{list_any, sum_by, position_or_len}
 use Rattle.std.proofs.lemmas.Bool.{eqb-true, eq-eqb}
-use Rattle.std.proofs.lemmas.Option.{none-some, same_Some, slice_get-map, get_or_from_slice_get}
+use Rattle.std.proofs.lemmas.Option.{none-some, same_Some, slice_get-map, slice_get_past, get_or_from_slice_get}
 use Rattle.std.specs.Option.{option_or}
 use Rattle.std.specs.BTreeMap.{BTreeMap, get}
 use Rattle.std.specs.Cmp.Lexicographic.{slice_cmp}
@@ -388,3 +388,15 @@ beside_standing used notices rows quotes lines exposure first number own table a
     let sum = beside_live (requests_in rows) quotes number place.0 own table.sound place.2 place.1 (ap not stands) in
     let is = table.exposure_is in
     (omega arith, omega arith)
+
+-- What a look at a place of a list finds.
+
+pub stands_looked : {A : Type 0} (xs seen : List A) (i : ℕ) (x : A) → seen ≡ xs → true ≡ nat_lt i (length seen) → x ≡ get_or seen i x → slice_get xs i ≡ Some x
+stands_looked xs seen i x same within is =
+    let inside : i < length seen = grind (arith, nat_tests) in
+    ap (λ ys. slice_get ys i) (sym same) ∙ read_at seen i x inside is
+
+pub nothing_looked : {A : Type 0} (xs seen : List A) (i : ℕ) → seen ≡ xs → false ≡ nat_lt i (length seen) → slice_get xs i ≡ None
+nothing_looked xs seen i same past =
+    let outside : length seen ≤ i = grind (arith, nat_tests) in
+    ap (λ ys. slice_get ys i) (sym same) ∙ slice_get_past seen i outside
