@@ -1,5 +1,5 @@
 //! What a desk keeps of its day: the book, found again without a walk. It holds no events.
-ghost use Rattle.std.specs.Prelude.{◌≡◌, ◌↔◌, ◌+◌, ◌≤◌, ◌<◌, ◌^◌, ◌∷◌, [], ◌++◌, ℕ, List, true, length, option_map, Some, None, IfSome, OnOk, OnErr, IsTrue};
+ghost use Rattle.std.specs.Prelude.{◌≡◌, ◌+◌, ◌≤◌, ◌<◌, ◌^◌, ◌∷◌, [], ◌++◌, ℕ, List, true, length, option_map, Some, None, IfSome, OnOk, OnErr, if◌then◌else◌};
 ghost use Rattle.venue_config.specs.Texts.{same_text};
 ghost use Rattle.quote_messages.specs.Written.{request_name};
 ghost use Rattle.market_terms.specs.declared.rooms.RoomRef.{RoomRef};
@@ -7,7 +7,9 @@ ghost use Rattle.dealer_desk.specs.DealerFacts as facts;
 ghost use Rattle.dealer_desk.specs.DealerOutput as output;
 ghost use Rattle.dealer_desk.specs.QuoteLines.{lines_of};
 ghost use Rattle.dealer_desk.specs.BookChanges.{IsLiveNumber, FitsBook, book_after};
-ghost use Rattle.dealer_desk.specs.DealerTable.{with_fact, with_request};
+ghost use Rattle.dealer_desk.specs.DealerTable.{with_fact, with_request, room_cmp};
+ghost use Rattle.std.specs.BTreeMap.{get};
+ghost use Rattle.std.specs.Option.{option_or};
 ghost use Rattle.dealer_desk.specs.declared.standing.Withdrawal.TheVariants as by;
 
 use crate::table::{RequestRow, Table, is_droppable};
@@ -145,7 +147,8 @@ impl DealerIndex {
         ensures { option_map (λ own. own.now) result ≡ facts.live_quote_on self.now.book request }
     {
         let row = self.request_numbered(request)?;
-        let own = self.quote_numbered(row.live?)?;
+        let number = row.live?;
+        let own = self.quote_numbered(number)?;
         Some(own)
     }
 
@@ -222,9 +225,7 @@ impl DealerIndex {
         self.table.rows.reserve(1)?;
         self.rooms.reserve(1)?;
         let number = self.table.rows.len() as u64 + 1;
-        if self.by_room.get(&room).is_none() {
-            self.by_room.insert(room, number)?;
-        }
+        put_first(&mut self.by_room, room, number)?;
         self.table.push_request(ask)?;
         self.rooms.push(room)?;
         Ok(())
@@ -297,18 +298,54 @@ impl DealerIndex {
     }
 }
 
-/// The number that a QuoteReqID (131) writes behind `R`.
-fn number_named(name: &[u8]) -> Option<u64>
-    ensures { (number : ℕ) → number < 2 ^ 64 → (Some number ≡ result) ↔ IsTrue (same_text (request_name number) name.now) }
+/// Gives a room this number, unless it has one already. After an error the map is as before.
+fn put_first(
+    by_room: &mut BTreeMap<RoomRef, u64>,
+    room: RoomRef,
+    number: u64,
+) -> Result<(), Memory>
+    ensures ok { OnOk result ((q : RoomRef) → get room_cmp by_room.new q ≡ option_or (get room_cmp by_room.old q) (if output.is_same_room room q then Some number else None)) }
+    ensures err { OnErr result ((q : RoomRef) → get room_cmp by_room.new q ≡ get room_cmp by_room.old q) }
 {
-    let (first, digits) = name.split_first()?;
-    if *first != b'R' {
-        return None;
+    if by_room.get(&room).is_some() {
+        return Ok(());
     }
-    let number = str::from_utf8(digits).ok()?.parse::<u64>().ok()?;
-    let mut buffer = Buffer::new();
-    if buffer.format(number).as_bytes() != digits {
+    by_room.insert(room, number)?;
+    Ok(())
+}
+
+/// The number of which a QuoteReqID (131) is the name: `R` and its digits, without leading zeros.
+fn number_named(name: &[u8]) -> Option<u64>
+    ensures known { IfSome result (λ number. same_text (request_name number) name.now ≡ true) }
+    ensures unknown { (number : ℕ) → number < 2 ^ 64 → request_name number ≡ name.now → result ≡ Some number }
+{
+    let number = number_behind(name)?;
+    if !is_request_name(name, number) {
         return None;
     }
     Some(number)
+}
+
+/// The number that stands behind the first character of a QuoteReqID (131), however it is spelled.
+fn number_behind(name: &[u8]) -> Option<u64>
+    ensures { (number : ℕ) → number < 2 ^ 64 → request_name number ≡ name.now → result ≡ Some number }
+{
+    let (_, digits) = name.split_first()?;
+    let text = str::from_utf8(digits).ok()?;
+    text.parse().ok()
+}
+
+/// Whether a QuoteReqID (131) is `R` and this number.
+fn is_request_name(name: &[u8], number: u64) -> bool
+    ensures { result ≡ same_text (request_name number) name.now }
+{
+    let mut buffer = Buffer::new();
+    let digits = buffer.format(number).as_bytes();
+    let Some((first, rest)) = name.split_first() else {
+        return false;
+    };
+    if *first != b'R' {
+        return false;
+    }
+    digits == rest
 }

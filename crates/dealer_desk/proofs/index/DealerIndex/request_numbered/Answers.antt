@@ -1,27 +1,46 @@
-use Rattle.std.proofs.Common.{rules, ◌≡◌, ◌↔◌, ◌+◌, ◌≤◌, ◌<◌, ◌^◌, ◌∷◌, [], ◌++◌, ℕ, List, true, length, option_map, Some, None, IfSome, OnOk, OnErr, IsTrue, ◌-◌, ◌*◌, ◌/◌, ◌%◌, Bool, false, nat_eq, nat_lt, slice_index_or, slice_set, bit_and, bit_or, Fits, w8, w32, w64, Bor, MutBor}
-use Rattle.venue_config.specs.Texts.{same_text}
-use Rattle.quote_messages.specs.Written.{request_name}
-use Rattle.market_terms.specs.declared.rooms.RoomRef.{RoomRef}
-use Rattle.dealer_desk.specs.DealerFacts as facts
-use Rattle.dealer_desk.specs.DealerOutput as output
-use Rattle.dealer_desk.specs.QuoteLines.{lines_of}
-use Rattle.dealer_desk.specs.BookChanges.{IsLiveNumber, FitsBook, book_after}
-use Rattle.dealer_desk.specs.DealerTable.{with_fact, with_request}
-use Rattle.dealer_desk.specs.declared.standing.Withdrawal.TheVariants as by
+use Rattle.std.proofs.Common.{rules, ◌≡◌, ◌<◌, ◌≤◌, ℕ, length, Some, None, inl, inr, sym, subst, ◌∙◌, arith}
+use Rattle.dealer_desk.specs.DealerFacts.{request_numbered, live_number_on, has_lifted_quote}
+use Rattle.dealer_desk.specs.DealerTable.{IndexView}
+use Rattle.dealer_desk.proofs.IndexLemmas.{requests_in, request_found, request_missing, row_live, row_lifted}
 use Rattle.dealer_desk.proofs.index.DealerIndex.request_numbered.Goals as goal
+use Rattle.dealer_desk.proofs.index.DealerIndex.request_numbered.Goals.{then-number-lt1-via-then-number-lt1, then-number-lt1-via-else-number-lt1+then-number-len}
 
--- src/index.rt:108:13
 pub returns-then-number-lt1-clause-request : goal.returns-then-number-lt1-clause-request
-returns-then-number-lt1-clause-request c = ?
+returns-then-number-lt1-clause-request c =
+    let i = c.self.inside in
+    let t = i.table in
+    subst (λ (v : IndexView). None ≡ request_numbered v.book c.args.number) c.self.view_is
+      (sym (request_missing i.used i.notices t.rows.items t.quotes.items t.lines.items t.exposure t.first_droppable c.args.number c.self.invariant.table
+        (elim c.then-number-lt1.branch [
+            then-number-lt1-via-then-number-lt1 w ↦ inl w.if-number-lt1.true
+          | then-number-lt1-via-else-number-lt1+then-number-len w ↦
+              let count : w.len.result ≡ length t.rows.items = search rules in
+              let many : length t.rows.items < c.args.number = omega arith in
+              inr many ])))
 
--- src/index.rt:102:5
 pub returns-clause-request : goal.returns-clause-request
-returns-clause-request c = ?
+returns-clause-request c =
+    let i = c.self.inside in
+    let t = i.table in
+    let count : c.len.result ≡ length t.rows.items = search rules in
+    let last : c.args.number ≤ length t.rows.items = omega arith in
+    subst (λ (v : IndexView). Some c.index.result.now.request ≡ request_numbered v.book c.args.number) c.self.view_is
+      (sym (request_found i.used i.notices t.rows.items t.quotes.items t.lines.items t.exposure t.first_droppable c.args.number c.index.result.now c.self.invariant.table c.if-number-lt1.false last c.index.ensures))
 
--- src/index.rt:102:5
 pub returns-clause-live : goal.returns-clause-live
-returns-clause-live c = ?
+returns-clause-live c =
+    let i = c.self.inside in
+    let t = i.table in
+    let count : c.len.result ≡ length t.rows.items = search rules in
+    let last : c.args.number ≤ length t.rows.items = omega arith in
+    subst (λ (v : IndexView). c.index.result.now.live ≡ live_number_on v.book c.index.result.now.request.number) c.self.view_is
+      (row_live i.used i.notices t.rows.items t.quotes.items t.lines.items t.exposure t.first_droppable c.args.number c.index.result.now c.self.invariant.table c.if-number-lt1.false last c.index.ensures)
 
--- src/index.rt:102:5
 pub returns-clause-lifted : goal.returns-clause-lifted
-returns-clause-lifted c = ?
+returns-clause-lifted c =
+    let i = c.self.inside in
+    let t = i.table in
+    let count : c.len.result ≡ length t.rows.items = search rules in
+    let last : c.args.number ≤ length t.rows.items = omega arith in
+    subst (λ (v : IndexView). c.index.result.now.has_lifted ≡ has_lifted_quote v.book c.index.result.now.request.number) c.self.view_is
+      (row_lifted i.used i.notices t.rows.items t.quotes.items t.lines.items t.exposure t.first_droppable c.args.number c.index.result.now c.self.invariant.table c.if-number-lt1.false last c.index.ensures)
