@@ -8,7 +8,6 @@ mod desks;
 mod events;
 mod index;
 mod outcomes;
-mod pending;
 mod rules;
 mod standing;
 mod table;
