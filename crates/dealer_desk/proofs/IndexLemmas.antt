@@ -4,7 +4,7 @@ use Rattle.std.specs.List.{list_any, sum_by, position_or_len}
 use Rattle.std.proofs.lemmas.Bool.{eqb-true, eq-eqb}
 use Rattle.std.proofs.lemmas.Option.{none-some, same_Some, slice_get-map, slice_get_past, get_or_from_slice_get}
 use Rattle.std.specs.Option.{option_or}
-use Rattle.std.specs.BTreeMap.{BTreeMap, get}
+use Rattle.std.specs.BTreeMap.{BTreeMap, get, is_at}
 use Rattle.std.specs.Cmp.Lexicographic.{slice_cmp}
 use Rattle.std.specs.Ordering.{nat_cmp}
 use Rattle.std.proofs.lemmas.Bool.Decides.{nat_tests}
@@ -16,17 +16,18 @@ use Rattle.quote_messages.specs.Written.{request_name}
 use Rattle.market_terms.specs.declared.closes.Close.{Close}
 use Rattle.market_terms.specs.declared.lines.QuoteLine.{QuoteLine}
 use Rattle.market_terms.specs.declared.rooms.RoomRef.{RoomRef}
-use Rattle.dealer_desk.specs.DealerFacts.{DealerFact, DealerBook, request_named, request_numbered, quote_numbered, live_number_on, live_quote_on, has_lifted_quote, is_live, is_live_on, is_lifted_on, is_droppable, quote_with_id, quote_to_drop, exposure_beside}
-use Rattle.dealer_desk.specs.BookChanges.{IsSound, book_after, closed_on}
-use Rattle.dealer_desk.specs.DealerTable.{IsIndex, IsIdMap, IsTable, IndexView, with_fact}
+use Rattle.dealer_desk.specs.DealerFacts.{DealerFact, DealerBook, request_named, request_numbered, quote_numbered, live_number_on, live_quote_on, has_lifted_quote, is_live, is_live_on, is_lifted_on, is_droppable, quote_with_id, quote_to_drop, exposure_beside, quantity_beside, live_quantity, standing_quote}
+use Rattle.dealer_desk.specs.BookChanges.{IsSound, FitsBook, book_after, closed_on, ended_at}
+use Rattle.dealer_desk.specs.DealerTable.{IsIndex, IsIdMap, IsTable, IndexView, live_number_among, with_fact}
 use Rattle.dealer_desk.specs.declared.accepted.AcceptedQuote.{AcceptedQuote}
 use Rattle.dealer_desk.specs.declared.standing.StandingRequest.{StandingRequest}
 use Rattle.dealer_desk.specs.declared.standing.StandingQuote.{StandingQuote}
+use Rattle.dealer_desk.specs.declared.standing.QuoteEnd.{QuoteEnd}
 use Rattle.dealer_desk.specs.declared.standing.QuoteEnd.TheVariants as end
 use Rattle.dealer_desk.specs.declared.table.RequestRow.{RequestRow}
 use Rattle.dealer_desk.proofs.ListLemmas.{find_unique, find_at_place, fails_where_none, find_none, find_stands, stands_within, within_from, before_place, past_end, ruled_out}
-use Rattle.dealer_desk.proofs.MapLemmas.{ids_kept}
-use Rattle.dealer_desk.proofs.TableLemmas.{read_at, row_read, beside_dead, beside_live}
+use Rattle.dealer_desk.proofs.MapLemmas.{ids_kept, ids_pushed}
+use Rattle.dealer_desk.proofs.TableLemmas.{read_at, row_read, beside_dead, beside_live, sum_beside}
 
 -- the requests of rows
 abbrev pub requests_in : List RequestRow → List StandingRequest
@@ -400,3 +401,57 @@ pub nothing_looked : {A : Type 0} (xs seen : List A) (i : ℕ) → seen ≡ xs �
 nothing_looked xs seen i same past =
     let outside : length seen ≤ i = grind (arith, nat_tests) in
     ap (λ ys. slice_get ys i) (sym same) ∙ slice_get_past seen i outside
+
+-- An accepted quote.
+
+pub fits_alone : (used notices : ℕ) (requests : List StandingRequest) (quotes : List StandingQuote) (quote : AcceptedQuote) → FitsBook (book_with used notices requests quotes) quote None
+    → live_number_among quotes quote.request ≡ None
+unfolding live_quote_on
+fits_alone used notices requests quotes quote fits = fits.replaced_is
+
+pub fits_live : (used notices : ℕ) (requests : List StandingRequest) (quotes : List StandingQuote) (quote : AcceptedQuote) (replaced : ℕ) → FitsBook (book_with used notices requests quotes) quote (Some replaced)
+    → live_number_among quotes quote.request ≡ Some replaced
+unfolding live_quote_on
+fits_live used notices requests quotes quote replaced fits = fits.replaced_is
+
+pub fits_exposure : (used notices : ℕ) (rows : List RequestRow) (quotes : List StandingQuote) (lines : List QuoteLine) (exposure first : ℕ) (quote : AcceptedQuote) → IsTable rows quotes lines exposure first
+    → FitsBook (book_with used notices (requests_in rows) quotes) quote None → exposure + quote.quantity ≤ 1000000000000000
+unfolding exposure_beside
+fits_exposure used notices rows quotes lines exposure first quote table fits =
+    let is = table.exposure_is in
+    let within : quote.quantity + sum_by (quantity_beside None) quotes ≤ 1000000000000000 = fits.exposure_fits in
+    let same : sum_by (quantity_beside None) quotes ≡ sum_by live_quantity quotes = refl in
+    omega arith
+
+-- the same once the live quote on its request ended
+pub fits_beside : (used notices : ℕ) (requests : List StandingRequest) (quotes quotes2 : List StandingQuote) (rows2 : List RequestRow) (lines2 : List QuoteLine) (exposure2 first2 : ℕ) (quote : AcceptedQuote) (replaced : ℕ) (how : QuoteEnd)
+    → IsTable rows2 quotes2 lines2 exposure2 first2 → quotes2 ≡ map (ended_at replaced how) quotes
+    → FitsBook (book_with used notices requests quotes) quote (Some replaced) → exposure2 + quote.quantity ≤ 1000000000000000
+unfolding exposure_beside
+fits_beside used notices requests quotes quotes2 rows2 lines2 exposure2 first2 quote replaced how table changed fits =
+    let is : exposure2 ≡ sum_by (quantity_beside (Some replaced)) quotes = table.exposure_is ∙ ap (sum_by live_quantity) changed ∙ sum_beside quotes replaced how in
+    let within : quote.quantity + sum_by (quantity_beside (Some replaced)) quotes ≤ 1000000000000000 = fits.exposure_fits in
+    omega arith
+
+pub fits_id : (used notices : ℕ) (requests : List StandingRequest) (quotes : List StandingQuote) (quote : AcceptedQuote) (replaced : Option ℕ) → FitsBook (book_with used notices requests quotes) quote replaced
+    → find (λ (q : StandingQuote). same_text q.quote.id quote.id) quotes ≡ None
+unfolding quote_with_id
+fits_id used notices requests quotes quote replaced fits = fits.id_is_new
+
+pub index_pushed : (used notices : ℕ) (rows rows2 : List RequestRow) (quotes quotes2 : List StandingQuote) (lines lines2 : List QuoteLine) (exposure exposure2 first first2 : ℕ)
+    (rooms : List RoomRef) (by_id by_id2 : BTreeMap (List ℕ) ℕ) (by_room : BTreeMap RoomRef ℕ) (quote : AcceptedQuote) (key : List ℕ)
+    → IsIndex used notices rows quotes lines exposure first rooms by_id by_room → IsTable rows2 quotes2 lines2 exposure2 first2
+    → quotes2 ≡ quotes ++ standing_quote quote [] ∷ [] → key ≡ quote.id
+    → find (λ (q : StandingQuote). same_text q.quote.id quote.id) quotes ≡ None
+    → ((id : List ℕ) → get (slice_cmp nat_cmp) by_id2 id ≡ cond (is_at (slice_cmp nat_cmp key) id) (Some quote.number) (get (slice_cmp nat_cmp) by_id id))
+    → length (requests_in rows2) ≡ length (requests_in rows)
+    → IsIndex used notices rows2 quotes2 lines2 exposure2 first2 rooms by_id2 by_room
+index_pushed used notices rows rows2 quotes quotes2 lines lines2 exposure exposure2 first first2 rooms by_id by_id2 by_room quote key index table changed same unused updates many = record {
+  used_fits = index.used_fits;
+  notices_fit = index.notices_fit;
+  table = table;
+  ids = subst (λ (qs : List StandingQuote). IsIdMap qs by_id2) (sym changed)
+    (ids_pushed quotes by_id by_id2 quote index.ids unused (λ id. updates id ∙ ap (λ (k : List ℕ). cond (is_at (slice_cmp nat_cmp k) id) (Some quote.number) (get (slice_cmp nat_cmp) by_id id)) same));
+  room_map = index.room_map;
+  as_many = index.as_many ∙ sym (length-map rows (λ (r : RequestRow). r.request)) ∙ sym many ∙ length-map rows2 (λ (r : RequestRow). r.request);
+}
