@@ -118,9 +118,12 @@ impl DealerIndex {
         ensures live { IfSome result (λ row. row.now.live ≡ facts.live_number_on self.now.book row.now.request.number) }
         ensures lifted { IfSome result (λ row. row.now.has_lifted ≡ facts.has_lifted_quote self.now.book row.now.request.number) }
     {
+        let shown = self.table.rows.len() as u64;
         let number = number_named(name)?;
-        let row = self.request_numbered(number)?;
-        Some(row)
+        if number < 1 || number > shown {
+            return None;
+        }
+        Some(&self.table.rows[number as usize - 1])
     }
 
     /// The quote with this own number.
