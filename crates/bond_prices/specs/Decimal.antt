@@ -7,5 +7,8 @@ use Rattle.bond_prices.specs.declared.decimal.Decimal.{Decimal}
 unfoldable pub decimal_of : List ℕ → Option Decimal
 decimal_of text =
     if are_lawful (digits_of (cut_at_point text))
-    then Some (record { number = number_of (cut_at_point text); scale = scale_of (cut_at_point text) })
+    then Some (record {
+      number = number_of (cut_at_point text);
+      scale = scale_of (cut_at_point text);
+    })
     else None

@@ -1,6 +1,8 @@
 -- Prices as text: which texts are a price of how many 256ths, which fault each other text has, and
 -- how a price is printed. A text is a list of bytes: 45 is '-', 46 is '.', 48 to 57 are the digits.
-use Rattle.std.specs.Prelude.{◌≡◌, ◌≢◌, ℕ, ◌+◌, ◌*◌, ◌/◌, ◌%◌, ◌^◌, ◌<◌, ◌≤◌, ◌⊎◌, ◌==◌, ◌&&◌, ◌||◌, nat_lt, nat_le, Bool, true, false, if◌then◌else◌, List, [], ◌∷◌, ◌++◌, length, map, Option, Some, None, Result, Ok, Err, decimal}
+use Rattle.std.specs.Prelude.{◌≡◌, ◌≢◌, ℕ, ◌+◌, ◌*◌, ◌/◌, ◌%◌, ◌^◌, ◌<◌, ◌≤◌, ◌⊎◌, ◌==◌, ◌&&◌, ◌||◌}
+use Rattle.std.specs.Prelude.{nat_lt, nat_le, Bool, true, false, if◌then◌else◌, List, [], ◌∷◌, ◌++◌}
+use Rattle.std.specs.Prelude.{length, map, Option, Some, None, Result, Ok, Err, decimal}
 use Rattle.std.specs.Str.Parse.{AllDigits, digits_value}
 use Rattle.std.specs.Char.{is_digit}
 use Rattle.std.specs.List.{list_all}
@@ -67,12 +69,16 @@ pub record IsReadAs (text : List ℕ) (n : ℕ) : Type 0 where
   pub at_least_one : 1 ≤ n
   pub at_most : n ≤ 255999
 
--- the text has the form of a price, and its number is negative, or below one 256th, or above 255,999 of them
+-- the text has the form of a price, and its number is negative, or below one 256th, or above
+-- 255,999 of them
 pub record IsOutOfRange (text : List ℕ) : Type 0 where
   pub parts : Parts
   pub lawful : IsLawful parts
   pub built : text ≡ text_of parts
-  pub outside : (parts.is_negative ≡ true) ⊎ (256 * number_of parts < scale_of parts) ⊎ (255999 * scale_of parts < 256 * number_of parts)
+  pub outside :
+      (parts.is_negative ≡ true)
+      ⊎ (256 * number_of parts < scale_of parts)
+      ⊎ (255999 * scale_of parts < 256 * number_of parts)
 
 -- the text has the form of a price and its number is in range, but it is no whole number of 256ths
 pub record IsOffGrid (text : List ℕ) : Type 0 where
@@ -86,19 +92,29 @@ cut_at_point [] = record { is_negative = false; whole = []; decimals = None }
 cut_at_point (c ∷ text) =
     if c == 46
     then record { is_negative = false; whole = []; decimals = Some text }
-    else record { is_negative = false; whole = c ∷ (cut_at_point text).whole; decimals = (cut_at_point text).decimals }
+    else record {
+      is_negative = false;
+      whole = c ∷ (cut_at_point text).whole;
+      decimals = (cut_at_point text).decimals;
+    }
 
 -- the parts that build a text, whatever its bytes are
 abbrev pub parts_of : List ℕ → Parts
 parts_of [] = cut_at_point []
 parts_of (c ∷ text) =
     if c == 45
-    then record { is_negative = true; whole = (cut_at_point text).whole; decimals = (cut_at_point text).decimals }
+    then record {
+      is_negative = true;
+      whole = (cut_at_point text).whole;
+      decimals = (cut_at_point text).decimals;
+    }
     else cut_at_point (c ∷ text)
 
 -- whether the digits are lawful
 abbrev pub are_lawful : List ℕ → Bool
-are_lawful digits = list_all (λ c. is_digit c 10) digits && (nat_le 1 (length digits) && nat_le (length digits) 15)
+are_lawful digits =
+    list_all (λ c. is_digit c 10) digits
+    && (nat_le 1 (length digits) && nat_le (length digits) 15)
 
 -- what scaled / scale 256ths are
 abbrev pub price_at : ℕ → ℕ → Result ℕ PriceFault
@@ -120,7 +136,9 @@ price_of text = price_of_parts (parts_of text)
 
 -- r 256ths in eight decimals: 256 divides 10^8, and 10^8 / 256 is 390625
 abbrev pub eight_decimals : ℕ → List ℕ
-eight_decimals r = map (λ place. 48 + ((390625 * r) / place) % 10) (10000000 ∷ 1000000 ∷ 100000 ∷ 10000 ∷ 1000 ∷ 100 ∷ 10 ∷ 1 ∷ [])
+eight_decimals r =
+    map (λ place. 48 + ((390625 * r) / place) % 10)
+    (10000000 ∷ 1000000 ∷ 100000 ∷ 10000 ∷ 1000 ∷ 100 ∷ 10 ∷ 1 ∷ [])
 
 -- digits before others, of which a zero that would stand last is left out
 abbrev pub before_nonzero : ℕ → List ℕ → List ℕ
@@ -147,9 +165,11 @@ price_digits n = decimal (n / 256) ++ point_text (fraction_of (n % 256))
 -- no point, or decimals of which there is a last, and it is not zero
 abbrev pub EndsInNonzero : Option (List ℕ) → Type 0
 EndsInNonzero None = Unit {0}
-EndsInNonzero (Some digits) = (front : List ℕ) × (last : ℕ) × (digits ≡ front ++ last ∷ []) × (last ≢ 48)
+EndsInNonzero (Some digits) =
+    (front : List ℕ) × (last : ℕ) × (digits ≡ front ++ last ∷ []) × (last ≢ 48)
 
--- the text is read as n and has no digit to spare: no leading zero but a lone one, and no trailing zero
+-- the text is read as n and has no digit to spare: no leading zero but a lone one, and no trailing
+-- zero
 pub record IsShortest (text : List ℕ) (n : ℕ) : Type 0 where
   pub read : IsReadAs text n
   pub fraction : Option (List ℕ)

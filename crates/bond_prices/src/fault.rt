@@ -5,8 +5,8 @@ use thiserror::Error;
 /// The conditions are tried in the order of the variants, and the first that holds is the fault.
 #[derive(Clone, Copy, Debug, PartialEq, Eq, Error)]
 pub enum PriceFault {
-    /// The text has not the form of a price: a minus sign or none, and then 1 to 15 digits with at most
-    /// one point before, among or behind them.
+    /// The text has not the form of a price: a minus sign or none, and then 1 to 15 digits with at
+    /// most one point before, among or behind them.
     #[error("a price is 1 to 15 digits with at most one point")]
     Form,
 

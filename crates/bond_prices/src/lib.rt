@@ -1,8 +1,8 @@
 //! Bond prices as whole numbers of 256ths of a point.
 //!
-//! A price is quoted in points, and the finest step is 1/256 of a point. So a price is held as a whole
-//! number of those steps, a [`Ticks`], from 1 to 255,999, and never as a binary fraction. Only text has
-//! points and decimals: [`read_price`] reads it and [`price_text`] prints it.
+//! A price is quoted in points, and the finest step is 1/256 of a point. So a price is held as a
+//! whole number of those steps, a [`Ticks`], from 1 to 255,999, and never as a binary fraction.
+//! Only text has points and decimals: [`read_price`] reads it and [`price_text`] prints it.
 //!
 //! ```text
 //! let price = read_price(b"99.50390625")?;
@@ -15,15 +15,16 @@
 //!
 //! - `read_price` answers a number exactly where the text spells that number of 256ths. Nothing is
 //!   rounded, and nothing overflows.
-//! - Each [`PriceFault`] is answered exactly where its condition is the first that holds. So the three
-//!   faults and the prices cover every text, and no two of them meet.
-//! - `price_text` prints one text for each price: whole points without leading zeros, then, unless the
-//!   fraction is zero, a point and the fraction without trailing zeros.
-//! - `read_price` reads what `price_text` prints as the same price, so two prices never print alike.
+//! - Each [`PriceFault`] is answered exactly where its condition is the first that holds. So the
+//!   three faults and the prices cover every text, and no two of them meet.
+//! - `price_text` prints one text for each price: whole points without leading zeros, then, unless
+//!   the fraction is zero, a point and the fraction without trailing zeros.
+//! - `read_price` reads what `price_text` prints as the same price, so two prices never print
+//!   alike.
 //! - No function here takes memory from an allocator.
 //!
-//! `specs/Price.antt` has the rules of the text, and `price_of` and `price_digits`, which say the same as
-//! functions.
+//! `specs/Price.antt` has the rules of the text, and `price_of` and `price_digits`, which say the
+//! same as functions.
 #![tactic(auto)]
 
 mod decimal;

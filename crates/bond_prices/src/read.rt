@@ -1,5 +1,6 @@
 ghost use Rattle.std.specs.Prelude.{◌≡◌, ◌<◌, ◌≤◌, ◌*◌, ◌^◌, ℕ, ◌↔◌};
-ghost use Rattle.bond_prices.specs.Price.{price_of, price_at, IsReadAs, IsPriceForm, IsOutOfRange, IsOffGrid};
+ghost use Rattle.bond_prices.specs.Price.{price_of, price_at, IsReadAs, IsPriceForm, IsOutOfRange};
+ghost use Rattle.bond_prices.specs.Price.{IsOffGrid};
 
 use crate::decimal::{Decimal, read_decimal};
 use crate::fault::PriceFault;
@@ -7,8 +8,8 @@ use crate::ticks::{MAX_COUNT, Ticks};
 
 /// Reads the price that the whole text spells in points, as `99.50390625`.
 ///
-/// Leading zeros, zeros at the end, and a point before or behind all digits are read too: `099.5000`, `.5`
-/// and `5.` are prices.
+/// Leading zeros, zeros at the end, and a point before or behind all digits are read too:
+/// `099.5000`, `.5` and `5.` are prices.
 pub fn read_price(text: &[u8]) -> Result<Ticks, PriceFault>
     // The text as a function, for callers that go on with the answer.
     ensures exact { result ≡ price_of text.now }

@@ -7,9 +7,9 @@ use itoa::Buffer;
 
 /// The price as text in points, as `99.50390625`.
 ///
-/// Whole points stand without leading zeros, and are `0` below one point. A point and the fraction follow,
-/// without zeros at the end, unless the fraction is zero. `12` bytes hold three digits, the point and eight
-/// digits.
+/// Whole points stand without leading zeros, and are `0` below one point. A point and the fraction
+/// follow, without zeros at the end, unless the fraction is zero. `12` bytes hold three digits, the
+/// point and eight digits.
 pub fn price_text(price: Ticks) -> ArrayString<12>
     ensures exact { result.bytes ≡ price_digits price }
     ensures shortest { IsShortest result.bytes price }
@@ -17,7 +17,8 @@ pub fn price_text(price: Ticks) -> ArrayString<12>
 
     // It is read back as this price, and so no other price prints the same text.
     ensures read_back { price_of result.bytes ≡ Ok price }
-    ensures distinct { (n : ℕ) → (1 ≤ n) × (n ≤ 255999) → price_digits n ≡ result.bytes → n ≡ price }
+    ensures distinct { (n : ℕ) → (1 ≤ n) × (n ≤ 255999)
+        → price_digits n ≡ result.bytes → n ≡ price }
 {
     points_text(price)
 }

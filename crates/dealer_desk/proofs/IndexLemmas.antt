@@ -1,10 +1,14 @@
 -- What an index keeps when its table changes.
-use Rattle.std.proofs.Common.{◌≡◌, ◌<◌, ◌≤◌, ℕ, ◌+◌, ◌^◌, ◌==◌, Bool, cond, true, false, List, [], ◌∷◌, ◌++◌, length, map, Option, Some, None, option_map, find, slice_get, get_or, ◌-◌, ◌⊎◌, inl, inr, refl, sym, ap, subst, ◌∙◌, arith}
-use Rattle.std.specs.List.{list_any}
+use Rattle.std.proofs.Common.{◌≡◌, ◌<◌, ◌≤◌, ℕ, zero, suc, ◌+◌, ◌^◌, ◌==◌, Bool, cond, true, false, ◌&&◌, not, nat_le, nat_lt, is_some, List, [], ◌∷◌, ◌++◌, length, map, Option, Some, None, option_map, find, slice_get, get_or, ◌-◌, ◌⊎◌, inl, inr, refl, sym, ap, subst, ◌∙◌, arith}
+use Rattle.std.specs.List.{list_any, sum_by, position_or_len}
 use Rattle.std.proofs.lemmas.Bool.{eqb-true, eq-eqb}
-use Rattle.std.proofs.lemmas.Option.{none-some, same_Some, slice_get-map}
+use Rattle.std.proofs.lemmas.Option.{none-some, same_Some, slice_get-map, slice_get_past, get_or_from_slice_get}
 use Rattle.std.specs.Option.{option_or}
-use Rattle.std.specs.BTreeMap.{BTreeMap}
+use Rattle.std.specs.BTreeMap.{BTreeMap, get, is_at}
+use Rattle.std.specs.Cmp.Lexicographic.{slice_cmp}
+use Rattle.std.specs.Ordering.{nat_cmp}
+use Rattle.std.proofs.lemmas.Bool.Decides.{nat_tests}
+use Rattle.std.proofs.lemmas.List.Sums.{passes_at_first}
 use Rattle.std.proofs.lemmas.List.{length-map}
 use Rattle.std.proofs.lemmas.Slice.Eq.{bytes_eq-Decides}
 use Rattle.venue_config.specs.Texts.{same_text}
@@ -12,17 +16,18 @@ use Rattle.quote_messages.specs.Written.{request_name}
 use Rattle.market_terms.specs.declared.closes.Close.{Close}
 use Rattle.market_terms.specs.declared.lines.QuoteLine.{QuoteLine}
 use Rattle.market_terms.specs.declared.rooms.RoomRef.{RoomRef}
-use Rattle.dealer_desk.specs.DealerFacts.{DealerFact, DealerBook, request_named, request_numbered, quote_numbered, live_number_on, live_quote_on, has_lifted_quote, is_live_on, is_lifted_on}
-use Rattle.dealer_desk.specs.BookChanges.{IsSound, book_after, closed_on}
-use Rattle.dealer_desk.specs.DealerTable.{IsIndex, IsIdMap, IsTable, IndexView, with_fact}
+use Rattle.dealer_desk.specs.DealerFacts.{DealerFact, DealerBook, request_named, request_numbered, quote_numbered, live_number_on, live_quote_on, has_lifted_quote, is_live, is_live_on, is_lifted_on, is_droppable, quote_with_id, quote_to_drop, exposure_beside, quantity_beside, live_quantity, standing_quote}
+use Rattle.dealer_desk.specs.BookChanges.{IsSound, FitsBook, book_after, closed_on, ended_at}
+use Rattle.dealer_desk.specs.DealerTable.{IsIndex, IsIdMap, IsTable, IndexView, live_number_among, with_fact}
 use Rattle.dealer_desk.specs.declared.accepted.AcceptedQuote.{AcceptedQuote}
 use Rattle.dealer_desk.specs.declared.standing.StandingRequest.{StandingRequest}
 use Rattle.dealer_desk.specs.declared.standing.StandingQuote.{StandingQuote}
+use Rattle.dealer_desk.specs.declared.standing.QuoteEnd.{QuoteEnd}
 use Rattle.dealer_desk.specs.declared.standing.QuoteEnd.TheVariants as end
 use Rattle.dealer_desk.specs.declared.table.RequestRow.{RequestRow}
-use Rattle.dealer_desk.proofs.ListLemmas.{find_unique, fails_where_none, find_none, find_stands, within_from, ruled_out}
-use Rattle.dealer_desk.proofs.MapLemmas.{ids_kept}
-use Rattle.dealer_desk.proofs.TableLemmas.{read_at, row_read}
+use Rattle.dealer_desk.proofs.ListLemmas.{find_unique, find_at_place, fails_where_none, find_none, find_stands, stands_within, within_from, before_place, past_end, ruled_out}
+use Rattle.dealer_desk.proofs.MapLemmas.{ids_kept, ids_pushed}
+use Rattle.dealer_desk.proofs.TableLemmas.{read_at, row_read, beside_dead, beside_live, sum_beside}
 
 -- the requests of rows
 abbrev pub requests_in : List RequestRow → List StandingRequest
@@ -227,3 +232,226 @@ named_past used notices rows quotes name number sound few only none =
         let passes : (y.number == number) ≡ true = eq-eqb y.number number (sym equal) in
         let fails : (y.number == number) ≡ false = fails_where_none (λ (r : StandingRequest). r.number == number) (requests_in rows) none k y at in
         absurd_bool passes fails))
+
+and_so_false : (b c : Bool) → c ≡ false → (b && c) ≡ false
+and_so_false true c e = e
+and_so_false false c e = refl
+
+so_false_and : (b c : Bool) → b ≡ false → (b && c) ≡ false
+so_false_and true c e = cc
+so_false_and false c e = refl
+
+both_so : (b c : Bool) → b ≡ true → c ≡ true → (b && c) ≡ true
+both_so true c e h = h
+both_so false c e h = cc
+
+-- Quotes by their QuoteIDs.
+
+no_number : (o : Option StandingQuote) → option_map (λ (q : StandingQuote). q.quote.number) o ≡ None → o ≡ None
+no_number None h = refl
+no_number (Some own) h = absurd (none-some own.quote.number (sym h))
+
+pub id_missing : (used notices : ℕ) (requests : List StandingRequest) (quotes : List StandingQuote) (by_id : BTreeMap (List ℕ) ℕ) (key id : List ℕ)
+    → IsIdMap quotes by_id → key ≡ id → None ≡ get (slice_cmp nat_cmp) by_id key → quote_with_id (book_with used notices requests quotes) id ≡ None
+unfolding quote_with_id
+id_missing used notices requests quotes by_id key id ids same none =
+    no_number (find (λ (q : StandingQuote). same_text q.quote.id id) quotes) (sym (none ∙ ap (get (slice_cmp nat_cmp) by_id) same ∙ ids.ids_are id))
+
+pub id_found : (used notices : ℕ) (requests : List StandingRequest) (quotes : List StandingQuote) (by_id : BTreeMap (List ℕ) ℕ) (key id : List ℕ) (number : ℕ)
+    → IsSound requests quotes → IsIdMap quotes by_id → key ≡ id → Some number ≡ get (slice_cmp nat_cmp) by_id key
+    → quote_numbered (book_with used notices requests quotes) number ≡ quote_with_id (book_with used notices requests quotes) id
+unfolding quote_with_id
+id_found used notices requests quotes by_id key id number sound ids same some =
+    found_by_number used notices requests quotes (λ (q : StandingQuote). same_text q.quote.id id) sound (find (λ (q : StandingQuote). same_text q.quote.id id) quotes) refl number
+      (sym (some ∙ ap (get (slice_cmp nat_cmp) by_id) same ∙ ids.ids_are id))
+
+-- Live quotes by their requests.
+
+-- the request that was found has the number that was looked for
+pub request_number : (book : DealerBook) (number : ℕ) (request : StandingRequest) → Some request ≡ request_numbered book number → request.number ≡ number
+unfolding request_numbered
+request_number book number request at =
+    let stands = find_stands (λ (r : StandingRequest). r.number == number) book.requests request (sym at) in
+    eqb-true request.number number stands.2
+
+pub live_missing_request : (used notices : ℕ) (requests : List StandingRequest) (quotes : List StandingQuote) (number : ℕ) → IsSound requests quotes
+    → request_numbered (book_with used notices requests quotes) number ≡ None → live_quote_on (book_with used notices requests quotes) number ≡ None
+unfolding request_numbered live_quote_on
+live_missing_request used notices requests quotes number sound none = find_none (is_live_on number) quotes (λ k y at.
+    and_so_false (is_live y) (y.quote.request == number) (ruled_out (y.quote.request == number) (λ so.
+      let same : y.quote.request ≡ number = eqb-true y.quote.request number so in
+      let least = sound.from_first k y at in
+      let last = sound.to_last k y at in
+      let within : number - 1 < length requests = omega arith in
+      let request = stands_within requests (number - 1) within in
+      let here : request.0.number ≡ (number - 1) + 1 = sound.requests_numbered (number - 1) request.0 request.1 in
+      let equal : request.0.number ≡ number = omega arith in
+      absurd_bool (eq-eqb request.0.number number equal) (fails_where_none (λ (r : StandingRequest). r.number == number) requests none (number - 1) request.0 request.1))))
+
+pub live_missing : (book : DealerBook) (number : ℕ) → live_number_on book number ≡ None → live_quote_on book number ≡ None
+unfolding live_quote_on
+live_missing book number none = no_number (find (is_live_on number) book.quotes) none
+
+pub live_found_by : (used notices : ℕ) (requests : List StandingRequest) (quotes : List StandingQuote) (request number : ℕ) → IsSound requests quotes
+    → live_number_on (book_with used notices requests quotes) request ≡ Some number
+    → quote_numbered (book_with used notices requests quotes) number ≡ live_quote_on (book_with used notices requests quotes) request
+unfolding live_quote_on
+live_found_by used notices requests quotes request number sound is =
+    found_by_number used notices requests quotes (is_live_on request) sound (find (is_live_on request) quotes) refl number is
+
+-- The quote that a drop takes.
+
+-- a number is below another or is not
+apart : (m n : ℕ) → (m < n) ⊎ (n ≤ m)
+apart zero zero = inr (omega arith)
+apart zero (suc n) = inl (omega arith)
+apart (suc m) zero = inr (omega arith)
+apart (suc m) (suc n) = elim (apart m n) [ inl less ↦ inl (omega arith) | inr more ↦ inr (omega arith) ]
+
+le_false : (m n : ℕ) → n < m → nat_le m n ≡ false
+le_false m n h = ruled_out (nat_le m n) (λ so. let le : m ≤ n = grind (arith, nat_tests) in let never : ⊥ = omega arith in never)
+
+le_true : (m n : ℕ) → m ≤ n → nat_le m n ≡ true
+le_true m n h = grind (arith, nat_tests)
+
+pub drop_missing : (used notices : ℕ) (requests : List StandingRequest) (quotes : List StandingQuote) (first last : ℕ) → first ≡ position_or_len is_droppable quotes → slice_get quotes first ≡ None
+    → quote_to_drop (book_with used notices requests quotes) last ≡ None
+unfolding quote_to_drop
+drop_missing used notices requests quotes first last is none =
+    let past = past_end quotes first none in
+    find_none (λ (q : StandingQuote). is_droppable q && nat_le q.quote.number last) quotes (λ k y at.
+      let within = within_from quotes k y at in
+      let below : k < position_or_len is_droppable quotes = subst (λ (n : ℕ). k < n) is (omega arith) in
+      so_false_and (is_droppable y) (nat_le y.quote.number last) (before_place is_droppable quotes k y below at))
+
+pub drop_beyond : (used notices : ℕ) (requests : List StandingRequest) (quotes : List StandingQuote) (first last : ℕ) (own : StandingQuote) → IsSound requests quotes → first ≡ position_or_len is_droppable quotes
+    → slice_get quotes first ≡ Some own → last < own.quote.number → quote_to_drop (book_with used notices requests quotes) last ≡ None
+unfolding quote_to_drop
+drop_beyond used notices requests quotes first last own sound is stands beyond =
+    let here : own.quote.number ≡ first + 1 = sound.quotes_numbered first own stands in
+    find_none (λ (q : StandingQuote). is_droppable q && nat_le q.quote.number last) quotes (λ k y at.
+      let number : y.quote.number ≡ k + 1 = sound.quotes_numbered k y at in
+      elim (apart k first) [
+          inl less ↦ so_false_and (is_droppable y) (nat_le y.quote.number last) (before_place is_droppable quotes k y (subst (λ (n : ℕ). k < n) is less) at)
+        | inr more ↦ (let far : last < y.quote.number = omega arith in and_so_false (is_droppable y) (nat_le y.quote.number last) (le_false y.quote.number last far)) ])
+
+pub drop_found : (used notices : ℕ) (requests : List StandingRequest) (quotes : List StandingQuote) (first last : ℕ) (own : StandingQuote) → first ≡ position_or_len is_droppable quotes
+    → slice_get quotes first ≡ Some own → own.quote.number ≤ last → quote_to_drop (book_with used notices requests quotes) last ≡ Some own
+unfolding quote_to_drop
+drop_found used notices requests quotes first last own is stands within =
+    let inside : position_or_len is_droppable quotes < length quotes = subst (λ (n : ℕ). n < length quotes) is (within_from quotes first own stands) in
+    let passes : is_droppable own ≡ true =
+      ap is_droppable (sym (get_or_from_slice_get quotes first own own stands)) ∙ ap (λ (n : ℕ). is_droppable (get_or quotes n own)) is ∙ passes_at_first is_droppable quotes own inside in
+    find_at_place (λ (q : StandingQuote). is_droppable q && nat_le q.quote.number last) quotes first own stands (both_so (is_droppable own) (nat_le own.quote.number last) passes (le_true own.quote.number last within))
+      (λ k y below at. so_false_and (is_droppable y) (nat_le y.quote.number last) (before_place is_droppable quotes k y (subst (λ (n : ℕ). k < n) is below) at))
+
+-- The exposure beside a quote.
+
+pub beside_none : (used notices : ℕ) (rows : List RequestRow) (quotes : List StandingQuote) (lines : List QuoteLine) (exposure first : ℕ) → IsTable rows quotes lines exposure first
+    → exposure ≡ exposure_beside (book_with used notices (requests_in rows) quotes) None
+unfolding exposure_beside
+beside_none used notices rows quotes lines exposure first table = table.exposure_is
+
+pub beside_missing : (used notices : ℕ) (rows : List RequestRow) (quotes : List StandingQuote) (lines : List QuoteLine) (exposure first number : ℕ) → IsTable rows quotes lines exposure first
+    → quote_numbered (book_with used notices (requests_in rows) quotes) number ≡ None
+    → exposure ≡ exposure_beside (book_with used notices (requests_in rows) quotes) (Some number)
+unfolding exposure_beside quote_numbered
+beside_missing used notices rows quotes lines exposure first number table none = table.exposure_is ∙ sym (beside_dead quotes number (λ k own at same.
+    absurd (absurd_bool (eq-eqb own.quote.number number same) (fails_where_none (λ (q : StandingQuote). q.quote.number == number) quotes none k own at))))
+
+-- the place of a quote that was found by its number
+pub numbered_place : (used notices : ℕ) (requests : List StandingRequest) (quotes : List StandingQuote) (number : ℕ) (own : StandingQuote) → IsSound requests quotes
+    → quote_numbered (book_with used notices requests quotes) number ≡ Some own → (place : ℕ) × (slice_get quotes place ≡ Some own) × (number ≡ place + 1)
+unfolding quote_numbered
+numbered_place used notices requests quotes number own sound at =
+    let stands = find_stands (λ (q : StandingQuote). q.quote.number == number) quotes own at in
+    (stands.0, stands.1, sym (eqb-true own.quote.number number stands.2) ∙ sound.quotes_numbered stands.0 own stands.1)
+
+pub beside_ended : (used notices : ℕ) (rows : List RequestRow) (quotes : List StandingQuote) (lines : List QuoteLine) (exposure first number : ℕ) (own : StandingQuote) → IsTable rows quotes lines exposure first
+    → quote_numbered (book_with used notices (requests_in rows) quotes) number ≡ Some own → is_some own.end ≡ true
+    → exposure ≡ exposure_beside (book_with used notices (requests_in rows) quotes) (Some number)
+unfolding exposure_beside
+beside_ended used notices rows quotes lines exposure first number own table at ended =
+    let place = numbered_place used notices (requests_in rows) quotes number own table.sound at in
+    table.exposure_is ∙ sym (beside_dead quotes number (λ k other there same.
+      let number2 : other.quote.number ≡ k + 1 = table.sound.quotes_numbered k other there in
+      let number_is : number ≡ place.0 + 1 = place.2 in
+      let equal : k ≡ place.0 = omega arith in
+      let one : own ≡ other = same_Some own other (sym place.1 ∙ ap (slice_get quotes) (sym equal) ∙ there) in
+      ap is_live (sym one) ∙ ap not ended))
+
+pub beside_standing : (used notices : ℕ) (rows : List RequestRow) (quotes : List StandingQuote) (lines : List QuoteLine) (exposure first number : ℕ) (own : StandingQuote) → IsTable rows quotes lines exposure first
+    → quote_numbered (book_with used notices (requests_in rows) quotes) number ≡ Some own → is_some own.end ≡ false
+    → (own.quote.quantity ≤ exposure) × (exposure - own.quote.quantity ≡ exposure_beside (book_with used notices (requests_in rows) quotes) (Some number))
+unfolding exposure_beside
+beside_standing used notices rows quotes lines exposure first number own table at stands =
+    let place = numbered_place used notices (requests_in rows) quotes number own table.sound at in
+    let sum = beside_live (requests_in rows) quotes number place.0 own table.sound place.2 place.1 (ap not stands) in
+    let is = table.exposure_is in
+    (omega arith, omega arith)
+
+-- What a look at a place of a list finds.
+
+pub stands_looked : {A : Type 0} (xs seen : List A) (i : ℕ) (x : A) → seen ≡ xs → true ≡ nat_lt i (length seen) → x ≡ get_or seen i x → slice_get xs i ≡ Some x
+stands_looked xs seen i x same within is =
+    let inside : i < length seen = grind (arith, nat_tests) in
+    ap (λ ys. slice_get ys i) (sym same) ∙ read_at seen i x inside is
+
+pub nothing_looked : {A : Type 0} (xs seen : List A) (i : ℕ) → seen ≡ xs → false ≡ nat_lt i (length seen) → slice_get xs i ≡ None
+nothing_looked xs seen i same past =
+    let outside : length seen ≤ i = grind (arith, nat_tests) in
+    ap (λ ys. slice_get ys i) (sym same) ∙ slice_get_past seen i outside
+
+-- An accepted quote.
+
+pub fits_alone : (used notices : ℕ) (requests : List StandingRequest) (quotes : List StandingQuote) (quote : AcceptedQuote) → FitsBook (book_with used notices requests quotes) quote None
+    → live_number_among quotes quote.request ≡ None
+unfolding live_quote_on
+fits_alone used notices requests quotes quote fits = fits.replaced_is
+
+pub fits_live : (used notices : ℕ) (requests : List StandingRequest) (quotes : List StandingQuote) (quote : AcceptedQuote) (replaced : ℕ) → FitsBook (book_with used notices requests quotes) quote (Some replaced)
+    → live_number_among quotes quote.request ≡ Some replaced
+unfolding live_quote_on
+fits_live used notices requests quotes quote replaced fits = fits.replaced_is
+
+pub fits_exposure : (used notices : ℕ) (rows : List RequestRow) (quotes : List StandingQuote) (lines : List QuoteLine) (exposure first : ℕ) (quote : AcceptedQuote) → IsTable rows quotes lines exposure first
+    → FitsBook (book_with used notices (requests_in rows) quotes) quote None → exposure + quote.quantity ≤ 1000000000000000
+unfolding exposure_beside
+fits_exposure used notices rows quotes lines exposure first quote table fits =
+    let is = table.exposure_is in
+    let within : quote.quantity + sum_by (quantity_beside None) quotes ≤ 1000000000000000 = fits.exposure_fits in
+    let same : sum_by (quantity_beside None) quotes ≡ sum_by live_quantity quotes = refl in
+    omega arith
+
+-- the same once the live quote on its request ended
+pub fits_beside : (used notices : ℕ) (requests : List StandingRequest) (quotes quotes2 : List StandingQuote) (rows2 : List RequestRow) (lines2 : List QuoteLine) (exposure2 first2 : ℕ) (quote : AcceptedQuote) (replaced : ℕ) (how : QuoteEnd)
+    → IsTable rows2 quotes2 lines2 exposure2 first2 → quotes2 ≡ map (ended_at replaced how) quotes
+    → FitsBook (book_with used notices requests quotes) quote (Some replaced) → exposure2 + quote.quantity ≤ 1000000000000000
+unfolding exposure_beside
+fits_beside used notices requests quotes quotes2 rows2 lines2 exposure2 first2 quote replaced how table changed fits =
+    let is : exposure2 ≡ sum_by (quantity_beside (Some replaced)) quotes = table.exposure_is ∙ ap (sum_by live_quantity) changed ∙ sum_beside quotes replaced how in
+    let within : quote.quantity + sum_by (quantity_beside (Some replaced)) quotes ≤ 1000000000000000 = fits.exposure_fits in
+    omega arith
+
+pub fits_id : (used notices : ℕ) (requests : List StandingRequest) (quotes : List StandingQuote) (quote : AcceptedQuote) (replaced : Option ℕ) → FitsBook (book_with used notices requests quotes) quote replaced
+    → find (λ (q : StandingQuote). same_text q.quote.id quote.id) quotes ≡ None
+unfolding quote_with_id
+fits_id used notices requests quotes quote replaced fits = fits.id_is_new
+
+pub index_pushed : (used notices : ℕ) (rows rows2 : List RequestRow) (quotes quotes2 : List StandingQuote) (lines lines2 : List QuoteLine) (exposure exposure2 first first2 : ℕ)
+    (rooms : List RoomRef) (by_id by_id2 : BTreeMap (List ℕ) ℕ) (by_room : BTreeMap RoomRef ℕ) (quote : AcceptedQuote) (key : List ℕ)
+    → IsIndex used notices rows quotes lines exposure first rooms by_id by_room → IsTable rows2 quotes2 lines2 exposure2 first2
+    → quotes2 ≡ quotes ++ standing_quote quote [] ∷ [] → key ≡ quote.id
+    → find (λ (q : StandingQuote). same_text q.quote.id quote.id) quotes ≡ None
+    → ((id : List ℕ) → get (slice_cmp nat_cmp) by_id2 id ≡ cond (is_at (slice_cmp nat_cmp key) id) (Some quote.number) (get (slice_cmp nat_cmp) by_id id))
+    → length (requests_in rows2) ≡ length (requests_in rows)
+    → IsIndex used notices rows2 quotes2 lines2 exposure2 first2 rooms by_id2 by_room
+index_pushed used notices rows rows2 quotes quotes2 lines lines2 exposure exposure2 first first2 rooms by_id by_id2 by_room quote key index table changed same unused updates many = record {
+  used_fits = index.used_fits;
+  notices_fit = index.notices_fit;
+  table = table;
+  ids = subst (λ (qs : List StandingQuote). IsIdMap qs by_id2) (sym changed)
+    (ids_pushed quotes by_id by_id2 quote index.ids unused (λ id. updates id ∙ ap (λ (k : List ℕ). cond (is_at (slice_cmp nat_cmp k) id) (Some quote.number) (get (slice_cmp nat_cmp) by_id id)) same));
+  room_map = index.room_map;
+  as_many = index.as_many ∙ sym (length-map rows (λ (r : RequestRow). r.request)) ∙ sym many ∙ length-map rows2 (λ (r : RequestRow). r.request);
+}

@@ -254,3 +254,25 @@ mapped_at f (x ∷ xs) (suc k) y h = mapped_at f xs k y h
 pub same_map : {A B : Type 0} (f g : A → B) (xs : List A) → ((y : A) → f y ≡ g y) → map f xs ≡ map g xs
 same_map f g [] same = refl
 same_map f g (x ∷ xs) same = let rest : map f xs ≡ map g xs = same_map f g xs same in let first : f x ≡ g x = same x in cc
+
+module _ {A : Type 0} (p : A → Bool) where
+  -- the first that passes is found
+  find_first_at : (b : Bool) (z x : A) (rest : Option A) → b ≡ false → rest ≡ Some x → cond b (Some z) rest ≡ Some x
+  find_first_at true z x rest e h = cc
+  find_first_at false z x rest e h = h
+
+  pub find_at_place : (xs : List A) (place : ℕ) (x : A) → slice_get xs place ≡ Some x → p x ≡ true → ((k : ℕ) (y : A) → k < place → slice_get xs k ≡ Some y → p y ≡ false) → find p xs ≡ Some x
+  find_at_place [] place x at pass before = absurd (none-some x at)
+  find_at_place (z ∷ xs) zero x at pass before =
+      let same : z ≡ x = same_Some z x at in
+      rw (ap p same ∙ pass) at
+  find_at_place (z ∷ xs) (suc place) x at pass before =
+      let here : 0 < suc place = omega arith in
+      find_first_at (p z) z x (find p xs) (before zero z here refl)
+        (find_at_place xs place x at pass (λ k y below there. let less : suc k < suc place = omega arith in before (suc k) y less there))
+
+-- nothing stands past the end
+pub past_end : {A : Type 0} (xs : List A) (i : ℕ) → slice_get xs i ≡ None → length xs ≤ i
+past_end [] i h = omega arith
+past_end (x ∷ xs) zero h = absurd (none-some x (sym h))
+past_end (x ∷ xs) (suc i) h = let more = past_end xs i h in omega arith

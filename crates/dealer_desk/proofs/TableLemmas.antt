@@ -7,11 +7,11 @@ use Rattle.std.proofs.lemmas.Bool.{eqb-true, eq-eqb}
 use Rattle.std.proofs.lemmas.Bool.Decides.{eqb_tells}
 use Rattle.std.proofs.lemmas.Option.{none-some, same_Some, get_or_from_slice_get, slice_get-get_or, slice_get-map}
 use Rattle.std.proofs.lemmas.List.{map-set, map-append, length-map, length-append, get_or-map}
-use Rattle.std.proofs.lemmas.List.Sums.{sum_by-set, sum_by_push, prefix_len-le-length}
+use Rattle.std.proofs.lemmas.List.Sums.{sum_by-cons, sum_by-set, sum_by_push, prefix_len-le-length}
 use Rattle.std.proofs.lemmas.List.Folds.{list_any_at, list_any-append, find-append, position_or_len_push}
 use Rattle.market_terms.specs.declared.lines.QuoteLine.{QuoteLine}
 use Rattle.market_terms.specs.declared.lines.QuoteState.{QuoteState}
-use Rattle.dealer_desk.specs.DealerFacts.{standing_request, standing_quote, is_live, is_live_on, is_lifted_on, is_droppable, live_quantity}
+use Rattle.dealer_desk.specs.DealerFacts.{standing_request, standing_quote, is_live, is_live_on, is_lifted_on, is_droppable, live_quantity, quantity_beside}
 use Rattle.dealer_desk.specs.QuoteLines.{state_of, line_of}
 use Rattle.dealer_desk.specs.BookChanges.{IsSound, IsLiveNumber, ended_at, late_at, closed_on, declined_at, told_at}
 use Rattle.dealer_desk.specs.DealerTable.{IsTable, IsRow, live_number_among}
@@ -713,3 +713,81 @@ pub request_row_kept : (rows : List RequestRow) (number : ℕ) (row other : Requ
 request_row_kept rows number row other least last is same =
     let within : number - 1 < length rows = omega arith in
     requests_kept rows (number - 1) row other (read_at rows (number - 1) row within is) same
+
+-- A live quote that another replaces.
+
+replaced_found : (requests : List StandingRequest) (quotes : List StandingQuote) (request number : ℕ) (how : QuoteEnd) → IsSound requests quotes → (found : Option StandingQuote) → find (is_live_on request) quotes ≡ found
+    → option_map (λ (q : StandingQuote). q.quote.number) found ≡ Some number → live_number_among (map (ended_at number how) quotes) request ≡ None
+replaced_found requests quotes request number how sound None at is = absurd (none-some number is)
+replaced_found requests quotes request number how sound (Some own) at is =
+    let stands = find_stands (is_live_on request) quotes own at in
+    let live = first_holds (is_live own) (own.quote.request == request) stands.2 in
+    let number_is : number ≡ own.quote.number = sym (same_Some own.quote.number number is) in
+    let place_is : number ≡ stands.0 + 1 = number_is ∙ sound.quotes_numbered stands.0 own stands.1 in
+    ap (option_map (λ (q : StandingQuote). q.quote.number)) (find_none (is_live_on request) (map (ended_at number how) quotes) (λ k y there.
+      let from = mapped_at (ended_at number how) quotes k y there in
+      elim (eqb_tells k stands.0) [
+          inl here ↦
+            let same : own ≡ from.0 = same_Some own from.0 (sym stands.1 ∙ ap (slice_get quotes) (sym here.1) ∙ from.1) in
+            let ended : ended_at number how from.0 ≡ record own { end = Some how } = ap (ended_at number how) (sym same) ∙ ended_own number how own number_is live in
+            left_false (is_live y) (y.quote.request == request) (ap is_live (sym from.2 ∙ ended))
+        | inr apart ↦
+            ap (is_live_on request) (sym from.2 ∙ chosen (number == from.0.quote.number) (record from.0 { end = option_or from.0.end (Some how) }) from.0 (other_number requests quotes number stands.0 k from.0 sound place_is from.1 apart.1))
+            ∙ lone_others (is_live_on request) quotes stands.0 own (sound.lone request) stands.1 stands.2 k from.0 from.1 apart.1 ]))
+
+-- no quote on its request is live any more
+pub replaced_none : (requests : List StandingRequest) (quotes : List StandingQuote) (request number : ℕ) (how : QuoteEnd) → IsSound requests quotes → live_number_among quotes request ≡ Some number
+    → live_number_among (map (ended_at number how) quotes) request ≡ None
+replaced_none requests quotes request number how sound is = replaced_found requests quotes request number how sound (find (is_live_on request) quotes) refl is
+
+sum_mapped : (f g : StandingQuote → ℕ) (change : StandingQuote → StandingQuote) → ((own : StandingQuote) → f (change own) ≡ g own) → (quotes : List StandingQuote) → sum_by f (map change quotes) ≡ sum_by g quotes
+sum_mapped f g change same [] = refl
+sum_mapped f g change same (own ∷ quotes) =
+    let rest : sum_by f (map change quotes) ≡ sum_by g quotes = sum_mapped f g change same quotes in
+    let first : f (change own) ≡ g own = same own in
+    sum_by-cons f (change own) (map change quotes) ∙ ap (λ (n : ℕ). n + sum_by f (map change quotes)) first ∙ ap (λ (n : ℕ). g own + n) rest ∙ sym (sum_by-cons g own quotes)
+
+turned : (a b : ℕ) → (a == b) ≡ (b == a)
+turned a b = elim (eqb_tells a b) [
+    inl same ↦ same.0 ∙ sym (eq-eqb b a (sym same.1))
+  | inr apart ↦ apart.0 ∙ sym (ruled_out (b == a) (λ so. apart.1 (sym (eqb-true b a so)))) ]
+
+dead_or_live : (b : Bool) (how : QuoteEnd) (own : StandingQuote) → live_quantity (cond b (record own { end = option_or own.end (Some how) }) own) ≡ cond b 0 (live_quantity own)
+dead_or_live true how own = ap (λ (live : Bool). cond live own.quote.quantity 0) (or_some own.end how)
+dead_or_live false how own = refl
+
+-- what the quotes add once it ended is what they add beside it
+pub sum_beside : (quotes : List StandingQuote) (number : ℕ) (how : QuoteEnd) → sum_by live_quantity (map (ended_at number how) quotes) ≡ sum_by (quantity_beside (Some number)) quotes
+sum_beside quotes number how = sum_mapped live_quantity (quantity_beside (Some number)) (ended_at number how)
+    (λ own. dead_or_live (number == own.quote.number) how own ∙ ap (λ (b : Bool). cond b 0 (live_quantity own)) (turned number own.quote.number)) quotes
+
+same_quantity : (b : Bool) (own : StandingQuote) → (b ≡ true → is_live own ≡ false) → cond b 0 (live_quantity own) ≡ live_quantity own
+same_quantity true own dead = sym (ap (λ (live : Bool). cond live own.quote.quantity 0) (dead refl))
+same_quantity false own dead = refl
+
+sum_same : (f g : StandingQuote → ℕ) (quotes : List StandingQuote) → ((k : ℕ) (own : StandingQuote) → slice_get quotes k ≡ Some own → f own ≡ g own) → sum_by f quotes ≡ sum_by g quotes
+sum_same f g [] same = refl
+sum_same f g (own ∷ quotes) same =
+    let rest : sum_by f quotes ≡ sum_by g quotes = sum_same f g quotes (λ k y at. same (suc k) y at) in
+    sum_by-cons f own quotes ∙ ap (λ (n : ℕ). n + sum_by f quotes) (same zero own refl) ∙ ap (λ (n : ℕ). g own + n) rest ∙ sym (sum_by-cons g own quotes)
+
+-- beside a quote that is not live all count
+pub beside_dead : (quotes : List StandingQuote) (number : ℕ) → ((k : ℕ) (own : StandingQuote) → slice_get quotes k ≡ Some own → own.quote.number ≡ number → is_live own ≡ false)
+    → sum_by (quantity_beside (Some number)) quotes ≡ sum_by live_quantity quotes
+beside_dead quotes number dead = sum_same (quantity_beside (Some number)) live_quantity quotes (λ k own at.
+    same_quantity (own.quote.number == number) own (λ so. dead k own at (eqb-true own.quote.number number so)))
+
+-- beside a live quote all but it count
+pub beside_live : (requests : List StandingRequest) (quotes : List StandingQuote) (number place : ℕ) (own : StandingQuote) → IsSound requests quotes → number ≡ place + 1
+    → slice_get quotes place ≡ Some own → is_live own ≡ true → sum_by (quantity_beside (Some number)) quotes + own.quote.quantity ≡ sum_by live_quantity quotes
+beside_live requests quotes number place own sound number_is stands live =
+    let same : number ≡ own.quote.number = number_is ∙ sym (sound.quotes_numbered place own stands) in
+    let after : set quotes place (record own { end = Some (end.Closed closes.Pass) }) ≡ map (ended_at number (end.Closed closes.Pass)) quotes =
+      ap (set quotes place) (sym (ended_own number (end.Closed closes.Pass) own same live))
+      ∙ set_map (ended_at number (end.Closed closes.Pass)) quotes place own stands
+        (λ k y there other. chosen (number == y.quote.number) (record y { end = option_or y.end (Some (end.Closed closes.Pass)) }) y (other_number requests quotes number place k y sound number_is there other)) in
+    let sum = sum_changed quotes place own (record own { end = Some (end.Closed closes.Pass) }) stands in
+    let beside : sum_by live_quantity (set quotes place (record own { end = Some (end.Closed closes.Pass) })) ≡ sum_by (quantity_beside (Some number)) quotes =
+      ap (sum_by live_quantity) after ∙ sum_beside quotes number (end.Closed closes.Pass) in
+    let adds = quantity_live own live in
+    omega arith

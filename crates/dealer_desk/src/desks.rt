@@ -11,12 +11,13 @@ use crate::answers::{
     word_asked,
 };
 use crate::index::DealerIndex;
-use crate::pending::write_out;
 use crate::rules::dealer_verdict;
 use crate::{DealerEvent, DealerVerdict, StandingQuote};
 use fix_fields::{Date, Memory, Moment};
 use market_terms::{Ask, Close, Duty, QuoteLine, RoomRef};
-use quote_messages::{ClosingNotice, Head, Message, OutMessage, QuotedPrice, Request};
+use quote_messages::{
+    ClosingNotice, Head, Message, OutMessage, QuotedPrice, Request, SentMessage, write_out,
+};
 use quote_word::Settled;
 use std::alloc::Global;
 use std::marker::Model;
@@ -32,7 +33,7 @@ pub struct DealerDesk {
     date: Date,
     row: DealerRow,
     events: Vec<DealerEvent>,
-    sent: Vec<Message>,
+    sent: Vec<SentMessage>,
     index: DealerIndex,
 }
 
@@ -255,14 +256,14 @@ impl DealerDesk {
     }
 
     /// The messages that the dealer was sent, the first one first.
-    pub fn sent(&self) -> &[Message]
+    pub fn sent(&self) -> &[SentMessage]
         ensures { result.now ≡ dealer_output self.now.date self.now.row self.now.events }
     {
         self.sent.as_slice()
     }
 
     /// The same messages, taken out of the desk. It takes no memory.
-    pub fn into_sent(self) -> Vec<Message>
+    pub fn into_sent(self) -> Vec<SentMessage>
         ensures { result.items ≡ dealer_output self.date self.row self.events }
     {
         let Self { sent, .. } = self;
@@ -270,7 +271,7 @@ impl DealerDesk {
     }
 
     /// The events and the messages, taken out of the desk. It takes no memory.
-    pub fn into_parts(self) -> (Vec<DealerEvent>, Vec<Message>)
+    pub fn into_parts(self) -> (Vec<DealerEvent>, Vec<SentMessage>)
         ensures events { result.0.items ≡ self.events }
         ensures sent { result.1.items ≡ dealer_output self.date self.row self.events }
     {
@@ -389,10 +390,10 @@ fn next_message(
     alloc: Global,
     date: &Date,
     row: &DealerRow,
-    sent: &[Message],
+    sent: &[SentMessage],
     moment: Moment,
     message: &OutMessage,
-) -> Result<Message, Memory>
+) -> Result<SentMessage, Memory>
     ensures { IfOk result (λ bytes. bytes ≡ spec.next_message date.now row.now sent.now moment message.now) }
 {
     let head = Head {
@@ -410,10 +411,10 @@ fn answer_message(
     alloc: Global,
     date: &Date,
     row: &DealerRow,
-    sent: &[Message],
+    sent: &[SentMessage],
     moment: Moment,
     answer: &Option<OutMessage>,
-) -> Result<Option<Message>, Memory>
+) -> Result<Option<SentMessage>, Memory>
     ensures { IfOk result (λ bytes. spec.sent_with date.now row.now sent.now moment answer.now ≡ sent.now ++ option_to_list bytes) }
 {
     let Some(message) = answer else {

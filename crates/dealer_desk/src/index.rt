@@ -1,5 +1,5 @@
 //! What a desk keeps of its day: the book, found again without a walk. It holds no events.
-ghost use Rattle.std.specs.Prelude.{◌≡◌, ◌+◌, ◌≤◌, ◌<◌, ◌^◌, ◌∷◌, [], ◌++◌, ℕ, List, true, length, option_map, Some, None, IfSome, OnOk, OnErr};
+ghost use Rattle.std.specs.Prelude.{◌≡◌, ◌+◌, ◌≤◌, ◌<◌, ◌^◌, ◌∷◌, [], ◌++◌, ℕ, List, true, length, option_map, Some, None, IfSome, OnOk, OnErr, if◌then◌else◌};
 ghost use Rattle.venue_config.specs.Texts.{same_text};
 ghost use Rattle.quote_messages.specs.Written.{request_name};
 ghost use Rattle.market_terms.specs.declared.rooms.RoomRef.{RoomRef};
@@ -7,7 +7,9 @@ ghost use Rattle.dealer_desk.specs.DealerFacts as facts;
 ghost use Rattle.dealer_desk.specs.DealerOutput as output;
 ghost use Rattle.dealer_desk.specs.QuoteLines.{lines_of};
 ghost use Rattle.dealer_desk.specs.BookChanges.{IsLiveNumber, FitsBook, book_after};
-ghost use Rattle.dealer_desk.specs.DealerTable.{with_fact, with_request};
+ghost use Rattle.dealer_desk.specs.DealerTable.{with_fact, with_request, room_cmp};
+ghost use Rattle.std.specs.BTreeMap.{get};
+ghost use Rattle.std.specs.Option.{option_or};
 ghost use Rattle.dealer_desk.specs.declared.standing.Withdrawal.TheVariants as by;
 
 use crate::table::{RequestRow, Table, is_droppable};
@@ -116,9 +118,12 @@ impl DealerIndex {
         ensures live { IfSome result (λ row. row.now.live ≡ facts.live_number_on self.now.book row.now.request.number) }
         ensures lifted { IfSome result (λ row. row.now.has_lifted ≡ facts.has_lifted_quote self.now.book row.now.request.number) }
     {
+        let shown = self.table.rows.len() as u64;
         let number = number_named(name)?;
-        let row = self.request_numbered(number)?;
-        Some(row)
+        if number < 1 || number > shown {
+            return None;
+        }
+        Some(&self.table.rows[number as usize - 1])
     }
 
     /// The quote with this own number.
@@ -145,7 +150,8 @@ impl DealerIndex {
         ensures { option_map (λ own. own.now) result ≡ facts.live_quote_on self.now.book request }
     {
         let row = self.request_numbered(request)?;
-        let own = self.quote_numbered(row.live?)?;
+        let number = row.live?;
+        let own = self.quote_numbered(number)?;
         Some(own)
     }
 
@@ -222,9 +228,7 @@ impl DealerIndex {
         self.table.rows.reserve(1)?;
         self.rooms.reserve(1)?;
         let number = self.table.rows.len() as u64 + 1;
-        if self.by_room.get(&room).is_none() {
-            self.by_room.insert(room, number)?;
-        }
+        put_first(&mut self.by_room, room, number)?;
         self.table.push_request(ask)?;
         self.rooms.push(room)?;
         Ok(())
@@ -295,6 +299,22 @@ impl DealerIndex {
         self.notices += 1;
         self.table.close(request, close);
     }
+}
+
+/// Gives a room this number, unless it has one already. After an error the map is as before.
+fn put_first(
+    by_room: &mut BTreeMap<RoomRef, u64>,
+    room: RoomRef,
+    number: u64,
+) -> Result<(), Memory>
+    ensures ok { OnOk result ((q : RoomRef) → get room_cmp by_room.new q ≡ option_or (get room_cmp by_room.old q) (if output.is_same_room room q then Some number else None)) }
+    ensures err { OnErr result ((q : RoomRef) → get room_cmp by_room.new q ≡ get room_cmp by_room.old q) }
+{
+    if by_room.get(&room).is_some() {
+        return Ok(());
+    }
+    by_room.insert(room, number)?;
+    Ok(())
 }
 
 /// The number of which a QuoteReqID (131) is the name: `R` and its digits, without leading zeros.

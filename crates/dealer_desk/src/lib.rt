@@ -9,7 +9,6 @@ mod events;
 mod index;
 mod laws;
 mod outcomes;
-mod pending;
 mod rules;
 mod standing;
 mod table;

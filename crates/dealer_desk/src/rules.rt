@@ -7,13 +7,14 @@ ghost use Rattle.dealer_desk.specs.RuleCuts.{standing_checks, terms_checks, day_
 
 use crate::cancels::{cancel_verdict, decline_verdict};
 use crate::index::DealerIndex;
-use crate::pending::receive_dealer;
 use crate::table::RequestRow;
 use crate::{AcceptedQuote, DealerVerdict};
 use bond_prices::{Grid, PriceFault, Ticks, on_grid};
 use fix_fields::{Date, Moment};
 use market_terms::{Ask, IdBuf, Quantity, Side};
-use quote_messages::{Arrival, DealerMessage, OutMessage, Quote, QuoteRejectReason};
+use quote_messages::{
+    Arrival, DealerMessage, OutMessage, Quote, QuoteRejectReason, receive_dealer,
+};
 use venue_config::DealerRow;
 
 /// The verdict on bytes that came at a moment, by the index as it stands.

@@ -13,7 +13,7 @@ use Rattle.std.proofs.lemmas.List.Sums.{prefix_len-le-length, split_at_first, pa
 use Rattle.std.proofs.lemmas.Str.Parse.{digit_from_value, digits_value_short}
 use Rattle.std.proofs.lemmas.Fmt.{decimal-digits_value, decimal_digit, digits_decimal, digits_value-decimal, first_decimal, decimal_nonempty, length-decimal-le}
 use Rattle.std.proofs.Math.Seq.{get_or-append_seam, take-append_seam, drop-append-add, drop-cons}
-use Rattle.fix_fields.specs.Frame.{Field, IsValue, IsField, AreBody, value_of, field_text, fields_text, pieces_of, field_of, fields_of}
+use Rattle.fix_fields.specs.Frame.{Field, IsValue, IsField, is_value, AreBody, value_of, field_text, fields_text, pieces_of, field_of, fields_of}
 use Rattle.fix_fields.specs.Scan.{BeginsWithField, HoldsFields, HoldsBody, IsFieldsText, IsBodyText}
 use Rattle.fix_fields.proofs.Digits.{plain, count_of, counted_digits}
 
@@ -56,6 +56,15 @@ free_digits c (x ∷ text) out all =
 pub free_append : (c : ℕ) (xs ys : List ℕ) → IsFree c xs → IsFree c ys → IsFree c (xs ++ ys)
 free_append c [] ys f g = g
 free_append c (x ∷ xs) ys f g = (f.0, free_append c xs ys f.1 g)
+
+-- a text is a value exactly where it has no place of an SOH
+pub value_by_place : (text : List ℕ) → (place_of 1 text == length text) ≡ is_value text
+value_by_place [] = refl
+value_by_place (x ∷ text) =
+    elim (cases_Bool (x == 1)) [
+      | inl same ↦ (let t = same in rw same (grind (arith, nat_tests)))
+      | inr other ↦ rw (other, ← value_by_place text) (grind (arith, nat_tests))
+    ]
 
 -- the parts of a field and what stands behind it
 pub regroup : (d v rest : List ℕ) → (d ++ (61 ∷ (v ++ (1 ∷ [])))) ++ rest ≡ d ++ (61 ∷ (v ++ (1 ∷ rest)))

@@ -147,7 +147,7 @@ all_decides : {X : Type 0} (test : X → Bool) (P : X → Type 0) → ((x : X) �
 all_decides test P each [] = (λ _. tt, λ _. refl)
 all_decides test P each (x ∷ xs) = Decides-and (test x) (list_all test xs) (each x) (all_decides test P each xs)
 
-value_decides : (value : List ℕ) → Decides (is_value value) (IsValue value)
+pub value_decides : (value : List ℕ) → Decides (is_value value) (IsValue value)
 value_decides value =
     all_decides (λ byte. not (byte == 1)) (λ byte. byte ≢ 1) (λ byte. Decides-not (byte == 1) (Decides-eqb byte 1)) value
 

@@ -3,4 +3,8 @@ pub mod FieldLemmas
 pub mod CutLemmas
 pub mod FrameLemmas
 pub mod WriterLemmas
+pub mod FrontLemmas
+pub mod CuttingLemmas
+pub mod FoundLemmas
+pub mod StreamLemmas
 pub mod ClockLemmas

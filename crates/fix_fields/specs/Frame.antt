@@ -4,6 +4,7 @@ use Rattle.std.specs.Prelude.{◌≡◌, ◌≢◌, ℕ, ◌+◌, ◌-◌, ◌/�
 use Rattle.std.specs.List.{AllByRecursion, list_all, before_first, after_first, onto_first}
 use Rattle.std.specs.Str.{bytes_eq, all_ascii_digits}
 use Rattle.std.specs.Str.Parse.{AllDigits, digits_value}
+use Rattle.fix_fields.specs.declared.limits.TheConstants.{MOST_FRAME, MOST_BODY}
 
 -- a field: its tag and the bytes of its value
 abbrev pub Field : Type 0
@@ -80,7 +81,7 @@ pub record IsFrame (bytes : List ℕ) (fields : List Field) : Type 0 where
   pub sum_is : AreSumDigits sum_digits
   pub sum_value : digits_value 10 sum_digits ≡ sum (front_text length_digits (fields_text fields)) % 256
   pub text : bytes ≡ front_text length_digits (fields_text fields) ++ end_text sum_digits
-  pub fits : length bytes ≤ 4096
+  pub fits : length bytes ≤ MOST_FRAME
 
 -- a number below 1,000 in three digits
 abbrev pub three_digits : ℕ → List ℕ
@@ -112,10 +113,9 @@ field_len tag value_len = decimal_len tag + value_len + 2
 unfoldable pub fields_len : List Field → ℕ
 fields_len fields = length (fields_text fields)
 
--- How many bytes still fit into a body. The longest frame has 4,096 bytes, and 25 of them are
--- BeginString, a BodyLength of four digits and CheckSum.
+-- how many bytes still fit into a body
 unfoldable pub left_of : List Field → ℕ
-left_of fields = 4071 - fields_len fields
+left_of fields = MOST_BODY - fields_len fields
 
 -- Cutting: total functions that say where the parts of a frame would stand in any bytes.
 
@@ -136,7 +136,8 @@ fields_of body = map field_of (pieces_of body)
 
 -- of a tag
 abbrev pub is_tag : ℕ → Bool
-is_tag tag = nat_lt 0 tag && nat_lt tag 1000000000 && not (tag == 8) && not (tag == 9) && not (tag == 10)
+is_tag tag =
+    nat_lt 0 tag && nat_lt tag 1000000000 && not (tag == 8) && not (tag == 9) && not (tag == 10)
 
 -- of a value
 abbrev pub is_value : List ℕ → Bool
@@ -166,7 +167,7 @@ builds bytes length_digits sum_digits fields =
     let front = front_text length_digits (fields_text fields) in
     are_body fields && are_length_digits length_digits (length (fields_text fields))
     && are_sum_digits sum_digits (sum front % 256) && bytes_eq bytes (front ++ end_text sum_digits)
-    && nat_le (length bytes) 4096
+    && nat_le (length bytes) MOST_FRAME
 
 -- where the digits of BodyLength would stand
 unfoldable pub length_digits_of : List ℕ → List ℕ

@@ -1,4 +1,5 @@
 pub mod Frame
+pub mod Envelope
 pub mod Clock
 pub mod Garbled
 pub mod Scan

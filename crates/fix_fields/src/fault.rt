@@ -1,4 +1,7 @@
 //! What is wrong with bytes that are no frame, and with texts that are no moment.
+ghost use Rattle.std.specs.Prelude.{◌≡◌};
+
+use std::alloc::AllocError;
 use thiserror::Error;
 
 /// Why bytes are no frame: the first of these checks, in this order, that they do not pass.
@@ -24,6 +27,40 @@ pub enum Garbled {
     /// CheckSum (10) is not the sum of all bytes before it, modulo 256.
     #[error("CheckSum is not the sum of the bytes")]
     Sum,
+}
+
+/// Why no more messages can be cut out of a stream of bytes. A fault of the first four stands for
+/// ever; it shows at one byte, and what comes behind that byte is no matter.
+#[derive(Clone, Copy, Debug, PartialEq, Eq, Error)]
+pub enum StreamFault {
+    /// A message departs from `8=FIXT.1.1`, SOH, `9=` (BeginString, and the tag of BodyLength). It
+    /// shows at the first other byte.
+    #[error("a message does not begin with BeginString FIXT.1.1 and BodyLength")]
+    Start,
+    /// BodyLength (9) is not 1 to 6 digits and SOH. It shows at the first byte that can't belong to
+    /// them.
+    #[error("BodyLength is not 1 to 6 digits")]
+    Length,
+    /// The message would have more than 4,096 bytes. It shows at the SOH behind BodyLength (9).
+    #[error("a message is longer than 4,096 bytes")]
+    TooLong,
+    /// The seven bytes behind the body are not `10=` (CheckSum), three digits and SOH. It shows at
+    /// the last of the seven.
+    #[error("a message does not end with CheckSum")]
+    End,
+    /// Memory was refused. The bytes may be fed again.
+    #[error("out of memory")]
+    Memory,
+}
+
+impl From<AllocError> for StreamFault {
+    ghost use Rattle.fix_fields.specs.declared.fault.StreamFault.TheVariants.{Memory};
+
+    ghost from_gives = { λ _ fault. fault ≡ Memory };
+
+    fn from(_error: AllocError) -> StreamFault {
+        StreamFault::Memory
+    }
 }
 
 /// Why a text is no moment of a day.

@@ -8,6 +8,7 @@ ghost use Rattle.fix_fields.specs.Garbled.{IsFault, IsCut};
 ghost use Rattle.fix_fields.specs.Scan.{IsEnd};
 
 use crate::fault::Garbled;
+use crate::limits::{MOST_BODY, MOST_FRAME};
 use crate::scan::{SOH, is_body, leading_number, split_field};
 use std::marker::Model;
 
@@ -40,7 +41,7 @@ impl<'a> Frame<'a> {
     pub fn get(&self, tag: u32) -> Option<&'a [u8]>
         ensures first { option_copied result ≡ value_of tag self.now }
         ensures value { IfSome result (λ value. IsValue value.now) }
-        ensures fits { IfSome result (λ value. length value.now ≤ 4071) }
+        ensures fits { IfSome result (λ value. length value.now ≤ MOST_BODY) }
     {
         for (found, value) in self.fields() {
             if found == tag {
@@ -61,8 +62,8 @@ impl<'a> Frame<'a> {
     pub fn fields(&self) -> Fields<'a>
         ensures all { result ≡ self.now }
         ensures body { AreBody self.now }
-        ensures fits { length (fields_text self.now) ≤ 4071 }
-        ensures few { length self.now ≤ 4071 }
+        ensures fits { length (fields_text self.now) ≤ MOST_BODY }
+        ensures few { length self.now ≤ MOST_BODY }
     {
         Fields { rest: self.body }
     }
@@ -120,7 +121,7 @@ fn cut(bytes: &[u8]) -> Result<(&[u8], &[u8]), Garbled>
     ensures long { OnOk result (7 ≤ length bytes.now) }
     ensures err { MatchResult result (λ _. Unit {0}) (λ fault. IsFault fault bytes.now) }
 {
-    if bytes.len() > 4096 {
+    if bytes.len() > MOST_FRAME {
         return Err(Garbled::TooLong);
     }
     if !bytes.starts_with(START) {
@@ -142,7 +143,7 @@ fn cut(bytes: &[u8]) -> Result<(&[u8], &[u8]), Garbled>
 }
 
 /// The number of a CheckSum of seven bytes: `10=`, three digits and SOH.
-fn sum_of_end(tail: &[u8]) -> Option<u32>
+pub(crate) fn sum_of_end(tail: &[u8]) -> Option<u32>
     requires { length tail.now ≡ 7 }
     ensures { MatchOption result ((digits : List ℕ) → ¬ IsEnd tail.now digits)
         (λ n. (digits : List ℕ) × IsEnd tail.now digits × (digits_value 10 digits ≡ n)) }

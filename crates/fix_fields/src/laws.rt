@@ -3,6 +3,8 @@ ghost use Rattle.std.specs.Prelude.{◌≡◌, ◌↔◌, ◌<◌, ◌≤◌, �
 ghost use Rattle.fix_fields.specs.Frame.{Field, AreBody, IsFrame, decimal_len, fields_len, frame_of, frame_text};
 ghost use Rattle.fix_fields.specs.UtcTimestamp.{UtcTimestamp, IsDate, moment_of, timestamp_text};
 
+use crate::limits::MOST_BODY;
+
 /// No bytes are a frame of two lists of fields.
 pub fn frames_have_one_reading()
     ensures { (bytes : List ℕ) (fields others : List Field) → IsFrame bytes fields → IsFrame bytes others → fields ≡ others }
@@ -11,7 +13,7 @@ pub fn frames_have_one_reading()
 /// `frame_of` gives the fields of a frame, and only of a frame; the frame that is written is one.
 pub fn frame_of_is_the_reading()
     ensures reads { (bytes : List ℕ) (fields : List Field) → (frame_of bytes ≡ Some fields) ↔ IsFrame bytes fields }
-    ensures written { (fields : List Field) → AreBody fields → fields_len fields ≤ 4071 → frame_of (frame_text fields) ≡ Some fields }
+    ensures written { (fields : List Field) → AreBody fields → fields_len fields ≤ MOST_BODY → frame_of (frame_text fields) ≡ Some fields }
 {}
 
 /// No text spells two moments, and `moment_of` gives the one that it spells of a date.

@@ -26,8 +26,9 @@
 //! - [`Frame::get`] is the value of the first field with a tag, [`Frame::times`] how many have it,
 //!   and [`Frame::fields`] goes over all of them in order.
 //! - What [`FrameWriter::finish`] returns is the frame of the fields that were written, with the
-//!   length in decimal without leading zeros, so it is read back as these fields. [`FrameWriter::left`]
-//!   tells what still fits. A call whose memory is refused leaves the writer as it was.
+//!   length in decimal without leading zeros, so it is read back as these fields. [`is_tag`],
+//!   [`is_value`] and [`fits`] are the tests of what a writer asks for, and [`FrameWriter::left`]
+//!   tells how much still fits. A call whose memory is refused leaves the writer as it was.
 //! - [`read_moment`] reads exactly the two spellings of a moment of its date, and tells what is no
 //!   spelling at all from what is one of another date. What [`moment_text`] returns is read back.
 //!
@@ -42,22 +43,29 @@
 mod dates;
 mod fault;
 mod frames;
+mod fronts;
 mod laws;
+mod limits;
 mod moments;
 mod scan;
-#[cfg(test)]
-mod tests;
+mod stream_laws;
+mod streams;
 mod writer;
 
 pub use dates::Date;
-pub use fault::{Garbled, MomentFault};
+pub use fault::{Garbled, MomentFault, StreamFault};
 pub use frames::{Fields, Frame, read_frame};
 pub use laws::{
     decimal_len_is_the_length, frame_of_is_the_reading, frames_have_one_reading,
     moment_of_is_the_reading,
 };
+pub use limits::{MOST_BODY, MOST_FRAME};
 pub use moments::{Moment, moment_text, read_moment};
-pub use writer::{FrameWriter, decimal_len};
+pub use stream_laws::{
+    envelopes_of_is_the_cutting, frames_are_cut, pieces_make_no_difference, stream_faults_are_for_ever,
+};
+pub use streams::{Messages, Splitter};
+pub use writer::{FrameWriter, decimal_len, fits, is_tag, is_value};
 
 /// An allocation that was refused.
 pub type Memory = std::alloc::AllocError;

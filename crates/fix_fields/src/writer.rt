@@ -1,14 +1,19 @@
 //! Frames that are written.
-ghost use Rattle.std.specs.Prelude.{◌≡◌, ◌+◌, ◌<◌, ◌≤◌, [], ◌∷◌, ◌++◌, length, decimal, IfOk, OnOk, OnErr, Some};
-ghost use Rattle.fix_fields.specs.Frame.{Field, IsTag, IsValue, IsFrame, field_len, decimal_len, left_of, field_text, frame_text, frame_of};
+ghost use Rattle.std.specs.Prelude.{◌≡◌, ◌+◌, ◌<◌, ◌≤◌, ◌↔◌, [], ◌∷◌, ◌++◌, length, decimal, IsTrue, IfOk, OnOk, OnErr, Some};
+ghost use Rattle.fix_fields.specs.Frame as spec;
+ghost use Rattle.fix_fields.specs.Frame.{Field, IsTag, IsValue, IsFrame, field_len, left_of, field_text, frame_text, frame_of};
 ghost use Rattle.fix_fields.specs.Scan.{text_around};
 
 use crate::Memory;
 use crate::frames::{END_LEN, START, checksum};
-use crate::scan::SOH;
+use crate::limits::MOST_BODY;
+use crate::scan::{SOH, value_len};
 use itoa::Buffer;
 use std::alloc::Global;
 use std::marker::Model;
+
+/// How many bytes of body a writer begins with room for: most messages need no more.
+const USUAL_BODY: usize = 256;
 
 /// A frame that is being written. A clause sees the list of its fields so far, MsgType (35) first.
 #[derive(Debug, Drop)]
@@ -29,30 +34,30 @@ impl Model for FrameWriter {
 }
 
 impl FrameWriter {
-    /// A frame with MsgType (35) alone. Its value has no SOH, and at most 4,067 bytes. The one error is
-    /// that memory is refused.
+    /// A frame with MsgType (35) alone. Its value has no SOH ([`is_value`]), and the field fits into
+    /// [`MOST_BODY`] bytes ([`fits`]). The one error is that memory is refused.
     pub fn new(alloc: Global, msg_type: &[u8]) -> Result<FrameWriter, Memory>
         requires value { IsValue msg_type.now }
-        requires room { field_len 35 (length msg_type.now) ≤ 4071 }
+        requires room { field_len 35 (length msg_type.now) ≤ MOST_BODY }
         ensures fields { IfOk result (λ writer. writer ≡ (35, msg_type.now) ∷ []) }
-        ensures left { IfOk result (λ writer. left_of writer + field_len 35 (length msg_type.now) ≡ 4071) }
+        ensures left { IfOk result (λ writer. left_of writer + field_len 35 (length msg_type.now) ≡ MOST_BODY) }
     {
-        let mut body = Vec::new(alloc);
+        let mut body = Vec::with_capacity(alloc, USUAL_BODY)?;
         push_field(&mut body, 35, msg_type)?;
         Ok(FrameWriter { body })
     }
 
-    /// How many bytes still fit into the body, which has at most 4,071. A field takes the digits of its
-    /// tag, its value, and two bytes more.
+    /// How many bytes still fit into the body, which has at most [`MOST_BODY`]. A field takes the
+    /// digits of its tag, its value, and two bytes more: [`fits`] is the test.
     pub fn left(&self) -> usize
         ensures { result ≡ left_of self.now }
     {
-        4071 - self.body.len()
+        MOST_BODY - self.body.len()
     }
 
-    /// Adds a field behind the others. The tag has 1 to 9 digits and is not 8, 9 or 10, the value has no
-    /// SOH, and the field fits ([`FrameWriter::left`]). The one error is that memory is refused; the
-    /// frame is then as before.
+    /// Adds a field behind the others. The tag is lawful ([`is_tag`]), the value has no SOH
+    /// ([`is_value`]), and the field fits into what is left ([`fits`]). The one error is that memory
+    /// is refused; the frame is then as before.
     pub fn text(&mut self, tag: u32, value: &[u8]) -> Result<(), Memory>
         requires tag { IsTag tag }
         requires value { IsValue value.now }
@@ -69,9 +74,9 @@ impl FrameWriter {
     /// as for [`FrameWriter::text`]; [`decimal_len`] tells how many digits a number has, at most 20.
     pub fn number(&mut self, tag: u32, value: u64) -> Result<(), Memory>
         requires tag { IsTag tag }
-        requires room { field_len tag (decimal_len value) ≤ left_of self.old }
+        requires room { field_len tag (spec.decimal_len value) ≤ left_of self.old }
         ensures ok { OnOk result (self.new ≡ self.old ++ (tag, decimal value) ∷ []) }
-        ensures left { OnOk result (left_of self.new + field_len tag (decimal_len value) ≡ left_of self.old) }
+        ensures left { OnOk result (left_of self.new + field_len tag (spec.decimal_len value) ≡ left_of self.old) }
         ensures err { OnErr result (self.new ≡ self.old) }
     {
         let mut buffer = Buffer::new();
@@ -92,9 +97,39 @@ impl FrameWriter {
     }
 }
 
+/// Whether a tag may stand in a body: it has 1 to 9 digits, the first not 0, and is not that of
+/// BeginString (8), BodyLength (9) or CheckSum (10).
+pub fn is_tag(tag: u32) -> bool
+    ensures lawful { IsTrue result ↔ IsTag tag }
+    ensures exact { result ≡ spec.is_tag tag }
+{
+    if tag < 1 || tag > 999_999_999 {
+        return false;
+    }
+    tag != 8 && tag != 9 && tag != 10
+}
+
+/// Whether bytes may be the value of a field: they have no SOH.
+pub fn is_value(value: &[u8]) -> bool
+    ensures lawful { IsTrue result ↔ IsValue value.now }
+    ensures exact { result ≡ spec.is_value value.now }
+{
+    value_len(value) == value.len()
+}
+
+/// Whether a field with this tag and a value of `len` bytes fits into `left` bytes of body.
+pub fn fits(tag: u32, len: usize, left: usize) -> bool
+    ensures { IsTrue result ↔ (field_len tag len ≤ left) }
+{
+    if len > left {
+        return false;
+    }
+    decimal_len(tag as u64) + 2 <= left - len
+}
+
 /// How many digits a number has in decimal: what [`FrameWriter::number`] takes for a value.
 pub fn decimal_len(n: u64) -> usize
-    ensures value { result ≡ decimal_len n }
+    ensures value { result ≡ spec.decimal_len n }
     ensures digits { result ≡ length (decimal n) }
     ensures few { result ≤ 20 }
 {
@@ -104,7 +139,7 @@ pub fn decimal_len(n: u64) -> usize
 
 /// Puts a field at the end of a body.
 fn push_field(body: &mut Vec<u8>, tag: u32, value: &[u8]) -> Result<(), Memory>
-    requires { length value.now ≤ 4071 }
+    requires { length value.now ≤ MOST_BODY }
     ensures ok { OnOk result (body.new.items ≡ body.old.items ++ field_text (tag, value.now)) }
     ensures err { OnErr result (body.new.items ≡ body.old.items) }
 {
@@ -120,7 +155,7 @@ fn push_field(body: &mut Vec<u8>, tag: u32, value: &[u8]) -> Result<(), Memory>
 
 /// A body between its BodyLength and its CheckSum.
 fn framed(alloc: Global, body: &[u8]) -> Result<Vec<u8>, Memory>
-    requires { length body.now ≤ 4071 }
+    requires { length body.now ≤ MOST_BODY }
     ensures { IfOk result (λ bytes. bytes.items ≡ text_around body.now) }
 {
     let mut buffer = Buffer::new();

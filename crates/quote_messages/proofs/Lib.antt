@@ -1,2 +1,6 @@
+pub mod GroupLemmas
 pub mod NumberLemmas
+pub mod SessionLemmas
+pub mod SlotLemmas
 pub mod TextLemmas
+pub mod WritingLemmas

@@ -1,5 +1,6 @@
 pub mod Arrivals
 pub mod Codes
+pub mod GroupReading
 pub mod PartyGroup
 pub mod SessionChecks
 pub mod SessionLines

@@ -71,7 +71,7 @@ group_fault fields =
 
 -- The line of the table: the group is whole, and so is each entry. The entries are looked for in all fields, since none
 -- of theirs stands outside a whole group.
-abbrev pub party_group : Line
+unfoldable pub party_group : Line
 party_group = λ date fields. or_next (group_fault fields) (entries_fault date (entries_of fields))
 
 -- the dealer that an entry names: its PartyID, where PartyIDSource is D and PartyRole is 35; other entries are ignored

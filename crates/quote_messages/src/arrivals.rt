@@ -1,6 +1,20 @@
 //! What the session makes of bytes that came from a firm.
+ghost use Rattle.std.specs.Prelude.{◌≡◌, ◌+◌, ◌<◌, ◌^◌, option_and_then};
+ghost use Rattle.fix_fields.specs.Frame.{value_of};
+ghost use Rattle.venue_config.specs.Texts.{text_if};
+ghost use Rattle.quote_messages.specs.Texts.{is_msg_type};
+ghost use Rattle.quote_messages.specs.Arrivals as spec;
+ghost use Rattle.quote_messages.specs.Arrivals.{dealer_arrival, investor_arrival, sequence_number, reject_of, out_of_sequence};
 
-use crate::Reject;
+use crate::dealer_checks::judge_dealer;
+use crate::investor_checks::judge_investor;
+use crate::slots::FieldSlots;
+use crate::tag_reading::fault;
+use crate::{
+    DealerMessage, InvestorMessage, MsgType, Reject, SeqNum, SessionFault, SessionRejectReason,
+};
+use fix_fields::{Date, read_frame};
+use venue_config::{DealerRow, InvestorRow};
 
 /// What becomes of bytes that came from a firm, before the market looks at them.
 #[derive(Drop)]
@@ -13,4 +27,102 @@ pub enum Arrival<'a, M: Drop> {
     Rejected(Reject<'a>),
     /// The message used up its number, and says this.
     Taken(M),
+}
+
+/// What becomes of bytes that came from a dealer, whose next expected MsgSeqNum (34) is this.
+#[tactic(auto, unfolding(crate::specs::Arrivals::dealer_arrival))]
+pub fn receive_dealer<'a>(
+    date: &Date,
+    row: &DealerRow,
+    expected: u64,
+    bytes: &'a [u8],
+) -> Arrival<'a, DealerMessage<'a>>
+    ensures exact { result ≡ dealer_arrival date.now row.now expected bytes.now }
+{
+    let Ok(frame) = read_frame(bytes) else {
+        return Arrival::Dropped;
+    };
+    let message = FieldSlots::of(&frame);
+    let Some(number) = sequence_number(&message) else {
+        return Arrival::Dropped;
+    };
+    if number.get() != expected {
+        return Arrival::OutOfSequence(reject_of(&message, number, out_of_sequence()));
+    }
+    match judge_dealer(date, row, &message) {
+        Ok(read) => Arrival::Taken(read),
+        Err(fault) => Arrival::Rejected(reject_of(&message, number, fault)),
+    }
+}
+
+/// What becomes of bytes that came from an investor, whose next expected MsgSeqNum (34) is this.
+#[tactic(auto, unfolding(crate::specs::Arrivals::investor_arrival))]
+pub fn receive_investor<'a>(
+    date: &Date,
+    row: &InvestorRow,
+    expected: u64,
+    bytes: &'a [u8],
+) -> Arrival<'a, InvestorMessage<'a>>
+    ensures exact { result ≡ investor_arrival date.now row.now expected bytes.now }
+{
+    let Ok(frame) = read_frame(bytes) else {
+        return Arrival::Dropped;
+    };
+    let message = FieldSlots::of(&frame);
+    let Some(number) = sequence_number(&message) else {
+        return Arrival::Dropped;
+    };
+    if number.get() != expected {
+        return Arrival::OutOfSequence(reject_of(&message, number, out_of_sequence()));
+    }
+    match judge_investor(date, row, &message) {
+        Ok(read) => Arrival::Taken(read),
+        Err(fault) => Arrival::Rejected(reject_of(&message, number, fault)),
+    }
+}
+
+/// The MsgSeqNum (34) that is expected of a firm when so many of its messages have used up theirs.
+pub fn expected_number(used: u64) -> u64
+    requires { used + 1 < 2 ^ 64 }
+    ensures { result ≡ spec.expected_number used }
+{
+    used + 1
+}
+
+/// MsgSeqNum (34), where it stands once and is readable.
+fn sequence_number<'a>(message: &FieldSlots<'a>) -> Option<SeqNum<'a>>
+    ensures { result ≡ sequence_number message.now }
+{
+    let slot = message.at(34);
+    let value = slot.first?;
+    if slot.is_repeated {
+        return None;
+    }
+    SeqNum::new(value)
+}
+
+/// What a Reject says of a message with this MsgSeqNum.
+fn reject_of<'a>(message: &FieldSlots<'a>, number: SeqNum<'a>, fault: SessionFault) -> Reject<'a>
+    ensures { result ≡ reject_of message.now number.entry fault }
+{
+    Reject {
+        number,
+        fault,
+        msg_type: msg_type(message),
+    }
+}
+
+/// MsgType (35), where it may stand in a Reject.
+fn msg_type<'a>(message: &FieldSlots<'a>) -> Option<MsgType<'a>>
+    ensures { result ≡ option_and_then (text_if is_msg_type) (value_of 35 message.now) }
+{
+    let value = message.at(35).first?;
+    MsgType::new(value)
+}
+
+/// The fault of a message that is out of sequence.
+fn out_of_sequence() -> SessionFault
+    ensures { result ≡ out_of_sequence }
+{
+    fault(34, SessionRejectReason::ValueIncorrect)
 }

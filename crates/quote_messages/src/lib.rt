@@ -42,10 +42,17 @@
 
 mod arrivals;
 mod characters;
+mod dealer_checks;
+mod dealer_writing;
+mod field_writing;
+mod header;
+mod investor_checks;
+mod investor_writing;
 mod messages;
 mod numbers;
 mod out_messages;
 mod parties;
+mod party_group;
 mod quantities;
 mod quotes;
 mod received;
@@ -54,8 +61,12 @@ mod requests;
 mod sent_messages;
 mod session_faults;
 mod slots;
+mod tag_reading;
+mod writing;
 
-pub use arrivals::Arrival;
+pub use arrivals::{Arrival, expected_number, receive_dealer, receive_investor};
+pub use dealer_checks::read_dealer;
+pub use investor_checks::read_investor;
 pub use market_terms::{
     Ask, AskedDealers, Close, Duty, HitRefusal, Id, IdBuf, Offer, Quantity, QuoteLine, QuoteState,
     Reply, RequestLine, RequestState, ResponseRef, RoomRef, Side,
@@ -74,3 +85,4 @@ pub use reject_reasons::{QuoteRejectReason, RequestRejectReason};
 pub use requests::{InvestorMessage, QuoteHit, QuoteRequest, RequestPass};
 pub use sent_messages::SentMessage;
 pub use session_faults::{SessionFault, SessionRejectReason};
+pub use writing::write_out;

@@ -1,8 +1,9 @@
 //! The dealers that a request names.
-ghost use Rattle.std.specs.Prelude.{◌≡◌, ℕ, ◌≤◌, List, Some, None, IsTrue, codes};
-ghost use Rattle.quote_messages.specs.PartyGroup.{named_dealers, entries_of, entries_fault};
+ghost use Rattle.std.specs.Prelude.{◌≡◌};
+ghost use Rattle.quote_messages.specs.PartyGroup.{named_dealers, entries_of, AreWhole};
 
 use crate::Id;
+use crate::party_group::next_dealer;
 use fix_fields::Fields;
 use std::marker::Model;
 
@@ -14,7 +15,7 @@ pub struct NamedDealers<'a> {
 }
 
 impl<'a> Model for NamedDealers<'a> {
-    ghost use Rattle.std.specs.Prelude.{◌≡◌, ℕ, List, None};
+    ghost use Rattle.std.specs.Prelude.{ℕ, List};
     ghost use Rattle.quote_messages.specs.PartyGroup.{named_dealers, entries_of, AreWhole};
 
     ghost Value = { List (List ℕ) };
@@ -25,6 +26,14 @@ impl<'a> Model for NamedDealers<'a> {
 }
 
 impl<'a> NamedDealers<'a> {
+    /// The dealers that fields name, whose entries are whole.
+    pub(crate) fn of(fields: Fields<'a>) -> Self
+        requires { AreWhole (entries_of fields) }
+        ensures { result ≡ named_dealers fields.entry }
+    {
+        NamedDealers { fields }
+    }
+
     /// The same dealers once more, to be gone through apart.
     pub fn again(&self) -> Self
         ensures { result ≡ self.now }
@@ -32,5 +41,20 @@ impl<'a> NamedDealers<'a> {
         NamedDealers {
             fields: self.fields.again(),
         }
+    }
+}
+
+impl<'a> Iterator for NamedDealers<'a> {
+    ghost use Rattle.std.specs.Iterator.{YieldsFirstBy, item_count};
+
+    type Item = Id<'a>;
+
+    ghost next_gives = { YieldsFirstBy (λ id. id) (λ rest. rest) };
+
+    ghost remaining = { item_count (λ rest. rest) };
+
+    fn next(&mut self) -> Option<Id<'a>> {
+        let id = next_dealer(&mut self.fields)?;
+        Id::new(id)
     }
 }

@@ -1,9 +1,9 @@
 //! The one walk over the fields of a message.
-ghost use Rattle.std.specs.Prelude.{◌≡◌, ◌≤◌, ◌<◌, Some, None, true, false, IsTrue};
+ghost use Rattle.std.specs.Prelude.{◌≡◌, ◌≤◌, ◌<◌, length, Some, None, true, false, IsTrue};
 ghost use Rattle.quote_messages.specs.SessionLines.{occurrence_of};
 ghost use Rattle.quote_messages.specs.Slots.{AreFilled, place_of, is_checked, said_by, joined};
 
-use fix_fields::{Fields, Frame};
+use fix_fields::{Fields, Frame, MOST_BODY};
 use std::marker::Model;
 
 /// How many slots there are: one for each tag that the tables look at, and one for all other tags.
@@ -21,7 +21,7 @@ pub(crate) struct Slot<'a> {
 impl<'a> Slot<'a> {
     /// A tag that does not stand.
     pub(crate) fn empty() -> Self
-        ensures { said_by result ≡ record { first = None; is_repeated = false } }
+        ensures { result ≡ record { first = None; is_repeated = false } }
     {
         Slot {
             first: None,
@@ -55,15 +55,16 @@ pub(crate) struct FieldSlots<'a> {
 }
 
 impl<'a> Model for FieldSlots<'a> {
-    ghost use Rattle.std.specs.Prelude.{List};
+    ghost use Rattle.std.specs.Prelude.{List, length, ◌≤◌};
     ghost use Rattle.fix_fields.specs.Frame.{Field};
     ghost use Rattle.quote_messages.specs.Slots.{AreFilled};
+    ghost use Rattle.fix_fields.specs.declared.limits.TheConstants.{MOST_BODY};
 
     ghost Value = { List Field };
 
     ghost view = { λ m. m.fields };
 
-    ghost invariant = { λ m. AreFilled m.slots m.fields };
+    ghost invariant = { λ m. AreFilled m.slots m.fields × (length m.fields ≤ MOST_BODY) };
 }
 
 impl<'a> FieldSlots<'a> {
@@ -87,7 +88,8 @@ impl<'a> FieldSlots<'a> {
 
     /// All fields, first to last.
     pub(crate) fn fields(&self) -> Fields<'a>
-        ensures { result ≡ self.now }
+        ensures all { result ≡ self.now }
+        ensures few { length result ≤ MOST_BODY }
     {
         self.fields.again()
     }

@@ -8,13 +8,13 @@ use Rattle.toml.specs.Parse.{parse_document}
 use Rattle.toml.specs.View.{view, table_view}
 use Rattle.toml.specs.declared.value.Value.{Value, Table}
 use Rattle.toml.proofs.Views.{view-Table}
-use Rattle.venue_config.specs.Keys.{most_quotes, most_requests}
+use Rattle.venue_config.specs.declared.config.TheConstants.VenueConfig.{MOST_BONDS, MOST_DEALERS, MOST_INVESTORS, MOST_QUOTES_IN_ALL, MOST_REQUESTS_IN_ALL}
 use Rattle.venue_config.specs.Rows.{Configuration, DealerValues, InvestorValues, dealer_values, investor_values, KeepsLimits, AreTraders}
 use Rattle.venue_config.specs.Config.{bonds_in, dealers_in, investors_in, dealer_names, investor_names, quotes_in_all, requests_in_all, sums_fit, document_of}
 use Rattle.venue_config.specs.declared.dealer_rows.DealerRow.{DealerRow}
 use Rattle.venue_config.specs.declared.investor_rows.InvestorRow.{InvestorRow}
 use Rattle.std.proofs.lemmas.Bool.{and_parts}
-use Rattle.venue_config.proofs.LimitLemmas.{bonds_distinct, dealers_kept, investors_kept}
+use Rattle.venue_config.proofs.LimitLemmas.{bonds_kept, dealers_kept, investors_kept}
 
 -- a table that was read is the document of its text
 pub document_read : (text : List ℕ) (own : BTreeMap (String Global) Value) → parse_document text ≡ Some (table_view own) → document_of text ≡ Ok (view (Table own))
@@ -56,17 +56,18 @@ unmapped_investor_traders rows all = λ k d within.
     let kept = all k (investor_values d) (rw length-map within) in
     rw (get_or-map investor_values rows k d (investor_values d) within) at kept
 
-pub limits_read : (document : Data) (config : Configuration)
-    → bonds_in document ≡ Ok config.bonds
+pub limits_read : (version : ℕ) (document : Data) (config : Configuration)
+    → bonds_in version document ≡ Ok config.bonds
     → dealers_in document ≡ Ok (map dealer_values config.dealers)
     → investors_in (map dealer_values config.dealers) document ≡ Ok (map investor_values config.investors)
-    → length config.bonds ≤ 1024 → length config.dealers ≤ 64 → length config.investors ≤ 64
+    → length config.bonds ≤ MOST_BONDS → length config.dealers ≤ MOST_DEALERS → length config.investors ≤ MOST_INVESTORS
     → sums_fit (map dealer_values config.dealers) (map investor_values config.investors) ≡ true
     → KeepsLimits config
-limits_read document config bonds_are dealers_are investors_are bonds dealers investors fit =
-    let sums = and_parts (nat_le (quotes_in_all (map dealer_values config.dealers)) most_quotes) (nat_le (requests_in_all (map investor_values config.investors)) most_requests) fit in
+limits_read version document config bonds_are dealers_are investors_are bonds dealers investors fit =
+    let sums = and_parts (nat_le (quotes_in_all (map dealer_values config.dealers)) MOST_QUOTES_IN_ALL) (nat_le (requests_in_all (map investor_values config.investors)) MOST_REQUESTS_IN_ALL) fit in
     let quotes = rw (quotes_of_values config.dealers) at sums.0 in
     let requests = rw (requests_of_values config.investors) at sums.1 in
+    let own_bonds = bonds_kept version document config.bonds bonds_are in
     let own_dealers = dealers_kept document (map dealer_values config.dealers) dealers_are in
     let own_investors = investors_kept document (map dealer_values config.dealers) (map investor_values config.investors) own_dealers.firms investors_are in
     let firms = rw (dealer_names-values config.dealers, investor_names-values config.investors) at own_investors.firms in
@@ -74,7 +75,9 @@ limits_read document config bonds_are dealers_are investors_are bonds dealers in
       bonds_most = bonds;
       dealers_most = dealers;
       investors_most = investors;
-      bonds_distinct = bonds_distinct document config.bonds bonds_are;
+      bonds_distinct = own_bonds.distinct;
+      bonds_named = own_bonds.named;
+      bonds_on_grids = own_bonds.on_grids;
       firms_distinct = firms.distinct;
       firms_named = firms.named;
       dealer_traders = unmapped_traders config.dealers own_dealers.traders;

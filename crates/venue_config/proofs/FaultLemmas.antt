@@ -3,10 +3,12 @@ use Rattle.std.proofs.Common.{◌≡◌, ◌≢◌, ℕ, ℤ, pos, negsuc, Bool,
 use Rattle.std.specs.Option.{option_and_then}
 use Rattle.toml.specs.Data.{Data, Items, no_items, item, get, as_str, as_integer, as_array}
 use Rattle.venue_config.specs.Texts.{is_among, is_name}
-use Rattle.venue_config.specs.Keys.{NumberKey, TextKey, ArrayKey, version_key, date_key, bonds_key, id_key, dealers_key, investors_key, name_key, traders_key, quotes_key, exposure_key, requests_key, open_key, quantity_key}
-use Rattle.venue_config.specs.Values.{◌>>=◌, number_in, number_at, text_in, text_at, unnamed, item_count, elements_in, elements_at, rows_in, rows_at, read_all, trader_of, traders_at}
-use Rattle.venue_config.specs.Rows.{DealerValues, InvestorValues}
-use Rattle.venue_config.specs.Config.{bond_of, firm_name_of, dealer_names, investor_names, dealer_of, investor_of, bonds_in, dealers_in, investors_in, sums_fit, config_in}
+use Rattle.venue_config.specs.Keys.{NumberKey, ChoiceKey, TextKey, ArrayKey, version_key, has_grids, date_key, bonds_key, id_key, grid_key, dealers_key, investors_key, name_key, traders_key, quotes_key, exposure_key, requests_key, open_key, quantity_key}
+use Rattle.venue_config.specs.Values.{◌>>=◌, number_in, number_at, choice_in, choice_at, text_in, text_at, unnamed, item_count, elements_in, elements_at, rows_in, rows_at, read_all, trader_of, traders_at}
+use Rattle.venue_config.specs.Rows.{DealerValues, InvestorValues, bond_ids}
+use Rattle.bond_prices.specs.Grid.{finest_grid}
+use Rattle.venue_config.specs.declared.bond_rows.BondRow.{BondRow}
+use Rattle.venue_config.specs.Config.{bond_of, bond_id_of, grid_of, firm_name_of, dealer_names, investor_names, dealer_of, investor_of, bonds_in, dealers_in, investors_in, sums_fit, config_in}
 use Rattle.venue_config.specs.declared.faults.ConfigFault.{ConfigFault}
 use Rattle.venue_config.specs.declared.faults.ConfigFault.TheVariants.{Toml, Missing, Name, Twice, Limit, Memory}
 
@@ -91,9 +93,32 @@ traders_at-own row =
     (elements_in-own 1 16 (option_and_then as_array (get traders_key.key row)))
     (read_all-own trader_of trader_of-own [])
 
-bond_of-own : (bonds : List (List ℕ)) (row : Data) → HasOwnFault (bond_of bonds row)
+choice_in-own : (is_choice : ℕ → Bool) (number : Option ℤ) → HasOwnFault (choice_in is_choice number)
+choice_in-own is_choice None = missing
+choice_in-own is_choice (Some (pos number)) = if_own (is_choice number) number Limit limit
+choice_in-own is_choice (Some (negsuc number)) = limit
+
+choice_at-own : (key : ChoiceKey) (holder : Data) → HasOwnFault (choice_at key holder)
+unfolding choice_at
+choice_at-own key holder = choice_in-own key.is_choice (option_and_then as_integer (get key.key holder))
+
+grid_own_if : (test : Bool) (row : Data) → HasOwnFault (cond test (choice_at grid_key row) (Ok finest_grid))
+grid_own_if true row = choice_at-own grid_key row
+grid_own_if false row = tt
+
+grid_of-own : (version : ℕ) (row : Data) → HasOwnFault (grid_of version row)
+unfolding grid_of
+grid_of-own version row = grid_own_if (has_grids version) row
+
+bond_id_of-own : (bonds : List (List ℕ)) (row : Data) → HasOwnFault (bond_id_of bonds row)
+unfolding bond_id_of
+bond_id_of-own bonds row = then_own (text_at id_key row) (unnamed bonds) (text_at-own id_key row) (unnamed-own bonds)
+
+bond_of-own : (version : ℕ) (bonds : List BondRow) (row : Data) → HasOwnFault (bond_of version bonds row)
 unfolding bond_of
-bond_of-own bonds row = then_own (text_at id_key row) (unnamed bonds) (text_at-own id_key row) (unnamed-own bonds)
+bond_of-own version bonds row =
+    then_own (bond_id_of (bond_ids bonds) row) _ (bond_id_of-own (bond_ids bonds) row) (λ id.
+    then_own (grid_of version row) _ (grid_of-own version row) (λ grid. tt))
 
 firm_name_of-own : (firms : List (List ℕ)) (row : Data) → HasOwnFault (firm_name_of firms row)
 unfolding firm_name_of
@@ -116,9 +141,11 @@ investor_of-own dealers investors row =
     then_own (number_at open_key row) _ (number_at-own open_key row) (λ open_limit.
     then_own (number_at quantity_key row) _ (number_at-own quantity_key row) (λ quantity. tt)))))
 
-bonds_in-own : (document : Data) → HasOwnFault (bonds_in document)
+bonds_in-own : (version : ℕ) (document : Data) → HasOwnFault (bonds_in version document)
 unfolding bonds_in
-bonds_in-own document = then_own (rows_at bonds_key document) (read_all bond_of []) (rows_at-own bonds_key document) (read_all-own bond_of bond_of-own [])
+bonds_in-own version document =
+    then_own (rows_at bonds_key document) (read_all (bond_of version) []) (rows_at-own bonds_key document)
+    (read_all-own (bond_of version) (bond_of-own version) [])
 
 dealers_in-own : (document : Data) → HasOwnFault (dealers_in document)
 unfolding dealers_in
@@ -136,7 +163,7 @@ unfolding config_in
 config_in-own document =
     then_own (number_at version_key document) _ (number_at-own version_key document) (λ version.
     then_own (text_at date_key document) _ (text_at-own date_key document) (λ date.
-    then_own (bonds_in document) _ (bonds_in-own document) (λ bonds.
+    then_own (bonds_in version document) _ (bonds_in-own version document) (λ bonds.
     then_own (dealers_in document) _ (dealers_in-own document) (λ dealers.
     then_own (investors_in dealers document) _ (investors_in-own dealers document) (λ investors.
     if_own (sums_fit dealers investors) _ Limit limit)))))

@@ -5,3 +5,4 @@ pub mod LimitLemmas
 pub mod RowLemmas
 pub mod TextLemmas
 pub mod ValueLemmas
+pub mod SameRows

@@ -1,5 +1,6 @@
 -- What a configuration that was read keeps: no name twice, each of its form.
-use Rattle.std.proofs.Common.{◌≡◌, ◌≢◌, ◌≤◌, ◌+◌, ℕ, Bool, true, false, ◌&&◌, nat_le, List, [], ◌∷◌, ◌++◌, length, All, AllPairs, IsTrue, Option, Some, None, Result, Ok, Err, cond, refl, sym, ap, subst, ◌∙◌, arith, get_or}
+use Rattle.bond_prices.specs.Grid.{is_grid, finest_grid}
+use Rattle.std.proofs.Common.{◌≡◌, ◌≢◌, ◌≤◌, ◌+◌, ℕ, ℤ, pos, negsuc, Bool, true, false, ◌&&◌, nat_le, List, [], ◌∷◌, ◌++◌, length, All, AllPairs, IsTrue, Option, Some, None, Result, Ok, Err, cond, refl, sym, ap, subst, ◌∙◌, arith, get_or}
 use Rattle.std.specs.Cmp.Lexicographic.{bytes_decides}
 use Rattle.std.proofs.lemmas.Bool.{false≢true}
 use Rattle.std.proofs.lemmas.Bool.Decides.{nat_tests}
@@ -8,12 +9,13 @@ use Rattle.std.proofs.lemmas.List.Elements.{All-push}
 use Rattle.std.proofs.lemmas.List.Folds.{list_any_at}
 use Rattle.std.proofs.lemmas.List.Quantifiers.{all_pairs_push}
 use Rattle.std.specs.Option.{option_and_then}
-use Rattle.toml.specs.Data.{Data, Items, no_items, item, as_array, as_str, get}
-use Rattle.venue_config.specs.Texts.{is_among, is_firm_name, same_text}
-use Rattle.venue_config.specs.Keys.{id_key, name_key, traders_key, bonds_key, dealers_key, investors_key, quotes_key, exposure_key, requests_key, open_key, quantity_key}
-use Rattle.venue_config.specs.Values.{◌>>=◌, text_in, text_at, unnamed, item_count, elements_in, elements_at, rows_at, read_all, trader_of, traders_at, number_at}
-use Rattle.venue_config.specs.Rows.{DealerValues, InvestorValues, AreTraders}
-use Rattle.venue_config.specs.Config.{bond_of, bonds_in, dealer_names, investor_names, firm_name_of, dealer_of, investor_of, dealers_in, investors_in}
+use Rattle.toml.specs.Data.{Data, Items, no_items, item, as_array, as_str, as_integer, get}
+use Rattle.venue_config.specs.Texts.{is_among, is_bond_id, is_firm_name, same_text}
+use Rattle.venue_config.specs.Keys.{has_grids, id_key, grid_key, name_key, traders_key, bonds_key, dealers_key, investors_key, quotes_key, exposure_key, requests_key, open_key, quantity_key}
+use Rattle.venue_config.specs.Values.{◌>>=◌, choice_in, choice_at, text_in, text_at, unnamed, item_count, elements_in, elements_at, rows_at, read_all, trader_of, traders_at, number_at}
+use Rattle.venue_config.specs.Rows.{DealerValues, InvestorValues, AreTraders, bond_ids}
+use Rattle.venue_config.specs.declared.bond_rows.BondRow.{BondRow}
+use Rattle.venue_config.specs.Config.{bond_of, bond_id_of, grid_of, bonds_in, dealer_names, investor_names, firm_name_of, dealer_of, investor_of, dealers_in, investors_in}
 use Rattle.venue_config.specs.declared.faults.ConfigFault.{ConfigFault}
 use Rattle.venue_config.specs.declared.faults.ConfigFault.TheVariants.{Twice, Name, Limit}
 
@@ -77,19 +79,56 @@ elements_ok least most (Some all) items e =
     let (fits, same) = kept (nat_le least (item_count all) && nat_le (item_count all) most) Limit all items e in
     rw (← same) (grind (arith, nat_tests))
 
--- bonds
-bonds_more : (bonds : List (List ℕ)) (element : Data) (bond : List ℕ) → AreDistinct bonds → bond_of bonds element ≡ Ok bond → AreDistinct (bonds ++ bond ∷ [])
-unfolding bond_of
-bonds_more bonds element bond before e =
-    let (text, was, new) = ok_of (text_at id_key element) (unnamed bonds) bond e in
-    let (apart, same) = unnamed_ok bonds text bond new in
-    distinct_push bonds bond before (rw same at apart)
+-- a choice that was read
+pub choice_in_ok : (is_choice : ℕ → Bool) (number : Option ℤ) (own : ℕ) → choice_in is_choice number ≡ Ok own → is_choice own ≡ true
+choice_in_ok is_choice None own e = cc
+choice_in_ok is_choice (Some (pos number)) own e =
+    let (passes, same) = kept (is_choice number) Limit number own e in
+    rw same at passes
+choice_in_ok is_choice (Some (negsuc number)) own e = cc
 
-pub bonds_distinct : (document : Data) (bonds : List (List ℕ)) → bonds_in document ≡ Ok bonds → AreDistinct bonds
+grid_kept_if : (test : Bool) (row : Data) (grid : ℕ) → cond test (choice_at grid_key row) (Ok finest_grid) ≡ Ok grid → is_grid grid ≡ true
+unfolding choice_at
+grid_kept_if true row grid e = choice_in_ok is_grid (option_and_then as_integer (get grid_key.key row)) grid e
+grid_kept_if false row grid e = let same : finest_grid ≡ grid = cc in rw (← same) refl
+
+pub grid_kept : (version : ℕ) (row : Data) (grid : ℕ) → grid_of version row ≡ Ok grid → is_grid grid ≡ true
+unfolding grid_of
+grid_kept version row grid e = grid_kept_if (has_grids version) row grid e
+
+-- bonds
+pub record AreBonds (bonds : List BondRow) : Type 0 where
+  pub distinct : AreDistinct (bond_ids bonds)
+  pub named : All (λ id. IsTrue (is_bond_id id)) (bond_ids bonds)
+  pub on_grids : All (λ (row : BondRow). IsTrue (is_grid row.grid)) bonds
+
+bonds_more : (version : ℕ) (bonds : List BondRow) (element : Data) (bond : BondRow) → AreBonds bonds → bond_of version bonds element ≡ Ok bond → AreBonds (bonds ++ bond ∷ [])
+unfolding bond_of bond_id_of text_at
+bonds_more version bonds element bond before e =
+    let (id, identified, e1) = ok_of (bond_id_of (bond_ids bonds) element) _ bond e in
+    let (grid, gridded, e2) = ok_of (grid_of version element) _ bond e1 in
+    let (text, was, new) = ok_of (text_at id_key element) (unnamed (bond_ids bonds)) id identified in
+    let (apart, same) = unnamed_ok (bond_ids bonds) text id new in
+    let form : is_bond_id text ≡ true = text_in_ok is_bond_id (option_and_then as_str (get id_key.key element)) text was in
+    let same_id : id ≡ bond.id = cc in
+    let same_grid : grid ≡ bond.grid = cc in
+    record {
+      distinct = rw map-append (distinct_push (bond_ids bonds) bond.id before.distinct (rw (same, same_id) at apart));
+      named = rw map-append (All-push (λ n. IsTrue (is_bond_id n)) (bond_ids bonds) bond.id before.named (rw (same, same_id) at form));
+      on_grids = All-push (λ (row : BondRow). IsTrue (is_grid row.grid)) bonds bond before.on_grids (rw same_grid at (grid_kept version element grid gridded));
+    }
+
+pub bonds_kept : (version : ℕ) (document : Data) (bonds : List BondRow) → bonds_in version document ≡ Ok bonds → AreBonds bonds
 unfolding bonds_in
-bonds_distinct document bonds e =
-    let (items, was, all) = ok_of (rows_at bonds_key document) (read_all bond_of []) bonds e in
-    read_all_keeps bond_of AreDistinct bonds_more items [] bonds (λ i j d below within. absurd (omega arith)) all
+bonds_kept version document bonds e =
+    let (items, was, all) = ok_of (rows_at bonds_key document) (read_all (bond_of version) []) bonds e in
+    read_all_keeps (bond_of version) AreBonds (bonds_more version) items [] bonds
+    (record {
+      distinct = λ i j d below within. absurd (omega arith);
+      named = λ k d within. absurd (omega arith);
+      on_grids = λ k d within. absurd (omega arith);
+    })
+    all
 
 -- traders
 traders_more : (traders : List (List ℕ)) (element : Data) (trader : List ℕ) → AreDistinct traders → trader_of traders element ≡ Ok trader → AreDistinct (traders ++ trader ∷ [])

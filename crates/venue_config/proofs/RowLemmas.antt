@@ -3,14 +3,29 @@ use Rattle.std.proofs.Common.{◌≡◌, ℕ, Bool, true, false, Ok, Err, ◌||�
 use Rattle.std.specs.List.{list_any}
 use Rattle.std.proofs.lemmas.List.Folds.{list_any-append}
 use Rattle.venue_config.specs.Texts.{is_among, same_text}
-use Rattle.venue_config.specs.Rows.{dealer_values, investor_values}
+use Rattle.venue_config.specs.Rows.{bond_ids, dealer_values, investor_values}
 use Rattle.toml.specs.Data.{Data}
-use Rattle.venue_config.specs.Keys.{name_key}
+use Rattle.venue_config.specs.Keys.{id_key, name_key}
 use Rattle.venue_config.specs.Values.{text_at}
 use Rattle.venue_config.specs.declared.faults.ConfigFault.TheVariants.{Twice}
-use Rattle.venue_config.specs.Config.{dealer_names, investor_names, firm_name_of}
+use Rattle.venue_config.specs.Config.{bond_id_of, dealer_names, investor_names, firm_name_of}
+use Rattle.venue_config.specs.declared.bond_rows.BondRow.{BondRow}
 use Rattle.venue_config.specs.declared.dealer_rows.DealerRow.{DealerRow}
 use Rattle.venue_config.specs.declared.investor_rows.InvestorRow.{InvestorRow}
+
+-- an identifier is among those of bonds where a bond has it
+pub is_among_bonds : (rows : List BondRow) (id : List ℕ) → list_any (λ (row : BondRow). same_text row.id id) rows ≡ is_among (bond_ids rows) id
+is_among_bonds [] id = refl
+is_among_bonds (row ∷ rows) id = ap (λ b. same_text row.id id || b) (is_among_bonds rows id)
+
+-- an identifier that was read, and that a bond has already or has not
+pub id_twice : (ids : List (List ℕ)) (row : Data) (id : List ℕ) → Ok id ≡ text_at id_key row → is_among ids id ≡ true → Err Twice ≡ bond_id_of ids row
+unfolding bond_id_of
+id_twice ids row id was taken = rw (← was, taken)
+
+pub id_first : (ids : List (List ℕ)) (row : Data) (id : List ℕ) → Ok id ≡ text_at id_key row → is_among ids id ≡ false → Ok id ≡ bond_id_of ids row
+unfolding bond_id_of
+id_first ids row id was free = rw (← was, free)
 
 -- a name is among the values of rows where it is among the rows
 pub is_among_dealers : (rows : List DealerRow) (name : List ℕ) → list_any (λ (row : DealerRow). same_text row.name name) rows ≡ is_among (dealer_names (map dealer_values rows)) name

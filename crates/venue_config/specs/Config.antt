@@ -1,16 +1,37 @@
--- Which configuration a text spells, or its first fault: the keys in their order, row by row, and the sums last.
-use Rattle.std.specs.Prelude.{ℕ, Bool, ◌&&◌, List, [], ◌++◌, map, nat_le, sum_by, Option, Some, None, Result, Ok, Err, if◌then◌else◌}
+-- Which configuration a text spells, or its first fault: the keys in their order, row by row, and
+-- the sums last.
+use Rattle.std.specs.Prelude.{ℕ, Bool, ◌&&◌, List, [], ◌++◌, map, nat_le, sum_by, Option, Some}
+use Rattle.std.specs.Prelude.{None, Result, Ok, Err, if◌then◌else◌}
 use Rattle.toml.specs.Data.{Data, Members, table}
 use Rattle.toml.specs.Parse.{parse_document}
-use Rattle.venue_config.specs.Keys.{version_key, date_key, bonds_key, id_key, dealers_key, investors_key, name_key, quotes_key, exposure_key, requests_key, open_key, quantity_key, most_quotes, most_requests}
-use Rattle.venue_config.specs.Values.{◌>>=◌, number_at, text_at, unnamed, rows_at, read_all, traders_at}
-use Rattle.venue_config.specs.Rows.{DealerValues, InvestorValues, ConfigValues}
+use Rattle.venue_config.specs.Keys.{version_key, has_grids, date_key, bonds_key, id_key, grid_key}
+use Rattle.venue_config.specs.Keys.{dealers_key, investors_key}
+use Rattle.venue_config.specs.Keys.{name_key, quotes_key, exposure_key, requests_key, open_key}
+use Rattle.venue_config.specs.Keys.{quantity_key}
+use Rattle.bond_prices.specs.Grid.{finest_grid}
+use Rattle.venue_config.specs.declared.config.TheConstants.VenueConfig.{MOST_QUOTES_IN_ALL}
+use Rattle.venue_config.specs.declared.config.TheConstants.VenueConfig.{MOST_REQUESTS_IN_ALL}
+use Rattle.venue_config.specs.declared.bond_rows.BondRow.{BondRow}
+use Rattle.venue_config.specs.Values.{◌>>=◌, number_at, choice_at, text_at, unnamed, rows_at}
+use Rattle.venue_config.specs.Values.{read_all, traders_at}
+use Rattle.venue_config.specs.Rows.{DealerValues, InvestorValues, ConfigValues, bond_ids}
 use Rattle.venue_config.specs.declared.faults.ConfigFault.{ConfigFault}
 use Rattle.venue_config.specs.declared.faults.ConfigFault.TheVariants.{Toml, Limit}
 
--- a bond, of which no two have one identifier
-unfoldable pub bond_of : List (List ℕ) → Data → Result (List ℕ) ConfigFault
-bond_of bonds row = text_at id_key row >>= unnamed bonds
+-- the identifier of a bond, of which no two have one
+unfoldable pub bond_id_of : List (List ℕ) → Data → Result (List ℕ) ConfigFault
+bond_id_of bonds row = text_at id_key row >>= unnamed bonds
+
+-- the grid of a bond: in a version without grids the finest, whatever stands in its row
+unfoldable pub grid_of : ℕ → Data → Result ℕ ConfigFault
+grid_of version row = if has_grids version then choice_at grid_key row else Ok finest_grid
+
+-- a bond, behind the bonds before it
+unfoldable pub bond_of : ℕ → List BondRow → Data → Result BondRow ConfigFault
+bond_of version bonds row = do
+  id ← bond_id_of (bond_ids bonds) row
+  grid ← grid_of version row
+  Ok (record { id = id; grid = grid })
 
 -- the names of dealers
 abbrev pub dealer_names : List DealerValues → List (List ℕ)
@@ -34,18 +55,25 @@ dealer_of dealers row = do
   Ok (record { name = name; traders = traders; quotes = quotes; exposure = exposure })
 
 -- an investor, behind all dealers and the investors before it
-unfoldable pub investor_of : List DealerValues → List InvestorValues → Data → Result InvestorValues ConfigFault
+unfoldable pub investor_of : List DealerValues → List InvestorValues → Data
+    → Result InvestorValues ConfigFault
 investor_of dealers investors row = do
   name ← firm_name_of (dealer_names dealers ++ investor_names investors) row
   traders ← traders_at row
   requests ← number_at requests_key row
   open_limit ← number_at open_key row
   quantity ← number_at quantity_key row
-  Ok (record { name = name; traders = traders; requests = requests; open_limit = open_limit; quantity = quantity })
+  Ok (record {
+    name = name;
+    traders = traders;
+    requests = requests;
+    open_limit = open_limit;
+    quantity = quantity;
+  })
 
 -- the bonds of a document, in their order
-unfoldable pub bonds_in : Data → Result (List (List ℕ)) ConfigFault
-bonds_in document = rows_at bonds_key document >>= read_all bond_of []
+unfoldable pub bonds_in : ℕ → Data → Result (List BondRow) ConfigFault
+bonds_in version document = rows_at bonds_key document >>= read_all (bond_of version) []
 
 -- the dealers of a document, in their order
 unfoldable pub dealers_in : Data → Result (List DealerValues) ConfigFault
@@ -66,7 +94,8 @@ requests_in_all investors = sum_by (λ row. row.requests) investors
 -- whether both sums are within their limits
 abbrev pub sums_fit : List DealerValues → List InvestorValues → Bool
 sums_fit dealers investors =
-    nat_le (quotes_in_all dealers) most_quotes && nat_le (requests_in_all investors) most_requests
+    nat_le (quotes_in_all dealers) MOST_QUOTES_IN_ALL
+    && nat_le (requests_in_all investors) MOST_REQUESTS_IN_ALL
 
 -- a configuration whose sums are within their limits
 abbrev pub with_sums : ConfigValues → Result ConfigValues ConfigFault
@@ -77,7 +106,7 @@ unfoldable pub config_in : Data → Result ConfigValues ConfigFault
 config_in document = do
   version ← number_at version_key document
   date ← text_at date_key document
-  bonds ← bonds_in document
+  bonds ← bonds_in version document
   dealers ← dealers_in document
   investors ← investors_in dealers document
   with_sums (record { date = date; bonds = bonds; dealers = dealers; investors = investors })

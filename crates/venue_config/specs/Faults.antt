@@ -1,7 +1,8 @@
 -- The names of the faults of a configuration.
 use Rattle.std.specs.Prelude.{ℕ, List, codes}
 use Rattle.venue_config.specs.declared.faults.ConfigFault.{ConfigFault}
-use Rattle.venue_config.specs.declared.faults.ConfigFault.TheVariants.{Toml, Missing, Name, Twice, Limit, Memory}
+use Rattle.venue_config.specs.declared.faults.ConfigFault.TheVariants.{Toml, Missing, Name, Twice}
+use Rattle.venue_config.specs.declared.faults.ConfigFault.TheVariants.{Limit, Memory}
 
 -- the name of a fault
 abbrev pub fault_name : ConfigFault → List ℕ

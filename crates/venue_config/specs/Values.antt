@@ -1,21 +1,24 @@
 -- What stands at a key of a table, or the first thing that is wrong with it.
-use Rattle.std.specs.Prelude.{ℕ, ℤ, Bool, pos, negsuc, ◌+◌, ◌&&◌, List, [], ◌∷◌, ◌++◌, nat_le, Option, Some, None, Result, Ok, Err, if◌then◌else◌}
+use Rattle.std.specs.Prelude.{ℕ, ℤ, Bool, pos, negsuc, ◌+◌, ◌&&◌, List, [], ◌∷◌, ◌++◌, nat_le}
+use Rattle.std.specs.Prelude.{Option, Some, None, Result, Ok, Err, if◌then◌else◌}
 use Rattle.std.specs.Option.{option_and_then}
 use Rattle.toml.specs.Data.{Data, Items, no_items, item, get, as_str, as_integer, as_array}
 use Rattle.venue_config.specs.Texts.{is_among, is_name}
-use Rattle.venue_config.specs.Keys.{NumberKey, TextKey, ArrayKey, traders_key}
+use Rattle.venue_config.specs.Keys.{NumberKey, ChoiceKey, TextKey, ArrayKey, traders_key}
 use Rattle.venue_config.specs.declared.faults.ConfigFault.{ConfigFault}
 use Rattle.venue_config.specs.declared.faults.ConfigFault.TheVariants.{Missing, Name, Twice, Limit}
 
 -- what follows from a value, or the fault that stands before it
 infixl 10 ◌>>=◌
-abbrev pub ◌>>=◌ : {A B : Type 0} → Result A ConfigFault → (A → Result B ConfigFault) → Result B ConfigFault
+abbrev pub ◌>>=◌ : {A B : Type 0}
+    → Result A ConfigFault → (A → Result B ConfigFault) → Result B ConfigFault
 Ok value >>= next = next value
 Err fault >>= next = Err fault
 
 -- an integer within its limits; absent or of another kind it is none
 abbrev pub number_within : ℕ → ℤ → Result ℕ ConfigFault
-number_within most (pos number) = if nat_le 1 number && nat_le number most then Ok number else Err Limit
+number_within most (pos number) =
+    if nat_le 1 number && nat_le number most then Ok number else Err Limit
 number_within most (negsuc number) = Err Limit
 
 -- an integer within its limits, where one stands
@@ -26,6 +29,20 @@ number_in most (Some number) = number_within most number
 -- the number at a key
 unfoldable pub number_at : NumberKey → Data → Result ℕ ConfigFault
 number_at key holder = number_in key.most (option_and_then as_integer (get key.key holder))
+
+-- one of some integers; absent or of another kind it is none
+abbrev pub choice_within : (ℕ → Bool) → ℤ → Result ℕ ConfigFault
+choice_within is_choice (pos number) = if is_choice number then Ok number else Err Limit
+choice_within is_choice (negsuc number) = Err Limit
+
+-- one of some integers, where one stands
+abbrev pub choice_in : (ℕ → Bool) → Option ℤ → Result ℕ ConfigFault
+choice_in is_choice None = Err Missing
+choice_in is_choice (Some number) = choice_within is_choice number
+
+-- the choice at a key
+unfoldable pub choice_at : ChoiceKey → Data → Result ℕ ConfigFault
+choice_at key holder = choice_in key.is_choice (option_and_then as_integer (get key.key holder))
 
 -- a text of its form
 abbrev pub text_in : (List ℕ → Bool) → Option (List ℕ) → Result (List ℕ) ConfigFault
@@ -49,11 +66,14 @@ item_count (item element items) = 1 + item_count items
 abbrev pub elements_in : ℕ → ℕ → Option Items → Result Items ConfigFault
 elements_in least most None = Err Missing
 elements_in least most (Some items) =
-    if nat_le least (item_count items) && nat_le (item_count items) most then Ok items else Err Limit
+    if nat_le least (item_count items) && nat_le (item_count items) most
+    then Ok items
+    else Err Limit
 
 -- the elements of the array at a key
 unfoldable pub elements_at : ArrayKey → Data → Result Items ConfigFault
-elements_at key holder = elements_in key.least key.most (option_and_then as_array (get key.key holder))
+elements_at key holder =
+    elements_in key.least key.most (option_and_then as_array (get key.key holder))
 
 -- the rows of an array of tables, which may be absent
 abbrev pub rows_in : ArrayKey → Option Data → Result Items ConfigFault
@@ -64,11 +84,13 @@ rows_in key (Some value) = elements_in key.least key.most (as_array value)
 unfoldable pub rows_at : ArrayKey → Data → Result Items ConfigFault
 rows_at key document = rows_in key (get key.key document)
 
--- What elements are read as, one after the other, each in view of those that were read before it; or the fault of
--- the first that has one.
-abbrev pub read_all : {Row : Type 0} → (List Row → Data → Result Row ConfigFault) → List Row → Items → Result (List Row) ConfigFault
+-- What elements are read as, one after the other, each in view of those that were read before it;
+-- or the fault of the first that has one.
+abbrev pub read_all : {Row : Type 0}
+    → (List Row → Data → Result Row ConfigFault) → List Row → Items → Result (List Row) ConfigFault
 read_all read rows no_items = Ok rows
-read_all read rows (item element items) = read rows element >>= (λ row. read_all read (rows ++ row ∷ []) items)
+read_all read rows (item element items) =
+    read rows element >>= (λ row. read_all read (rows ++ row ∷ []) items)
 
 -- a trader of a firm, whose traders have different names
 unfoldable pub trader_of : List (List ℕ) → Data → Result (List ℕ) ConfigFault

@@ -6,8 +6,8 @@ ghost use Rattle.venue_config.specs.Texts.{is_bond_id, text_if};
 use crate::characters::are_capitals_or_digits;
 use std::marker::Model;
 
-/// The identifier of a bond (SecurityID 48 with SecurityIDSource 22=4): 12 capital letters and digits,
-/// the shape of an ISIN, whose check digit is not looked at.
+/// The identifier of a bond (SecurityID 48 with SecurityIDSource 22=4): 12 capital letters and
+/// digits, the shape of an ISIN, whose check digit is not looked at.
 #[derive(Clone, Copy)]
 pub struct BondId {
     text: [u8; 12],

@@ -1,16 +1,22 @@
 //! The configuration of a venue, as a whole.
-ghost use Rattle.std.specs.Prelude.{◌≡◌, ◌≢◌, ◌≤◌, ◌++◌, Ok, Err, IfOk, IfErr, map, length, position, sum_by};
+ghost use Rattle.std.specs.Prelude.{◌≡◌, ◌≢◌, ◌≤◌, ◌++◌, Ok, Err, IfOk, IfErr, map, length};
+ghost use Rattle.std.specs.Prelude.{position, sum_by};
 ghost use Rattle.toml.specs.Parse.{parse_document};
 ghost use Rattle.toml.specs.View.{view};
 ghost use Rattle.venue_config.specs.Texts.{same_text};
-ghost use Rattle.venue_config.specs.Rows.{dealer_values, investor_values, values_of, firm_number, has_room, KeepsLimits};
+ghost use Rattle.std.specs.List.{find};
+ghost use Rattle.std.specs.Option.{option_copied};
+ghost use Rattle.venue_config.specs.Rows.{dealer_values, investor_values, values_of, KeepsLimits};
+ghost use Rattle.venue_config.specs.Rows.{bond_with_id, dealer_numbered, investor_numbered};
+ghost use Rattle.venue_config.specs.Rows.{dealer_named, firm_number, has_room};
 ghost use Rattle.venue_config.specs.Config.{config_in, config_of, document_of, sums_fit};
 
+use crate::copies::{copy_bonds, copy_dealers, copy_investors};
 use crate::faults::ConfigFault;
 use crate::rows::{read_bonds, read_dealers, read_investors};
 use crate::values::{number_at, read_date};
-use crate::{BondId, DealerRow, InvestorRow};
-use fix_fields::Date;
+use crate::{BondRow, DealerRow, InvestorRow};
+use fix_fields::{Date, Memory};
 use std::alloc::Global;
 use std::marker::Model;
 use toml::Value;
@@ -23,7 +29,7 @@ use toml::Value;
 #[derive(Drop)]
 pub struct VenueConfig {
     date: Date,
-    bonds: Vec<BondId>,
+    bonds: Vec<BondRow>,
     dealers: Vec<DealerRow>,
     investors: Vec<InvestorRow>,
 }
@@ -33,14 +39,57 @@ impl Model for VenueConfig {
 
     ghost Value = { Configuration };
 
-    ghost view = { λ c. record { date = c.date; bonds = c.bonds.items; dealers = c.dealers.items; investors = c.investors.items } };
+    ghost view = { λ c. record {
+      date = c.date;
+      bonds = c.bonds.items;
+      dealers = c.dealers.items;
+      investors = c.investors.items;
+    } };
 
-    ghost invariant = { λ c. KeepsLimits (record { date = c.date; bonds = c.bonds.items; dealers = c.dealers.items; investors = c.investors.items }) };
+    ghost invariant = { λ c. KeepsLimits (record {
+      date = c.date;
+      bonds = c.bonds.items;
+      dealers = c.dealers.items;
+      investors = c.investors.items;
+    }) };
 }
 
 impl VenueConfig {
-    /// The version of the form of a configuration.
-    const VERSION: u64 = 1;
+    /// The last version of the form of a configuration.
+    pub const LAST_VERSION: u64 = 2;
+
+    /// The first version in which each bond has its grid.
+    pub const GRIDS_SINCE: u64 = 2;
+
+    /// The greatest number of bonds.
+    pub const MOST_BONDS: usize = 1_024;
+
+    /// The greatest number of dealers.
+    pub const MOST_DEALERS: usize = 64;
+
+    /// The greatest number of investors.
+    pub const MOST_INVESTORS: usize = 64;
+
+    /// The greatest number of quotes that all dealers together may have in a day.
+    pub const MOST_QUOTES_IN_ALL: u64 = 65_536;
+
+    /// The greatest number of requests that all investors together may have in a day.
+    pub const MOST_REQUESTS_IN_ALL: u64 = 4_096;
+
+    /// The same configuration once more, in memory of its own.
+    pub fn copy(&self, alloc: Global) -> Result<Self, Memory>
+        ensures { IfOk result (λ own. own ≡ self.now) }
+    {
+        let bonds = copy_bonds(alloc, self.bonds.as_slice())?;
+        let dealers = copy_dealers(alloc, self.dealers.as_slice())?;
+        let investors = copy_investors(alloc, self.investors.as_slice())?;
+        Ok(VenueConfig {
+            date: self.date,
+            bonds,
+            dealers,
+            investors,
+        })
+    }
 
     /// The day, which the moments of its messages bear.
     pub fn date(&self) -> &Date
@@ -49,15 +98,16 @@ impl VenueConfig {
         &self.date
     }
 
-    /// The bonds that may be asked for (SecurityID 48), in the order of their rows.
-    pub fn bonds(&self) -> &[BondId]
+    /// The bonds that may be asked for, in the order of their rows.
+    pub fn bonds(&self) -> &[BondRow]
         ensures value { result.now ≡ self.now.bonds }
         ensures limits { KeepsLimits self.now }
     {
         self.bonds.as_slice()
     }
 
-    /// The dealers, in the order of their rows: each is the firm with the number of its place, from 0.
+    /// The dealers, in the order of their rows: each is the firm with the number of its place, from
+    /// 0.
     pub fn dealers(&self) -> &[DealerRow]
         ensures value { result.now ≡ self.now.dealers }
         ensures limits { KeepsLimits self.now }
@@ -73,24 +123,62 @@ impl VenueConfig {
         self.investors.as_slice()
     }
 
-    /// The number of the firm with this name, or none where no firm has it: the dealers are numbered
-    /// from 0 in their order, and the investors behind them.
+    /// The bond with this identifier (SecurityID 48), or none where no bond has it.
+    pub fn bond(&self, id: &[u8]) -> Option<BondRow>
+        ensures { result ≡ bond_with_id self.now id.now }
+    {
+        bond_with_id(self.bonds(), id)
+    }
+
+    /// How many dealers there are: they are the firms with the numbers below it.
+    pub fn dealer_count(&self) -> u16
+        ensures value { result ≡ length self.now.dealers }
+        ensures most { result ≤ VenueConfig.MOST_DEALERS }
+    {
+        self.dealers().len() as u16
+    }
+
+    /// The row of the dealer with this number as a firm, or none where it is no dealer's.
+    pub fn dealer(&self, firm: u16) -> Option<&DealerRow>
+        ensures { option_copied result ≡ dealer_numbered self.now firm }
+    {
+        self.dealers.get(usize::from(firm))
+    }
+
+    /// The row of the investor with this number as a firm, or none where it is no investor's.
+    pub fn investor(&self, firm: u16) -> Option<&InvestorRow>
+        ensures { option_copied result ≡ investor_numbered self.now firm }
+    {
+        let firm = usize::from(firm);
+        if firm < self.dealers.len() {
+            return None;
+        }
+        self.investors.get(firm - self.dealers.len())
+    }
+
+    /// The number as a firm of the dealer with this name, or none where no dealer has it.
+    pub fn dealer_named(&self, name: &[u8]) -> Option<u16>
+        ensures { result ≡ dealer_named self.now name.now }
+    {
+        let place = place_of_dealer(self.dealers(), name)?;
+        Some(place as u16)
+    }
+
+    /// The number of the firm with this name, or none where no firm has it: the dealers are
+    /// numbered from 0 in their order, and the investors behind them.
     pub fn firm(&self, name: &str) -> Option<u16>
         ensures { result ≡ firm_number self.now name.now }
     {
         firm_number(self.dealers(), self.investors(), name.as_bytes())
     }
 
-    /// Whether there is a room for the request with this number of the firm with that number: whether
-    /// the firm is an investor, and the number is one of its requests of the day, 1 to `requests`.
+    /// Whether there is a room for the request with this number of the firm with that number:
+    /// whether the firm is an investor, and the number is one of its requests of the day, 1 to
+    /// `requests`.
     pub fn has_room(&self, firm: u16, number: u32) -> bool
         ensures { result ≡ has_room self.now firm number }
     {
-        let firm = usize::from(firm);
-        if firm < self.dealers.len() {
-            return false;
-        }
-        let Some(row) = self.investors.get(firm - self.dealers.len()) else {
+        let Some(row) = self.investor(firm) else {
             return false;
         };
         number >= 1 && number <= row.requests
@@ -99,8 +187,8 @@ impl VenueConfig {
 
 /// The number of the firm with this name.
 fn firm_number(dealers: &[DealerRow], investors: &[InvestorRow], name: &[u8]) -> Option<u16>
-    requires dealers_most { length dealers.now ≤ 64 }
-    requires investors_most { length investors.now ≤ 64 }
+    requires dealers_most { length dealers.now ≤ VenueConfig.MOST_DEALERS }
+    requires investors_most { length investors.now ≤ VenueConfig.MOST_INVESTORS }
     ensures { result ≡ position (λ own. same_text own name.now)
         (map (λ row. row.name) dealers.now ++ map (λ row. row.name) investors.now) }
 {
@@ -109,6 +197,13 @@ fn firm_number(dealers: &[DealerRow], investors: &[InvestorRow], name: &[u8]) ->
     }
     let place = place_of_investor(investors, name)?;
     Some((dealers.len() + place) as u16)
+}
+
+/// The bond with this identifier.
+fn bond_with_id(bonds: &[BondRow], id: &[u8]) -> Option<BondRow>
+    ensures { result ≡ find (λ row. same_text row.id id.now) bonds.now }
+{
+    bonds.iter().copied().find(|row| row.id.as_bytes() == id)
 }
 
 /// The place of the dealer with this name.
@@ -125,25 +220,21 @@ fn place_of_investor(investors: &[InvestorRow], name: &[u8]) -> Option<usize>
     investors.iter().position(|row| row.name.as_bytes() == name)
 }
 
-/// How many quotes all dealers may have in a day.
-const MOST_QUOTES: u64 = 65_536;
-
-/// How many requests all investors may have in a day.
-const MOST_REQUESTS: u64 = 4_096;
-
 /// Whether the quotes of all dealers and the requests of all investors are within their limits.
 #[tactic(auto, using(crate::proofs::ConfigLemmas::quotes_of_values, crate::proofs::ConfigLemmas::requests_of_values))]
 fn sums_fit(dealers: &[DealerRow], investors: &[InvestorRow]) -> bool
-    requires dealers_most { length dealers.now ≤ 64 }
-    requires investors_most { length investors.now ≤ 64 }
-    ensures { result ≡ sums_fit (map dealer_values dealers.now) (map investor_values investors.now) }
+    requires dealers_most { length dealers.now ≤ VenueConfig.MOST_DEALERS }
+    requires investors_most { length investors.now ≤ VenueConfig.MOST_INVESTORS }
+    ensures { result
+        ≡ sums_fit (map dealer_values dealers.now) (map investor_values investors.now) }
 {
-    quotes_in_all(dealers) <= MOST_QUOTES && requests_in_all(investors) <= MOST_REQUESTS
+    quotes_in_all(dealers) <= VenueConfig::MOST_QUOTES_IN_ALL
+        && requests_in_all(investors) <= VenueConfig::MOST_REQUESTS_IN_ALL
 }
 
 /// The quotes of all dealers together.
 fn quotes_in_all(dealers: &[DealerRow]) -> u64
-    requires { length dealers.now ≤ 64 }
+    requires { length dealers.now ≤ VenueConfig.MOST_DEALERS }
     ensures { result ≡ sum_by (λ row. row.quotes) dealers.now }
 {
     let mut total = 0;
@@ -155,7 +246,7 @@ fn quotes_in_all(dealers: &[DealerRow]) -> u64
 
 /// The requests of all investors together.
 fn requests_in_all(investors: &[InvestorRow]) -> u64
-    requires { length investors.now ≤ 64 }
+    requires { length investors.now ≤ VenueConfig.MOST_INVESTORS }
     ensures { result ≡ sum_by (λ row. row.requests) investors.now }
 {
     let mut total = 0;
@@ -165,20 +256,23 @@ fn requests_in_all(investors: &[InvestorRow]) -> u64
     total
 }
 
-/// Reads the configuration that a text spells: TOML with the keys of `specs/Keys.antt`. Other keys are
-/// ignored, and arrays of tables that are absent are empty.
+/// Reads the configuration that a text spells: TOML with the keys of `specs/Keys.antt`. Other keys
+/// are ignored, and arrays of tables that are absent are empty.
 ///
 /// `Toml` is answered exactly where `toml` refuses the text for another cause than memory. Then the
-/// values are looked at in the order of their keys, row by row, and the two sums last; the first fault
-/// is the answer. Of one value the faults come in this order: `Missing` where it is absent or of
-/// another kind, `Name` where it is not of its form, `Limit` where it is out of its limits, `Twice`
-/// where it was named before. An array with too many elements is `Limit` before its elements are looked
-/// at. `Memory` may be answered at any point, and only then is the fault not the first one.
+/// values are looked at in the order of their keys, row by row, and the two sums last; the first
+/// fault is the answer. Of one value the faults come in this order: `Missing` where it is absent or
+/// of another kind, `Name` where it is not of its form, `Limit` where it is out of its limits,
+/// `Twice` where it was named before. An array with too many elements is `Limit` before its
+/// elements are looked at. `Memory` may be answered at any point, and only then is the fault not
+/// the first one.
 #[tactic(auto, unfolding(crate::specs::Config::config_of))]
 pub fn read_config(alloc: Global, text: &str) -> Result<VenueConfig, ConfigFault>
     ensures ok { IfOk result (λ config. config_of text.now ≡ Ok (values_of config)) }
-    ensures err { IfErr result (λ fault. fault ≢ ConfigFault.Memory → config_of text.now ≡ Err fault) }
-    ensures toml { IfErr result (λ fault. fault ≡ ConfigFault.Toml → parse_document text.now ≡ None) }
+    ensures err { IfErr result (λ fault. fault ≢ ConfigFault.Memory
+        → config_of text.now ≡ Err fault) }
+    ensures toml { IfErr result (λ fault. fault ≡ ConfigFault.Toml
+        → parse_document text.now ≡ None) }
     ensures limits { IfOk result (λ config. KeepsLimits config) }
 {
     let document = read_toml(alloc, text)?;
@@ -190,8 +284,10 @@ pub fn read_config(alloc: Global, text: &str) -> Result<VenueConfig, ConfigFault
 #[tactic(auto, unfolding(crate::specs::Config::document_of))]
 fn read_toml(alloc: Global, text: &str) -> Result<Value, ConfigFault>
     ensures ok { IfOk result (λ document. document_of text.now ≡ Ok (view document)) }
-    ensures err { IfErr result (λ fault. fault ≢ ConfigFault.Memory → document_of text.now ≡ Err fault) }
-    ensures toml { IfErr result (λ fault. fault ≡ ConfigFault.Toml → parse_document text.now ≡ None) }
+    ensures err { IfErr result (λ fault. fault ≢ ConfigFault.Memory
+        → document_of text.now ≡ Err fault) }
+    ensures toml { IfErr result (λ fault. fault ≡ ConfigFault.Toml
+        → parse_document text.now ≡ None) }
 {
     let error = match toml::table_from_str(alloc, text) {
         Ok(table) => return Ok(Value::Table(table)),
@@ -207,12 +303,13 @@ fn read_toml(alloc: Global, text: &str) -> Result<Value, ConfigFault>
 #[tactic(auto, unfolding(crate::specs::Config::config_in))]
 fn read_document(alloc: Global, document: &Value) -> Result<VenueConfig, ConfigFault>
     ensures ok { IfOk result (λ config. config_in (view document.now) ≡ Ok (values_of config)) }
-    ensures err { IfErr result (λ fault. fault ≢ ConfigFault.Memory → config_in (view document.now) ≡ Err fault) }
+    ensures err { IfErr result (λ fault. fault ≢ ConfigFault.Memory
+        → config_in (view document.now) ≡ Err fault) }
     ensures limits { IfOk result (λ config. KeepsLimits config) }
 {
-    number_at(document, "version", VenueConfig::VERSION)?;
+    let version = number_at(document, "version", VenueConfig::LAST_VERSION)?;
     let date = read_date(document)?;
-    let bonds = read_bonds(alloc, document)?;
+    let bonds = read_bonds(alloc, version, document)?;
     let dealers = read_dealers(alloc, document)?;
     let investors = read_investors(alloc, dealers.as_slice(), document)?;
     if !sums_fit(dealers.as_slice(), investors.as_slice()) {

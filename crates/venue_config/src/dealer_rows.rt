@@ -1,5 +1,7 @@
 //! What the configuration says of a dealer.
-ghost use Rattle.std.specs.Prelude.{◌≡◌, ◌≤◌, length};
+ghost use Rattle.std.specs.Prelude.{◌≡◌, ◌≤◌, ◌↔◌, IsTrue, length};
+ghost use Rattle.venue_config.specs.declared.dealer_rows.TheConstants.DealerRow.{MOST_QUOTES};
+ghost use Rattle.venue_config.specs.declared.dealer_rows.TheConstants.DealerRow.{MOST_EXPOSURE};
 
 use crate::{Name, Traders};
 
@@ -16,9 +18,9 @@ pub struct DealerRow {
     pub exposure: u64,
     ghost has_trader: { 1 ≤ length traders },
     ghost quotes_from: { 1 ≤ quotes },
-    ghost quotes_to: { quotes ≤ 4096 },
+    ghost quotes_to: { quotes ≤ MOST_QUOTES },
     ghost exposure_from: { 1 ≤ exposure },
-    ghost exposure_to: { exposure ≤ 1000000000000000 },
+    ghost exposure_to: { exposure ≤ MOST_EXPOSURE },
 }
 
 impl DealerRow {
@@ -38,5 +40,18 @@ impl DealerRow {
             quotes: self.quotes,
             exposure: self.exposure,
         }
+    }
+
+    /// Whether another row has the same values: whether it is the same row.
+    pub fn is_same(&self, other: &Self) -> bool
+        ensures { IsTrue result ↔ (self.now ≡ other.now) }
+    {
+        if self.name.as_bytes() != other.name.as_bytes() {
+            return false;
+        }
+        if !self.traders.is_same(&other.traders) {
+            return false;
+        }
+        self.quotes == other.quotes && self.exposure == other.exposure
     }
 }

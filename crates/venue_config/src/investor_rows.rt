@@ -1,5 +1,8 @@
 //! What the configuration says of an investor.
 ghost use Rattle.std.specs.Prelude.{◌≡◌, ◌≤◌, length};
+ghost use Rattle.venue_config.specs.declared.investor_rows.TheConstants.InvestorRow.{MOST_REQUESTS};
+ghost use Rattle.venue_config.specs.declared.investor_rows.TheConstants.InvestorRow.{MOST_OPEN};
+ghost use Rattle.venue_config.specs.declared.investor_rows.TheConstants.InvestorRow.{MOST_QUANTITY};
 
 use crate::{Name, Traders};
 
@@ -18,11 +21,11 @@ pub struct InvestorRow {
     pub quantity: u64,
     ghost has_trader: { 1 ≤ length traders },
     ghost requests_from: { 1 ≤ requests },
-    ghost requests_to: { requests ≤ 1024 },
+    ghost requests_to: { requests ≤ MOST_REQUESTS },
     ghost open_limit_from: { 1 ≤ open_limit },
-    ghost open_limit_to: { open_limit ≤ 1024 },
+    ghost open_limit_to: { open_limit ≤ MOST_OPEN },
     ghost quantity_from: { 1 ≤ quantity },
-    ghost quantity_to: { quantity ≤ 1000000000000 },
+    ghost quantity_to: { quantity ≤ MOST_QUANTITY },
 }
 
 impl InvestorRow {

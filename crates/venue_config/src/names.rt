@@ -1,15 +1,16 @@
 //! Names of firms and of traders.
 ghost use Rattle.std.specs.Prelude.{◌≡◌, ℕ, List, IsTrue};
 ghost use Rattle.fix_fields.specs.Frame.{IsValue};
-ghost use Rattle.venue_config.specs.Texts.{is_name, is_firm_name, is_among, reserved_names, text_if};
+ghost use Rattle.venue_config.specs.Texts.{is_name, is_firm_name, is_among, reserved_names};
+ghost use Rattle.venue_config.specs.Texts.{text_if};
 
 use crate::characters::are_capitals_or_digits;
 use arrayvec::ArrayString;
 use std::marker::Model;
 use std::str;
 
-/// The name of a firm (SenderCompID 49, TargetCompID 56, PartyID 448) or of a trader (SenderSubID 50):
-/// 1 to 8 capital letters and digits, the first a letter.
+/// The name of a firm (SenderCompID 49, TargetCompID 56, PartyID 448) or of a trader (SenderSubID
+/// 50): 1 to 8 capital letters and digits, the first a letter.
 #[derive(Drop)]
 pub struct Name {
     text: ArrayString<8>,
@@ -37,8 +38,8 @@ impl Name {
         Some(Name { text })
     }
 
-    /// The name of a firm that these bytes spell: any name but `VENUE` and `CLOCK`, which are those of the venue itself
-    /// and of its clock.
+    /// The name of a firm that these bytes spell: any name but `VENUE` and `CLOCK`, which are those
+    /// of the venue itself and of its clock.
     pub fn of_firm(text: &[u8]) -> Option<Self>
         ensures { result ≡ text_if is_firm_name text.now }
     {
@@ -58,9 +59,18 @@ impl Name {
         self.text.as_bytes()
     }
 
+    /// The name that a text of fixed room is.
+    pub(crate) fn of_text(text: ArrayString<8>) -> Self
+        requires { IsTrue (is_name text.bytes) }
+        ensures { result ≡ text.bytes }
+    {
+        Name { text }
+    }
+
     /// The characters as a text of fixed room.
     pub(crate) fn text(&self) -> ArrayString<8>
-        ensures { result.bytes ≡ self.now }
+        ensures value { result.bytes ≡ self.now }
+        ensures named { IsTrue (is_name result.bytes) }
     {
         self.text
     }

@@ -6,32 +6,33 @@ ghost use Rattle.toml.specs.View.{view};
 ghost use Rattle.venue_config.specs.Texts.{is_among, same_text};
 ghost use Rattle.venue_config.specs.Keys.{name_key};
 ghost use Rattle.venue_config.specs.Values.{text_at};
-ghost use Rattle.venue_config.specs.Rows.{dealer_values, investor_values};
-ghost use Rattle.venue_config.specs.Config.{bond_of, firm_name_of, dealer_of, investor_of, bonds_in, dealers_in, investors_in, dealer_names, investor_names};
+ghost use Rattle.venue_config.specs.Rows.{bond_ids, dealer_values, investor_values};
+ghost use Rattle.venue_config.specs.Config.{bond_of, bond_id_of, firm_name_of, dealer_of};
+ghost use Rattle.venue_config.specs.Config.{investor_of, bonds_in, dealers_in, investors_in};
+ghost use Rattle.venue_config.specs.Config.{dealer_names, investor_names};
 
 use crate::faults::ConfigFault;
-use crate::values::{number_at, read_id, read_traders, rows_at, text_at};
-use crate::{BondId, DealerRow, InvestorRow, Name};
+use crate::values::{number_at, read_grid, read_id, read_traders, rows_at, text_at};
+use crate::{BondId, BondRow, DealerRow, InvestorRow, Name, VenueConfig};
 use std::alloc::Global;
 use toml::Value;
 
-/// How many bonds there may be.
-const MOST_BONDS: usize = 1_024;
-
-/// How many dealers there may be, and how many investors.
-const MOST_FIRMS: usize = 64;
-
 /// The bonds of a configuration.
 #[tactic(auto, using(crate::proofs::ValueLemmas::read_all_ok, crate::proofs::ValueLemmas::read_all_err, crate::proofs::ValueLemmas::read_all_end), unfolding(crate::specs::Config::bonds_in))]
-pub(crate) fn read_bonds(alloc: Global, document: &Value) -> Result<Vec<BondId>, ConfigFault>
-    ensures ok { IfOk result (λ bonds. bonds_in (view document.now) ≡ Ok bonds.items) }
-    ensures most { IfOk result (λ bonds. length bonds.items ≤ 1024) }
-    ensures err { IfErr result (λ fault. fault ≢ ConfigFault.Memory → bonds_in (view document.now) ≡ Err fault) }
+pub(crate) fn read_bonds(
+    alloc: Global,
+    version: u64,
+    document: &Value,
+) -> Result<Vec<BondRow>, ConfigFault>
+    ensures ok { IfOk result (λ bonds. bonds_in version (view document.now) ≡ Ok bonds.items) }
+    ensures most { IfOk result (λ bonds. length bonds.items ≤ VenueConfig.MOST_BONDS) }
+    ensures err { IfErr result (λ fault. fault ≢ ConfigFault.Memory
+        → bonds_in version (view document.now) ≡ Err fault) }
 {
-    let rows = rows_at(document, "bond", MOST_BONDS)?;
+    let rows = rows_at(document, "bond", VenueConfig::MOST_BONDS)?;
     let mut bonds = Vec::new(alloc);
     for row in rows {
-        let bond = read_bond(bonds.as_slice(), row)?;
+        let bond = read_bond(version, bonds.as_slice(), row)?;
         bonds.push(bond)?;
     }
     Ok(bonds)
@@ -39,21 +40,31 @@ pub(crate) fn read_bonds(alloc: Global, document: &Value) -> Result<Vec<BondId>,
 
 /// A bond, behind those before it.
 #[tactic(auto, unfolding(crate::specs::Config::bond_of))]
-fn read_bond(bonds: &[BondId], row: &Value) -> Result<BondId, ConfigFault>
-    ensures { result ≡ bond_of bonds.now (view row.now) }
+fn read_bond(version: u64, bonds: &[BondRow], row: &Value) -> Result<BondRow, ConfigFault>
+    ensures { result ≡ bond_of version bonds.now (view row.now) }
 {
-    let bond = read_id(row)?;
-    if has_bond(bonds, &bond) {
-        return Err(ConfigFault::Twice);
-    }
-    Ok(bond)
+    let id = read_bond_id(bonds, row)?;
+    let grid = read_grid(version, row)?;
+    Ok(BondRow { id, grid })
 }
 
-/// Whether a bond is one of these.
-fn has_bond(bonds: &[BondId], bond: &BondId) -> bool
-    ensures { result ≡ is_among bonds.now bond.now }
+/// The identifier of a bond, which none of the bonds before it has.
+#[tactic(auto, unfolding(crate::specs::Config::bond_id_of))]
+fn read_bond_id(bonds: &[BondRow], row: &Value) -> Result<BondId, ConfigFault>
+    ensures { result ≡ bond_id_of (bond_ids bonds.now) (view row.now) }
 {
-    bonds.iter().any(|own| own.as_bytes() == bond.as_bytes())
+    let id = read_id(row)?;
+    if has_bond(bonds, &id) {
+        return Err(ConfigFault::Twice);
+    }
+    Ok(id)
+}
+
+/// Whether one of the bonds has this identifier.
+fn has_bond(bonds: &[BondRow], id: &BondId) -> bool
+    ensures { result ≡ list_any (λ row. same_text row.id id.now) bonds.now }
+{
+    bonds.iter().any(|row| row.id.as_bytes() == id.as_bytes())
 }
 
 /// The name of a firm, which may be another firm's too.
@@ -73,11 +84,13 @@ fn read_name(row: &Value) -> Result<Name, ConfigFault>
 /// The dealers of a configuration.
 #[tactic(auto, using(crate::proofs::ValueLemmas::read_all_ok, crate::proofs::ValueLemmas::read_all_err, crate::proofs::ValueLemmas::read_all_end), unfolding(crate::specs::Config::dealers_in))]
 pub(crate) fn read_dealers(alloc: Global, document: &Value) -> Result<Vec<DealerRow>, ConfigFault>
-    ensures ok { IfOk result (λ dealers. dealers_in (view document.now) ≡ Ok (map dealer_values dealers.items)) }
-    ensures most { IfOk result (λ dealers. length dealers.items ≤ 64) }
-    ensures err { IfErr result (λ fault. fault ≢ ConfigFault.Memory → dealers_in (view document.now) ≡ Err fault) }
+    ensures ok { IfOk result (λ dealers.
+        dealers_in (view document.now) ≡ Ok (map dealer_values dealers.items)) }
+    ensures most { IfOk result (λ dealers. length dealers.items ≤ VenueConfig.MOST_DEALERS) }
+    ensures err { IfErr result (λ fault. fault ≢ ConfigFault.Memory
+        → dealers_in (view document.now) ≡ Err fault) }
 {
-    let rows = rows_at(document, "dealer", MOST_FIRMS)?;
+    let rows = rows_at(document, "dealer", VenueConfig::MOST_DEALERS)?;
     let mut dealers = Vec::new(alloc);
     for row in rows {
         let dealer = read_dealer(dealers.as_slice(), row)?;
@@ -133,12 +146,13 @@ pub(crate) fn read_investors(
     document: &Value,
 ) -> Result<Vec<InvestorRow>, ConfigFault>
     ensures ok { IfOk result (λ investors.
-        investors_in (map dealer_values dealers.now) (view document.now) ≡ Ok (map investor_values investors.items)) }
-    ensures most { IfOk result (λ investors. length investors.items ≤ 64) }
+        investors_in (map dealer_values dealers.now) (view document.now)
+        ≡ Ok (map investor_values investors.items)) }
+    ensures most { IfOk result (λ investors. length investors.items ≤ VenueConfig.MOST_INVESTORS) }
     ensures err { IfErr result (λ fault. fault ≢ ConfigFault.Memory
         → investors_in (map dealer_values dealers.now) (view document.now) ≡ Err fault) }
 {
-    let rows = rows_at(document, "investor", MOST_FIRMS)?;
+    let rows = rows_at(document, "investor", VenueConfig::MOST_INVESTORS)?;
     let mut investors = Vec::new(alloc);
     for row in rows {
         let investor = read_investor(dealers, investors.as_slice(), row)?;
@@ -155,7 +169,8 @@ fn read_investor(
     row: &Value,
 ) -> Result<InvestorRow, ConfigFault>
     ensures { result_map_both investor_values (λ fault. fault) result
-        ≡ investor_of (map dealer_values dealers.now) (map investor_values investors.now) (view row.now) }
+        ≡ investor_of (map dealer_values dealers.now) (map investor_values investors.now)
+        (view row.now) }
 {
     let name = read_investor_name(dealers, investors, row)?;
     let traders = read_traders(row)?;
@@ -179,7 +194,8 @@ fn read_investor_name(
     row: &Value,
 ) -> Result<Name, ConfigFault>
     ensures { result ≡ firm_name_of
-        (dealer_names (map dealer_values dealers.now) ++ investor_names (map investor_values investors.now))
+        (dealer_names (map dealer_values dealers.now)
+        ++ investor_names (map investor_values investors.now))
         (view row.now) }
 {
     let name = read_name(row)?;
@@ -190,10 +206,10 @@ fn read_investor_name(
 }
 
 /// Whether one of the dealers or of the investors has this name.
-
 fn has_firm(dealers: &[DealerRow], investors: &[InvestorRow], name: &Name) -> bool
     ensures { result ≡ is_among
-        (dealer_names (map dealer_values dealers.now) ++ investor_names (map investor_values investors.now))
+        (dealer_names (map dealer_values dealers.now)
+        ++ investor_names (map investor_values investors.now))
         name.now }
 {
     has_dealer(dealers, name) || has_investor(investors, name)

@@ -1,7 +1,8 @@
 //! The traders of a firm.
-ghost use Rattle.std.specs.Prelude.{◌≡◌, ℕ, ◌≤◌, List, [], length, map};
-ghost use Rattle.std.specs.List.{list_any};
-ghost use Rattle.venue_config.specs.Texts.{is_among, same_text, trader_added};
+ghost use Rattle.std.specs.Prelude.{◌≡◌, ℕ, ◌≤◌, List, [], length, IsTrue};
+ghost use Rattle.std.specs.List.{find, list_any};
+ghost use Rattle.venue_config.specs.Texts.{is_among, is_name, same_text, same_texts, text_if};
+ghost use Rattle.venue_config.specs.Texts.{trader_added};
 
 use crate::Name;
 use arrayvec::{ArrayString, ArrayVec};
@@ -14,11 +15,15 @@ pub struct Traders {
 }
 
 impl Model for Traders {
-    ghost use Rattle.std.specs.Prelude.{ℕ, ◌≤◌, List, length, map};
+    ghost use Rattle.std.specs.Prelude.{ℕ, List, map, IsTrue};
+    ghost use Rattle.std.specs.List.{list_all};
+    ghost use Rattle.venue_config.specs.Texts.{is_name};
 
     ghost Value = { List (List ℕ) };
 
     ghost view = { λ t. map (λ name. name.bytes) t.names.items };
+
+    ghost invariant = { λ t. IsTrue (list_all (λ name. is_name name.bytes) t.names.items) };
 }
 
 impl Traders {
@@ -37,7 +42,7 @@ impl Traders {
     /// How many there are.
     pub fn len(&self) -> usize
         ensures value { result ≡ length self.now }
-        ensures most { result ≤ 16 }
+        ensures most { result ≤ Self.MOST }
     {
         self.names.len()
     }
@@ -49,7 +54,16 @@ impl Traders {
         has_name(self.names.as_slice(), name)
     }
 
-    /// Adds a trader behind the others, or answers false and changes nothing where there are 16 already.
+    /// The trader with this name (an accepted SenderSubID 50), or none where no trader has it.
+    pub fn find(&self, name: &[u8]) -> Option<Name>
+        ensures { result ≡ text_if (is_among self.now) name.now }
+    {
+        let own = find_name(self.names.as_slice(), name)?;
+        Some(Name::of_text(own))
+    }
+
+    /// Adds a trader behind the others, or answers false and changes nothing where there are 16
+    /// already.
     pub fn push(&mut self, name: &Name) -> bool
         ensures { (self.new, result) ≡ trader_added self.old name.now }
     {
@@ -58,6 +72,13 @@ impl Traders {
         }
         self.names.push(name.text());
         true
+    }
+
+    /// Whether these are the same traders in the same order.
+    pub(crate) fn is_same(&self, other: &Self) -> bool
+        ensures { result ≡ same_texts self.now other.now }
+    {
+        self.names.as_slice() == other.names.as_slice()
     }
 
     /// The same traders once more. It takes no memory.
@@ -74,4 +95,11 @@ fn has_name(names: &[ArrayString<8>], name: &[u8]) -> bool
     ensures { result ≡ list_any (λ own. same_text own.bytes name.now) names.now }
 {
     names.iter().any(|own| own.as_bytes() == name)
+}
+
+/// The first of the texts that is this one.
+fn find_name(names: &[ArrayString<8>], name: &[u8]) -> Option<ArrayString<8>>
+    ensures { result ≡ find (λ own. same_text own.bytes name.now) names.now }
+{
+    names.iter().copied().find(|own| own.as_bytes() == name)
 }

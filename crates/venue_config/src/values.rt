@@ -5,10 +5,14 @@ ghost use Rattle.std.specs.Result.{result_map_both};
 ghost use Rattle.toml.specs.Data.{get, as_str, as_array};
 ghost use Rattle.toml.specs.View.{view, items_view};
 ghost use Rattle.venue_config.specs.Keys.{date_key, id_key};
-ghost use Rattle.venue_config.specs.Values.{number_at, number_within, text_at, elements_in, rows_at, trader_of, traders_at};
+ghost use Rattle.bond_prices.specs.Grid.{is_grid};
+ghost use Rattle.venue_config.specs.Config.{grid_of};
+ghost use Rattle.venue_config.specs.Values.{number_at, number_within, choice_within, text_at};
+ghost use Rattle.venue_config.specs.Values.{elements_in, rows_at, trader_of, traders_at};
 
 use crate::faults::ConfigFault;
-use crate::{BondId, Name, Traders};
+use crate::{BondId, Name, Traders, VenueConfig};
+use bond_prices::Grid;
 use fix_fields::Date;
 use toml::Value;
 
@@ -43,7 +47,8 @@ fn number_within(number: i64, most: u64) -> Result<u64, ConfigFault>
 
 /// The text at a key, or none where it is absent or of another kind.
 pub(crate) fn text_at<'a>(table: &'a Value, key: &str) -> Option<&'a str>
-    ensures { option_map (λ text. text.now) result ≡ option_and_then as_str (get key.now (view table.now)) }
+    ensures { option_map (λ text. text.now) result
+        ≡ option_and_then as_str (get key.now (view table.now)) }
 {
     match table.get(key) {
         Some(value) => value.as_str(),
@@ -79,12 +84,43 @@ pub(crate) fn read_id(row: &Value) -> Result<BondId, ConfigFault>
     Ok(id)
 }
 
+/// The grid of a bond, in a document of this version.
+#[tactic(auto, unfolding(crate::specs::Config::grid_of, crate::specs::Values::choice_at))]
+pub(crate) fn read_grid(version: u64, row: &Value) -> Result<Grid, ConfigFault>
+    ensures { result ≡ grid_of version (view row.now) }
+{
+    if version < VenueConfig::GRIDS_SINCE {
+        return Ok(Grid::FINEST);
+    }
+    let Some(value) = row.get("grid") else {
+        return Err(ConfigFault::Missing);
+    };
+    let Some(steps) = value.as_integer() else {
+        return Err(ConfigFault::Missing);
+    };
+    grid_within(steps)
+}
+
+/// An integer that is a grid.
+fn grid_within(steps: i64) -> Result<Grid, ConfigFault>
+    ensures { result ≡ choice_within is_grid steps }
+{
+    let Ok(steps) = u32::try_from(steps) else {
+        return Err(ConfigFault::Limit);
+    };
+    let Some(grid) = Grid::new(steps) else {
+        return Err(ConfigFault::Limit);
+    };
+    Ok(grid)
+}
+
 /// The elements of an array that has at least `least` and at most `most`.
 #[tactic(auto, using(crate::proofs::ValueLemmas::item_count_view))]
 pub(crate) fn elements_of(array: &Value, least: usize, most: usize) -> Result<&[Value], ConfigFault>
     ensures value { result_map_both (λ elements. items_view elements.now) (λ fault. fault) result
         ≡ elements_in least most (as_array (view array.now)) }
-    ensures limits { IfOk result (λ elements. (least ≤ length elements.now) × (length elements.now ≤ most)) }
+    ensures limits { IfOk result (λ elements.
+        (least ≤ length elements.now) × (length elements.now ≤ most)) }
 {
     let Some(elements) = array.as_array() else {
         return Err(ConfigFault::Missing);

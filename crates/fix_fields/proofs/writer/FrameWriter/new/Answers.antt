@@ -5,7 +5,7 @@ use Rattle.fix_fields.proofs.WriterLemmas.{fields_of-first, is_body_first, left_
 use Rattle.fix_fields.proofs.writer.FrameWriter.new.Goals as goal
 
 items_are : (c : goal.In_ok-push_field) → c.push_field.new.body.items ≡ field_text (35, c.args.msg_type.now)
-items_are c = c.in_ok-push_field.ensures.ok ∙ ap (λ t. t ++ field_text (35, c.args.msg_type.now)) c.new-body.ensures.items
+items_are c = c.in_ok-push_field.ensures.ok ∙ ap (λ t. t ++ field_text (35, c.args.msg_type.now)) c.in_ok-body.ensures.items
 
 is_text : (c : goal.In_ok-push_field) → IsBodyText c.push_field.new.body.items
 is_text c =

@@ -1,0 +1,8 @@
+//! How long a frame and its parts may be.
+
+/// How many bytes the longest frame has.
+pub const MOST_FRAME: usize = 4_096;
+
+/// How many bytes the longest body has: 25 of the longest frame are BeginString (8), a BodyLength
+/// (9) of four digits and CheckSum (10).
+pub const MOST_BODY: usize = 4_071;

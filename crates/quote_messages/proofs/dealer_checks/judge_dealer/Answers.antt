@@ -1,0 +1,18 @@
+use Rattle.std.proofs.Common.{[], ◌∙◌, ap, sym}
+use Rattle.quote_messages.specs.SessionLines.{unless_fault}
+use Rattle.quote_messages.specs.SessionChecks.{dealer_session_verdict, dealer_tables, types_of, verdict_by}
+use Rattle.quote_messages.proofs.dealer_checks.judge_dealer.Goals as goal
+
+pub read_typed-requires : goal.read_typed-requires
+read_typed-requires c = (c.in-Ok.ensures []).1
+
+pub returns : goal.returns
+unfolding dealer_session_verdict
+returns c =
+    c.read_typed.ensures
+    ∙ ap (λ found. unless_fault found (verdict_by dealer_tables c.args.date.now c.args.message.now)) (sym (c.in-Ok.ensures (types_of dealer_tables)).0)
+
+pub returns-in-Err : goal.returns-in-Err
+unfolding dealer_session_verdict
+returns-in-Err c =
+    ap (λ found. unless_fault found (verdict_by dealer_tables c.args.date.now c.args.message.now)) (sym (c.in-Err.ensures (types_of dealer_tables)))
