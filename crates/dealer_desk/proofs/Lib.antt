@@ -2,5 +2,7 @@ mod BookLemmas
 mod IndexLemmas
 mod ListLemmas
 mod MapLemmas
+mod NoteLemmas
+mod RefusalLemmas
 mod SoundLemmas
 mod TableLemmas
