@@ -6,6 +6,8 @@ mod IndexLemmas
 mod KeptLemmas
 mod ListLemmas
 mod MapLemmas
+mod NoteLemmas
+mod RefusalLemmas
 mod SoundLemmas
 mod StandLemmas
 mod TableLemmas

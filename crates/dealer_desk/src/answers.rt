@@ -1,7 +1,8 @@
 //! How a verdict is answered, noted and handed on.
-ghost use Rattle.std.specs.Prelude.{◌≡◌, ◌<◌, ◌+◌, ◌^◌, ℕ, List, [], ◌∷◌, Some, None, OnOk, OnErr, if◌then◌else◌};
+ghost use Rattle.std.specs.Prelude.{◌≡◌, ◌<◌, ◌+◌, ◌^◌, ℕ, List, [], ◌∷◌, Some, None, OnOk, OnErr, IfSome, if◌then◌else◌};
 ghost use Rattle.std.specs.Option.{option_map};
 ghost use Rattle.dealer_desk.specs.DealerFacts.{Came, number_to_drop};
+ghost use Rattle.dealer_desk.specs.BookChanges.{IsSound, IsLiveNumber};
 ghost use Rattle.dealer_desk.specs.declared.standing.Withdrawal.TheVariants as by;
 ghost use Rattle.dealer_desk.specs.DealerOutput as spec;
 ghost use Rattle.dealer_desk.specs.RuleCuts.{IsLawfulNote, note_of, note_of_quote, note_of_cancel, note_uses, note_facts, with_facts};
@@ -175,23 +176,64 @@ fn cancel_answer(id: Id<'_>, answer: Option<Settled>) -> OutMessage<'_>
 }
 
 /// Notes what a message leads to. After an error the index is as before.
+#[tactic(auto, using(crate::proofs::NoteLemmas::came_behind, crate::proofs::NoteLemmas::nothing_noted))]
 pub(crate) fn take_note(index: &mut DealerIndex, note: Note) -> Result<(), Memory>
     requires lawful { IsLawfulNote index.old.book note }
     requires fits { index.old.book.used + 1 < 2 ^ 63 }
     ensures ok { OnOk result ((moment : ℕ) (bytes : List ℕ) → index.new ≡ with_facts index.old (Came moment bytes (note_uses note) ∷ note_facts note)) }
     ensures err { OnErr result (index.new ≡ index.old) }
 {
-    match note {
-        Note::Nothing => return Ok(()),
-        Note::Number => {}
-        Note::Accepted(quote) => index.accept(quote)?,
-        Note::Replaced(replaced, quote) => index.replace(replaced, quote)?,
-        Note::Cancelled(quote) => index.cancel(quote),
-        Note::Late(quote) => index.find_lifted(quote),
-        Note::Declined(request) => index.decline(request),
+    let used = uses_number(&note);
+    note_changes(index, note)?;
+    if !used {
+        return Ok(());
     }
     index.came();
     Ok(())
+}
+
+/// Whether a message used up its number.
+fn uses_number(note: &Note) -> bool
+    ensures { result ≡ note_uses note.now }
+{
+    match note {
+        Note::Nothing => false,
+        _ => true,
+    }
+}
+
+/// Notes what a message leads to beside that it came. After an error the index is as before.
+#[tactic(auto, using(crate::proofs::NoteLemmas::note_keeps_used))]
+fn note_changes(index: &mut DealerIndex, note: Note) -> Result<(), Memory>
+    requires lawful { IsLawfulNote index.old.book note }
+    ensures ok { OnOk result (index.new ≡ with_facts index.old (note_facts note)) }
+    ensures used { OnOk result (index.new.book.used ≡ index.old.book.used) }
+    ensures err { OnErr result (index.new ≡ index.old) }
+{
+    match note {
+        Note::Nothing => Ok(()),
+        Note::Number => Ok(()),
+        Note::Accepted(quote) => {
+            index.accept(quote)?;
+            Ok(())
+        }
+        Note::Replaced(replaced, quote) => {
+            index.replace(replaced, quote)?;
+            Ok(())
+        }
+        Note::Cancelled(quote) => {
+            index.cancel(quote);
+            Ok(())
+        }
+        Note::Late(quote) => {
+            index.find_lifted(quote);
+            Ok(())
+        }
+        Note::Declined(request) => {
+            index.decline(request);
+            Ok(())
+        }
+    }
 }
 
 /// What a message leaves to be done, by the index as it stood.
@@ -267,15 +309,27 @@ fn decline_of(index: &DealerIndex, number: u64, moment: Moment) -> Option<Duty>
 
 /// Notes the answer of the word of the quote that a drop takes, where it takes one.
 pub(crate) fn note_drop(index: &mut DealerIndex, last: u32, answer: Option<Settled>)
+    requires { IsSound index.old.book.requests index.old.book.quotes }
     ensures { index.new ≡ with_facts index.old (spec.settled_facts (number_to_drop index.old.book last) by.Cancel answer) }
 {
-    let Some(own) = index.quote_to_drop(last) else {
+    let Some(quote) = number_to_drop(index, last) else {
         return;
     };
-    let quote = own.quote.number;
     match answer {
         Some(Settled::Withdrawn) => index.cancel(quote),
         Some(Settled::Lifted) => index.find_lifted(quote),
         None => {}
     }
+}
+
+/// The own number of the quote that a drop takes: it is live.
+fn number_to_drop(index: &DealerIndex, last: u32) -> Option<u32>
+    requires { IsSound index.now.book.requests index.now.book.quotes }
+    ensures number { result ≡ number_to_drop index.now.book last }
+    ensures live { IfSome result (λ quote. IsLiveNumber index.now.book.quotes quote) }
+{
+    let Some(own) = index.quote_to_drop(last) else {
+        return None;
+    };
+    Some(own.quote.number)
 }

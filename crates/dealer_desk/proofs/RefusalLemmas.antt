@@ -1,0 +1,25 @@
+-- The first refusal of two lists of checks, one behind the other.
+use Rattle.std.proofs.Common.{◌≡◌, Bool, true, false, List, [], ◌∷◌, ◌++◌, Option, Some, None, cond, refl}
+use Rattle.market_terms.specs.Checks.{first_refusal}
+use Rattle.quote_messages.specs.declared.reject_reasons.QuoteRejectReason.{QuoteRejectReason}
+
+abbrev pub Checks : Type 0
+Checks = List (Bool × QuoteRejectReason)
+
+-- what some checks refuse for a reason, they refuse with more behind them
+one_refuses : (b : Bool) (at reason : QuoteRejectReason) (checks more : Checks) → (first_refusal checks ≡ Some reason → first_refusal (checks ++ more) ≡ Some reason) → cond b (Some at) (first_refusal checks) ≡ Some reason → cond b (Some at) (first_refusal (checks ++ more)) ≡ Some reason
+one_refuses true at reason checks more rest h = h
+one_refuses false at reason checks more rest h = rest h
+
+pub refused_first : (checks more : Checks) (reason : QuoteRejectReason) → first_refusal checks ≡ Some reason → first_refusal (checks ++ more) ≡ Some reason
+refused_first [] more reason h = cc
+refused_first (check ∷ checks) more reason h = one_refuses check.0 check.1 reason checks more (refused_first checks more reason) h
+
+-- where some checks refuse nothing, those behind them decide
+one_passes : (b : Bool) (at : QuoteRejectReason) (checks more : Checks) → (first_refusal checks ≡ None → first_refusal (checks ++ more) ≡ first_refusal more) → cond b (Some at) (first_refusal checks) ≡ None → cond b (Some at) (first_refusal (checks ++ more)) ≡ first_refusal more
+one_passes true at checks more rest h = cc
+one_passes false at checks more rest h = rest h
+
+pub passed_first : (checks more : Checks) → first_refusal checks ≡ None → first_refusal (checks ++ more) ≡ first_refusal more
+passed_first [] more h = refl
+passed_first (check ∷ checks) more h = one_passes check.0 check.1 checks more (passed_first checks more) h
