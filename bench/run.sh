@@ -4,10 +4,11 @@
 set -e
 here=$(cd "$(dirname "$0")" && pwd)
 crate=$here/../crates/fix_fields_c
+heap=$(dirname "$(rt doc)")/c/liblibc_c.a
 (cd "$crate" && rt lib > /dev/null 2>&1)
 make=$(mktemp -d)
 trap 'rm -rf "$make"' EXIT
-g++ -std=c++14 -O3 -w -o "$make/bench" "$here/bench.cpp" "$crate/out/libfix_fields_c.a" -lquickfix -lpthread
+g++ -std=c++14 -O3 -w -o "$make/bench" "$here/bench.cpp" "$crate/out/libfix_fields_c.a" "$heap" -lquickfix -lpthread
 "$make/bench"
 command -v valgrind > /dev/null || exit 0
 instructions() {
@@ -18,5 +19,12 @@ for frame in 0 1; do
         none=$(instructions $reader $frame 0)
         many=$(instructions $reader $frame 100)
         echo "frame $frame, reader $reader: $(( (many - none) / 100 )) instructions"
+    done
+done
+for place in 0 1 2 3; do
+    for reader in 0 1 2; do
+        none=$(instructions $reader $((place + 2)) 0)
+        some=$(instructions $reader $((place + 2)) 5)
+        echo "stream in pieces $place, splitter $reader: $(( (some - none) / 5000 )) instructions a message"
     done
 done

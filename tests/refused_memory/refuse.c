@@ -9,6 +9,7 @@
 #include <fcntl.h>
 #include <stdio.h>
 #include <stdlib.h>
+#include <sys/syscall.h>
 #include <unistd.h>
 
 extern void *__libc_malloc(size_t size);
@@ -74,8 +75,16 @@ __attribute__((destructor)) static void write_count(void) {
     int file = open(name, O_WRONLY | O_CREAT | O_TRUNC, 0600);
     if (file >= 0) {
         if (write(file, line, (size_t)length) != length) {
-            _exit(3);
+            syscall(SYS_exit_group, 3);
         }
         close(file);
+    }
+}
+
+/* A program with threads ends by this call, which runs no destructor. */
+void _exit(int status) {
+    write_count();
+    for (;;) {
+        syscall(SYS_exit_group, status);
     }
 }

@@ -105,13 +105,21 @@ done
 refuse_each "busy-morning, no words" "$examples/busy-morning.due" "$examples/busy-morning.out"
 "$program" --help </dev/null >"$work/help"
 refuse_each "--help" /dev/null "$work/help" --help
+"$program" --version </dev/null >"$work/version"
+refuse_each "--version" /dev/null "$work/version" --version
 
-refuse_in_test dealer_desk tests::memory::a_refused_call_leaves_the_desk always
-for test in a_refused_call_leaves_the_room a_refused_pass_leaves_the_room a_refused_expiry_leaves_the_room; do
-    refuse_in_test request_room "tests::memory::$test" always
+refuse_in_test dealer_desk_tests calls::memory::a_refused_call_leaves_the_desk always
+for test in a_refused_call_leaves_the_room a_refused_pass_leaves_the_room a_refused_expiry_leaves_the_room \
+    a_hundred_posts_are_refused_in_turn; do
+    refuse_in_test request_room_tests "rooms::memory::$test" always
 done
 refuse_in_test quote_messages tests::written::refused_memory_changes_no_answer always
-refuse_in_test fix_fields tests::a_quote_is_written sometimes
-refuse_in_test fix_fields tests::the_longest_frame sometimes
-refuse_in_test quote_word plain::tests::a_word_is_settled_once sometimes
-refuse_in_test venue_config tests::the_example_has_its_rows sometimes
+for test in a_refused_piece_is_fed_again a_refused_piece_with_a_fault_is_fed_again; do
+    refuse_in_test fix_fields_tests "memory::$test" always
+done
+refuse_in_test fix_fields_tests writing::a_quote_is_written sometimes
+refuse_in_test fix_fields_tests frames::the_longest_frame sometimes
+refuse_in_test quote_word_tests limits::refused_memory_is_asked_for_again always
+for test in the_example_has_its_rows a_copy_has_the_same_rows; do
+    refuse_in_test venue_config_tests "values::$test" sometimes
+done

@@ -1,13 +1,17 @@
-//! Bond prices as whole numbers of 256ths of a point.
+//! Bond prices as whole numbers of 256ths of a point, and the grids that bonds are quoted on.
 //!
 //! A price is quoted in points, and the finest step is 1/256 of a point. So a price is held as a
 //! whole number of those steps, a [`Ticks`], from 1 to 255,999, and never as a binary fraction.
 //! Only text has points and decimals: [`read_price`] reads it and [`price_text`] prints it.
+//! [`thirty_seconds`] prints a price as a trader says it. A bond is quoted on a [`Grid`]: in 32nds,
+//! 64ths, 128ths or 256ths of a point.
 //!
 //! ```text
 //! let price = read_price(b"99.50390625")?;
 //! assert_eq!(price.get(), 25_473);
 //! assert_eq!(price_text(price).as_str(), "99.50390625");
+//! assert_eq!(thirty_seconds(price).as_str(), "99-161");
+//! assert!(on_grid(price, Grid::FINEST));
 //! assert_eq!(read_price(b"99.501"), Err(PriceFault::Grid));
 //! ```
 //!
@@ -21,10 +25,13 @@
 //!   the fraction is zero, a point and the fraction without trailing zeros.
 //! - `read_price` reads what `price_text` prints as the same price, so two prices never print
 //!   alike.
+//! - `thirty_seconds` prints whole points, 32nds and eighths of a 32nd that are this price.
+//! - `on_grid` is true exactly where the price is a whole number of the grid's steps.
 //! - No function here takes memory from an allocator.
 //!
-//! `specs/Price.antt` has the rules of the text, and `price_of` and `price_digits`, which say the
-//! same as functions.
+//! `specs/Price.antt` has the rules of the text in points, and `price_of` and `price_digits`, which
+//! say the same as functions; `specs/ThirtySeconds.antt` the text in 32nds, `specs/Grid.antt` the
+//! grids.
 #![tactic(auto)]
 
 mod decimal;
@@ -32,8 +39,6 @@ mod fault;
 mod grid;
 mod quoting;
 mod read;
-#[cfg(test)]
-mod tests;
 mod text;
 mod ticks;
 

@@ -57,7 +57,7 @@ cut_faulty (byte ∷ bytes) rest messages fault begun is =
             let own : found.0 ≡ fault = cc in
             ap (λ v. fold with_byte (taken messages now v) bytes) found.1
             ∙ (cut_stands bytes messages found.0 ∙ ap (λ f. cutting messages (Err f)) own))
-        ]
+      ]
     ]
 
 none_left : (bytes : List ℕ) → length bytes ≡ 0 → bytes ≡ []
@@ -91,7 +91,7 @@ cut_whole (byte ∷ bytes) rest messages n begun is long =
             ∙ (ap (λ t. fold with_byte (cutting (messages ++ (now ∷ [])) (Ok [])) t) last
             ∙ ap (λ t. cutting (messages ++ (t ∷ [])) (Ok [])) own_text))
         | inr found ↦ absurd (let other = front_more_faulty now bytes found.0 found.1 in cc)
-        ]
+      ]
     ]
 
 -- messages that were cut before stay before the others
@@ -144,7 +144,7 @@ behind_is behind messages (Ok kept) none stands =
             (let has = has_whole behind whole.0 whole.1 in
             absurd (none (record { message = has.message; behind = has.behind; envelope = has.envelope; text = has.text })))
         | inr found ↦ absurd (stands.1 found.0 (has_fault behind found.0 found.1))
-        ]
+      ]
     ]
 behind_is behind messages (Err fault) none stands = cut_faulty behind [] messages fault front_none (front_fault fault behind stands)
 
@@ -207,7 +207,7 @@ cut_somehow (suc fuel) stream few =
             let some = some_message stream whole.0 has in
             cut_of_message stream whole.0 has (cut_somehow fuel has.behind (omega arith)))
         | inr found ↦ cut_of_fault stream found.0 found.1
-        ]
+      ]
     ]
 
 pub is_cutting : (stream : List ℕ) (cut : Cutting) → envelopes_of stream ≡ cut → IsCutting stream cut

@@ -75,12 +75,12 @@ behind_says digits bytes all some few =
     let n = digits_value 10 digits in
     elim (cases_Bool (nat_lt MOST_FRAME (message_len digits))) [
       | inl long ↦ rw long (record {
-          length_digits = digits;
-          behind = bytes;
-          length_is = record { all_digits = all; some = some; few = few; value = refl };
-          text = refl;
-          long = (let t = long in grind (arith, nat_tests));
-        })
+        length_digits = digits;
+        behind = bytes;
+        length_is = record { all_digits = all; some = some; few = few; value = refl };
+        text = refl;
+        long = (let t = long in grind (arith, nat_tests));
+      })
       | inr fits ↦ elim (cases_Bool (nat_lt (length bytes) (n + 7))) [
         | inl short ↦
             (let few_bytes : length bytes < n + 7 = (let t = short in grind (arith, nat_tests)) in
@@ -122,18 +122,18 @@ behind_says digits bytes all some few =
                     text = text ∙ sym (append_assoc (front_text digits body) tail behind);
                   }))
               | inr none ↦ rw (fits, there, none) (record {
-                  length_digits = digits;
-                  body = body;
-                  tail = tail;
-                  behind = behind;
-                  length_is = measure;
-                  fits = most;
-                  seven = seven;
-                  text = text;
-                  no_end = λ sum_digits are is. false≢true (sym none ∙ (ap is_end is ∙ end_test sum_digits are));
-                })
+                length_digits = digits;
+                body = body;
+                tail = tail;
+                behind = behind;
+                length_is = measure;
+                fits = most;
+                seven = seven;
+                text = text;
+                no_end = λ sum_digits are is. false≢true (sym none ∙ (ap is_end is ∙ end_test sum_digits are));
+              })
             ])
-        ]
+      ]
     ]
 
 digits_push : (digits : List ℕ) (byte : ℕ) → AllDigits 10 digits → is_ascii_digit byte ≡ true → AllDigits 10 (digits ++ (byte ∷ []))
@@ -158,16 +158,16 @@ length_says (byte ∷ bytes) digits all few =
             let some : 0 < length digits = (let t = parts.1 in grind (arith, nat_tests)) in
             rw (past, ended, soh) (behind_says digits bytes all some few))
         | inr stray ↦ rw (past, stray) (record {
-            digits = digits;
-            byte = byte;
-            behind = bytes;
-            all_digits = all;
-            few = few;
-            text = refl;
-            seventh = λ digit. (let t : (true && nat_lt (length digits) 6) ≡ false = subst (λ b. (b && nat_lt (length digits) 6) ≡ false) digit past in grind (arith, nat_tests));
-            first = λ soh. (let t : ((1 == 1) && nat_lt 0 (length digits)) ≡ false = subst (λ b. ((b == 1) && nat_lt 0 (length digits)) ≡ false) soh stray in grind (arith, nat_tests));
-          })
-        ]
+          digits = digits;
+          byte = byte;
+          behind = bytes;
+          all_digits = all;
+          few = few;
+          text = refl;
+          seventh = λ digit. (let t : (true && nat_lt (length digits) 6) ≡ false = subst (λ b. (b && nat_lt (length digits) 6) ≡ false) digit past in grind (arith, nat_tests));
+          first = λ soh. (let t : ((1 == 1) && nat_lt 0 (length digits)) ≡ false = subst (λ b. ((b == 1) && nat_lt 0 (length digits)) ≡ false) soh stray in grind (arith, nat_tests));
+        })
+      ]
     ]
 
 start_says : (wanted before bytes : List ℕ) → start_text ≡ before ++ wanted → Says (front_in_start wanted bytes) (before ++ bytes)
@@ -183,15 +183,15 @@ start_says (first ∷ wanted) before (byte ∷ bytes) is =
           rw (same, own) (subst (λ t. Says (front_in_start wanted bytes) t) (append_assoc before (first ∷ []) bytes)
           (start_says wanted (before ++ (first ∷ [])) bytes (is ∙ sym (append_assoc before (first ∷ []) wanted)))))
       | inr other ↦ rw other (record {
-          before = before;
-          wanted = first;
-          more = wanted;
-          byte = byte;
-          behind = bytes;
-          start = is;
-          text = refl;
-          other = λ own. false≢true (sym other ∙ (Decides-eqb byte first).1 own);
-        })
+        before = before;
+        wanted = first;
+        more = wanted;
+        byte = byte;
+        behind = bytes;
+        start = is;
+        text = refl;
+        other = λ own. false≢true (sym other ∙ (Decides-eqb byte first).1 own);
+      })
     ]
 
 pub front_says : (bytes : List ℕ) → Says (front_of bytes) bytes
@@ -305,8 +305,13 @@ seven_long digits are = let three = are.three in omega (arith, length-append dig
 
 pub envelope_len : (message : List ℕ) (is : IsEnvelope message) → length message ≡ message_len is.length_digits
 envelope_len message is =
-    omega (arith, ap length is.text, length-append (front_text is.length_digits is.body) (end_text is.sum_digits),
-    seven_long is.sum_digits is.sum_is, message_len_is is.length_digits is.body is.length_is)
+    omega (
+      arith,
+      ap length is.text,
+      length-append (front_text is.length_digits is.body) (end_text is.sum_digits),
+      seven_long is.sum_digits is.sum_is,
+      message_len_is is.length_digits is.body is.length_is,
+    )
 
 pub front_whole : (message behind : List ℕ) → IsEnvelope message → front_of (message ++ behind) ≡ Whole (length message)
 unfolding front_behind_length

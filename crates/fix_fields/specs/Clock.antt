@@ -1,5 +1,6 @@
 -- The part of a UTCTimestamp behind the date.
 use Rattle.std.specs.Prelude.{◌≡◌, ℕ, ◌+◌, ◌*◌, ◌%◌, ◌<◌, ◌≤◌, List, ◌∷◌, ◌++◌, ◌⊎◌}
+use Rattle.fix_fields.specs.declared.limits.TheConstants.{A_DAY}
 use Rattle.fix_fields.specs.Frame.{three_digits}
 use Rattle.fix_fields.specs.UtcTimestamp.{clock_text}
 
@@ -11,5 +12,6 @@ pub record IsTwoDigits (n tens units : ℕ) : Type 0 where
 
 -- a dash and a time of day in one of its two spellings
 pub record IsClock (n : ℕ) (text : List ℕ) : Type 0 where
-  pub moment : n < 86400000
-  pub spelling : (text ≡ 45 ∷ (clock_text n ++ (46 ∷ three_digits (n % 1000)))) ⊎ ((n % 1000 ≡ 0) × (text ≡ 45 ∷ clock_text n))
+  pub moment : n < A_DAY
+  pub spelling : (text ≡ 45 ∷ (clock_text n ++ (46 ∷ three_digits (n % 1000))))
+      ⊎ ((n % 1000 ≡ 0) × (text ≡ 45 ∷ clock_text n))

@@ -1,14 +1,17 @@
 -- Messages that are cut out of a stream of bytes, by their lengths alone. An envelope is what one
--- needs to be cut: BeginString, a BodyLength, that many bytes and the shape of CheckSum. The sum may
--- be wrong, and what stands between may be no fields.
-use Rattle.std.specs.Prelude.{◌≡◌, ◌≢◌, ℕ, ◌+◌, ◌<◌, ◌≤◌, ◌==◌, ◌&&◌, Bool, true, List, [], ◌∷◌, ◌++◌, length, take, drop, codes, fold, if◌then◌else◌, nat_lt, Result, Ok, Err}
+-- needs to be cut: BeginString, a BodyLength, that many bytes and the shape of CheckSum. The sum
+-- may be wrong, and what stands between may be no fields.
+use Rattle.std.specs.Prelude.{◌≡◌, ◌≢◌, ℕ, ◌+◌, ◌<◌, ◌≤◌, ◌==◌, ◌&&◌, Bool, true, List, [], ◌∷◌}
+use Rattle.std.specs.Prelude.{◌++◌, length, take, drop, codes, fold, if◌then◌else◌, nat_lt, Result}
+use Rattle.std.specs.Prelude.{Ok, Err}
 use Rattle.std.specs.List.{AllByRecursion, concat}
 use Rattle.std.specs.Char.{is_ascii_digit}
 use Rattle.std.specs.Str.{bytes_eq, all_ascii_digits}
 use Rattle.std.specs.Str.Parse.{AllDigits, digits_value}
 use Rattle.fix_fields.specs.declared.limits.TheConstants.{MOST_FRAME}
 use Rattle.fix_fields.specs.declared.fault.StreamFault.{StreamFault}
-use Rattle.fix_fields.specs.declared.fault.StreamFault.TheVariants.{Start, Length, TooLong, End, Memory}
+use Rattle.fix_fields.specs.declared.fault.StreamFault.TheVariants.{Start, Length, TooLong, End}
+use Rattle.fix_fields.specs.declared.fault.StreamFault.TheVariants.{Memory}
 use Rattle.fix_fields.specs.Frame.{IsLength, AreSumDigits, start_text, front_text, end_text}
 
 -- a message that is cut
@@ -28,7 +31,7 @@ pub record BeginsWithEnvelope (bytes : List ℕ) : Type 0 where
   pub envelope : IsEnvelope message
   pub text : bytes ≡ message ++ behind
 
--- Faults of a stream, each by the byte at which it shows; what stands behind that byte is no matter.
+-- Faults of a stream, each by the byte at which it shows, whatever stands behind that byte.
 
 -- the bytes depart from `8=FIXT.1.1`, SOH, `9=`
 pub record DepartsFromStart (bytes : List ℕ) : Type 0 where
@@ -130,7 +133,8 @@ front_behind_length digits bytes =
 unfoldable pub front_in_length : List ℕ → List ℕ → Front
 front_in_length digits [] = Begun
 front_in_length digits (byte ∷ bytes) =
-    if is_ascii_digit byte && nat_lt (length digits) 6 then front_in_length (digits ++ (byte ∷ [])) bytes
+    if is_ascii_digit byte && nat_lt (length digits) 6
+    then front_in_length (digits ++ (byte ∷ [])) bytes
     else if (byte == 1) && nat_lt 0 (length digits) then front_behind_length digits bytes
     else Faulty Length
 
@@ -176,4 +180,5 @@ unfoldable pub envelopes_of_pieces : Cutting → List (List ℕ) → Cutting
 envelopes_of_pieces cutting [] = cutting
 envelopes_of_pieces cutting (piece ∷ pieces) =
     let now = cut_behind cutting.rest piece in
-    envelopes_of_pieces (record { messages = cutting.messages ++ now.messages; rest = now.rest }) pieces
+    let both : Cutting = record { messages = cutting.messages ++ now.messages; rest = now.rest } in
+    envelopes_of_pieces both pieces

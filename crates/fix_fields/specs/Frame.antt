@@ -1,6 +1,8 @@
 -- A frame of FIXT.1.1: a list of fields, and the bytes that it is written as. The definitions build
 -- texts from fields. Bytes are numbers below 256; SOH is the byte 1, and an equals sign 61.
-use Rattle.std.specs.Prelude.{◌≡◌, ◌≢◌, ℕ, ◌+◌, ◌-◌, ◌/◌, ◌%◌, ◌<◌, ◌≤◌, ◌==◌, ◌&&◌, Bool, false, not, List, [], ◌∷◌, ◌++◌, length, take, drop, codes, decimal, sum, count_by, map, if◌then◌else◌, nat_lt, nat_le, Option, Some, None}
+use Rattle.std.specs.Prelude.{◌≡◌, ◌≢◌, ℕ, ◌+◌, ◌-◌, ◌/◌, ◌%◌, ◌<◌, ◌≤◌, ◌==◌, ◌&&◌, Bool, false}
+use Rattle.std.specs.Prelude.{not, List, [], ◌∷◌, ◌++◌, length, take, drop, codes, decimal, sum}
+use Rattle.std.specs.Prelude.{count_by, map, if◌then◌else◌, nat_lt, nat_le, Option, Some, None}
 use Rattle.std.specs.List.{AllByRecursion, list_all, before_first, after_first, onto_first}
 use Rattle.std.specs.Str.{bytes_eq, all_ascii_digits}
 use Rattle.std.specs.Str.Parse.{AllDigits, digits_value}
@@ -10,8 +12,8 @@ use Rattle.fix_fields.specs.declared.limits.TheConstants.{MOST_FRAME, MOST_BODY}
 abbrev pub Field : Type 0
 Field = ℕ × List ℕ
 
--- A tag that may stand in a body: 1 to 9 digits and no leading zero, and not that of BeginString (8),
--- BodyLength (9) or CheckSum (10).
+-- A tag that may stand in a body: 1 to 9 digits and no leading zero, and not that of BeginString
+-- (8), BodyLength (9) or CheckSum (10).
 abbrev pub IsTag : ℕ → Type 0
 IsTag tag = (0 < tag) × (tag < 1000000000) × (tag ≢ 8) × (tag ≢ 9) × (tag ≢ 10)
 
@@ -79,7 +81,8 @@ pub record IsFrame (bytes : List ℕ) (fields : List Field) : Type 0 where
   pub sum_digits : List ℕ
   pub length_is : IsLength length_digits (length (fields_text fields))
   pub sum_is : AreSumDigits sum_digits
-  pub sum_value : digits_value 10 sum_digits ≡ sum (front_text length_digits (fields_text fields)) % 256
+  pub sum_value : digits_value 10 sum_digits
+      ≡ sum (front_text length_digits (fields_text fields)) % 256
   pub text : bytes ≡ front_text length_digits (fields_text fields) ++ end_text sum_digits
   pub fits : length bytes ≤ MOST_FRAME
 
@@ -87,7 +90,8 @@ pub record IsFrame (bytes : List ℕ) (fields : List Field) : Type 0 where
 abbrev pub three_digits : ℕ → List ℕ
 three_digits n = (48 + n / 100) ∷ ((48 + n / 10 % 10) ∷ ((48 + n % 10) ∷ []))
 
--- The frame of these fields as it is written: the length without leading zeros, the sum in three digits.
+-- The frame of these fields as it is written: the length without leading zeros, the sum in three
+-- digits.
 unfoldable pub frame_text : List Field → List ℕ
 frame_text fields =
     let front = front_text (decimal (length (fields_text fields))) (fields_text fields) in
@@ -98,12 +102,14 @@ abbrev pub decimal_len : ℕ → ℕ
 decimal_len n =
     if nat_lt n 10 then 1 else if nat_lt n 100 then 2 else if nat_lt n 1000 then 3
     else if nat_lt n 10000 then 4 else if nat_lt n 100000 then 5 else if nat_lt n 1000000 then 6
-    else if nat_lt n 10000000 then 7 else if nat_lt n 100000000 then 8 else if nat_lt n 1000000000 then 9
+    else if nat_lt n 10000000 then 7 else if nat_lt n 100000000 then 8
+    else if nat_lt n 1000000000 then 9
     else if nat_lt n 10000000000 then 10 else if nat_lt n 100000000000 then 11
     else if nat_lt n 1000000000000 then 12 else if nat_lt n 10000000000000 then 13
     else if nat_lt n 100000000000000 then 14 else if nat_lt n 1000000000000000 then 15
     else if nat_lt n 10000000000000000 then 16 else if nat_lt n 100000000000000000 then 17
-    else if nat_lt n 1000000000000000000 then 18 else if nat_lt n 10000000000000000000 then 19 else 20
+    else if nat_lt n 1000000000000000000 then 18
+    else if nat_lt n 10000000000000000000 then 19 else 20
 
 -- how many bytes a field takes whose value has this length
 abbrev pub field_len : ℕ → ℕ → ℕ
@@ -122,11 +128,15 @@ left_of fields = MOST_BODY - fields_len fields
 -- the pieces that an SOH ends, and what stands behind the last
 unfoldable pub pieces_of : List ℕ → List (List ℕ)
 pieces_of [] = []
-pieces_of (byte ∷ bytes) = if byte == 1 then [] ∷ pieces_of bytes else onto_first byte (pieces_of bytes)
+pieces_of (byte ∷ bytes) =
+    if byte == 1 then [] ∷ pieces_of bytes else onto_first byte (pieces_of bytes)
 
 -- a piece as tag and value, cut at its first equals sign
 unfoldable pub field_of : List ℕ → Field
-field_of piece = (digits_value 10 (before_first (λ byte. byte == 61) piece), after_first (λ byte. byte == 61) piece)
+field_of piece = (
+  digits_value 10 (before_first (λ byte. byte == 61) piece),
+  after_first (λ byte. byte == 61) piece,
+)
 
 -- the fields that a body would have
 unfoldable pub fields_of : List ℕ → List Field
@@ -155,11 +165,13 @@ are_body (field ∷ fields) = (field.0 == 35) && list_all is_field (field ∷ fi
 -- of the digits of BodyLength (9): 1 to 6 that write this length
 abbrev pub are_length_digits : List ℕ → ℕ → Bool
 are_length_digits digits n =
-    all_ascii_digits digits && nat_lt 0 (length digits) && nat_le (length digits) 6 && (digits_value 10 digits == n)
+    all_ascii_digits digits && nat_lt 0 (length digits) && nat_le (length digits) 6
+    && (digits_value 10 digits == n)
 
 -- of the digits of CheckSum (10): three that write this sum
 abbrev pub are_sum_digits : List ℕ → ℕ → Bool
-are_sum_digits digits n = all_ascii_digits digits && (length digits == 3) && (digits_value 10 digits == n)
+are_sum_digits digits n =
+    all_ascii_digits digits && (length digits == 3) && (digits_value 10 digits == n)
 
 -- whether bytes are the frame that these digits and these fields build
 unfoldable pub builds : List ℕ → List ℕ → List ℕ → List Field → Bool
@@ -175,7 +187,9 @@ length_digits_of bytes = before_first (λ byte. byte == 1) (drop 13 bytes)
 
 -- where the body would stand: behind BodyLength, up to the last seven bytes
 unfoldable pub body_of : List ℕ → List ℕ
-body_of bytes = let behind = after_first (λ byte. byte == 1) (drop 13 bytes) in take (length behind - 7) behind
+body_of bytes =
+    let behind = after_first (λ byte. byte == 1) (drop 13 bytes) in
+    take (length behind - 7) behind
 
 -- where the digits of CheckSum would stand
 unfoldable pub sum_digits_of : List ℕ → List ℕ

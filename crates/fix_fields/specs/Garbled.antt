@@ -1,9 +1,11 @@
 -- Which fault bytes have that are no frame: the first check that they do not pass.
 use Rattle.std.specs.Prelude.{◌≡◌, ℕ, ◌≤◌, List, ◌++◌, length}
-use Rattle.fix_fields.specs.Frame.{Field, AreBody, IsFrame, IsLength, AreSumDigits, fields_text, start_text, front_text, end_text}
+use Rattle.fix_fields.specs.Frame.{Field, AreBody, IsFrame, IsLength, AreSumDigits, fields_text}
+use Rattle.fix_fields.specs.Frame.{start_text, front_text, end_text}
 use Rattle.fix_fields.specs.declared.limits.TheConstants.{MOST_FRAME}
 use Rattle.fix_fields.specs.declared.fault.Garbled.{Garbled}
-use Rattle.fix_fields.specs.declared.fault.Garbled.TheVariants.{TooLong, Start, Length, Field as NoField, End, Sum}
+use Rattle.fix_fields.specs.declared.fault.Garbled.TheVariants.{TooLong, Start, Length}
+use Rattle.fix_fields.specs.declared.fault.Garbled.TheVariants.{Field as NoField, End, Sum}
 
 -- bytes of a lawful length that begin as a frame does
 pub record Starts (bytes : List ℕ) : Type 0 where
@@ -24,9 +26,11 @@ Passes TooLong bytes = length bytes ≤ MOST_FRAME
 Passes Start bytes = Starts bytes
 Passes Length bytes = (length_digits body tail : List ℕ) × IsCut bytes length_digits body tail
 Passes NoField bytes =
-    (length_digits tail : List ℕ) × (fields : List Field) × AreBody fields × IsCut bytes length_digits (fields_text fields) tail
+    (length_digits tail : List ℕ) × (fields : List Field) × AreBody fields
+    × IsCut bytes length_digits (fields_text fields) tail
 Passes End bytes =
-    (length_digits sum_digits : List ℕ) × (fields : List Field) × AreBody fields × AreSumDigits sum_digits
+    (length_digits sum_digits : List ℕ) × (fields : List Field) × AreBody fields
+    × AreSumDigits sum_digits
     × IsCut bytes length_digits (fields_text fields) (end_text sum_digits)
 Passes Sum bytes = (fields : List Field) × IsFrame bytes fields
 

@@ -2,8 +2,11 @@
 use Rattle.std.specs.Prelude.{◌≡◌, ℕ, ◌<◌, ◌≤◌, List, ◌++◌, ◌%◌, length, decimal, sum}
 use Rattle.std.specs.Prelude.{fold, Option, Some, None, Result, Ok, Err}
 use Rattle.std.specs.List.{AllByRecursion}
+use Rattle.std.specs.Prelude.{map, Vec}
+use Rattle.std.specs.declared.alloc.Global.{Global}
 use Rattle.fix_fields.specs.declared.limits.TheConstants.{MOST_FRAME, MOST_BODY}
-use Rattle.fix_fields.specs.Frame.{Field, IsField, AreBody, AreSumDigits, field_text, fields_text, fields_of, front_text, end_text, three_digits}
+use Rattle.fix_fields.specs.Frame.{Field, IsField, AreBody, AreSumDigits, field_text, fields_text}
+use Rattle.fix_fields.specs.Frame.{fields_of, front_text, end_text, three_digits}
 use Rattle.fix_fields.specs.Envelope.{Cutting, with_byte, front_of}
 use Rattle.fix_fields.specs.Envelope.Front.{Begun, Whole, Faulty}
 use Rattle.fix_fields.specs.declared.fault.StreamFault.{StreamFault}
@@ -51,6 +54,10 @@ abbrev pub text_around : List ℕ → List ℕ
 text_around body =
     let front = front_text (decimal (length body)) body in
     front ++ end_text (three_digits (sum front % 256))
+
+-- the bytes of messages
+abbrev pub texts_of : Vec (Vec ℕ Global) Global → List (List ℕ)
+texts_of messages = map (λ message. message.items) messages.items
 
 -- what bytes are cut into that come behind these messages and this rest
 abbrev pub cutting : List (List ℕ) → Result (List ℕ) StreamFault → Cutting

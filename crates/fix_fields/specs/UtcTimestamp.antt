@@ -1,9 +1,12 @@
 -- UTCTimestamp: a date of eight digits, a dash, and the time of day in one of two spellings,
--- `HH:MM:SS` and `HH:MM:SS.sss`. A moment is a count of milliseconds since midnight. The definitions
--- build texts. A digit d is the byte 48 + d, a dash 45, a point 46 and a colon 58.
-use Rattle.std.specs.Prelude.{◌≡◌, ℕ, ◌+◌, ◌*◌, ◌/◌, ◌%◌, ◌<◌, ◌≤◌, ◌==◌, ◌&&◌, ◌||◌, Bool, List, [], ◌∷◌, ◌++◌, take, drop, if◌then◌else◌, nat_lt, nat_le, Result, Ok, Err, ◌⊎◌}
+-- `HH:MM:SS` and `HH:MM:SS.sss`. A moment is a count of milliseconds since midnight. The
+-- definitions build texts. A digit d is the byte 48 + d, a dash 45, a point 46 and a colon 58.
+use Rattle.std.specs.Prelude.{◌≡◌, ℕ, ◌+◌, ◌*◌, ◌/◌, ◌%◌, ◌<◌, ◌≤◌, ◌==◌, ◌&&◌, ◌||◌, Bool, List}
+use Rattle.std.specs.Prelude.{[], ◌∷◌, ◌++◌, take, drop, if◌then◌else◌, nat_lt, nat_le, Result, Ok}
+use Rattle.std.specs.Prelude.{Err, ◌⊎◌}
 use Rattle.std.specs.Str.{bytes_eq}
 use Rattle.std.specs.Str.Parse.{digits_value}
+use Rattle.fix_fields.specs.declared.limits.TheConstants.{A_DAY}
 use Rattle.fix_fields.specs.Frame.{three_digits}
 use Rattle.fix_fields.specs.declared.fault.MomentFault.{MomentFault}
 use Rattle.fix_fields.specs.declared.fault.MomentFault.TheVariants.{Form, OtherDay}
@@ -33,7 +36,8 @@ pub record IsDate (digits : List ℕ) : Type 0 where
 -- `HH:MM:SS` of a count of milliseconds
 abbrev pub clock_text : ℕ → List ℕ
 clock_text n =
-    two_digits (n / 3600000) ++ (58 ∷ (two_digits (n / 60000 % 60) ++ (58 ∷ two_digits (n / 1000 % 60))))
+    two_digits (n / 3600000)
+    ++ (58 ∷ (two_digits (n / 60000 % 60) ++ (58 ∷ two_digits (n / 1000 % 60))))
 
 -- `YYYYMMDD-HH:MM:SS`, the shorter spelling
 abbrev pub seconds_text : List ℕ → ℕ → List ℕ
@@ -45,12 +49,13 @@ timestamp_text date n = seconds_text date n ++ (46 ∷ three_digits (n % 1000))
 
 -- The text spells this moment of this date; the shorter spelling is for whole seconds.
 abbrev pub IsSpelling : List ℕ → ℕ → List ℕ → Type 0
-IsSpelling date n text = (text ≡ timestamp_text date n) ⊎ ((n % 1000 ≡ 0) × (text ≡ seconds_text date n))
+IsSpelling date n text =
+    (text ≡ timestamp_text date n) ⊎ ((n % 1000 ≡ 0) × (text ≡ seconds_text date n))
 
 -- A text spells a moment of a date, as FIX's UTCTimestamp.
 pub record UtcTimestamp (date : List ℕ) (n : ℕ) (text : List ℕ) : Type 0 where
   pub date_is : IsDate date
-  pub moment : n < 86400000
+  pub moment : n < A_DAY
   pub spelling : IsSpelling date n text
 
 -- the number that stands in a text from a place on
@@ -69,16 +74,18 @@ is_date digits =
 -- the milliseconds that a text would spell
 unfoldable pub milliseconds_of : List ℕ → ℕ
 milliseconds_of text =
-    number_at text 9 2 * 3600000 + number_at text 12 2 * 60000 + number_at text 15 2 * 1000 + number_at text 18 3
+    number_at text 9 2 * 3600000 + number_at text 12 2 * 60000 + number_at text 15 2 * 1000
+    + number_at text 18 3
 
 -- whether a text spells this moment of this date
 unfoldable pub spells : List ℕ → ℕ → List ℕ → Bool
 spells date n text =
-    is_date date && nat_lt n 86400000
-    && (bytes_eq text (timestamp_text date n) || ((n % 1000 == 0) && bytes_eq text (seconds_text date n)))
+    is_date date && nat_lt n A_DAY
+    && (bytes_eq text (timestamp_text date n)
+    || ((n % 1000 == 0) && bytes_eq text (seconds_text date n)))
 
--- The moment of this date that a text spells, or why there is none: it is no spelling of any moment,
--- or one of another date.
+-- The moment of this date that a text spells, or why there is none: it is no spelling of any
+-- moment, or one of another date.
 unfoldable pub moment_of : List ℕ → List ℕ → Result ℕ MomentFault
 moment_of date text =
     let own = take 8 text in

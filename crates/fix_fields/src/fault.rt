@@ -13,12 +13,12 @@ pub enum Garbled {
     /// They do not begin `8=FIXT.1.1`, SOH, `9=` (BeginString, and the tag of BodyLength).
     #[error("the message does not begin with BeginString FIXT.1.1 and BodyLength")]
     Start,
-    /// BodyLength (9) is not 1 to 6 digits and SOH, or not the number of the bytes behind it but for
-    /// the last seven.
+    /// BodyLength (9) is not 1 to 6 digits and SOH, or not the number of the bytes behind it but
+    /// for the last seven.
     #[error("BodyLength is not the length of the body")]
     Length,
-    /// The body is not one or more fields `tag=value` SOH, each with a tag of 1 to 9 digits that does
-    /// not begin with 0 and is not 8, 9 or 10, the first with tag 35 (MsgType).
+    /// The body is not one or more fields `tag=value` SOH, each with a tag of 1 to 9 digits that
+    /// does not begin with 0 and is not 8, 9 or 10, the first with tag 35 (MsgType).
     #[error("the body is no list of fields that begins with MsgType")]
     Field,
     /// The last seven bytes are not `10=` (CheckSum), three digits and SOH.
@@ -66,7 +66,7 @@ impl From<AllocError> for StreamFault {
 /// Why a text is no moment of a day.
 #[derive(Clone, Copy, Debug, PartialEq, Eq, Error)]
 pub enum MomentFault {
-    /// It is neither `YYYYMMDD-HH:MM:SS` nor `YYYYMMDD-HH:MM:SS.sss` of any date and any time of day.
+    /// It is neither `YYYYMMDD-HH:MM:SS` nor `YYYYMMDD-HH:MM:SS.sss` of any date and time of day.
     #[error("the text is no UTCTimestamp")]
     Form,
     /// It is a moment of another date.

@@ -1,9 +1,11 @@
 //! Frames that are read.
-ghost use Rattle.std.specs.Prelude.{◌≡◌, ℕ, ◌+◌, ◌<◌, ◌≤◌, ◌%◌, ◌↔◌, List, Ok, Err, length, sum, MatchOption, MatchResult, IfOk, OnOk, IfSome, Some, None};
+ghost use Rattle.std.specs.Prelude.{◌≡◌, ℕ, ◌+◌, ◌<◌, ◌≤◌, ◌%◌, ◌↔◌, List, Ok, Err, length, sum};
+ghost use Rattle.std.specs.Prelude.{MatchOption, MatchResult, IfOk, OnOk, IfSome, Some, None};
 ghost use Rattle.std.specs.Option.{option_copied};
 ghost use Rattle.std.specs.Result.{result_ok};
 ghost use Rattle.std.specs.Str.Parse.{digits_value};
-ghost use Rattle.fix_fields.specs.Frame.{Field, IsValue, AreBody, IsFrame, frame_of, value_of, times_of, fields_text, fields_of};
+ghost use Rattle.fix_fields.specs.Frame.{Field, IsValue, AreBody, IsFrame, frame_of, value_of};
+ghost use Rattle.fix_fields.specs.Frame.{times_of, fields_text, fields_of};
 ghost use Rattle.fix_fields.specs.Garbled.{IsFault, IsCut};
 ghost use Rattle.fix_fields.specs.Scan.{IsEnd};
 
@@ -116,7 +118,8 @@ impl<'a> Iterator for Fields<'a> {
 
 /// Cuts bytes into the body and the seven bytes behind it, by BeginString and BodyLength alone.
 fn cut(bytes: &[u8]) -> Result<(&[u8], &[u8]), Garbled>
-    ensures ok { IfOk result (λ parts. (length_digits : List ℕ) × IsCut bytes.now length_digits parts.0.now parts.1.now) }
+    ensures ok { IfOk result (λ parts. (length_digits : List ℕ)
+        × IsCut bytes.now length_digits parts.0.now parts.1.now) }
     ensures seven { IfOk result (λ parts. length parts.1.now ≡ 7) }
     ensures long { OnOk result (7 ≤ length bytes.now) }
     ensures err { MatchResult result (λ _. Unit {0}) (λ fault. IsFault fault bytes.now) }
@@ -186,7 +189,8 @@ pub fn read_frame(bytes: &[u8]) -> Result<Frame<'_>, Garbled>
 
 /// The frame that bytes are, or the first check that they do not pass.
 fn read(bytes: &[u8]) -> Result<Frame<'_>, Garbled>
-    ensures { MatchResult result (λ fields. IsFrame bytes.now fields) (λ fault. IsFault fault bytes.now) }
+    ensures { MatchResult result (λ fields. IsFrame bytes.now fields)
+        (λ fault. IsFault fault bytes.now) }
 {
     let (body, tail) = cut(bytes)?;
     if !is_body(body) {

@@ -62,7 +62,8 @@ pub use laws::{
 pub use limits::{MOST_BODY, MOST_FRAME};
 pub use moments::{Moment, moment_text, read_moment};
 pub use stream_laws::{
-    envelopes_of_is_the_cutting, frames_are_cut, pieces_make_no_difference, stream_faults_are_for_ever,
+    envelopes_of_is_the_cutting, frames_are_cut, pieces_make_no_difference,
+    stream_faults_are_for_ever,
 };
 pub use streams::{Messages, Splitter};
 pub use writer::{FrameWriter, decimal_len, fits, is_tag, is_value};

@@ -1,16 +1,20 @@
 //! Moments of a day.
-ghost use Rattle.std.specs.Prelude.{◌≡◌, ◌≢◌, ◌↔◌, ℕ, ◌+◌, ◌-◌, ◌*◌, ◌<◌, ◌≤◌, List, Ok, Err, length, slice_index, SomeIff, MatchOption};
+ghost use Rattle.std.specs.Prelude.{◌≡◌, ◌≢◌, ◌↔◌, ℕ, ◌+◌, ◌-◌, ◌*◌, ◌<◌, ◌≤◌, List, Ok, Err};
+ghost use Rattle.std.specs.Prelude.{length, slice_index, SomeIff, MatchOption};
 ghost use Rattle.fix_fields.specs.Frame.{IsValue};
-ghost use Rattle.fix_fields.specs.UtcTimestamp.{UtcTimestamp, moment_of, timestamp_text, two_digits};
+ghost use Rattle.fix_fields.specs.UtcTimestamp.{UtcTimestamp, moment_of, timestamp_text};
+ghost use Rattle.fix_fields.specs.UtcTimestamp.{two_digits};
 ghost use Rattle.fix_fields.specs.Clock.{IsClock, IsTwoDigits};
 ghost use Rattle.fix_fields.specs.declared.fault.MomentFault.TheVariants.{Form, OtherDay};
 
 use crate::dates::Date;
 use crate::fault::MomentFault;
+use crate::limits::A_DAY;
 use arrayvec::ArrayString;
 use std::marker::Model;
 
-/// A moment of a day: a count of milliseconds since midnight, 0 to 86,399,999. A clause sees the number.
+/// A moment of a day: a count of milliseconds since midnight, 0 to 86,399,999. A clause sees the
+/// number.
 #[derive(Clone, Copy, Debug, PartialEq, Eq, PartialOrd, Ord)]
 pub struct Moment {
     milliseconds: u32,
@@ -18,12 +22,13 @@ pub struct Moment {
 
 impl Model for Moment {
     ghost use Rattle.std.specs.Prelude.{ℕ, ◌<◌};
+    ghost use Rattle.fix_fields.specs.declared.limits.TheConstants.{A_DAY};
 
     ghost Value = { ℕ };
 
     ghost view = { λ moment. moment.milliseconds };
 
-    ghost invariant = { λ moment. moment.milliseconds < 86400000 };
+    ghost invariant = { λ moment. moment.milliseconds < A_DAY };
 
     ghost inverse = { λ n. record { milliseconds = n } };
 }
@@ -31,9 +36,9 @@ impl Model for Moment {
 impl Moment {
     /// The moment of this many milliseconds since midnight, where the day has so many.
     pub fn new(milliseconds: u32) -> Option<Moment>
-        ensures { SomeIff result (milliseconds < 86400000) milliseconds }
+        ensures { SomeIff result (milliseconds < A_DAY) milliseconds }
     {
-        if milliseconds < 86_400_000 {
+        if milliseconds < A_DAY {
             Some(Moment { milliseconds })
         } else {
             None
@@ -43,7 +48,7 @@ impl Moment {
     /// The milliseconds since midnight.
     pub fn get(self) -> u32
         ensures value { result ≡ self }
-        ensures of_a_day { result < 86400000 }
+        ensures of_a_day { result < A_DAY }
     {
         self.milliseconds
     }
@@ -56,7 +61,8 @@ pub fn read_moment(date: &Date, text: &[u8]) -> Result<Moment, MomentFault>
     ensures read { (n : ℕ) → (result ≡ Ok n) ↔ UtcTimestamp date.now n text.now }
 
     // `Form` where no moment of any date is spelled so, `OtherDay` where one of another date is.
-    ensures form { (result ≡ Err MomentFault.Form) ↔ ((day : List ℕ) (n : ℕ) → ¬ UtcTimestamp day n text.now) }
+    ensures form { (result ≡ Err MomentFault.Form)
+        ↔ ((day : List ℕ) (n : ℕ) → ¬ UtcTimestamp day n text.now) }
     ensures other_day { (result ≡ Err MomentFault.OtherDay)
         ↔ ((day : List ℕ) × (n : ℕ) × (day ≢ date.now) × UtcTimestamp day n text.now) }
 
@@ -121,7 +127,8 @@ fn read_clock(text: &[u8]) -> Option<Moment>
 /// The number that two digits write.
 fn two_digits_at(text: &[u8], at: usize) -> Option<u32>
     requires { at + 2 ≤ length text.now }
-    ensures { MatchOption result ((n : ℕ) → ¬ IsTwoDigits n (slice_index text.now at) (slice_index text.now (at + 1)))
+    ensures { MatchOption result
+        ((n : ℕ) → ¬ IsTwoDigits n (slice_index text.now at) (slice_index text.now (at + 1)))
         (λ n. IsTwoDigits n (slice_index text.now at) (slice_index text.now (at + 1))) }
 {
     let tens = text[at];

@@ -66,7 +66,8 @@ fn long_value_len(text: &[u8]) -> usize
 #[inline(always)]
 pub(crate) fn split_field(text: &[u8]) -> Option<(u32, &[u8], &[u8])>
     ensures { MatchOption result (¬ BeginsWithField text.now)
-        (λ field. IsField (field.0, field.1.now) × (text.now ≡ field_text (field.0, field.1.now) ++ field.2.now)) }
+        (λ field. IsField (field.0, field.1.now)
+        × (text.now ≡ field_text (field.0, field.1.now) ++ field.2.now)) }
 {
     let (tag, digits) = leading_number(text, 9);
     if digits == 0 || digits == text.len() {

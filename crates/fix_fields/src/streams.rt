@@ -3,7 +3,7 @@ ghost use Rattle.std.specs.Prelude.{◌≡◌, ◌<◌, ◌≤◌, ◌==◌, ◌
 ghost use Rattle.std.specs.Prelude.{vec_capacity, IfOk, IfErr, OnErr};
 ghost use Rattle.fix_fields.specs.Envelope.{front_of as front, cut_behind};
 ghost use Rattle.fix_fields.specs.Envelope.Front.{Begun};
-ghost use Rattle.fix_fields.specs.Scan.{cutting, cut_on, rest_of, IsKept};
+ghost use Rattle.fix_fields.specs.Scan.{texts_of, cutting, cut_on, rest_of, IsKept};
 ghost use Rattle.fix_fields.specs.declared.fault.StreamFault.{StreamFault};
 
 use crate::Memory;
@@ -90,10 +90,10 @@ impl Splitter {
         }
     }
 
-    /// Takes the next piece of the stream, and gives the messages that it ends. The bytes of a message
-    /// that has begun are kept for the next call, and no others. A fault is answered from the next
-    /// call on, for ever. After [`StreamFault::Memory`] the splitter is as before, and the same piece
-    /// may be fed again.
+    /// Takes the next piece of the stream, and gives the messages that it ends. The bytes of a
+    /// message that has begun are kept for the next call, and no others. A fault is answered from
+    /// the next call on, for ever. After [`StreamFault::Memory`] the splitter is as before, and the
+    /// same piece may be fed again.
     pub fn feed(&mut self, piece: &[u8]) -> Result<Messages, StreamFault>
         // The messages are those that the piece is cut into behind what came before it.
         ensures ok { IfOk result (λ messages. let now = cut_behind self.old piece.now in
@@ -131,7 +131,7 @@ fn cut_piece(kept: &mut Vec<u8>, piece: &[u8]) -> Result<Cut, Memory>
     requires begun { front kept.old.items ≡ Begun }
     requires short { length kept.old.items < MOST_FRAME }
     ensures ok { IfOk result (λ cut. (cut_on [] (Ok kept.old.items) piece.now
-        ≡ cutting (map (λ message. message.items) cut.messages.items) (rest_of cut.fault kept.new.items))
+        ≡ cutting (texts_of cut.messages) (rest_of cut.fault kept.new.items))
         × IsKept cut.fault cut.wait kept.new.items) }
     ensures err { OnErr result (kept.new.items ≡ kept.old.items) }
 {
@@ -158,16 +158,11 @@ fn cut_piece(kept: &mut Vec<u8>, piece: &[u8]) -> Result<Cut, Memory>
 
 /// Cuts the bytes behind the first message, which is the first `len` of those that are kept, and
 /// keeps the rest in their place; without memory those that were there before.
-fn put_messages(
-    kept: &mut Vec<u8>,
-    old: usize,
-    len: usize,
-    behind: &[u8],
-) -> Result<Cut, Memory>
+fn put_messages(kept: &mut Vec<u8>, old: usize, len: usize, behind: &[u8]) -> Result<Cut, Memory>
     requires inside { len ≤ length kept.old.items }
     requires room { MOST_FRAME ≤ vec_capacity kept.old }
     ensures ok { IfOk result (λ cut. (cut_on (take len kept.old.items ∷ []) (Ok []) behind.now
-        ≡ cutting (map (λ message. message.items) cut.messages.items) (rest_of cut.fault kept.new.items))
+        ≡ cutting (texts_of cut.messages) (rest_of cut.fault kept.new.items))
         × IsKept cut.fault cut.wait kept.new.items) }
     ensures err { OnErr result (kept.new.items ≡ take old kept.old.items) }
 {
@@ -195,13 +190,9 @@ struct CutBytes<'a> {
 }
 
 /// Cuts bytes behind a message.
-fn cut_messages<'a>(
-    alloc: Global,
-    message: &[u8],
-    bytes: &'a [u8],
-) -> Result<CutBytes<'a>, Memory>
+fn cut_messages<'a>(alloc: Global, message: &[u8], bytes: &'a [u8]) -> Result<CutBytes<'a>, Memory>
     ensures cut { IfOk result (λ cut. cut_on (message.now ∷ []) (Ok []) bytes.now
-        ≡ cutting (map (λ message. message.items) cut.messages.items) (rest_of cut.fault cut.rest.now)) }
+        ≡ cutting (texts_of cut.messages) (rest_of cut.fault cut.rest.now)) }
     ensures kept { IfOk result (λ cut. IsKept cut.fault cut.wait cut.rest.now) }
     ensures fits { IfOk result (λ cut. length cut.rest.now ≤ MOST_FRAME) }
 {

@@ -1,7 +1,9 @@
 //! Frames that are written.
-ghost use Rattle.std.specs.Prelude.{◌≡◌, ◌+◌, ◌<◌, ◌≤◌, ◌↔◌, [], ◌∷◌, ◌++◌, length, decimal, IsTrue, IfOk, OnOk, OnErr, Some};
+ghost use Rattle.std.specs.Prelude.{◌≡◌, ◌+◌, ◌<◌, ◌≤◌, ◌↔◌, [], ◌∷◌, ◌++◌, length, decimal};
+ghost use Rattle.std.specs.Prelude.{IsTrue, IfOk, OnOk, OnErr, Some};
 ghost use Rattle.fix_fields.specs.Frame as spec;
-ghost use Rattle.fix_fields.specs.Frame.{Field, IsTag, IsValue, IsFrame, field_len, left_of, field_text, frame_text, frame_of};
+ghost use Rattle.fix_fields.specs.Frame.{Field, IsTag, IsValue, IsFrame, field_len, left_of};
+ghost use Rattle.fix_fields.specs.Frame.{field_text, frame_text, frame_of};
 ghost use Rattle.fix_fields.specs.Scan.{text_around};
 
 use crate::Memory;
@@ -34,13 +36,14 @@ impl Model for FrameWriter {
 }
 
 impl FrameWriter {
-    /// A frame with MsgType (35) alone. Its value has no SOH ([`is_value`]), and the field fits into
-    /// [`MOST_BODY`] bytes ([`fits`]). The one error is that memory is refused.
+    /// A frame with MsgType (35) alone. Its value has no SOH ([`is_value`]), and the field fits
+    /// into [`MOST_BODY`] bytes ([`fits`]). The one error is that memory is refused.
     pub fn new(alloc: Global, msg_type: &[u8]) -> Result<FrameWriter, Memory>
         requires value { IsValue msg_type.now }
         requires room { field_len 35 (length msg_type.now) ≤ MOST_BODY }
         ensures fields { IfOk result (λ writer. writer ≡ (35, msg_type.now) ∷ []) }
-        ensures left { IfOk result (λ writer. left_of writer + field_len 35 (length msg_type.now) ≡ MOST_BODY) }
+        ensures left { IfOk result (λ writer.
+            left_of writer + field_len 35 (length msg_type.now) ≡ MOST_BODY) }
     {
         let mut body = Vec::with_capacity(alloc, USUAL_BODY)?;
         push_field(&mut body, 35, msg_type)?;
@@ -56,27 +59,30 @@ impl FrameWriter {
     }
 
     /// Adds a field behind the others. The tag is lawful ([`is_tag`]), the value has no SOH
-    /// ([`is_value`]), and the field fits into what is left ([`fits`]). The one error is that memory
-    /// is refused; the frame is then as before.
+    /// ([`is_value`]), and the field fits into what is left ([`fits`]). The one error is that
+    /// memory is refused; the frame is then as before.
     pub fn text(&mut self, tag: u32, value: &[u8]) -> Result<(), Memory>
         requires tag { IsTag tag }
         requires value { IsValue value.now }
         requires room { field_len tag (length value.now) ≤ left_of self.old }
         ensures ok { OnOk result (self.new ≡ self.old ++ (tag, value.now) ∷ []) }
-        ensures left { OnOk result (left_of self.new + field_len tag (length value.now) ≡ left_of self.old) }
+        ensures left { OnOk result
+            (left_of self.new + field_len tag (length value.now) ≡ left_of self.old) }
         ensures err { OnErr result (self.new ≡ self.old) }
     {
         push_field(&mut self.body, tag, value)?;
         Ok(())
     }
 
-    /// Adds a field whose value is a number in decimal, without leading zeros. Tag, room and error are
-    /// as for [`FrameWriter::text`]; [`decimal_len`] tells how many digits a number has, at most 20.
+    /// Adds a field whose value is a number in decimal, without leading zeros. Tag, room and error
+    /// are as for [`FrameWriter::text`]; [`decimal_len`] tells how many digits a number has, at
+    /// most 20.
     pub fn number(&mut self, tag: u32, value: u64) -> Result<(), Memory>
         requires tag { IsTag tag }
         requires room { field_len tag (spec.decimal_len value) ≤ left_of self.old }
         ensures ok { OnOk result (self.new ≡ self.old ++ (tag, decimal value) ∷ []) }
-        ensures left { OnOk result (left_of self.new + field_len tag (spec.decimal_len value) ≡ left_of self.old) }
+        ensures left { OnOk result
+            (left_of self.new + field_len tag (spec.decimal_len value) ≡ left_of self.old) }
         ensures err { OnErr result (self.new ≡ self.old) }
     {
         let mut buffer = Buffer::new();
@@ -85,8 +91,8 @@ impl FrameWriter {
         Ok(())
     }
 
-    /// The frame of the fields: BodyLength (9) without leading zeros, CheckSum (10) in three digits.
-    /// The writer is gone either way.
+    /// The frame of the fields: BodyLength (9) without leading zeros, CheckSum (10) in three
+    /// digits. The writer is gone either way.
     pub fn finish(self) -> Result<Vec<u8>, Memory>
         ensures text { IfOk result (λ bytes. bytes.items ≡ frame_text self) }
         ensures frame { IfOk result (λ bytes. IsFrame bytes.items self) }

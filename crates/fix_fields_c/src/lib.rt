@@ -1,11 +1,15 @@
-//! `fix_fields` for C and C++: a frame is read, and a field of it is found.
+//! `fix_fields` for C and C++: a frame is read, and a field of it is found; a stream is cut.
 #![tactic(auto)]
 
-ghost use Rattle.std.specs.Prelude.{◌≡◌};
+ghost use Rattle.std.specs.Prelude.{◌≡◌, ◌⊎◌, length, MatchOption};
 ghost use Rattle.fix_fields.specs.Frame.{frame_of};
-ghost use Rattle.fix_fields_c.specs.Found.{found_len, is_frame_code};
+ghost use Rattle.fix_fields.specs.Envelope.{cut_behind, envelopes_of};
+ghost use Rattle.fix_fields_c.specs.Found.{found_len, is_frame_code, count_code};
 
-use fix_fields::read_frame;
+use fix_fields::{
+    Splitter, StreamFault, pieces_make_no_difference, read_frame, stream_faults_are_for_ever,
+};
+use std::alloc::Global;
 
 /// 1 where bytes are a frame, and 0 where they are none.
 #[unsafe(no_mangle)]
@@ -30,5 +34,39 @@ pub extern "C" fn fix_fields_find(bytes: &[u8], tag: u32) -> usize
     match frame.get(tag) {
         Some(value) => value.len() + 1,
         None => 0,
+    }
+}
+
+/// How many messages a stream is cut into that comes in pieces of `size` bytes, and the greatest
+/// number where memory is refused.
+#[unsafe(no_mangle)]
+pub extern "C" fn fix_fields_cut(alloc: Global, stream: &[u8], size: usize) -> usize
+    ensures { (result ≡ usize.MAX) ⊎ (result ≡ count_code (envelopes_of stream.now)) }
+{
+    pieces_make_no_difference();
+    let mut splitter = Splitter::new(alloc);
+    let mut count: usize = 0;
+    let mut rest = stream;
+    while !rest.is_empty() {
+        let (piece, behind) = rest.split_at(size.max(1).min(rest.len()));
+        let Some(more) = feeds(&mut splitter, piece) else {
+            return usize::MAX;
+        };
+        count = count.wrapping_add(more);
+        rest = behind;
+    }
+    count
+}
+
+/// How many messages a piece ends, or none where memory is refused.
+fn feeds(splitter: &mut Splitter, piece: &[u8]) -> Option<usize>
+    ensures { MatchOption result (Unit {0}) (λ count. let now = cut_behind splitter.old piece.now in
+        (count ≡ length now.messages) × (splitter.new ≡ now.rest)) }
+{
+    stream_faults_are_for_ever();
+    match splitter.feed(piece) {
+        Ok(messages) => Some(messages.len()),
+        Err(StreamFault::Memory) => None,
+        Err(_) => Some(0),
     }
 }

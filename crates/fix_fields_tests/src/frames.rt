@@ -160,4 +160,3 @@ fn the_longest_frame(rt: HostRuntime) -> Result<(), Fail> {
     assert_eq!(rt; fault_of(&too_long), Some(Garbled::TooLong));
     Ok(())
 }
-

@@ -43,20 +43,22 @@ const QUOTES: &[u8] = b"8=FIXT.1.1\x019=109\x0135=S\x0149=DLR1\x0156=VENUE\x0134
 #[test]
 fn a_refused_piece_is_fed_again(rt: HostRuntime) -> Result<(), Fail> {
     let mut splitter = Splitter::new(rt.alloc());
-    ends(&rt, &mut splitter, &QUOTE[..10], 0)?;
-    ends(&rt, &mut splitter, &QUOTE[10..40], 0)?;
-    ends(&rt, &mut splitter, &QUOTE[40..], 1)?;
+    let (front, behind) = QUOTE.split_at(10);
+    ends(&rt, &mut splitter, front, 0)?;
+    ends(&rt, &mut splitter, behind, 1)?;
     ends(&rt, &mut splitter, QUOTES, 2)?;
-    ends(&rt, &mut splitter, &QUOTE[23..], 1)?;
-    ends(&rt, &mut splitter, &QUOTES[..300], 2)?;
+    let (_, behind) = QUOTE.split_at(22);
+    ends(&rt, &mut splitter, behind, 1)?;
+    ends(&rt, &mut splitter, QUOTES, 2)?;
     Ok(())
 }
 
 #[test]
 fn a_refused_piece_with_a_fault_is_fed_again(rt: HostRuntime) -> Result<(), Fail> {
     let mut splitter = Splitter::new(rt.alloc());
-    ends(&rt, &mut splitter, &QUOTE[..100], 0)?;
-    ends(&rt, &mut splitter, &QUOTE[100..], 1)?;
+    let (front, behind) = QUOTE.split_at(100);
+    ends(&rt, &mut splitter, front, 0)?;
+    ends(&rt, &mut splitter, behind, 1)?;
     ends(&rt, &mut splitter, b"8=FIXT.1.1\x019=x", 0)?;
     assert!(rt; matches!(splitter.feed(QUOTE), Err(StreamFault::Length)));
     assert!(rt; matches!(splitter.feed(b""), Err(StreamFault::Length)));

@@ -164,7 +164,10 @@ impl Answers {
                 self.take(messages)?;
             }
             Err(fault) => {
-                assert!(rt; self.fault.is_none() || self.fault == Some(fault), "another fault");
+                assert!(rt;
+                    self.fault.is_none() || self.fault == Some(fault),
+                    "another fault"
+                );
                 self.fault = Some(fault);
             }
         }
@@ -189,19 +192,11 @@ impl Answers {
 }
 
 /// The answers to a stream in pieces of one size, and to the empty piece behind them.
-fn answers_in(
-    rt: &impl Abort,
-    alloc: Global,
-    bytes: &[u8],
-    size: usize,
-) -> Result<Answers, Fail> {
+fn answers_in(rt: &impl Abort, alloc: Global, bytes: &[u8], size: usize) -> Result<Answers, Fail> {
     let mut splitter = Splitter::new(alloc);
     let mut answers = Answers::new(alloc);
-    let mut rest = bytes;
-    while !rest.is_empty() {
-        let (piece, behind) = rest.split_at(size.min(rest.len()));
+    for piece in bytes.chunks(size.max(1)) {
         answers.add(rt, &mut splitter, piece)?;
-        rest = behind;
     }
     answers.add(rt, &mut splitter, b"")?;
     Ok(answers)
@@ -260,10 +255,11 @@ fn a_fault_shows_at_its_byte(rt: HostRuntime) -> Result<(), Fail> {
 #[test]
 fn a_quote_byte_by_byte(rt: HostRuntime) -> Result<(), Fail> {
     let mut splitter = Splitter::new(rt.alloc());
-    for byte in &QUOTE[..132] {
+    let (front, last) = QUOTE.split_at(132);
+    for byte in front {
         assert!(rt; splitter.feed(&[*byte])?.is_empty());
     }
-    let messages = splitter.feed(&QUOTE[132..])?.into_vec();
+    let messages = splitter.feed(last)?.into_vec();
     assert_eq!(rt; messages.len(), 1);
     let message = messages.first().ok_or("no message")?;
     assert!(rt; message.as_slice() == QUOTE.as_slice());
@@ -288,7 +284,11 @@ fn the_longest_message(rt: HostRuntime) -> Result<(), Fail> {
     bytes.extend_from_slice(b"10=000\x01")?;
     for size in [1, 512, MOST_FRAME] {
         let answers = answers_in(&rt, rt.alloc(), &bytes, size)?;
-        assert_eq!(rt; answers.lengths.as_slice(), [MOST_FRAME].as_slice(), "in pieces of {size}");
+        assert_eq!(rt;
+            answers.lengths.as_slice(),
+            [MOST_FRAME].as_slice(),
+            "in pieces of {size}"
+        );
         assert!(rt; answers.bytes.as_slice() == bytes.as_slice());
         assert!(rt; answers.fault.is_none());
     }
@@ -302,9 +302,10 @@ fn a_hundred_quotes_at_once(rt: HostRuntime) -> Result<(), Fail> {
     for _ in 0..100 {
         bytes.extend_from_slice(QUOTE)?;
     }
-    bytes.extend_from_slice(&QUOTE[..50])?;
+    let (front, behind) = QUOTE.split_at(50);
+    bytes.extend_from_slice(front)?;
     let mut splitter = Splitter::new(rt.alloc());
     assert_eq!(rt; splitter.feed(&bytes)?.len(), 100);
-    assert_eq!(rt; splitter.feed(&QUOTE[50..])?.len(), 1);
+    assert_eq!(rt; splitter.feed(behind)?.len(), 1);
     Ok(())
 }

@@ -43,7 +43,6 @@ fn numbers_are_written(rt: HostRuntime) -> Result<(), Fail> {
     Ok(())
 }
 
-
 #[test]
 fn tags_that_may_stand_in_a_body(rt: HostRuntime) {
     for tag in [1, 7, 11, 35, 999_999_999] {
@@ -68,22 +67,30 @@ fn the_longest_body(rt: HostRuntime) -> Result<(), Fail> {
     assert_eq!(rt; MOST_BODY, 4_071);
     assert!(rt; fits(35, 4_067, MOST_BODY) && !fits(35, 4_068, MOST_BODY));
     let mut writer = FrameWriter::new(rt.alloc(), b"S")?;
-    let letters = [b'x'; 4_063];
-    assert!(rt; fits(1, letters.len(), writer.left()));
-    writer.text(1, &letters)?;
+    let mut letters = Vec::new(rt.alloc());
+    letters.resize(4_063, b'x')?;
+    let value = letters.as_slice();
+    assert!(rt; is_value(value));
+    assert!(rt; fits(1, value.len(), writer.left()));
+    writer.text(1, value)?;
     assert_eq!(rt; writer.left(), 0);
     assert!(rt; !fits(1, 0, writer.left()));
     let bytes = writer.finish()?;
     assert_eq!(rt; bytes.len(), MOST_FRAME);
     let frame = read_frame(&bytes)?;
-    assert!(rt; frame.get(1).ok_or("no field")? == letters.as_slice());
+    assert!(rt; frame.get(1).ok_or("no field")? == value);
     Ok(())
 }
 
 /// A MsgType that takes the whole body.
 #[test]
 fn the_longest_type(rt: HostRuntime) -> Result<(), Fail> {
-    let writer = FrameWriter::new(rt.alloc(), &[b'x'; 4_067])?;
+    let mut letters = Vec::new(rt.alloc());
+    letters.resize(4_067, b'x')?;
+    let value = letters.as_slice();
+    assert!(rt; is_value(value));
+    assert!(rt; fits(35, value.len(), MOST_BODY));
+    let writer = FrameWriter::new(rt.alloc(), value)?;
     assert_eq!(rt; writer.left(), 0);
     let bytes = writer.finish()?;
     assert_eq!(rt; bytes.len(), MOST_FRAME);

@@ -1,6 +1,7 @@
--- How checks of the market are read: each is a condition with the reason that it gives, and the first one that holds
--- refuses.
-use Rattle.std.specs.Prelude.{ℕ, Bool, false, nat_le, List, [], ◌∷◌, Option, Some, None, if◌then◌else◌}
+-- How checks of the market are read: each is a condition with the reason that it gives, and the
+-- first one that holds refuses.
+use Rattle.std.specs.Prelude.{ℕ, Bool, false, nat_le, List, [], ◌∷◌, Option, Some, None}
+use Rattle.std.specs.Prelude.{if◌then◌else◌}
 
 -- the reason of the first check whose condition holds
 abbrev pub first_refusal : {Reason : Type 0} → List (Bool × Reason) → Option Reason

@@ -8,7 +8,8 @@ use Rattle.market_terms.specs.declared.quantities.TheConstants.Quantity.{MOST}
 abbrev pub is_id_character : ℕ → Bool
 is_id_character c = (nat_le 33 c && nat_le c 126) && not (c == 124)
 
--- an identifier that a firm chooses (117, 131, 693, 48, 448): one such character or more, not too many
+-- an identifier that a firm chooses (117, 131, 693, 48, 448): one such character or more, not too
+-- many
 abbrev pub is_id : List ℕ → Bool
 is_id text =
     (nat_le 1 (length text) && nat_le (length text) LONGEST_ID) && list_all is_id_character text

@@ -39,7 +39,8 @@ impl Ask {
     }
 }
 
-/// The side of the investor (Side 54): a dealer that answers a buyer sells, and one that answers a seller buys.
+/// The side of the investor (Side 54): a dealer that answers a buyer sells, and one that answers a
+/// seller buys.
 #[derive(Clone, Copy, PartialEq, Eq)]
 pub enum Side {
     /// The investor buys (54=1) and asks for an offer (OfferPx 133).

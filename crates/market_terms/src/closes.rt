@@ -7,7 +7,8 @@ pub enum Close {
     Hit,
     /// 3: the request expired.
     Expired,
-    /// 4: the request was awarded to another dealer, and this dealer's quote was the best of the others.
+    /// 4: the request was awarded to another dealer, and this dealer's quote was the best of the
+    /// others.
     Cover,
     /// 5: the request was awarded to another dealer.
     DoneAway,

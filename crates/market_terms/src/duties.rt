@@ -4,9 +4,9 @@ use crate::{Ask, AskedDealers, Close, Offer, Reply, ResponseRef, RoomRef};
 use bond_prices::Ticks;
 use fix_fields::Moment;
 
-/// What follows from a step at another place. It stands in the queue of the firm that did the step, or of the clock
-/// for a sweep, so it does not name that firm. Its moment is that of the step that began it, and what is sent for it
-/// bears that moment.
+/// What follows from a step at another place. It stands in the queue of the firm that did the step,
+/// or of the clock for a sweep, so it does not name that firm. Its moment is that of the step that
+/// began it, and what is sent for it bears that moment.
 #[derive(Drop)]
 pub enum Duty {
     /// A request was accepted: its room is opened. It stands in its investor's queue.
@@ -38,7 +38,8 @@ pub enum Duty {
         /// The moment of the request.
         moment: Moment,
     },
-    /// A quote was accepted: it is posted in the room of its request. It stands in its dealer's queue.
+    /// A quote was accepted: it is posted in the room of its request. It stands in its dealer's
+    /// queue.
     Post {
         /// The room of the request that it answers.
         room: RoomRef,
@@ -60,7 +61,8 @@ pub enum Duty {
         /// The moment of the message.
         moment: Moment,
     },
-    /// A quote was withdrawn: it is taken out of the room of its request. It stands in its dealer's queue.
+    /// A quote was withdrawn: it is taken out of the room of its request. It stands in its dealer's
+    /// queue.
     Unpost {
         /// The room of the request that it answered.
         room: RoomRef,
@@ -123,7 +125,8 @@ pub enum Duty {
         /// The moment of the response.
         moment: Moment,
     },
-    /// A sweep ended the room: the investor is told that its request expired. It stands in the clock's queue.
+    /// A sweep ended the room: the investor is told that its request expired. It stands in the
+    /// clock's queue.
     Close {
         /// The room of the request.
         room: RoomRef,
@@ -141,10 +144,11 @@ pub enum Duty {
         /// The moment of the hit, the pass or the sweep.
         moment: Moment,
     },
-    /// A dealer cancels all its quotes (QuoteCancelType 298=4): the next of them is withdrawn. It stands in its
-    /// dealer's queue.
+    /// A dealer cancels all its quotes (QuoteCancelType 298=4): the next of them is withdrawn. It
+    /// stands in its dealer's queue.
     Drop {
-        /// How many quotes of the dealer were accepted when the cancel came: no later one is withdrawn.
+        /// How many quotes of the dealer were accepted when the cancel came: no later one is
+        /// withdrawn.
         last: u32,
         /// The moment of the cancel.
         moment: Moment,

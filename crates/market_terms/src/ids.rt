@@ -3,7 +3,8 @@ ghost use Rattle.std.specs.Prelude.{◌≡◌, ℕ, List, Some, IsTrue, nat_eq, 
 ghost use Rattle.std.specs.List.{list_all};
 ghost use Rattle.std.specs.Ordering.{nat_cmp};
 ghost use Rattle.std.specs.Cmp.{partial_equiv_from_equiv};
-ghost use Rattle.std.specs.Cmp.Lexicographic.{pointwise, slice_cmp, nat_list_eq_equiv, nat_list_cmp_total, texts_po, texts_ties};
+ghost use Rattle.std.specs.Cmp.Lexicographic.{pointwise, slice_cmp, texts_po, texts_ties};
+ghost use Rattle.std.specs.Cmp.Lexicographic.{nat_list_eq_equiv, nat_list_cmp_total};
 ghost use Rattle.fix_fields.specs.Frame.{IsValue};
 ghost use Rattle.venue_config.specs.Texts.{text_if};
 ghost use Rattle.market_terms.specs.Texts.{is_id, is_id_character};
@@ -16,8 +17,9 @@ use std::str;
 /// How many characters an identifier has at most.
 pub(crate) const LONGEST_ID: usize = 40;
 
-/// An identifier as it stands in a message (QuoteID 117, QuoteReqID 131, QuoteRespID 693, SecurityID 48,
-/// PartyID 448): 1 to 40 printing ASCII characters without the space and the vertical bar.
+/// An identifier as it stands in a message (QuoteID 117, QuoteReqID 131, QuoteRespID 693,
+/// SecurityID 48, PartyID 448): 1 to 40 printing ASCII characters without the space and the
+/// vertical bar.
 #[derive(Drop)]
 pub struct Id<'a> {
     text: &'a [u8],
@@ -43,7 +45,7 @@ impl<'a> Id<'a> {
     }
 
     /// The characters.
-    #[tactic(auto, using(crate::proofs::TextLemmas::id_is_value))]
+    #[tactic(auto, using(crate::proofs::IdTexts::id_is_value))]
     pub fn as_bytes(&self) -> &[u8]
         ensures value { result.now ≡ self.now }
         ensures id { IsTrue (is_id self.now) }
@@ -53,9 +55,11 @@ impl<'a> Id<'a> {
     }
 }
 
-/// An identifier that a firm chose (QuoteID 117, QuoteReqID 131, QuoteRespID 693), kept beyond its message.
+/// An identifier that a firm chose (QuoteID 117, QuoteReqID 131, QuoteRespID 693), kept beyond its
+/// message.
 ///
-/// A contract sees its characters. Identifiers are compared by them, so they may be the keys of an ordered map.
+/// A contract sees its characters. Identifiers are compared by them, so they may be the keys of an
+/// ordered map.
 #[derive(Drop)]
 pub struct IdBuf {
     text: ArrayString<LONGEST_ID>,
@@ -71,7 +75,7 @@ impl Model for IdBuf {
 
 impl IdBuf {
     /// A copy of an identifier. It takes no memory.
-    #[tactic(auto, using(crate::proofs::TextLemmas::id_is_utf8, crate::proofs::TextLemmas::id_is_short))]
+    #[tactic(auto, using(crate::proofs::IdTexts::id_is_utf8, crate::proofs::IdTexts::id_is_short))]
     pub fn of(id: &Id) -> Self
         ensures { result ≡ id.now }
     {
@@ -97,7 +101,7 @@ impl IdBuf {
     }
 
     /// The characters.
-    #[tactic(auto, using(crate::proofs::TextLemmas::id_is_value))]
+    #[tactic(auto, using(crate::proofs::IdTexts::id_is_value))]
     pub fn as_bytes(&self) -> &[u8]
         ensures value { result.now ≡ self.now }
         ensures id { IsTrue (is_id self.now) }

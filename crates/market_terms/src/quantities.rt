@@ -4,7 +4,8 @@ ghost use Rattle.market_terms.specs.Texts.{is_quantity};
 
 use std::marker::Model;
 
-/// A quantity of a bond (OrderQty 38, BidSize 134, OfferSize 135): a whole number from 1 to 1,000,000,000,000.
+/// A quantity of a bond (OrderQty 38, BidSize 134, OfferSize 135): a whole number from 1 to
+/// 1,000,000,000,000.
 #[derive(Clone, Copy)]
 pub struct Quantity {
     units: u64,

@@ -1,4 +1,5 @@
-//! Which request of which investor, the dealers that it names, and how its quotes and responses are named.
+//! Which request of which investor, the dealers that it names, and how its quotes and responses are
+//! named.
 ghost use Rattle.std.specs.Prelude.{◌≡◌, ◌==◌, ◌≤◌, Some, None, length, IsTrue, if◌then◌else◌};
 ghost use Rattle.std.specs.List.{list_any};
 ghost use Rattle.market_terms.specs.Dealers.{are_askable, are_distinct};
@@ -22,8 +23,8 @@ pub struct RoomRef {
 /// How many dealers a request names at most.
 pub(crate) const MOST_DEALERS: usize = 8;
 
-/// The dealers that a request names (PartyID 448 with PartyRole 452=35), by their numbers among the firms of the
-/// configuration and in the request's order: 1 to 8, none of them twice.
+/// The dealers that a request names (PartyID 448 with PartyRole 452=35), by their numbers among the
+/// firms of the configuration and in the request's order: 1 to 8, none of them twice.
 #[derive(Drop)]
 pub struct AskedDealers {
     numbers: ArrayVec<u16, MOST_DEALERS>,
@@ -44,8 +45,8 @@ impl AskedDealers {
     /// How many dealers a request names at most.
     pub const MOST: usize = MOST_DEALERS;
 
-    /// These dealers, or none where there is none, where there are more than [`AskedDealers::MOST`], and where one
-    /// stands twice. It takes no memory.
+    /// These dealers, or none where there is none, where there are more than
+    /// [`AskedDealers::MOST`], and where one stands twice. It takes no memory.
     pub fn new(dealers: &[u16]) -> Option<Self>
         ensures { result ≡ (if are_askable dealers.now then Some dealers.now else None) }
     {
@@ -100,7 +101,8 @@ pub struct Offer {
 pub struct ResponseRef {
     /// QuoteRespID (693) as it was received.
     pub id: IdBuf,
-    /// Which of the quotes shown to the investor it hits, the number in QuoteID (117); none for a pass.
+    /// Which of the quotes shown to the investor it hits, the number in QuoteID (117); none for a
+    /// pass.
     pub k: Option<u64>,
 }
 

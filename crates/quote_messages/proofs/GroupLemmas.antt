@@ -155,7 +155,7 @@ or_next-none (Some fault) b h = absurd (cc_none fault h) where
 pub whole_behind : (b : Bool) (date : List ℕ) (field : Field) (fields : List Field) → field.0 == 448 ≡ b → entries_fault date (entries_of (field ∷ fields)) ≡ None → entries_fault date (entries_of fields) ≡ None
 whole_behind true date field fields h whole =
     (or_next-none (first_fault entry_lines date (field ∷ before_entry fields)) (entries_fault date (entries_of fields))
-        (sym (ap (λ b. entries_fault date (cond b ((field ∷ before_entry fields) ∷ entries_of fields) (entries_of fields))) h) ∙ whole)).1
+    (sym (ap (λ b. entries_fault date (cond b ((field ∷ before_entry fields) ∷ entries_of fields) (entries_of fields))) h) ∙ whole)).1
 whole_behind false date field fields h whole = sym (ap (λ all. entries_fault date all) (entries_skip field fields h)) ∙ whole
 
 -- the fault of a PartyID
@@ -180,7 +180,7 @@ pub no_dealer : (entry : List Field) (source : List ℕ) → text_at 447 entry �
 no_dealer entry source s d = ap (λ b. cond (b && same_text (codes "35") (text_at 452 entry)) (value_of 448 entry) None) (ap (λ text. same_text (codes "D") text) s ∙ d)
 
 pub dealer_if : (b : Bool) (id : List ℕ) (fields : List Field) (source role : List ℕ) → text_at 447 ((448, id) ∷ before_entry fields) ≡ source → same_text (codes "D") source ≡ true → text_at 452 ((448, id) ∷ before_entry fields) ≡ role → b ≡ same_text (codes "35") role
-  → dealer_of_entry ((448, id) ∷ before_entry fields) ≡ cond b (Some id) None
+    → dealer_of_entry ((448, id) ∷ before_entry fields) ≡ cond b (Some id) None
 dealer_if b id fields source role s d r e =
     ap (λ c. cond (c && same_text (codes "35") (text_at 452 ((448, id) ∷ before_entry fields))) (value_of 448 ((448, id) ∷ before_entry fields)) None) (ap (λ text. same_text (codes "D") text) s ∙ d)
     ∙ ap (λ c. cond c (Some id) None) (ap (λ text. same_text (codes "35") text) r ∙ sym e)

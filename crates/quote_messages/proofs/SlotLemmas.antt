@@ -91,17 +91,17 @@ apart_tags tag other checked same b = let one : tag ≡ other = apart checked_ta
 
 -- the slots once a field more is noted, as each tag sees it
 filled-at : (b : Bool) (slots : List Slot) (place : ℕ) (slot : Slot) (field : Field) (rest all : List Field) → length slots ≡ 26 → place ≡ place_of field.0 → place < 26
-  → said_by slot ≡ joined (said_by (slot_at slots place)) (one_value field.1) → (tag : ℕ) → IsTrue (is_checked tag)
-  → joined (said_by (slot_at slots (place_of tag))) (occurrence_of tag (field ∷ rest)) ≡ occurrence_of tag all
-  → field.0 == tag ≡ b
-  → joined (said_by (slot_at (set slots place slot) (place_of tag))) (occurrence_of tag rest) ≡ occurrence_of tag all
-filled-at true slots place slot field rest all count is within said tag checked before b = 
+    → said_by slot ≡ joined (said_by (slot_at slots place)) (one_value field.1) → (tag : ℕ) → IsTrue (is_checked tag)
+    → joined (said_by (slot_at slots (place_of tag))) (occurrence_of tag (field ∷ rest)) ≡ occurrence_of tag all
+    → field.0 == tag ≡ b
+    → joined (said_by (slot_at (set slots place slot) (place_of tag))) (occurrence_of tag rest) ≡ occurrence_of tag all
+filled-at true slots place slot field rest all count is within said tag checked before b =
     let same : field.0 ≡ tag = grind (arith, nat_tests) in
     let here : place_of tag ≡ place = ap place_of (sym same) ∙ sym is in
     let inside : place < length slots = rw count within in
     let found : slot_at (set slots place slot) place ≡ slot = get_or-set_same slots place slot _ inside in
     let noted : said_by (slot_at (set slots place slot) (place_of tag)) ≡ joined (said_by (slot_at slots place)) (one_value field.1) =
-        ap (λ p. said_by (slot_at (set slots place slot) p)) here ∙ ap said_by found ∙ said in
+    ap (λ p. said_by (slot_at (set slots place slot) p)) here ∙ ap said_by found ∙ said in
     ap (λ one. joined one (occurrence_of tag rest)) noted
     ∙ joined-same (said_by (slot_at slots place)) tag field rest b
     ∙ ap (λ p. joined (said_by (slot_at slots p)) (occurrence_of tag (field ∷ rest))) (sym here)
@@ -114,8 +114,8 @@ filled-at false slots place slot field rest all count is within said tag checked
     ∙ before
 
 pub filled-step : (slots : List Slot) (place : ℕ) (slot : Slot) (field : Field) (rest all : List Field) → place ≡ place_of field.0 → place < 26
-  → said_by slot ≡ joined (said_by (slot_at slots place)) (one_value field.1)
-  → AreFilledBefore slots (field ∷ rest) all → AreFilledBefore (set slots place slot) rest all
+    → said_by slot ≡ joined (said_by (slot_at slots place)) (one_value field.1)
+    → AreFilledBefore slots (field ∷ rest) all → AreFilledBefore (set slots place slot) rest all
 filled-step slots place slot field rest all is within said before = record {
   count = length-set slots place slot ∙ before.count;
   each = λ tag checked. filled-at (field.0 == tag) slots place slot field rest all before.count is within said tag checked (before.each tag checked) refl;
@@ -126,9 +126,9 @@ pub filled-none : (slot : Slot) (fields : List Field) → slot ≡ record { firs
 filled-none slot fields is = record {
   count = refl;
   each = λ tag checked.
-    let within = prefix_len-le-length (λ known. not (known == tag)) checked_tags in
-    let here : slot_at (replicate 26 slot) (place_of tag) ≡ slot = get_or-replicate 26 (place_of tag) slot _ (omega arith) in
-    ap (λ one. joined (said_by one) (occurrence_of tag fields)) (here ∙ is) ∙ none-joined (occurrence_of tag fields);
+      let within = prefix_len-le-length (λ known. not (known == tag)) checked_tags in
+      let here : slot_at (replicate 26 slot) (place_of tag) ≡ slot = get_or-replicate 26 (place_of tag) slot _ (omega arith) in
+      ap (λ one. joined (said_by one) (occurrence_of tag fields)) (here ∙ is) ∙ none-joined (occurrence_of tag fields);
 }
 
 stands_once : (v : Bool) (n : ℕ) → v ≡ nat_lt 0 n → v ≡ true → nat_lt 1 n ≡ false → n == 1 ≡ true

@@ -17,7 +17,7 @@ is_of_party tag = tag == 448 || (tag == 447 || tag == 452)
 abbrev pub is_beside_parties : ℕ → Bool
 is_beside_parties tag =
     list_any (λ known. known == tag)
-        (49 ∷ 56 ∷ 52 ∷ 50 ∷ 35 ∷ 131 ∷ 146 ∷ 48 ∷ 22 ∷ 54 ∷ 38 ∷ 126 ∷ 453 ∷ [])
+    (49 ∷ 56 ∷ 52 ∷ 50 ∷ 35 ∷ 131 ∷ 146 ∷ 48 ∷ 22 ∷ 54 ∷ 38 ∷ 126 ∷ 453 ∷ [])
 
 -- the fields without those that are ignored
 abbrev pub not_ignored : List Field → List Field

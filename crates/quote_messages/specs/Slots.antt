@@ -39,7 +39,7 @@ slot_at slots place = slice_index_or slots place (record { first = None; is_repe
 pub record AreFilledBefore (slots : List Slot) (rest all : List Field) : Type 0 where
   pub count : length slots ≡ 26
   pub each : (tag : ℕ) → IsTrue (is_checked tag) →
-    joined (said_by (slot_at slots (place_of tag))) (occurrence_of tag rest) ≡ occurrence_of tag all
+      joined (said_by (slot_at slots (place_of tag))) (occurrence_of tag rest) ≡ occurrence_of tag all
 
 -- the slots of all fields
 abbrev pub AreFilled : List Slot → List Field → Type 0

@@ -14,12 +14,12 @@ Reads found result P =
 pub record StandsOnce (tag : ℕ) (fields : List Field) (value : List ℕ) : Type 0 where
   pub first : value_of tag fields ≡ Some value
   pub decided : (date : List ℕ) (rule : TagRule) → rule.tag ≡ tag →
-    tag_fault date rule (occurrence_of tag fields) ≡ at_tag tag (value_fault date rule.value value)
+      tag_fault date rule (occurrence_of tag fields) ≡ at_tag tag (value_fault date rule.value value)
 
 -- the tag has this fault, whatever its line says of it
 pub record HasFault (tag : ℕ) (fields : List Field) (fault : SessionFault) : Type 0 where
   pub fault_is : (date : List ℕ) (rule : TagRule) → rule.tag ≡ tag →
-    tag_fault date rule (occurrence_of tag fields) ≡ Some fault
+      tag_fault date rule (occurrence_of tag fields) ≡ Some fault
 
 -- the tag has this fault where it has to stand
 pub record HasFaultWhereRequired (tag : ℕ) (fields : List Field) (fault : SessionFault) : Type 0 where

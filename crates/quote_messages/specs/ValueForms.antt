@@ -34,8 +34,8 @@ abbrev pub quantity_of_digits : List ℕ → List ℕ → Result ℕ SessionReje
 quantity_of_digits whole decimals =
     if has_quantity_form whole decimals
     then (if list_all (λ c. c == 48) decimals
-          then quantity_in_limits (digits_value 10 whole)
-          else Err ValueIncorrect)
+    then quantity_in_limits (digits_value 10 whole)
+    else Err ValueIncorrect)
     else Err IncorrectDataFormat
 
 -- the quantity that a text is, or the reason why it is none

@@ -100,9 +100,9 @@ request_fields date request =
     (131, request_name request.number) ∷ (146, codes "1") ∷ []
     ++ bond_fields request.ask.bond
     ++ (54, decimal (side_code request.ask.side))
-       ∷ (38, decimal request.ask.quantity)
-       ∷ (126, timestamp_text date request.ask.deadline)
-       ∷ []
+    ∷ (38, decimal request.ask.quantity)
+    ∷ (126, timestamp_text date request.ask.deadline)
+    ∷ []
     ++ party_fields request.ask.investor (codes "13")
 
 -- QuoteID (117) as received, where it stood

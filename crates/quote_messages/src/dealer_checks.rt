@@ -7,8 +7,8 @@ ghost use Rattle.quote_messages.specs.SessionChecks.{dealer_session_verdict, dea
 use crate::header::read_header;
 use crate::slots::FieldSlots;
 use crate::tag_reading::{
-    check_number, check_text, fault, optional_id, optional_moment, optional_number,
-    optional_price, optional_quantity, required_id, required_number, required_value,
+    check_number, check_text, fault, optional_id, optional_moment, optional_number, optional_price,
+    optional_quantity, required_id, required_number, required_value,
 };
 use crate::{
     CancelScope, DealerMessage, Decline, Quote, QuoteCancel, SessionFault, SessionRejectReason,

@@ -52,11 +52,7 @@ pub(crate) fn put_bond(writer: &mut FrameWriter, bond: BondId) -> Result<(), Mem
 }
 
 /// The party group (453) of one firm in a role (PartyRole 452).
-pub(crate) fn put_party(
-    writer: &mut FrameWriter,
-    firm: &Name,
-    role: &[u8],
-) -> Result<(), Memory>
+pub(crate) fn put_party(writer: &mut FrameWriter, firm: &Name, role: &[u8]) -> Result<(), Memory>
     requires room { 3000 ≤ left_of writer.old }
     requires short { length role.now ≤ 2 }
     requires digits { IsValue role.now }
@@ -90,10 +86,7 @@ pub(crate) fn put_answer(
 }
 
 /// QuoteStatus (297) of a refusal by the room, and its name in Text (58).
-pub(crate) fn put_room_refusal(
-    writer: &mut FrameWriter,
-    refusal: HitRefusal,
-) -> Result<(), Memory>
+pub(crate) fn put_room_refusal(writer: &mut FrameWriter, refusal: HitRefusal) -> Result<(), Memory>
     requires { 3600 ≤ left_of writer.old }
     ensures { OnOk result (writer.new ≡ writer.old ++ room_refusal refusal) }
 {

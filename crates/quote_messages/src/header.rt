@@ -20,8 +20,8 @@ pub(crate) fn read_header(
 ) -> Result<Name, SessionFault>
     ensures { (types : List (List ℕ)) → MatchResult result
         (λ trader. (first_fault (header_lines name.now traders.now types) date.now message.now
-                    ≡ first_fault (required 35 (OneOf types SessionRejectReason.InvalidMsgType) ∷ []) date.now message.now)
-                   × (trader ≡ text_at 50 message.now))
+        ≡ first_fault (required 35 (OneOf types SessionRejectReason.InvalidMsgType) ∷ []) date.now message.now)
+        × (trader ≡ text_at 50 message.now))
         (λ fault. first_fault (header_lines name.now traders.now types) date.now message.now ≡ Some fault) }
 {
     check_text(

@@ -5,8 +5,7 @@ ghost use Rattle.quote_messages.specs.Written as spec;
 ghost use Rattle.quote_messages.specs.Written.{refused_request_fields, bond_fields, shown_terms, valid_until_field, shown_quote_fields, party_fields, hit_status, pass_status};
 
 use crate::field_writing::{
-    price_tag, price_value, put_answer, put_bond, put_party, put_room_refusal, quote_name,
-    size_tag,
+    price_tag, price_value, put_answer, put_bond, put_party, put_room_refusal, quote_name, size_tag,
 };
 use crate::{HitRefusal, Id, PassStatus, Quantity, RequestRejectReason, ShownQuote, Side};
 use bond_prices::Ticks;
@@ -151,10 +150,7 @@ pub(crate) fn put_hit_answer(
 }
 
 /// QuoteStatus (297) of an answer to a hit.
-fn put_hit_status(
-    writer: &mut FrameWriter,
-    refusal: Option<HitRefusal>,
-) -> Result<(), Memory>
+fn put_hit_status(writer: &mut FrameWriter, refusal: Option<HitRefusal>) -> Result<(), Memory>
     requires { 3600 ≤ left_of writer.old }
     ensures { OnOk result (writer.new ≡ writer.old ++ hit_status refusal) }
 {
@@ -165,11 +161,7 @@ fn put_hit_status(
 }
 
 /// The fields of the answer to a hit of no quote that was shown.
-pub(crate) fn put_unknown_hit(
-    writer: &mut FrameWriter,
-    id: &Id,
-    quote: &Id,
-) -> Result<(), Memory>
+pub(crate) fn put_unknown_hit(writer: &mut FrameWriter, id: &Id, quote: &Id) -> Result<(), Memory>
     requires { 3900 ≤ left_of writer.old }
     ensures { OnOk result (writer.new ≡ writer.old ++ (693, id.now) ∷ (117, quote.now) ∷ (297, codes "9") ∷ []) }
 {

@@ -1,21 +1,18 @@
-//! The messages of a blind multi-dealer RFQ venue, typed: what a firm's frame says, or the fault for which the
-//! session rejects it, and the frame of each message that a dealer is sent.
+//! The session layer of a blind multi-dealer RFQ venue, for both roles: what becomes of bytes that came from a firm,
+//! what its messages say, and the frame of each message that a firm is sent.
 //!
-//! A message comes as a frame of `fix_fields`, a list of tags and values. This crate reads the three types that
-//! a dealer sends: a Quote (35=S), a QuoteCancel (35=Z), and a QuoteRequestReject (35=AG), by which it declines a
-//! request. What the venue answers is a decision of the market and is not made here: a desk makes it, as an
-//! [`OutMessage`], and this crate writes it. The terms of `market_terms` that a
-//! message or a desk speaks of are given out here again.
+//! A dealer sends a Quote (35=S), a QuoteCancel (35=Z) and a QuoteRequestReject (35=AG), by which it declines a
+//! request; an investor sends a QuoteRequest (35=R) and a QuoteResponse (35=AJ), which hits a quote or passes a request.
+//! What the venue answers is a decision of the market and is not made here: a desk makes it, as an [`OutMessage`],
+//! and this crate writes it. The terms of `market_terms` that a message or a desk speaks of are given out here again.
 //!
 //! # Example
 //!
 //! ```
-//! let frame = read_frame(bytes)?;
-//! let answer = match read_dealer(&date, &row, &frame) {
-//!     // A cancel that names no quote of this dealer.
-//!     Ok(DealerMessage::Cancel(QuoteCancel { id: Some(id), .. })) => OutMessage::CancelUnknown { id },
-//!     // A message at fault: the Reject names the tag and the reason.
-//!     Err(fault) => OutMessage::Reject(Reject { number, fault, msg_type }),
+//! let answer = match receive_dealer(&date, &row, expected, bytes) {
+//!     Arrival::Dropped => return,
+//!     Arrival::OutOfSequence(reject) | Arrival::Rejected(reject) => OutMessage::Reject(reject),
+//!     Arrival::Taken(DealerMessage::Quote(quote)) => ..,
 //!     ..
 //! };
 //! let message = write_out(alloc, &head, &answer)?;
@@ -24,20 +21,24 @@
 //!
 //! # What is promised
 //!
-//! - [`read_dealer`] is `session_verdict` of the day, the dealer's row and the frame's fields: the first fault in
-//!   the order of the tables of `SessionChecks`, or the message, each field absent or as its form reads it. The
-//!   header's table comes first, then that of the message's type; of one tag it is looked at, in this order,
-//!   whether it is missing, stands more than once, is empty, has another form, or has another value than it may.
-//!   Nothing else of the message matters: not the order of its fields, and no field that the tables lack.
+//! - [`receive_dealer`] and [`receive_investor`] are `dealer_arrival` and `investor_arrival`: bytes that are no frame,
+//!   or have no readable MsgSeqNum (34), are dropped; another number than the expected one is out of sequence; the
+//!   rest used up its number, and is rejected for its first session fault or taken.
+//! - [`read_dealer`] and [`read_investor`] are the session verdicts of the day, the firm's row and the frame's fields:
+//!   the first fault in the order of the tables of `SessionChecks`, or the message, each field absent or as its form
+//!   reads it. Nothing else of the message matters: not the order of its fields, but for the party group, and no field
+//!   that the tables lack.
 //! - A price out of range or off the grid is no fault of the session: the [`Quote`] carries it as it is.
+//! - [`NamedDealers`] are the dealers that a request names, in their order.
 //! - [`write_out`] is `written`: the frame of the fields of that message, in their order, for the head's firm,
-//!   number and moment. It fails for nothing but memory, since whatever can be asked for fits into a frame.
+//!   number and moment. It fails for nothing but memory. A [`SentMessage`] is a frame by its type.
 //! - A closing notice bears a QuoteID (117) and a price only where the dealer's own quote was hit, whatever its
 //!   [`ClosingNotice::quote`] is.
-//! - An [`Id`], a [`IdBuf`], a [`SeqNum`], a [`MsgType`] and a [`Quantity`] are never anything but what their
+//! - An [`Id`], an [`IdBuf`], a [`SeqNum`], a [`MsgType`] and a [`Quantity`] are never anything but what their
 //!   forms allow, so what is written of them needs no check.
 //!
-//! No call has a condition, each returns, and only [`write_out`] and [`Message::copy_of`] take memory.
+//! Only [`expected_number`] has a condition, each call returns, and only [`write_out`] and [`Message::copy_of`] take
+//! memory.
 #![tactic(auto)]
 
 mod arrivals;

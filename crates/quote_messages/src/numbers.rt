@@ -4,8 +4,6 @@ ghost use Rattle.quote_messages.specs.Texts.{number_of, number_up_to};
 ghost use Rattle.std.specs.List.{list_all};
 ghost use Rattle.std.specs.Char.{is_ascii_digit};
 
-use std::str;
-
 /// The number that 1 to 9 digits write, leading zeros allowed, or none for another text: a number of a message.
 pub fn read_number(text: &[u8]) -> Option<u64>
     ensures { result ≡ number_of text.now }
@@ -21,7 +19,6 @@ pub fn read_long_number(text: &[u8]) -> Option<u64>
 }
 
 /// The number that 1 to `most` digits write. So few digits write a number of 64 bits.
-#[tactic(auto, using(crate::proofs::TextLemmas::digits_are_utf8))]
 fn read_digits(text: &[u8], most: usize) -> Option<u64>
     requires { most ≤ 16 }
     ensures { result ≡ number_up_to most text.now }
@@ -29,10 +26,11 @@ fn read_digits(text: &[u8], most: usize) -> Option<u64>
     if text.is_empty() || text.len() > most || !are_digits(text) {
         return None;
     }
-    let Ok(digits) = str::from_utf8(text) else {
-        return None;
-    };
-    digits.parse().ok()
+    let mut value: u64 = 0;
+    for digit in text {
+        value = value * 10 + u64::from(*digit - b'0');
+    }
+    Some(value)
 }
 
 /// Whether each byte is a digit.

@@ -46,10 +46,7 @@ fn is_one_group(fields: &Fields, count: u64) -> bool
     if entries as u64 != count {
         return false;
     }
-    len == fields
-        .again()
-        .filter(|field| is_of_party(field.0))
-        .count()
+    len == fields.again().filter(|field| is_of_party(field.0)).count()
 }
 
 /// What stands behind NoPartyIDs (453), nothing where it does not stand.

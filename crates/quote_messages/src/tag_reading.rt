@@ -88,11 +88,7 @@ pub(crate) fn required_number(message: &FieldSlots, tag: u32) -> Result<u64, Ses
 }
 
 /// A required number that has to be this one.
-pub(crate) fn check_number(
-    message: &FieldSlots,
-    tag: u32,
-    wanted: u64,
-) -> Result<(), SessionFault>
+pub(crate) fn check_number(message: &FieldSlots, tag: u32, wanted: u64) -> Result<(), SessionFault>
     requires { IsTrue (is_checked tag) }
     ensures { (date : List ℕ) → Reads (required tag (NumberIs (wanted ∷ []) SessionRejectReason.ValueIncorrect) date message.now) result (λ _. Unit {0}) }
 {
@@ -187,10 +183,7 @@ pub(crate) fn optional_quantity(
 
 /// A number, where it stands.
 #[tactic(auto, using(crate::proofs::SessionLemmas::absent_optional))]
-pub(crate) fn optional_number(
-    message: &FieldSlots,
-    tag: u32,
-) -> Result<Option<u64>, SessionFault>
+pub(crate) fn optional_number(message: &FieldSlots, tag: u32) -> Result<Option<u64>, SessionFault>
     requires { IsTrue (is_checked tag) }
     ensures { (date : List ℕ) → Reads (optional tag ANumber date message.now) result
         (λ number. number ≡ number_at tag message.now) }

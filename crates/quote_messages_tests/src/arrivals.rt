@@ -75,19 +75,68 @@ fn says(
 
 /// A message of DLR1, the number that is expected, and what its Reject says.
 const REJECTS: [(&str, u64, &[u8], u32, &[u8], u64); 6] = [
-    ("35=Z|49=DLR1|56=VENUE|34=2|52=20250314-09:00:00|50=T1|298=5|117=x|", 1, b"2", 34, b"Z", 5),
-    ("35=Z|49=DLR1|56=VENUE|34=1|52=20250314-09:00:02|50=T7|298=5|117=x|", 1, b"1", 50, b"Z", 5),
-    ("35=R|49=DLR1|56=VENUE|34=2|52=20250314-09:00:03|50=T1|131=q|", 2, b"2", 35, b"R", 11),
-    ("35=LONGER|49=DLR1|56=VENUE|34=002|52=20250314-09:00:03|50=T1|", 2, b"002", 35, b"", 11),
-    ("35=|49=DLR1|56=VENUE|34=3|52=20250314-09:00:03|50=T1|", 2, b"3", 34, b"", 5),
-    ("35=Z|49=DLR1|56=VENUE|34=5|52=20250314-09:00:06|50=T1|298=5|", 5, b"5", 117, b"Z", 1),
+    (
+        "35=Z|49=DLR1|56=VENUE|34=2|52=20250314-09:00:00|50=T1|298=5|117=x|",
+        1,
+        b"2",
+        34,
+        b"Z",
+        5,
+    ),
+    (
+        "35=Z|49=DLR1|56=VENUE|34=1|52=20250314-09:00:02|50=T7|298=5|117=x|",
+        1,
+        b"1",
+        50,
+        b"Z",
+        5,
+    ),
+    (
+        "35=R|49=DLR1|56=VENUE|34=2|52=20250314-09:00:03|50=T1|131=q|",
+        2,
+        b"2",
+        35,
+        b"R",
+        11,
+    ),
+    (
+        "35=LONGER|49=DLR1|56=VENUE|34=002|52=20250314-09:00:03|50=T1|",
+        2,
+        b"002",
+        35,
+        b"",
+        11,
+    ),
+    (
+        "35=|49=DLR1|56=VENUE|34=3|52=20250314-09:00:03|50=T1|",
+        2,
+        b"3",
+        34,
+        b"",
+        5,
+    ),
+    (
+        "35=Z|49=DLR1|56=VENUE|34=5|52=20250314-09:00:06|50=T1|298=5|",
+        5,
+        b"5",
+        117,
+        b"Z",
+        1,
+    ),
 ];
 
-/// The Reject of an arrival.
-fn reject_of<'a, M: Drop>(arrival: Arrival<'a, M>) -> Result<Reject<'a>, Fail> {
+/// Asserts that an arrival is answered by a Reject that says this.
+fn is_rejected<M: Drop>(
+    rt: &impl Abort,
+    arrival: &Arrival<'_, M>,
+    number: &[u8],
+    tag: u32,
+    msg_type: &[u8],
+    code: u64,
+) -> Result<(), Fail> {
     match arrival {
-        Arrival::OutOfSequence(reject) => Ok(reject),
-        Arrival::Rejected(reject) => Ok(reject),
+        Arrival::OutOfSequence(reject) => says(rt, reject, number, tag, msg_type, code),
+        Arrival::Rejected(reject) => says(rt, reject, number, tag, msg_type, code),
         Arrival::Dropped => Err(Fail::from("dropped")),
         Arrival::Taken(_) => Err(Fail::from("taken")),
     }
@@ -99,7 +148,7 @@ fn rejects_of_a_dealer(rt: HostRuntime) -> Result<(), Fail> {
     for (body, expected, number, tag, msg_type, code) in REJECTS {
         let bytes = frame(rt.alloc(), body)?;
         let arrival = receive_dealer(&day()?, &row, expected, bytes.as_slice());
-        says(&rt, &reject_of(arrival)?, number, tag, msg_type, code)?;
+        is_rejected(&rt, &arrival, number, tag, msg_type, code)?;
     }
     Ok(())
 }
@@ -114,9 +163,9 @@ fn messages_of_an_investor(rt: HostRuntime) -> Result<(), Fail> {
     let row = investor_row().ok_or("no row")?;
     let bytes = frame(rt.alloc(), SHORT_GROUP)?;
     let arrival = receive_investor(&day()?, &row, 1, bytes.as_slice());
-    says(&rt, &reject_of(arrival)?, b"1", 453, b"R", 16)?;
+    is_rejected(&rt, &arrival, b"1", 453, b"R", 16)?;
     let arrival = receive_investor(&day()?, &row, 2, bytes.as_slice());
-    says(&rt, &reject_of(arrival)?, b"1", 34, b"R", 5)?;
+    is_rejected(&rt, &arrival, b"1", 34, b"R", 5)?;
     let body = changed(rt.alloc(), SHORT_GROUP, "453=2|", "453=1|")?;
     let bytes = frame(rt.alloc(), body.as_str())?;
     let arrival = receive_investor(&day()?, &row, 1, bytes.as_slice());

@@ -3,7 +3,7 @@ use crate::investor::{REQUEST, finds_each};
 use crate::support::{Change, changed, day};
 use fix_fields::read_frame;
 use message_fixtures::{frame, investor_row};
-use quote_messages::{InvestorMessage, read_investor};
+use quote_messages::{InvestorMessage, QuoteRequest, read_investor};
 use std::alloc::Global;
 use std::process::Abort;
 use std::test::Fail;
@@ -16,13 +16,28 @@ const BROKEN: [Change; 13] = [
     (GROUP, "453=x|448=DLR1|447=D|452=35|", 453, 6),
     (GROUP, "453=1|453=1|448=DLR1|447=D|452=35|", 453, 13),
     (GROUP, "453=2|448=DLR1|447=D|452=35|", 453, 16),
-    (GROUP, "453=1|448=DLR1|447=D|452=35|448=DLR2|447=D|452=35|", 453, 16),
+    (
+        GROUP,
+        "453=1|448=DLR1|447=D|452=35|448=DLR2|447=D|452=35|",
+        453,
+        16,
+    ),
     (GROUP, "453=2|", 453, 16),
     (GROUP, "453=0|448=DLR1|447=D|452=35|", 453, 16),
     (GROUP, "453=1|447=D|448=DLR1|452=35|", 453, 16),
     (GROUP, "453=1|448=DLR1|131=A|447=D|452=35|", 131, 13),
-    ("126=20250314-09:05:00|453=2|448=DLR1|", "453=2|448=DLR1|126=20250314-09:05:00|", 453, 16),
-    ("453=2|448=DLR1|447=D|452=35|448=DLR2|447=D|452=35|", "447=D|453=1|448=DLR1|447=D|452=35|", 453, 16),
+    (
+        "126=20250314-09:05:00|453=2|448=DLR1|",
+        "453=2|448=DLR1|126=20250314-09:05:00|",
+        453,
+        16,
+    ),
+    (
+        "453=2|448=DLR1|447=D|452=35|448=DLR2|447=D|452=35|",
+        "447=D|453=1|448=DLR1|447=D|452=35|",
+        453,
+        16,
+    ),
     (GROUP, "448=DLR1|447=D|452=35|453=0|", 453, 16),
     ("50=T8|131=A|", "448=DLR1|50=T8|131=A|", 453, 16),
     (GROUP, "453=1|448=DLR1|50=T8|447=D|452=35|", 50, 13),
@@ -44,7 +59,12 @@ const ENTRIES: [Change; 12] = [
         448,
         6,
     ),
-    (GROUP, "453=2|448=DLR1|447=D|452=35|448=|447=D|452=35|", 448, 4),
+    (
+        GROUP,
+        "453=2|448=DLR1|447=D|452=35|448=|447=D|452=35|",
+        448,
+        4,
+    ),
     (GROUP, "453=2|448=DLR1|452=35|448=|447=D|452=35|", 447, 1),
     (GROUP, "453=2|448=DLR1|447=D|448=DLR2|447=D|452=35|", 452, 1),
 ];
@@ -60,9 +80,15 @@ const WHOLE: [(&str, &[&[u8]]); 10] = [
     (GROUP, &[b"DLR1", b"DLR2"]),
     ("453=0|", &[]),
     ("453=01|448=DLR1|452=35|447=D|", &[b"DLR1"]),
-    ("453=2|448=DLR1|447=D|452=13|448=DLR2|447=D|452=35|", &[b"DLR2"]),
+    (
+        "453=2|448=DLR1|447=D|452=13|448=DLR2|447=D|452=35|",
+        &[b"DLR2"],
+    ),
     ("453=2|448=DLR1|447=C|452=35|448=x|447=D|452=035|", &[]),
-    ("453=2|448=DLR1|447=D|452=35|448=DLR1|447=D|452=35|", &[b"DLR1", b"DLR1"]),
+    (
+        "453=2|448=DLR1|447=D|452=35|448=DLR1|447=D|452=35|",
+        &[b"DLR1", b"DLR1"],
+    ),
     ("453=1|58=a|448=DLR1|58=|447=D|452=35|", &[b"DLR1"]),
     ("453=1|448=a=~|447=D|452=35|", &[b"a=~"]),
     (
@@ -72,20 +98,28 @@ const WHOLE: [(&str, &[&[u8]]); 10] = [
     ("453=1|448=DLR9|447=D|452=35|117=|", &[b"DLR9"]),
 ];
 
+/// Asserts that a request names these dealers, in this order.
+fn are_named(rt: &impl Abort, request: &QuoteRequest, dealers: &[&[u8]]) -> Result<(), Fail> {
+    assert_eq!(rt; request.dealers.again().count(), dealers.len());
+    let mut left = request.dealers.again();
+    for dealer in dealers {
+        let named = left.next().ok_or("too few")?;
+        assert!(rt; named.as_bytes() == *dealer);
+    }
+    Ok(())
+}
+
 /// Asserts that a group names these dealers, in this order.
 fn names(rt: &impl Abort, alloc: Global, group: &str, dealers: &[&[u8]]) -> Result<(), Fail> {
     let row = investor_row().ok_or("no row")?;
     let body = changed(alloc, REQUEST, GROUP, group)?;
     let bytes = frame(alloc, body.as_str())?;
     let read = read_frame(bytes.as_slice()).ok().ok_or("no frame")?;
-    let Ok(InvestorMessage::Request(request)) = read_investor(&day()?, &row, &read) else {
+    let message = read_investor(&day()?, &row, &read);
+    let Ok(InvestorMessage::Request(request)) = message else {
         return Err(Fail::from("no request"));
     };
-    assert_eq!(rt; request.dealers.again().count(), dealers.len(), "{group}");
-    for (named, dealer) in request.dealers.again().zip(dealers) {
-        assert!(rt; named.as_bytes() == *dealer, "{group}");
-    }
-    Ok(())
+    are_named(rt, &request, dealers)
 }
 
 #[test]

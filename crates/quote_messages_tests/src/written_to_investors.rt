@@ -41,9 +41,7 @@ const EXPIRED: &str = "35=AI|49=VENUE|56=INV1|34=2|52=20250314-09:05:00.000|131=
 
 #[test]
 fn answers_to_requests(rt: HostRuntime) -> Result<(), Fail> {
-    let accepted = OutMessage::RequestAccepted {
-        request: id(b"A")?,
-    };
+    let accepted = OutMessage::RequestAccepted { request: id(b"A")? };
     is_written(&rt, rt.alloc(), 1, 32_400_000, &accepted, ACCEPTED)?;
     let refused = OutMessage::RequestRefused {
         request: id(b"B")?,
@@ -51,9 +49,7 @@ fn answers_to_requests(rt: HostRuntime) -> Result<(), Fail> {
         reason: RequestRejectReason::UnknownSymbol,
     };
     is_written(&rt, rt.alloc(), 3, 32_400_000, &refused, REFUSED)?;
-    let expired = OutMessage::RequestExpired {
-        request: id(b"A")?,
-    };
+    let expired = OutMessage::RequestExpired { request: id(b"A")? };
     is_written(&rt, rt.alloc(), 2, 32_700_000, &expired, EXPIRED)
 }
 

@@ -12,11 +12,13 @@ answer_of None wish = wish
 answer_of (Some settled) wish = settled
 
 -- the words after an exchange: an open word becomes the wish, and nothing else changes
-abbrev pub after_exchange : Option Settled → List (Option Settled) → ℕ → Settled → List (Option Settled)
+abbrev pub after_exchange : Option Settled → List (Option Settled) → ℕ → Settled
+    → List (Option Settled)
 after_exchange None entries w wish = slice_set entries w (Some wish)
 after_exchange (Some settled) entries w wish = entries
 
 -- one exchange
-pub record Exchanges (before : List (Option Settled)) (w : ℕ) (wish answer : Settled) (after : List (Option Settled)) : Type 0 where
+pub record Exchanges (before : List (Option Settled)) (w : ℕ) (wish answer : Settled)
+    (after : List (Option Settled)) : Type 0 where
   pub answered : answer ≡ answer_of (entry_in before w) wish
   pub changed : after ≡ after_exchange (entry_in before w) before w wish

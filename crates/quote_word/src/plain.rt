@@ -1,13 +1,14 @@
 //! Words in a plain list.
 ghost use Rattle.std.specs.Prelude.{◌≡◌, ◌<◌, ◌^◌, List, length, replicate, None, IfOk};
 ghost use Rattle.quote_word.specs.PlainWords.{entry_in, Exchanges};
-ghost use Rattle.quote_word.specs.PlainWordsLaws.{exchange_keeps_count, exchange_answers_entry, exchange_keeps_entries};
+ghost use Rattle.quote_word.specs.PlainWordsLaws as laws;
 
 use crate::{Settled, Words};
 use std::alloc::{AllocError, Global};
 use std::marker::Model;
 
-/// Words for one thread, in a list. A contract sees the list of their entries, none where a word is open.
+/// Words for one thread, in a list. A contract sees the list of their entries, none where a word is
+/// open.
 #[derive(Drop)]
 pub struct PlainWords {
     entries: Vec<Option<Settled>>,
@@ -54,11 +55,11 @@ impl Words for PlainWords {
 
     ghost settles = { Exchanges };
 
-    ghost count_stays = { exchange_keeps_count };
+    ghost count_stays = { laws.exchange_keeps_count };
 
-    ghost answer_is_entry = { exchange_answers_entry };
+    ghost answer_is_entry = { laws.exchange_answers_entry };
 
-    ghost entry_stays = { exchange_keeps_entries };
+    ghost entry_stays = { laws.exchange_keeps_entries };
 
     fn len(&self) -> u32 {
         self.entries.len() as u32
@@ -70,33 +71,5 @@ impl Words for PlainWords {
 
     fn lift(&mut self, w: u32) -> Settled {
         self.exchange(w, Settled::Lifted)
-    }
-}
-
-#[cfg(test)]
-mod tests {
-    use super::*;
-    use std::test::Fail;
-
-    // The first settlement of a word is its last, whoever asks afterwards; other words are not touched.
-    #[test]
-    fn a_word_is_settled_once(rt: HostRuntime) -> Result<(), Fail> {
-        let mut words = PlainWords::new(rt.alloc(), 2)?;
-        assert_eq!(rt; words.len(), 2);
-        if words.len() == 2 {
-            assert_eq!(rt; words.withdraw(0), Settled::Withdrawn);
-            assert_eq!(rt; words.lift(0), Settled::Withdrawn);
-            assert_eq!(rt; words.lift(1), Settled::Lifted);
-            assert_eq!(rt; words.withdraw(1), Settled::Lifted);
-        }
-        Ok(())
-    }
-
-    // A row of no words takes part in nothing, and is lawful.
-    #[test]
-    fn a_row_may_have_no_words(rt: HostRuntime) -> Result<(), Fail> {
-        let words = PlainWords::new(rt.alloc(), 0)?;
-        assert_eq!(rt; words.len(), 0);
-        Ok(())
     }
 }

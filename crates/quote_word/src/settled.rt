@@ -1,5 +1,6 @@
 //! What a word is once it is settled, and what every row of words promises.
 ghost use Rattle.std.specs.Prelude.{◌≡◌, ℕ, ◌<◌, Option, Some};
+ghost use Rattle.quote_word.specs.Settlements as spec;
 
 /// What a quote's word is from its settlement on, for good.
 #[derive(Clone, Copy, Debug, PartialEq, Eq)]
@@ -8,6 +9,37 @@ pub enum Settled {
     Withdrawn,
     /// An investor's hit lifted the quote.
     Lifted,
+}
+
+impl Settled {
+    /// Whether the quote was withdrawn.
+    pub fn is_withdrawn(self) -> bool
+        ensures { result ≡ spec.is_withdrawn self }
+    {
+        match self {
+            Settled::Withdrawn => true,
+            Settled::Lifted => false,
+        }
+    }
+
+    /// Whether the quote was lifted.
+    pub fn is_lifted(self) -> bool
+        ensures { result ≡ spec.is_lifted self }
+    {
+        match self {
+            Settled::Withdrawn => false,
+            Settled::Lifted => true,
+        }
+    }
+}
+
+/// An entry of a settle log: which word was settled, and how.
+#[derive(Clone, Copy)]
+pub struct Settlement {
+    /// The word, by its number from 0.
+    pub word: u32,
+    /// What it was settled as.
+    pub settled: Settled,
 }
 
 /// A row of words, numbered from 0.
@@ -20,7 +52,8 @@ pub trait Words {
     /// What a word is, where it is settled.
     ghost entry: { Self → ℕ → Option Settled };
 
-    /// One exchange: the words before it, which word is asked, what is wished, what is answered, the words after it.
+    /// One exchange: the words before it, which word is asked, what is wished, what is answered,
+    /// the words after it.
     ghost settles: { Self → ℕ → Settled → Settled → Self → Type 0 };
 
     /// How many words there are.
@@ -38,11 +71,15 @@ pub trait Words {
         ensures { settles self.old w Settled.Lifted result self.new };
 
     /// No word comes or goes.
-    ghost count_stays: { (before after : Self) (w : ℕ) (wish answer : Settled) → settles before w wish answer after → count after ≡ count before };
+    ghost count_stays: { (before after : Self) (w : ℕ) (wish answer : Settled)
+        → settles before w wish answer after → count after ≡ count before };
 
     /// The answer is what the word is afterwards.
-    ghost answer_is_entry: { (before after : Self) (w : ℕ) (wish answer : Settled) → w < count before → settles before w wish answer after → entry after w ≡ Some answer };
+    ghost answer_is_entry: { (before after : Self) (w : ℕ) (wish answer : Settled)
+        → w < count before → settles before w wish answer after → entry after w ≡ Some answer };
 
     /// A word that was settled stays as it was.
-    ghost entry_stays: { (before after : Self) (w v : ℕ) (wish answer was : Settled) → settles before w wish answer after → entry before v ≡ Some was → entry after v ≡ Some was };
+    ghost entry_stays: { (before after : Self) (w v : ℕ) (wish answer was : Settled)
+        → settles before w wish answer after → entry before v ≡ Some was
+        → entry after v ≡ Some was };
 }

@@ -1,5 +1,6 @@
 -- The book has one quote of a dealer at most.
-use Rattle.std.proofs.Common.{◌≡◌, ◌≢◌, ℕ, Bool, true, false, ◌||◌, ◌==◌, cond, List, [], ◌∷◌, refl, arith, AllPairs, All}
+use Rattle.std.proofs.Common.{◌≡◌, ◌≢◌, ℕ, Bool, true, false, ◌||◌, ◌==◌, cond, List, [], ◌∷◌, refl}
+use Rattle.std.proofs.Common.{arith, AllPairs, All}
 use Rattle.std.specs.List.{list_any}
 use Rattle.std.proofs.lemmas.Bool.Decides.{nat_tests}
 use Rattle.std.proofs.lemmas.List.Elements.{All-nil, All-cons}
@@ -20,30 +21,46 @@ apart : (dealer other : ℕ) → (dealer == other) ≡ false → dealer ≢ othe
 apart dealer other h = grind (arith, nat_tests)
 
 -- a quote that no later fact takes out, and the quotes that were posted later
-one_apart : (taken : Bool) (quote next : StandingQuote) (book : List StandingQuote) → quote.dealer ≢ next.dealer → All (λ other. quote.dealer ≢ other.dealer) book → All (λ other. quote.dealer ≢ other.dealer) (cond taken book (next ∷ book))
+one_apart : (taken : Bool) (quote next : StandingQuote) (book : List StandingQuote)
+    → quote.dealer ≢ next.dealer → All (λ other. quote.dealer ≢ other.dealer) book
+    → All (λ other. quote.dealer ≢ other.dealer) (cond taken book (next ∷ book))
 one_apart true quote next book differs more = more
-one_apart false quote next book differs more = All-cons (λ other. quote.dealer ≢ other.dealer) next book differs more
+one_apart false quote next book differs more =
+    All-cons (λ other. quote.dealer ≢ other.dealer) next book differs more
 
-all_apart : (quote : StandingQuote) (later : List RoomFact) → list_any (takes_out quote) later ≡ false → All (λ other. quote.dealer ≢ other.dealer) (book_of later)
+all_apart : (quote : StandingQuote) (later : List RoomFact) → list_any (takes_out quote) later
+    ≡ false → All (λ other. quote.dealer ≢ other.dealer) (book_of later)
 all_apart quote [] h = All-nil (λ other. quote.dealer ≢ other.dealer)
 all_apart quote (Posted next ∷ later) h =
     one_apart (list_any (takes_out next) later) quote next (book_of later)
-    (apart quote.dealer next.dealer (neither_left (quote.dealer == next.dealer) (list_any (takes_out quote) later) h))
-    (all_apart quote later (neither_right (quote.dealer == next.dealer) (list_any (takes_out quote) later) h))
+    (apart quote.dealer next.dealer
+    (neither_left (quote.dealer == next.dealer) (list_any (takes_out quote) later) h))
+    (all_apart quote later (neither_right (quote.dealer == next.dealer)
+    (list_any (takes_out quote) later) h))
 all_apart quote (Opened request ∷ later) h = all_apart quote later h
 all_apart quote (Readied ∷ later) h = all_apart quote later h
-all_apart quote (Unposted dealer w ∷ later) h = all_apart quote later (neither_right (takes_out quote (Unposted dealer w)) (list_any (takes_out quote) later) h)
+all_apart quote (Unposted dealer w ∷ later) h =
+    all_apart quote later (neither_right (takes_out quote (Unposted dealer w))
+    (list_any (takes_out quote) later) h)
 all_apart quote (Noted dealer ∷ later) h = all_apart quote later h
 all_apart quote (Ended end moment ∷ later) h = all_apart quote later h
 
-one_more : (taken : Bool) (quote : StandingQuote) (later : List RoomFact) → list_any (takes_out quote) later ≡ taken → AllPairs (λ one other. one.dealer ≢ other.dealer) (book_of later) → AllPairs (λ one other. one.dealer ≢ other.dealer) (cond taken (book_of later) (quote ∷ book_of later))
+one_more : (taken : Bool) (quote : StandingQuote) (later : List RoomFact)
+    → list_any (takes_out quote) later ≡ taken
+    → AllPairs (λ one other. one.dealer ≢ other.dealer) (book_of later)
+    → AllPairs (λ one other. one.dealer ≢ other.dealer)
+    (cond taken (book_of later) (quote ∷ book_of later))
 one_more true quote later h more = more
-one_more false quote later h more = AllPairs-cons (λ one other. one.dealer ≢ other.dealer) quote (book_of later) (all_apart quote later h) more
+one_more false quote later h more =
+    AllPairs-cons (λ one other. one.dealer ≢ other.dealer) quote (book_of later)
+    (all_apart quote later h) more
 
 -- the book has one quote of a dealer at most
-pub one_quote_each : (facts : List RoomFact) → AllPairs (λ one other. one.dealer ≢ other.dealer) (book_of facts)
+pub one_quote_each : (facts : List RoomFact)
+    → AllPairs (λ one other. one.dealer ≢ other.dealer) (book_of facts)
 one_quote_each [] = λ i j d below within. absurd (omega arith)
-one_quote_each (Posted quote ∷ later) = one_more (list_any (takes_out quote) later) quote later refl (one_quote_each later)
+one_quote_each (Posted quote ∷ later) =
+    one_more (list_any (takes_out quote) later) quote later refl (one_quote_each later)
 one_quote_each (Opened request ∷ later) = one_quote_each later
 one_quote_each (Readied ∷ later) = one_quote_each later
 one_quote_each (Unposted dealer w ∷ later) = one_quote_each later

@@ -4,3 +4,5 @@ pub mod FactLemmas
 pub mod KeptLemmas
 pub mod CoverLemmas
 pub mod EndLemmas
+pub mod RankLemmas
+pub mod KeptRoomLemmas

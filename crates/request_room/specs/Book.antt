@@ -1,5 +1,8 @@
--- The book of a room, what a hit meets there, what the cover is, and the room after a list of its events.
-use Rattle.std.specs.Prelude.{◌≡◌, ◌≢◌, ℕ, Bool, true, false, ◌&&◌, ◌==◌, not, nat_lt, nat_le, List, [], ◌∷◌, ◌++◌, Option, Some, None, IfSome, is_none, Result, Ok, Err, fold, find, filter, length, slice_index_or, if◌then◌else◌}
+-- The book of a room, what a hit meets there, what the cover is, and the room after a list of its
+-- events.
+use Rattle.std.specs.Prelude.{◌≡◌, ◌≢◌, ℕ, Bool, true, false, ◌&&◌, ◌==◌, not, nat_lt, nat_le, List}
+use Rattle.std.specs.Prelude.{[], ◌∷◌, ◌++◌, Option, Some, None, IfSome, is_none, Result, Ok, Err}
+use Rattle.std.specs.Prelude.{fold, find, filter, length, slice_index_or, if◌then◌else◌}
 use Rattle.std.specs.List.{list_any, IsFirstBest}
 use Rattle.std.specs.Option.{option_map}
 use Rattle.market_terms.specs.Checks.{first_refusal, is_not_after}
@@ -18,7 +21,9 @@ use Rattle.request_room.specs.declared.events.RoomEvent.{RoomEvent}
 use Rattle.request_room.specs.declared.events.RoomEvent.TheVariants as event
 use Rattle.request_room.specs.declared.quotes.StandingQuote.{StandingQuote}
 use Rattle.request_room.specs.declared.requests.RoomRequest.{RoomRequest}
-use Rattle.request_room.specs.RoomFacts.{RoomFact, Opened, Readied, Posted, Unposted, Noted, Ended, request_of, is_vacant, is_ready, end_of, is_opening, is_open, takes_quotes}
+use Rattle.request_room.specs.RoomFacts.{RoomFact, Opened, Readied, Posted, Unposted, Noted, Ended}
+use Rattle.request_room.specs.RoomFacts.{request_of, is_vacant, is_opening}
+use Rattle.request_room.specs.RoomFacts.{is_open, takes_quotes}
 
 -- The book.
 
@@ -32,11 +37,12 @@ takes_out quote (Posted next) = quote.dealer == next.dealer
 takes_out quote (Unposted dealer w) = is_quote_of dealer w quote
 takes_out quote fact = false
 
--- The book: for each dealer its last posted quote, and none where that was unposted later. So it has each quote that
--- was posted and that no later fact takes out, the earliest posted first.
+-- The book: for each dealer its last posted quote, and none where that was unposted later. So it
+-- has each quote that was posted and that no later fact takes out, the earliest posted first.
 abbrev pub book_of : List RoomFact → List StandingQuote
 book_of [] = []
-book_of (Posted quote ∷ later) = if list_any (takes_out quote) later then book_of later else quote ∷ book_of later
+book_of (Posted quote ∷ later) =
+    if list_any (takes_out quote) later then book_of later else quote ∷ book_of later
 book_of (Opened request ∷ later) = book_of later
 book_of (Readied ∷ later) = book_of later
 book_of (Unposted dealer w ∷ later) = book_of later
@@ -53,8 +59,8 @@ quote_meant book w = find (λ quote. quote.word == w) book
 
 -- Cover.
 
--- whether a price is better than another for an investor of this side: a lower offer for one that buys, a higher bid
--- for one that sells
+-- whether a price is better than another for an investor of this side: a lower offer for one that
+-- buys, a higher bid for one that sells
 abbrev pub is_better : Side → ℕ → ℕ → Bool
 is_better Buy price other = nat_lt price other
 is_better Sell price other = nat_lt other price
@@ -69,10 +75,11 @@ others dealer book = filter (λ quote. not (quote.dealer == dealer)) book
 
 -- the best of some quotes: the earliest posted of those than which none is better
 abbrev pub best_of : Side → List StandingQuote → Option StandingQuote
-best_of side quotes = find (λ quote. not (list_any (λ other. has_better_price side other quote) quotes)) quotes
+best_of side quotes =
+    find (λ quote. not (list_any (λ other. has_better_price side other quote) quotes)) quotes
 
--- A quote is the best of some: it stands among them at a place at which none is better, and each that was posted
--- earlier is worse.
+-- A quote is the best of some: it stands among them at a place at which none is better, and each
+-- that was posted earlier is worse.
 pub record IsBest (side : Side) (quotes : List StandingQuote) (best : StandingQuote) : Type 0 where
   pub place : ℕ
   pub stands_there : slice_index_or quotes place best ≡ best
@@ -83,7 +90,8 @@ unfoldable pub cover_of : Side → ℕ → List StandingQuote → Option Standin
 cover_of side winner book = best_of side (others winner book)
 
 -- the cover of an award of this quote, where there is one
-abbrev pub cover_for : Option RoomRequest → Option StandingQuote → List StandingQuote → Option StandingQuote
+abbrev pub cover_for : Option RoomRequest → Option StandingQuote → List StandingQuote
+    → Option StandingQuote
 cover_for None winner book = None
 cover_for (Some request) None book = None
 cover_for (Some request) (Some winner) book = cover_of request.ask.side winner.dealer book
@@ -130,7 +138,8 @@ abbrev pub award_of : List RoomFact → ℕ → End
 award_of facts w = record {
   kind = ends.Awarded;
   winner = option_map (λ quote. (quote.dealer, quote.word)) (quote_meant (book_of facts) w);
-  cover = option_map (λ quote. quote.dealer) (cover_for (request_of facts) (quote_meant (book_of facts) w) (book_of facts));
+  cover = option_map (λ quote. quote.dealer)
+      (cover_for (request_of facts) (quote_meant (book_of facts) w) (book_of facts));
 }
 
 -- whether a word was asked and is lifted
@@ -146,7 +155,8 @@ hit_settled None answer award = if is_lift answer then Ok award else Err refusal
 
 -- what becomes of a hit, with the answer of the word that it asks: an award, or the first refusal
 abbrev pub hit_outcome : List RoomFact → ℕ → ℕ → Option Settled → Result End HitRefusal
-hit_outcome facts w moment answer = hit_settled (hit_refusal facts w moment) answer (award_of facts w)
+hit_outcome facts w moment answer =
+    hit_settled (hit_refusal facts w moment) answer (award_of facts w)
 
 -- what the investor is answered
 abbrev pub reply_of : Result End HitRefusal → Reply
@@ -167,9 +177,14 @@ expired = record { kind = ends.Expired; winner = None; cover = None }
 abbrev pub may_expire : List RoomFact → ℕ → Bool
 may_expire facts moment = is_open facts && is_past_deadline (request_of facts) moment
 
+-- a quote is unposted where it stands in a room that takes quotes
+abbrev pub may_unpost : List RoomFact → ℕ → ℕ → Bool
+may_unpost facts dealer w = takes_quotes facts && stands (book_of facts) dealer w
+
 -- a quote as it stands once it is posted
 abbrev pub quote_posted : ℕ → ℕ → ℕ → Option ℕ → StandingQuote
-quote_posted dealer w price until = record { dealer = dealer; word = w; price = price; valid_until = until }
+quote_posted dealer w price until =
+    record { dealer = dealer; word = w; price = price; valid_until = until }
 
 -- a fact that follows where a condition holds
 abbrev pub where_so : Bool → RoomFact → List RoomFact
@@ -181,12 +196,15 @@ abbrev pub end_by : Result End HitRefusal → ℕ → List RoomFact
 end_by (Ok award) moment = Ended award moment ∷ []
 end_by (Err refused) moment = []
 
--- the fact that an event adds to those that stand, if it adds one: nothing else that is tried changes a room
+-- the fact that an event adds to those that stand, if it adds one: nothing else that is tried
+-- changes a room
 unfoldable pub event_facts : List RoomFact → RoomEvent → List RoomFact
 event_facts facts (event.Open request) = where_so (is_vacant facts) (Opened request)
 event_facts facts event.Ready = where_so (is_opening facts) Readied
-event_facts facts (event.Post dealer w price until) = where_so (takes_quotes facts) (Posted (quote_posted dealer w price until))
-event_facts facts (event.Unpost dealer w) = where_so (takes_quotes facts && stands (book_of facts) dealer w) (Unposted dealer w)
+event_facts facts (event.Post dealer w price until) =
+    where_so (takes_quotes facts) (Posted (quote_posted dealer w price until))
+event_facts facts (event.Unpost dealer w) =
+    where_so (may_unpost facts dealer w) (Unposted dealer w)
 event_facts facts (event.Decline dealer) = where_so (takes_quotes facts) (Noted dealer)
 event_facts facts (event.Hit w moment answer) = end_by (hit_outcome facts w moment answer) moment
 event_facts facts (event.Pass moment) = where_so (is_open facts) (Ended passed moment)
@@ -200,16 +218,10 @@ after_event facts event = facts ++ event_facts facts event
 unfoldable pub room_after : List RoomEvent → List RoomFact
 room_after events = fold after_event [] events
 
--- What an end may say: an award has a winner, and its cover is another dealer; without an award there is neither.
+-- What an end may say: an award has a winner, and its cover is another dealer; without an award
+-- there is neither.
 abbrev pub IsEndOf : EndKind → Option (ℕ × ℕ) → Option ℕ → Type 0
 IsEndOf ends.Awarded (Some winner) cover = IfSome cover (λ other. other ≢ winner.0)
 IsEndOf ends.Awarded None cover = ⊥
 IsEndOf ends.Passed winner cover = (winner ≡ None) × (cover ≡ None)
 IsEndOf ends.Expired winner cover = (winner ≡ None) × (cover ≡ None)
-
--- What a room keeps beside its events: the request it was opened for, whether it is ready, its book and its end.
-pub record Keeps (facts : List RoomFact) (request : Option RoomRequest) (ready : Bool) (book : List StandingQuote) (end : Option End) : Type 0 where
-  pub request_is : request ≡ request_of facts
-  pub ready_is : ready ≡ is_ready facts
-  pub book_is : book ≡ book_of facts
-  pub end_is : end ≡ end_of facts

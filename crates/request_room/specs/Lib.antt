@@ -1,3 +1,3 @@
 pub mod Book
+pub mod Kept
 pub mod RoomFacts
-pub mod Search

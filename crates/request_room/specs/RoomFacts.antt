@@ -1,6 +1,7 @@
--- The facts of a room, and what follows from them: whether it is vacant, opening, open or ended, what is asked for, of
--- which dealers, and how it ended. Facts are only ever added.
-use Rattle.std.specs.Prelude.{ℕ, Bool, true, false, ◌&&◌, ◌==◌, not, List, [], ◌∷◌, Option, Some, None, is_some, is_none}
+-- The facts of a room, and what follows from them: whether it is vacant, opening, open or ended,
+-- what is asked for, of which dealers, and how it ended. Facts are only ever added.
+use Rattle.std.specs.Prelude.{ℕ, Bool, true, false, ◌&&◌, ◌||◌, ◌==◌, not, List, [], ◌∷◌}
+use Rattle.std.specs.Prelude.{Option, Some, None, is_some, is_none}
 use Rattle.std.specs.List.{list_any}
 use Rattle.std.specs.Option.{option_or}
 use Rattle.request_room.specs.declared.ends.End.{End}
@@ -8,11 +9,6 @@ use Rattle.request_room.specs.declared.ends.EndKind.{EndKind}
 use Rattle.request_room.specs.declared.ends.EndKind.TheVariants.{Awarded, Passed, Expired}
 use Rattle.request_room.specs.declared.requests.RoomRequest.{RoomRequest}
 use Rattle.request_room.specs.declared.quotes.StandingQuote.{StandingQuote}
-
--- whether no dealer is named twice
-abbrev pub are_distinct : List ℕ → Bool
-are_distinct [] = true
-are_distinct (dealer ∷ others) = not (list_any (λ named. named == dealer) others) && are_distinct others
 
 -- what became so in a room
 pub data RoomFact : Type 0 where
@@ -78,11 +74,16 @@ takes_quotes facts = is_some (request_of facts) && not (is_ended facts)
 -- whether the request names a dealer
 abbrev pub names : Option RoomRequest → ℕ → Bool
 names None dealer = false
-names (Some request) dealer = list_any (λ named. named == dealer) request.dealers.items
+names (Some request) dealer = list_any (λ named. named == dealer) request.dealers
 
 -- whether the room's request names a dealer
 abbrev pub is_named : List RoomFact → ℕ → Bool
 is_named facts dealer = names (request_of facts) dealer
+
+-- whom a room hears: the dealers that its request names; while it is vacant anyone, and then
+-- nothing follows
+abbrev pub hears : List RoomFact → ℕ → Bool
+hears facts dealer = is_vacant facts || is_named facts dealer
 
 -- whether a fact ends the room
 abbrev pub is_ending : RoomFact → Bool

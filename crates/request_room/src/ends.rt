@@ -3,8 +3,8 @@
 /// The kind of a room's end.
 #[derive(Clone, Copy, Debug, PartialEq, Eq)]
 pub enum EndKind {
-    /// The investor hit a quote and lifted its word: the winner is told 694=1, the cover 694=4, each other dealer
-    /// 694=5.
+    /// The investor hit a quote and lifted its word: the winner is told 694=1, the cover 694=4,
+    /// each other dealer 694=5.
     Awarded,
     /// The investor passed: each dealer is told 694=6.
     Passed,
@@ -19,6 +19,7 @@ pub struct End {
     pub kind: EndKind,
     /// The number of the dealer that won, and the word of its quote.
     pub winner: Option<(u16, u32)>,
-    /// The number of the dealer whose quote is the cover: the best of the others, where there is one.
+    /// The number of the dealer whose quote is the cover: the best of the others, where there is
+    /// one.
     pub cover: Option<u16>,
 }

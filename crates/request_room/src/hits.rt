@@ -4,7 +4,7 @@ ghost use Rattle.request_room.specs.Book.{hit_settled, is_expired, is_lift, is_p
 
 use crate::{End, RoomRequest, StandingQuote};
 use fix_fields::Moment;
-use quote_messages::HitRefusal;
+use market_terms::HitRefusal;
 use quote_word::Settled;
 
 /// Whether a moment is at or past the deadline of the request.

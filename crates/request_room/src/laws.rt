@@ -1,14 +1,26 @@
 //! Laws over the definitions of a room, each the contract of a function that does nothing.
-ghost use Rattle.std.specs.Prelude.{◌≡◌, ◌≢◌, ◌≤◌, ◌↔◌, ℕ, List, [], ◌++◌, length, filter, AllPairs, IfSome, IsTrue};
+ghost use Rattle.std.specs.Prelude.{◌≡◌, ◌≢◌, ◌≤◌, ◌↔◌, ℕ, List, [], ◌∷◌, ◌++◌, length, filter};
+ghost use Rattle.std.specs.Prelude.{AllPairs, IfSome, IsTrue};
 ghost use Rattle.market_terms.specs.declared.asks.Side.{Side};
 ghost use Rattle.request_room.specs.declared.events.RoomEvent.{RoomEvent};
 ghost use Rattle.request_room.specs.declared.quotes.StandingQuote.{StandingQuote};
 ghost use Rattle.request_room.specs.RoomFacts.{RoomFact, end_of, is_award, is_ended, is_ending};
-ghost use Rattle.request_room.specs.Book.{IsBest, IsEndOf, book_of, cover_of, others, room_after};
+ghost use Rattle.request_room.specs.Book.{IsBest, IsEndOf, book_of, cover_of, event_facts, others};
+ghost use Rattle.request_room.specs.Book.{room_after};
 
-/// A room that has ended changes no more, whatever is tried on it: its facts stay, and with them its book and its end.
+/// A room begins with no fact, and one event more adds what `event_facts` says of it to the facts
+/// that stand: so whoever tells a room one event at a time follows it by its facts alone.
+pub fn facts_after_one_event_more()
+    ensures begins { room_after [] ≡ [] }
+    ensures more { (events : List RoomEvent) (event : RoomEvent) → room_after (events ++ event ∷ [])
+        ≡ room_after events ++ event_facts (room_after events) event }
+{}
+
+/// A room that has ended changes no more, whatever is tried on it: its facts stay, and with them
+/// its book and its end.
 pub fn an_ended_room_changes_no_more()
-    ensures { (events more : List RoomEvent) → IsTrue (is_ended (room_after events)) → room_after (events ++ more) ≡ room_after events }
+    ensures { (events more : List RoomEvent) → IsTrue (is_ended (room_after events))
+        → room_after (events ++ more) ≡ room_after events }
 {}
 
 /// A room ends once at most, and is awarded once at most.
@@ -17,21 +29,27 @@ pub fn a_room_ends_once()
     ensures awards { (events : List RoomEvent) → length (filter is_award (room_after events)) ≤ 1 }
 {}
 
-/// The cover of an award is the best of the quotes of the other dealers: no other's is better, and each other's that
-/// was posted earlier is worse. It is never the winner's, and there is one exactly where another dealer's quote stands.
+/// The cover of an award is the best of the quotes of the other dealers: no other's is better, and
+/// each other's that was posted earlier is worse. It is never the winner's, and there is one
+/// exactly where another dealer's quote stands.
 pub fn the_cover_is_the_best_other_quote()
-    ensures best { (side : Side) (winner : ℕ) (book : List StandingQuote) → IfSome (cover_of side winner book) (λ cover. IsBest side (others winner book) cover) }
-    ensures another { (side : Side) (winner : ℕ) (book : List StandingQuote) → IfSome (cover_of side winner book) (λ cover. cover.dealer ≢ winner) }
-    ensures none { (side : Side) (winner : ℕ) (book : List StandingQuote) → (cover_of side winner book ≡ None) ↔ (others winner book ≡ []) }
+    ensures best { (side : Side) (winner : ℕ) (book : List StandingQuote)
+        → IfSome (cover_of side winner book) (λ cover. IsBest side (others winner book) cover) }
+    ensures another { (side : Side) (winner : ℕ) (book : List StandingQuote)
+        → IfSome (cover_of side winner book) (λ cover. cover.dealer ≢ winner) }
+    ensures none { (side : Side) (winner : ℕ) (book : List StandingQuote)
+        → (cover_of side winner book ≡ None) ↔ (others winner book ≡ []) }
 {}
 
 /// The book has one quote of a dealer at most.
 pub fn a_dealer_has_one_quote()
-    ensures { (facts : List RoomFact) → AllPairs (λ one other. one.dealer ≢ other.dealer) (book_of facts) }
+    ensures { (facts : List RoomFact)
+        → AllPairs (λ one other. one.dealer ≢ other.dealer) (book_of facts) }
 {}
 
-/// A room that was awarded has a winner, and its cover, where there is one, is another dealer. A room that ended
-/// otherwise has neither.
+/// A room that was awarded has a winner, and its cover, where there is one, is another dealer. A
+/// room that ended otherwise has neither.
 pub fn only_an_award_has_a_winner()
-    ensures { (events : List RoomEvent) → IfSome (end_of (room_after events)) (λ end. IsEndOf end.kind end.winner end.cover) }
+    ensures { (events : List RoomEvent)
+        → IfSome (end_of (room_after events)) (λ end. IsEndOf end.kind end.winner end.cover) }
 {}

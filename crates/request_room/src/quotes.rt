@@ -12,8 +12,8 @@ pub struct StandingQuote {
     pub dealer: u16,
     /// Its word, by which the room names it.
     pub word: u32,
-    /// Its price in ticks of 1/256 point: an offer (OfferPx 133) where the investor buys, a bid (BidPx 132) where it
-    /// sells.
+    /// Its price in ticks of 1/256 point: an offer (OfferPx 133) where the investor buys, a bid
+    /// (BidPx 132) where it sells.
     pub price: Ticks,
     /// The moment from which on it can't be hit (ValidUntilTime 62), where one was given.
     pub valid_until: Option<Moment>,
@@ -22,7 +22,8 @@ pub struct StandingQuote {
 impl StandingQuote {
     /// Its posting.
     pub(crate) fn posting(&self) -> RoomEvent
-        ensures { result ≡ RoomEvent.Post self.now.dealer self.now.word self.now.price self.now.valid_until }
+        ensures { result ≡ RoomEvent.Post self.now.dealer self.now.word self.now.price
+            self.now.valid_until }
     {
         RoomEvent::Post {
             dealer: self.dealer,

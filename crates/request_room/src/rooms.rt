@@ -1,42 +1,51 @@
 //! The room of one request.
-ghost use Rattle.std.specs.Prelude.{◌≡◌, ◌≤◌, ◌||◌, ◌&&◌, [], ◌∷◌, ◌++◌, length, is_some, is_ok, option_map, IsTrue, IfOk, OnOk, OnErr};
-ghost use Rattle.request_room.specs.RoomFacts.{are_distinct, end_of, is_named, is_open, is_opening, is_vacant, request_of, takes_quotes};
-ghost use Rattle.request_room.specs.Book.{award_of, book_of, hit_outcome, hit_question, hit_refusal, is_past_deadline, may_expire, reply_of, room_after, stands};
+ghost use Rattle.std.specs.Prelude.{◌≡◌, [], ◌∷◌, ◌++◌, is_some, is_ok, option_map};
+ghost use Rattle.std.specs.Prelude.{IsTrue, IfOk, OnOk, OnErr};
+ghost use Rattle.request_room.specs.RoomFacts as facts;
+ghost use Rattle.request_room.specs.Book as spec;
+ghost use Rattle.request_room.specs.Book.{room_after};
 
-use crate::book::{cover_for, leave_others, quote_meant, stands, take_out};
+use crate::book::RoomBook;
 use crate::hits::{is_expired, is_past_deadline, settled};
 use crate::{End, EndKind, RoomEvent, RoomRequest, StandingQuote};
 use bond_prices::Ticks;
 use fix_fields::{Memory, Moment};
-use quote_messages::{Ask, HitRefusal, Reply};
+use market_terms::{Ask, AskedDealers, HitRefusal, Reply, Side};
 use quote_word::Settled;
 use std::alloc::Global;
 use std::marker::Model;
 
-/// The room of one request: where the quotes of its dealers stand until the investor hits one of them, passes, or the
-/// deadline comes.
+/// The room of one request: where the quotes of its dealers stand until the investor hits one of
+/// them, passes, or the deadline comes.
 ///
-/// A contract sees the list of what was tried on the room. What became of it is `room_after` that list: the facts that
-/// stand, and from them whether the room is vacant, opening, open or ended, its book and its end.
+/// That the room is vacant, opening, or hears a dealer, a call's condition, is tested by the steps
+/// of the venue, which know whom they act for; no rule of the room tests it.
+///
+/// A contract sees the list of what was tried on the room. What became of it is `room_after` that
+/// list: the facts that stand, and from them whether the room is vacant, opening, open or ended,
+/// its book and its end.
 #[derive(Drop)]
 pub struct Room {
     events: Vec<RoomEvent>,
     request: Option<RoomRequest>,
     ready: bool,
-    book: Vec<StandingQuote>,
+    book: RoomBook,
     end: Option<End>,
 }
 
 impl Model for Room {
-    ghost use Rattle.std.specs.Prelude.{List};
+    ghost use Rattle.std.specs.Prelude.{List, length};
     ghost use Rattle.request_room.specs.declared.events.RoomEvent.{RoomEvent};
-    ghost use Rattle.request_room.specs.Book.{Keeps, room_after};
+    ghost use Rattle.request_room.specs.Book.{room_after};
+    ghost use Rattle.request_room.specs.Kept.{KeepsRoom};
 
     ghost Value = { List RoomEvent };
 
     ghost view = { λ room. room.events.items };
 
-    ghost invariant = { λ room. Keeps (room_after room.events.items) room.request room.ready room.book.items room.end };
+    ghost invariant = { λ room.
+        KeepsRoom (room_after room.events.items) (length room.events.items)
+        room.request room.ready room.book.side room.book.quotes.items room.end };
 }
 
 impl Room {
@@ -48,32 +57,32 @@ impl Room {
             events: Vec::new(alloc),
             request: None,
             ready: false,
-            book: Vec::new(alloc),
+            book: RoomBook::empty(alloc, Side::Buy),
             end: None,
         }
     }
 
-    /// Opens a vacant room for a request (QuoteRequest 35=R) of 1 to 8 distinct dealers, named by their numbers among
-    /// the firms. It fails for memory alone, and then the room is as before.
-    pub fn open(&mut self, ask: Ask, dealers: &[u16]) -> Result<(), Memory>
-        requires vacant { IsTrue (is_vacant (room_after self.old)) }
-        requires some { 1 ≤ length dealers.now }
-        requires few { length dealers.now ≤ 8 }
-        requires distinct { IsTrue (are_distinct dealers.now) }
-        ensures ok { OnOk result (self.new ≡ self.old ++ RoomEvent.Open (record { ask = ask; dealers = record { items = dealers.now } }) ∷ []) }
+    /// Opens a vacant room for a request (QuoteRequest 35=R) of these dealers, named by their
+    /// numbers among the firms. It fails for memory alone, and then the room is as before.
+    pub fn open(&mut self, ask: Ask, dealers: AskedDealers) -> Result<(), Memory>
+        requires { IsTrue (facts.is_vacant (room_after self.old)) }
+        ensures ok { OnOk result
+            (self.new ≡ self.old ++ RoomEvent.Open (record { ask = ask; dealers = dealers }) ∷ []) }
         ensures err { OnErr result (self.new ≡ self.old) }
     {
-        let request = RoomRequest::new(ask, dealers);
+        let side = ask.side;
+        let request = RoomRequest { ask, dealers };
         self.events.reserve(1)?;
         self.events.push(RoomEvent::Open(request.copy()))?;
+        self.book.side = side;
         self.request = Some(request);
         Ok(())
     }
 
-    /// Makes an opening room open for hits, a pass and its expiry: each named dealer was shown the request. It fails
-    /// for memory alone, and then the room is as before.
+    /// Makes an opening room open for hits, a pass and its expiry: each named dealer was shown the
+    /// request. It fails for memory alone, and then the room is as before.
     pub fn ready(&mut self) -> Result<(), Memory>
-        requires { IsTrue (is_opening (room_after self.old)) }
+        requires { IsTrue (facts.is_opening (room_after self.old)) }
         ensures ok { OnOk result (self.new ≡ self.old ++ RoomEvent.Ready ∷ []) }
         ensures err { OnErr result (self.new ≡ self.old) }
     {
@@ -83,10 +92,11 @@ impl Room {
         Ok(())
     }
 
-    /// Posts a quote of a named dealer (Quote 35=S) with its word, its price in ticks of 1/256 point on the asked
-    /// side, and the moment from which on it can't be hit (ValidUntilTime 62), in the place of the quote that the
-    /// dealer has in the book. It answers whether it took effect: it does where the room is opening or open, and in a
-    /// vacant room it does not. It fails for memory alone, and then the room is as before.
+    /// Posts a quote of a named dealer (Quote 35=S) with its word, its price in ticks of 1/256
+    /// point on the asked side, and the moment from which on it can't be hit (ValidUntilTime 62),
+    /// in the place of the quote that the dealer has in the book. It answers whether it took
+    /// effect: it does where the room is opening or open, and in a vacant room it does not. It
+    /// fails for memory alone, and then the room is as before.
     pub fn post(
         &mut self,
         dealer: u16,
@@ -94,8 +104,8 @@ impl Room {
         price: Ticks,
         until: Option<Moment>,
     ) -> Result<bool, Memory>
-        requires { IsTrue (is_vacant (room_after self.old) || is_named (room_after self.old) dealer) }
-        ensures effect { IfOk result (λ effect. effect ≡ takes_quotes (room_after self.old)) }
+        requires { IsTrue (facts.hears (room_after self.old) dealer) }
+        ensures effect { IfOk result (λ effect. effect ≡ facts.takes_quotes (room_after self.old)) }
         ensures ok { OnOk result (self.new ≡ self.old ++ RoomEvent.Post dealer w price until ∷ []) }
         ensures err { OnErr result (self.new ≡ self.old) }
     {
@@ -106,42 +116,44 @@ impl Room {
             valid_until: until,
         };
         let takes = self.takes_quotes();
+        let posting = self.events.len();
         self.events.reserve(1)?;
-        self.book.reserve(1)?;
+        self.book.reserve()?;
         self.events.push(quote.posting())?;
         if !takes {
             return Ok(false);
         }
-        leave_others(&mut self.book, dealer);
-        self.book.push(quote)?;
+        self.book.post(posting, quote)?;
         Ok(true)
     }
 
-    /// Takes the quote of a named dealer with this word out of the book, once its dealer withdrew it (QuoteCancel
-    /// 35=Z). It answers whether it took effect: it does where that quote of that dealer stands in a room that has
-    /// not ended. It fails for memory alone, and then the room is as before.
+    /// Takes the quote of a named dealer with this word out of the book, once its dealer withdrew
+    /// it (QuoteCancel 35=Z). It answers whether it took effect: it does where that quote of that
+    /// dealer stands in a room that has not ended. It fails for memory alone, and then the room is
+    /// as before.
     pub fn unpost(&mut self, dealer: u16, w: u32) -> Result<bool, Memory>
-        requires { IsTrue (is_vacant (room_after self.old) || is_named (room_after self.old) dealer) }
-        ensures effect { IfOk result (λ effect. effect ≡ (takes_quotes (room_after self.old) && stands (book_of (room_after self.old)) dealer w)) }
+        requires { IsTrue (facts.hears (room_after self.old) dealer) }
+        ensures effect { IfOk result
+            (λ effect. effect ≡ spec.may_unpost (room_after self.old) dealer w) }
         ensures ok { OnOk result (self.new ≡ self.old ++ RoomEvent.Unpost dealer w ∷ []) }
         ensures err { OnErr result (self.new ≡ self.old) }
     {
-        let standing = self.stands(dealer, w);
+        let standing = self.may_unpost(dealer, w);
         self.events.reserve(1)?;
         self.events.push(RoomEvent::Unpost { dealer, word: w })?;
         if !standing {
             return Ok(false);
         }
-        take_out(&mut self.book, dealer, w);
+        self.book.unpost(dealer, w);
         Ok(true)
     }
 
-    /// Notes that a named dealer declined (QuoteRequestReject 35=AG). It answers whether it took effect: it does
-    /// where the room is opening or open, also a second time. The book stays as it is. It fails for memory alone, and
-    /// then the room is as before.
+    /// Notes that a named dealer declined (QuoteRequestReject 35=AG). It answers whether it took
+    /// effect: it does where the room is opening or open, also a second time. The book stays as it
+    /// is. It fails for memory alone, and then the room is as before.
     pub fn decline(&mut self, dealer: u16) -> Result<bool, Memory>
-        requires { IsTrue (is_vacant (room_after self.old) || is_named (room_after self.old) dealer) }
-        ensures effect { IfOk result (λ effect. effect ≡ takes_quotes (room_after self.old)) }
+        requires { IsTrue (facts.hears (room_after self.old) dealer) }
+        ensures effect { IfOk result (λ effect. effect ≡ facts.takes_quotes (room_after self.old)) }
         ensures ok { OnOk result (self.new ≡ self.old ++ RoomEvent.Decline dealer ∷ []) }
         ensures err { OnErr result (self.new ≡ self.old) }
     {
@@ -151,12 +163,13 @@ impl Room {
         Ok(takes)
     }
 
-    /// The word that has to be asked before the quote with this word is hit at this moment, or else the first of
-    /// these refusals: `NotOpen` where the room is not open, `Deadline` where the moment is at or past the deadline
-    /// (ExpireTime 126), `Gone` where no quote in the book bears the word, `Expired` where the quote's validity
-    /// (ValidUntilTime 62) ends at or before the moment. It takes no memory.
+    /// The word that has to be asked before the quote with this word is hit at this moment, or else
+    /// the first of these refusals: `NotOpen` where the room is not open, `Deadline` where the
+    /// moment is at or past the deadline (ExpireTime 126), `Gone` where no quote in the book bears
+    /// the word, `Expired` where the quote's validity (ValidUntilTime 62) ends at or before the
+    /// moment. It takes no memory.
     pub fn question_hit(&self, w: u32, moment: Moment) -> Result<u32, HitRefusal>
-        ensures { result ≡ hit_question (room_after self.now) w moment }
+        ensures { result ≡ spec.hit_question (room_after self.now) w moment }
     {
         if let Some(refused) = self.hit_refusal(w, moment) {
             return Err(refused);
@@ -164,14 +177,17 @@ impl Room {
         Ok(w)
     }
 
-    /// The investor hits the quote with this word (QuoteResponse 35=AJ, QuoteRespType 694=1), with the answer of the
-    /// word where it is asked. A lifted word awards the request to the earliest posted quote that bears it, and ends
-    /// the room. Else the hit is refused as [`Room::question_hit`] says, or as `Withdrawn` where the word was
-    /// withdrawn, and the room stays as it was but for the event. It fails for memory alone, and then the room is as
+    /// The investor hits the quote with this word (QuoteResponse 35=AJ, QuoteRespType 694=1), with
+    /// the answer of the word where it is asked. A lifted word awards the request to the earliest
+    /// posted quote that bears it, and ends the room. Else the hit is refused as
+    /// [`Room::question_hit`] says, or as `Withdrawn` where the word was withdrawn, and the room
+    /// stays as it was but for the event. It fails for memory alone, and then the room is as
     /// before.
     pub fn hit(&mut self, w: u32, moment: Moment, answer: Option<Settled>) -> Result<Reply, Memory>
-        requires { is_some answer ≡ is_ok (hit_question (room_after self.old) w moment) }
-        ensures reply { IfOk result (λ reply. reply ≡ reply_of (hit_outcome (room_after self.old) w moment answer)) }
+        requires { is_some answer ≡ is_ok (spec.hit_question (room_after self.old) w moment) }
+        ensures reply { IfOk result
+            (λ reply. reply
+            ≡ spec.reply_of (spec.hit_outcome (room_after self.old) w moment answer)) }
         ensures ok { OnOk result (self.new ≡ self.old ++ RoomEvent.Hit w moment answer ∷ []) }
         ensures err { OnErr result (self.new ≡ self.old) }
     {
@@ -190,10 +206,11 @@ impl Room {
         Ok(Reply::Awarded)
     }
 
-    /// The investor passes at this moment (QuoteResponse 35=AJ, QuoteRespType 694=6). It answers whether that ended the
-    /// room: it does where the room is open. It fails for memory alone, and then the room is as before.
+    /// The investor passes at this moment (QuoteResponse 35=AJ, QuoteRespType 694=6). It answers
+    /// whether that ended the room: it does where the room is open. It fails for memory alone, and
+    /// then the room is as before.
     pub fn pass(&mut self, moment: Moment) -> Result<bool, Memory>
-        ensures ended { IfOk result (λ ended. ended ≡ is_open (room_after self.old)) }
+        ensures ended { IfOk result (λ ended. ended ≡ facts.is_open (room_after self.old)) }
         ensures ok { OnOk result (self.new ≡ self.old ++ RoomEvent.Pass moment ∷ []) }
         ensures err { OnErr result (self.new ≡ self.old) }
     {
@@ -211,11 +228,12 @@ impl Room {
         Ok(true)
     }
 
-    /// A sweep at this moment. It answers whether it ended the room: it does where the room is open and the moment is
-    /// at or past the deadline of the request (ExpireTime 126). It fails for memory alone, and then the room is as
-    /// before.
+    /// A sweep at this moment. It answers whether it ended the room: it does where the room is open
+    /// and the moment is at or past the deadline of the request (ExpireTime 126). It fails for
+    /// memory alone, and then the room is as before.
     pub fn expire(&mut self, moment: Moment) -> Result<bool, Memory>
-        ensures ended { IfOk result (λ ended. ended ≡ may_expire (room_after self.old) moment) }
+        ensures ended { IfOk result
+            (λ ended. ended ≡ spec.may_expire (room_after self.old) moment) }
         ensures ok { OnOk result (self.new ≡ self.old ++ RoomEvent.Expire moment ∷ []) }
         ensures err { OnErr result (self.new ≡ self.old) }
     {
@@ -240,23 +258,31 @@ impl Room {
         self.events.as_slice()
     }
 
+    /// The same events, taken out of the room. It takes no memory.
+    pub fn into_events(self) -> Vec<RoomEvent>
+        ensures { result.items ≡ self }
+    {
+        let Self { events, .. } = self;
+        events
+    }
+
     /// Whether no request has opened the room yet.
     pub fn is_vacant(&self) -> bool
-        ensures { result ≡ is_vacant (room_after self.now) }
+        ensures { result ≡ facts.is_vacant (room_after self.now) }
     {
         self.request.is_none() && self.end.is_none()
     }
 
     /// Whether the room was opened and not every named dealer was shown its request yet.
     pub fn is_opening(&self) -> bool
-        ensures { result ≡ is_opening (room_after self.now) }
+        ensures { result ≡ facts.is_opening (room_after self.now) }
     {
         self.request.is_some() && !self.ready && self.end.is_none()
     }
 
     /// Whether the room's request names a dealer.
     pub fn named(&self, dealer: u16) -> bool
-        ensures { result ≡ is_named (room_after self.now) dealer }
+        ensures { result ≡ facts.is_named (room_after self.now) dealer }
     {
         let Some(request) = &self.request else {
             return false;
@@ -266,50 +292,51 @@ impl Room {
 
     /// What the room was opened for, if it was: what is asked, and the dealers in their order.
     pub fn request(&self) -> Option<&RoomRequest>
-        ensures { option_map (λ request. request.now) result ≡ request_of (room_after self.now) }
+        ensures { option_map (λ request. request.now) result
+            ≡ facts.request_of (room_after self.now) }
     {
         self.request.as_ref()
     }
 
     /// How the room ended, if it has.
     pub fn end(&self) -> Option<End>
-        ensures { result ≡ end_of (room_after self.now) }
+        ensures { result ≡ facts.end_of (room_after self.now) }
     {
         self.end
     }
 
     /// Whether the room takes hits, a pass and its expiry.
     fn is_open(&self) -> bool
-        ensures { result ≡ is_open (room_after self.now) }
+        ensures { result ≡ facts.is_open (room_after self.now) }
     {
         self.ready && self.end.is_none()
     }
 
     /// Whether the room takes posts, unposts and declines.
     fn takes_quotes(&self) -> bool
-        ensures { result ≡ takes_quotes (room_after self.now) }
+        ensures { result ≡ facts.takes_quotes (room_after self.now) }
     {
         self.request.is_some() && self.end.is_none()
     }
 
     /// Whether a sweep at this moment ends the room.
     fn may_expire(&self, moment: Moment) -> bool
-        ensures { result ≡ may_expire (room_after self.now) moment }
+        ensures { result ≡ spec.may_expire (room_after self.now) moment }
     {
         self.is_open() && is_past_deadline(&self.request, moment)
     }
 
     /// Whether an unpost of this quote of this dealer takes effect.
-    fn stands(&self, dealer: u16, w: u32) -> bool
-        ensures { result ≡ (takes_quotes (room_after self.now) && stands (book_of (room_after self.now)) dealer w) }
+    fn may_unpost(&self, dealer: u16, w: u32) -> bool
+        ensures { result ≡ spec.may_unpost (room_after self.now) dealer w }
     {
-        self.takes_quotes() && stands(&self.book, dealer, w)
+        self.takes_quotes() && self.book.stands(dealer, w)
     }
 
     /// Why a hit is refused before the word is asked, if it is.
     #[tactic(auto, unfolding(crate::specs::Book::hit_refusal))]
     fn hit_refusal(&self, w: u32, moment: Moment) -> Option<HitRefusal>
-        ensures { result ≡ hit_refusal (room_after self.now) w moment }
+        ensures { result ≡ spec.hit_refusal (room_after self.now) w moment }
     {
         if !self.is_open() {
             return Some(HitRefusal::NotOpen);
@@ -317,7 +344,7 @@ impl Room {
         if is_past_deadline(&self.request, moment) {
             return Some(HitRefusal::Deadline);
         }
-        let Some(quote) = quote_meant(&self.book, w) else {
+        let Some(quote) = self.quote_meant(w) else {
             return Some(HitRefusal::Gone);
         };
         if is_expired(quote, moment) {
@@ -327,15 +354,37 @@ impl Room {
     }
 
     /// The end by an award of the quote that this word means.
+    #[tactic(auto, using(crate::proofs::KeptRoomLemmas::no_cover))]
     fn award_of(&self, w: u32) -> End
-        ensures { result ≡ award_of (room_after self.now) w }
+        ensures { result ≡ spec.award_of (room_after self.now) w }
     {
-        let quote = quote_meant(&self.book, w);
-        let cover = cover_for(&self.request, &quote, &self.book);
+        let Some(quote) = self.quote_meant(w) else {
+            return End {
+                kind: EndKind::Awarded,
+                winner: None,
+                cover: None,
+            };
+        };
         End {
             kind: EndKind::Awarded,
-            winner: quote.map(|quote| (quote.dealer, quote.word)),
-            cover: cover.map(|cover| cover.dealer),
+            winner: Some((quote.dealer, quote.word)),
+            cover: self.cover_for(&quote),
         }
+    }
+
+    /// The quote that a hit of this word means.
+    fn quote_meant(&self, w: u32) -> Option<StandingQuote>
+        ensures { result ≡ spec.quote_meant (spec.book_of (room_after self.now)) w }
+    {
+        self.book.hit(w)
+    }
+
+    /// The dealer of the cover of an award of this quote, where there is one.
+    fn cover_for(&self, winner: &StandingQuote) -> Option<u16>
+        ensures { result ≡ option_map (λ quote. quote.dealer)
+            (spec.cover_for (facts.request_of (room_after self.now)) (Some winner.now)
+            (spec.book_of (room_after self.now))) }
+    {
+        self.book.cover(winner.dealer)
     }
 }

@@ -1,6 +1,3 @@
 pub mod CommandLemmas
-pub mod LawfulWords
-pub mod CutLemmas
-pub mod TagLemmas
-pub mod SpellLemmas
+pub mod LawfulArguments
 pub mod StreamLemmas

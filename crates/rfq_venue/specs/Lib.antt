@@ -1,6 +1,2 @@
-pub mod CommandWords
-pub mod DealerView
-pub mod DueText
-pub mod ProgramText
-pub mod SayLine
-pub mod Words
+pub mod Arguments
+pub mod Runs

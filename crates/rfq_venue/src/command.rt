@@ -1,20 +1,20 @@
-//! The words of a command.
+//! The arguments of a command.
 ghost use Rattle.std.specs.Prelude.{◌≡◌, ◌↔◌, ℕ, List, [], ◌∷◌, codes, map, IfOk, IfErr};
 ghost use Rattle.clap.specs.Words.{HasKind, app_of, kind_of};
-ghost use Rattle.rfq_venue.specs.CommandWords.{IsCommand, IsToldOf, asks_for_frames, venue_app, words_fault};
+ghost use Rattle.rfq_venue.specs.Arguments.{IsCommand, IsToldOf, arguments_fault, asks_for_frames};
+ghost use Rattle.rfq_venue.specs.Arguments.{venue_app};
 
+use crate::help::{ABOUT, ALONE, FRAMES, READS, VERSION};
 use clap::error::ErrorKind;
 use clap::{Arg, ArgAction, Command, Error};
 use fix_fields::Memory;
 use std::alloc::Global;
 use std::convert::AsStr;
-use std::rt::Env;
-use std::{env, io};
 
-/// What is told of words that are not those of a command.
+/// What is told of arguments that are not those of a command.
 #[derive(Drop)]
 pub(crate) enum Told {
-    /// They ask for this help.
+    /// They ask for this help, or for the version.
     Help(String),
     /// They are wrong, and this says why.
     Wrong(String),
@@ -22,42 +22,15 @@ pub(crate) enum Told {
     Memory,
 }
 
-const ABOUT: &str = "A blind multi-dealer RFQ venue for bonds";
-
-const ALONE: &str =
-    "Prints the messages that one dealer is sent, from its due text on standard input";
-
-const FRAMES: &str = "Prints each message as its whole frame, with a vertical bar for each SOH";
-
-const READS: &str = "\
-Standard input is due text, one line for each of:
-  date YYYYMMDD
-  dealer NAME QUOTES EXPOSURE TRADER ..
-and then, in the order in which it happens,
-  shown INVESTOR BOND SIDE QUANTITY DEADLINE TIME   a request that the dealer is shown
-  say TRADER TIME TYPE BODY                         a message of the dealer's own
-  own TIME FRAME                                    the same byte by byte, a vertical bar for each SOH
-  lifted N                                          the dealer's quote N is lifted
-  closed N KIND TIME                                the dealer is told how its request N ended:
-                                                    1 hit, 3 expired, 4 cover, 5 done away, 6 passed
-Empty lines and lines that begin with # are skipped. No words at all mean `alone`.
-
-Example:
-  date 20250314
-  dealer DLR1 4 10000000 T1
-  shown INV1 BONDA0000001 1 2000000 09:05:00 09:00:00
-  say T1 09:00:10 S 117=a1|131=R1|48=BONDA0000001|22=4|133=99.50390625
-prints
-  DLR1 1 09:00:00.000 R 131=R1|146=1|55=[N/A]|48=BONDA0000001|22=4|54=1|38=2000000|126=20250314-09:05:00.000|453=1|448=INV1|447=D|452=13
-  DLR1 2 09:00:10.000 AI 131=R1|117=a1|297=0";
-
-/// Whether the words of `alone` ask for frames, or what is wrong with words that are not those of a command.
-pub(crate) fn read_command<'a, S: AsStr>(alloc: Global, words: &'a [S]) -> Result<bool, Error>
-    ensures none { IfOk result (λ _. words_fault (map S.text words.entry.now) ≡ []) }
-    ensures frames { IfOk result (λ with_frames. with_frames ≡ asks_for_frames (map S.text words.entry.now)) }
-    ensures err { IfErr result (HasKind (words_fault (map S.text words.entry.now))) }
+/// Whether the arguments of `alone` ask for frames, or what is wrong with arguments that are not
+/// those of a command.
+pub(crate) fn read_command<'a, S: AsStr>(alloc: Global, arguments: &'a [S]) -> Result<bool, Error>
+    ensures none { IfOk result (λ _. arguments_fault (map S.text arguments.entry.now) ≡ []) }
+    ensures frames { IfOk result (λ with_frames.
+        with_frames ≡ asks_for_frames (map S.text arguments.entry.now)) }
+    ensures err { IfErr result (HasKind (arguments_fault (map S.text arguments.entry.now))) }
 {
-    let matches = venue_command(alloc)?.try_get_matches_from(words)?;
+    let matches = venue_command(alloc)?.try_get_matches_from(arguments)?;
     let Some((_, alone)) = matches.subcommand() else {
         return Ok(false);
     };
@@ -76,7 +49,9 @@ fn venue_command<'a>(alloc: Global) -> Result<Command<'a>, Memory>
         .about(ALONE)
         .after_help(READS)
         .arg(frames)?;
-    Command::new(alloc, "rfq_venue")
+    let named = Command::new(alloc, "rfq_venue").bin_name("rfq_venue")?;
+    named
+        .version(VERSION)
         .about(ABOUT)
         .after_help(READS)
         .no_binary_name(true)
@@ -84,7 +59,7 @@ fn venue_command<'a>(alloc: Global) -> Result<Command<'a>, Memory>
         .subcommand(alone)
 }
 
-/// What an error of the words is to tell.
+/// What an error of the arguments is to tell.
 pub(crate) fn told_by(alloc: Global, error: &Error) -> Told
     ensures { IsToldOf (kind_of error.now) result }
 {
@@ -102,29 +77,37 @@ pub(crate) fn told_by(alloc: Global, error: &Error) -> Told
     }
 }
 
-/// The words that are a command are `alone` and `alone --frames`, each with `--` behind it or not, and no others.
-pub fn these_words_are_commands()
-    ensures { (words : List (List ℕ)) → (words_fault words ≡ []) ↔ IsCommand words }
+/// The arguments that are a command are `alone` and `alone --frames`, each with `--` behind it or
+/// not, and no others.
+pub fn these_arguments_are_commands()
+    ensures { (arguments : List (List ℕ)) → (arguments_fault arguments ≡ []) ↔ IsCommand arguments }
 {}
 
-/// What is wrong with some words that are no command: they ask for help, or there is a mistake in them.
-/// [`run_program`](crate::run_program) says how a run with such words ends.
-pub fn words_have_these_faults()
-    ensures help { words_fault (codes "--help" ∷ []) ≡ ErrorKind.DisplayHelp ∷ [] }
-    ensures short_help { words_fault (codes "-h" ∷ []) ≡ ErrorKind.DisplayHelp ∷ [] }
-    ensures help_as_a_word { words_fault (codes "help" ∷ []) ≡ ErrorKind.DisplayHelp ∷ ErrorKind.InvalidSubcommand ∷ [] }
-    ensures help_on_alone { words_fault (codes "alone" ∷ codes "--help" ∷ []) ≡ ErrorKind.DisplayHelp ∷ [] }
-    ensures frames_of_nothing { words_fault (codes "--frames" ∷ []) ≡ ErrorKind.UnknownArgument ∷ [] }
-    ensures frames_twice { words_fault (codes "alone" ∷ codes "--frames" ∷ codes "--frames" ∷ []) ≡ ErrorKind.ArgumentConflict ∷ [] }
-    ensures one_word_more { words_fault (codes "alone" ∷ codes "x" ∷ []) ≡ ErrorKind.UnknownArgument ∷ [] }
-    ensures no_command { words_fault (codes "replay" ∷ []) ≡ ErrorKind.UnknownArgument ∷ ErrorKind.InvalidSubcommand ∷ [] }
-{}
+/// What is wrong with some arguments that are no command: they ask for help or the version, or
+/// there is a mistake in them. [`run_program`](crate::run_program) says how a run with such
+/// arguments ends.
+pub fn arguments_have_these_faults()
+    ensures help { arguments_fault (codes "--help" ∷ []) ≡ ErrorKind.DisplayHelp ∷ [] }
+    ensures short_help { arguments_fault (codes "-h" ∷ []) ≡ ErrorKind.DisplayHelp ∷ [] }
+    ensures version { arguments_fault (codes "--version" ∷ []) ≡ ErrorKind.DisplayVersion ∷ [] }
+    ensures short_version { arguments_fault (codes "-V" ∷ []) ≡ ErrorKind.DisplayVersion ∷ [] }
+    ensures help_as_a_command { arguments_fault (codes "help" ∷ [])
+        ≡ ErrorKind.DisplayHelp ∷ ErrorKind.InvalidSubcommand ∷ [] }
+    ensures help_on_alone { arguments_fault (codes "alone" ∷ codes "--help" ∷ [])
+        ≡ ErrorKind.DisplayHelp ∷ [] }
 
-/// The words behind the program's name.
-pub(crate) fn words_of_process<R: Env + AllocGlobal>(rt: &R) -> io::Result<Vec<String>> {
-    let mut words = Vec::new(rt.alloc());
-    for word in env::args(rt)?.skip(1) {
-        words.push(word)?;
-    }
-    Ok(words)
-}
+    // Help wins at its first flag, whatever stands behind it.
+    ensures help_first { (rest : List (List ℕ)) → arguments_fault (codes "--help" ∷ rest)
+        ≡ ErrorKind.DisplayHelp ∷ [] }
+    ensures help_on_alone_first { arguments_fault (codes "alone" ∷ codes "--help" ∷ codes "x" ∷ [])
+        ≡ ErrorKind.DisplayHelp ∷ [] }
+
+    ensures frames_of_nothing { arguments_fault (codes "--frames" ∷ [])
+        ≡ ErrorKind.UnknownArgument ∷ [] }
+    ensures frames_twice { arguments_fault
+        (codes "alone" ∷ codes "--frames" ∷ codes "--frames" ∷ []) ≡ ErrorKind.ArgumentConflict ∷ [] }
+    ensures one_argument_more { arguments_fault (codes "alone" ∷ codes "x" ∷ [])
+        ≡ ErrorKind.UnknownArgument ∷ [] }
+    ensures no_command { arguments_fault (codes "replay" ∷ [])
+        ≡ ErrorKind.UnknownArgument ∷ ErrorKind.InvalidSubcommand ∷ [] }
+{}

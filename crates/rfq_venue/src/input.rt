@@ -1,21 +1,20 @@
 //! Reading standard input.
 ghost use Rattle.std.specs.Prelude.{◌≡◌, ◌⊎◌, IfOk, IfErr, IfSome};
-ghost use Rattle.rfq_venue.specs.ProgramText.{IsReadOf};
+ghost use Rattle.rfq_venue.specs.Runs.{IsReadOf};
 
-use crate::faults::ProgramFault;
 use std::alloc::Global;
 use std::io::Read;
-
-/// The greatest number of bytes that the program reads.
-pub(crate) const MOST_INPUT: usize = 16_777_216;
+use venue_text::{MOST_INPUT, ProgramFault};
 
 /// How many bytes are read at once.
 const CHUNK: usize = 16_384;
 
-/// Reads to the end, or until there are more bytes than the program reads.
+/// Reads to the end, or until there are more bytes than an input has at most.
 pub(crate) fn read_input<R: Read>(alloc: Global, input: &mut R) -> Result<Vec<u8>, ProgramFault>
-    ensures ok { IfOk result (λ bytes. IfSome (R.remaining input.old) (λ all. IsReadOf all bytes.items)) }
-    ensures err { IfErr result (λ fault. (fault ≡ ProgramFault.Read) ⊎ (fault ≡ ProgramFault.Memory)) }
+    ensures ok { IfOk result (λ bytes.
+        IfSome (R.remaining input.old) (λ all. IsReadOf all bytes.items)) }
+    ensures err { IfErr result (λ fault.
+        (fault ≡ ProgramFault.Read) ⊎ (fault ≡ ProgramFault.Memory)) }
 {
     let mut bytes = Vec::new(alloc);
     let mut chunk = [0; CHUNK];

@@ -1,7 +1,7 @@
 //! Identifiers of bonds.
 ghost use Rattle.std.specs.Prelude.{◌≡◌, ℕ, List, IsTrue};
 ghost use Rattle.fix_fields.specs.Frame.{IsValue};
-ghost use Rattle.venue_config.specs.Texts.{is_bond_id, text_if};
+ghost use Rattle.venue_config.specs.Texts as spec;
 
 use crate::characters::are_capitals_or_digits;
 use std::marker::Model;
@@ -18,7 +18,7 @@ impl Model for BondId {
 
     ghost view = { λ b. b.text };
 
-    ghost invariant = { λ b. IsTrue (is_bond_id b.text) };
+    ghost invariant = { λ b. IsTrue (spec.is_bond_id b.text) };
 
     ghost inverse = { λ text. record { text = text } };
 }
@@ -26,7 +26,7 @@ impl Model for BondId {
 impl BondId {
     /// The identifier that these bytes spell, or none where they spell none.
     pub fn new(text: &[u8]) -> Option<Self>
-        ensures { result ≡ text_if is_bond_id text.now }
+        ensures { result ≡ spec.text_if spec.is_bond_id text.now }
     {
         if !are_capitals_or_digits(text) {
             return None;
@@ -39,7 +39,7 @@ impl BondId {
     #[tactic(auto, using(crate::proofs::TextLemmas::bond_id_is_value))]
     pub fn as_bytes(&self) -> &[u8]
         ensures value { result.now ≡ self.now }
-        ensures named { IsTrue (is_bond_id self.now) }
+        ensures named { IsTrue (spec.is_bond_id self.now) }
         ensures field { IsValue self.now }
     {
         &self.text

@@ -6,10 +6,8 @@ ghost use Rattle.toml.specs.View.{view};
 ghost use Rattle.venue_config.specs.Texts.{same_text};
 ghost use Rattle.std.specs.List.{find};
 ghost use Rattle.std.specs.Option.{option_copied};
-ghost use Rattle.venue_config.specs.Rows.{dealer_values, investor_values, values_of, KeepsLimits};
-ghost use Rattle.venue_config.specs.Rows.{bond_with_id, dealer_numbered, investor_numbered};
-ghost use Rattle.venue_config.specs.Rows.{dealer_named, firm_number, has_room};
-ghost use Rattle.venue_config.specs.Config.{config_in, config_of, document_of, sums_fit};
+ghost use Rattle.venue_config.specs.Rows as rows;
+ghost use Rattle.venue_config.specs.Config as spec;
 
 use crate::copies::{copy_bonds, copy_dealers, copy_investors};
 use crate::faults::ConfigFault;
@@ -101,7 +99,7 @@ impl VenueConfig {
     /// The bonds that may be asked for, in the order of their rows.
     pub fn bonds(&self) -> &[BondRow]
         ensures value { result.now ≡ self.now.bonds }
-        ensures limits { KeepsLimits self.now }
+        ensures limits { rows.KeepsLimits self.now }
     {
         self.bonds.as_slice()
     }
@@ -110,7 +108,7 @@ impl VenueConfig {
     /// 0.
     pub fn dealers(&self) -> &[DealerRow]
         ensures value { result.now ≡ self.now.dealers }
-        ensures limits { KeepsLimits self.now }
+        ensures limits { rows.KeepsLimits self.now }
     {
         self.dealers.as_slice()
     }
@@ -118,14 +116,14 @@ impl VenueConfig {
     /// The investors, in the order of their rows: their numbers as firms go on behind the dealers'.
     pub fn investors(&self) -> &[InvestorRow]
         ensures value { result.now ≡ self.now.investors }
-        ensures limits { KeepsLimits self.now }
+        ensures limits { rows.KeepsLimits self.now }
     {
         self.investors.as_slice()
     }
 
     /// The bond with this identifier (SecurityID 48), or none where no bond has it.
     pub fn bond(&self, id: &[u8]) -> Option<BondRow>
-        ensures { result ≡ bond_with_id self.now id.now }
+        ensures { result ≡ rows.bond_with_id self.now id.now }
     {
         bond_with_id(self.bonds(), id)
     }
@@ -140,14 +138,14 @@ impl VenueConfig {
 
     /// The row of the dealer with this number as a firm, or none where it is no dealer's.
     pub fn dealer(&self, firm: u16) -> Option<&DealerRow>
-        ensures { option_copied result ≡ dealer_numbered self.now firm }
+        ensures { option_copied result ≡ rows.dealer_numbered self.now firm }
     {
         self.dealers.get(usize::from(firm))
     }
 
     /// The row of the investor with this number as a firm, or none where it is no investor's.
     pub fn investor(&self, firm: u16) -> Option<&InvestorRow>
-        ensures { option_copied result ≡ investor_numbered self.now firm }
+        ensures { option_copied result ≡ rows.investor_numbered self.now firm }
     {
         let firm = usize::from(firm);
         if firm < self.dealers.len() {
@@ -158,7 +156,7 @@ impl VenueConfig {
 
     /// The number as a firm of the dealer with this name, or none where no dealer has it.
     pub fn dealer_named(&self, name: &[u8]) -> Option<u16>
-        ensures { result ≡ dealer_named self.now name.now }
+        ensures { result ≡ rows.dealer_named self.now name.now }
     {
         let place = place_of_dealer(self.dealers(), name)?;
         Some(place as u16)
@@ -167,7 +165,7 @@ impl VenueConfig {
     /// The number of the firm with this name, or none where no firm has it: the dealers are
     /// numbered from 0 in their order, and the investors behind them.
     pub fn firm(&self, name: &str) -> Option<u16>
-        ensures { result ≡ firm_number self.now name.now }
+        ensures { result ≡ rows.firm_number self.now name.now }
     {
         firm_number(self.dealers(), self.investors(), name.as_bytes())
     }
@@ -176,7 +174,7 @@ impl VenueConfig {
     /// whether the firm is an investor, and the number is one of its requests of the day, 1 to
     /// `requests`.
     pub fn has_room(&self, firm: u16, number: u32) -> bool
-        ensures { result ≡ has_room self.now firm number }
+        ensures { result ≡ rows.has_room self.now firm number }
     {
         let Some(row) = self.investor(firm) else {
             return false;
@@ -226,7 +224,8 @@ fn sums_fit(dealers: &[DealerRow], investors: &[InvestorRow]) -> bool
     requires dealers_most { length dealers.now ≤ VenueConfig.MOST_DEALERS }
     requires investors_most { length investors.now ≤ VenueConfig.MOST_INVESTORS }
     ensures { result
-        ≡ sums_fit (map dealer_values dealers.now) (map investor_values investors.now) }
+        ≡ spec.sums_fit (map rows.dealer_values dealers.now)
+        (map rows.investor_values investors.now) }
 {
     quotes_in_all(dealers) <= VenueConfig::MOST_QUOTES_IN_ALL
         && requests_in_all(investors) <= VenueConfig::MOST_REQUESTS_IN_ALL
@@ -268,12 +267,12 @@ fn requests_in_all(investors: &[InvestorRow]) -> u64
 /// the first one.
 #[tactic(auto, unfolding(crate::specs::Config::config_of))]
 pub fn read_config(alloc: Global, text: &str) -> Result<VenueConfig, ConfigFault>
-    ensures ok { IfOk result (λ config. config_of text.now ≡ Ok (values_of config)) }
+    ensures ok { IfOk result (λ config. spec.config_of text.now ≡ Ok (rows.values_of config)) }
     ensures err { IfErr result (λ fault. fault ≢ ConfigFault.Memory
-        → config_of text.now ≡ Err fault) }
+        → spec.config_of text.now ≡ Err fault) }
     ensures toml { IfErr result (λ fault. fault ≡ ConfigFault.Toml
         → parse_document text.now ≡ None) }
-    ensures limits { IfOk result (λ config. KeepsLimits config) }
+    ensures limits { IfOk result (λ config. rows.KeepsLimits config) }
 {
     let document = read_toml(alloc, text)?;
     let config = read_document(alloc, &document)?;
@@ -283,9 +282,9 @@ pub fn read_config(alloc: Global, text: &str) -> Result<VenueConfig, ConfigFault
 /// Reads a text of TOML.
 #[tactic(auto, unfolding(crate::specs::Config::document_of))]
 fn read_toml(alloc: Global, text: &str) -> Result<Value, ConfigFault>
-    ensures ok { IfOk result (λ document. document_of text.now ≡ Ok (view document)) }
+    ensures ok { IfOk result (λ document. spec.document_of text.now ≡ Ok (view document)) }
     ensures err { IfErr result (λ fault. fault ≢ ConfigFault.Memory
-        → document_of text.now ≡ Err fault) }
+        → spec.document_of text.now ≡ Err fault) }
     ensures toml { IfErr result (λ fault. fault ≡ ConfigFault.Toml
         → parse_document text.now ≡ None) }
 {
@@ -302,10 +301,11 @@ fn read_toml(alloc: Global, text: &str) -> Result<Value, ConfigFault>
 /// Reads the configuration of a document.
 #[tactic(auto, unfolding(crate::specs::Config::config_in))]
 fn read_document(alloc: Global, document: &Value) -> Result<VenueConfig, ConfigFault>
-    ensures ok { IfOk result (λ config. config_in (view document.now) ≡ Ok (values_of config)) }
+    ensures ok { IfOk result (λ config.
+        spec.config_in (view document.now) ≡ Ok (rows.values_of config)) }
     ensures err { IfErr result (λ fault. fault ≢ ConfigFault.Memory
-        → config_in (view document.now) ≡ Err fault) }
-    ensures limits { IfOk result (λ config. KeepsLimits config) }
+        → spec.config_in (view document.now) ≡ Err fault) }
+    ensures limits { IfOk result (λ config. rows.KeepsLimits config) }
 {
     let version = number_at(document, "version", VenueConfig::LAST_VERSION)?;
     let date = read_date(document)?;

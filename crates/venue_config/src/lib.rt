@@ -1,10 +1,12 @@
-//! What the venue is configured with for a day: bonds, and dealers and investors with their limits,
-//! read from TOML.
+//! What the venue is configured with for a day: bonds with their grids, and dealers and investors
+//! with their traders and limits, read from TOML.
 //!
 //! ```text
 //! let config = read_config(alloc, text)?;
 //! let number = config.firm("DLR1");
-//! let row = &config.dealers()[0];
+//! let row = config.dealer(0)?;
+//! let trader = row.traders.find(b"T1")?;
+//! let grid = config.bond(b"BONDA0000001")?.grid;
 //! assert!(config.has_room(3, 1));
 //! ```
 //!
@@ -16,10 +18,12 @@
 //! - A [`VenueConfig`] keeps every limit: no bond, no name of a firm and no trader of a firm stands
 //!   twice, each text has its form, and each number, each array and both sums are within their
 //!   limits.
-//! - [`VenueConfig::firm`] gives the number of exactly the configured names, and
-//!   [`VenueConfig::has_room`] is true for exactly the requests of configured investors.
+//! - In version 1 every bond has the grid 256; from version 2 on each has its own.
+//! - A bond is found by its identifier, a dealer and an investor by their numbers as firms, a
+//!   number by the name: exactly where the configuration has them.
+//! - [`VenueConfig::has_room`] is true for exactly the requests of configured investors.
 //! - A [`Name`] and a [`BondId`] are made of exactly the texts of their form. Rows and traders are
-//!   copied without memory.
+//!   copied without memory, and two dealers' rows with equal values are the same row.
 //!
 //! Not promised: that memory is there.
 //!
@@ -38,8 +42,6 @@ mod investor_rows;
 mod laws;
 mod names;
 mod rows;
-#[cfg(test)]
-mod tests;
 mod traders;
 mod values;
 

@@ -1,8 +1,7 @@
 //! Names of firms and of traders.
 ghost use Rattle.std.specs.Prelude.{◌≡◌, ℕ, List, IsTrue};
 ghost use Rattle.fix_fields.specs.Frame.{IsValue};
-ghost use Rattle.venue_config.specs.Texts.{is_name, is_firm_name, is_among, reserved_names};
-ghost use Rattle.venue_config.specs.Texts.{text_if};
+ghost use Rattle.venue_config.specs.Texts as spec;
 
 use crate::characters::are_capitals_or_digits;
 use arrayvec::ArrayString;
@@ -21,14 +20,14 @@ impl Model for Name {
 
     ghost view = { λ n. n.text.bytes };
 
-    ghost invariant = { λ n. IsTrue (is_name n.text.bytes) };
+    ghost invariant = { λ n. IsTrue (spec.is_name n.text.bytes) };
 }
 
 impl Name {
     /// The name that these bytes spell, or none where they spell no name.
     #[tactic(auto, using(crate::proofs::TextLemmas::name_is_utf8))]
     pub fn new(text: &[u8]) -> Option<Self>
-        ensures { result ≡ text_if is_name text.now }
+        ensures { result ≡ spec.text_if spec.is_name text.now }
     {
         if !is_name(text) {
             return None;
@@ -41,7 +40,7 @@ impl Name {
     /// The name of a firm that these bytes spell: any name but `VENUE` and `CLOCK`, which are those
     /// of the venue itself and of its clock.
     pub fn of_firm(text: &[u8]) -> Option<Self>
-        ensures { result ≡ text_if is_firm_name text.now }
+        ensures { result ≡ spec.text_if spec.is_firm_name text.now }
     {
         if is_reserved(text) {
             return None;
@@ -53,7 +52,7 @@ impl Name {
     #[tactic(auto, using(crate::proofs::TextLemmas::name_is_value))]
     pub fn as_bytes(&self) -> &[u8]
         ensures value { result.now ≡ self.now }
-        ensures named { IsTrue (is_name self.now) }
+        ensures named { IsTrue (spec.is_name self.now) }
         ensures field { IsValue self.now }
     {
         self.text.as_bytes()
@@ -61,7 +60,7 @@ impl Name {
 
     /// The name that a text of fixed room is.
     pub(crate) fn of_text(text: ArrayString<8>) -> Self
-        requires { IsTrue (is_name text.bytes) }
+        requires { IsTrue (spec.is_name text.bytes) }
         ensures { result ≡ text.bytes }
     {
         Name { text }
@@ -70,7 +69,7 @@ impl Name {
     /// The characters as a text of fixed room.
     pub(crate) fn text(&self) -> ArrayString<8>
         ensures value { result.bytes ≡ self.now }
-        ensures named { IsTrue (is_name result.bytes) }
+        ensures named { IsTrue (spec.is_name result.bytes) }
     {
         self.text
     }
@@ -85,7 +84,7 @@ impl Name {
 
 /// Whether the bytes spell a name.
 fn is_name(text: &[u8]) -> bool
-    ensures { result ≡ is_name text.now }
+    ensures { result ≡ spec.is_name text.now }
 {
     let Some((first, rest)) = text.split_first() else {
         return false;
@@ -98,7 +97,7 @@ fn is_name(text: &[u8]) -> bool
 
 /// Whether a text is a name that no firm has.
 fn is_reserved(text: &[u8]) -> bool
-    ensures { result ≡ is_among reserved_names text.now }
+    ensures { result ≡ spec.is_among spec.reserved_names text.now }
 {
     b"VENUE".as_slice() == text || b"CLOCK".as_slice() == text
 }

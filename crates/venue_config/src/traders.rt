@@ -1,8 +1,7 @@
 //! The traders of a firm.
 ghost use Rattle.std.specs.Prelude.{◌≡◌, ℕ, ◌≤◌, List, [], length, IsTrue};
 ghost use Rattle.std.specs.List.{find, list_any};
-ghost use Rattle.venue_config.specs.Texts.{is_among, is_name, same_text, same_texts, text_if};
-ghost use Rattle.venue_config.specs.Texts.{trader_added};
+ghost use Rattle.venue_config.specs.Texts as spec;
 
 use crate::Name;
 use arrayvec::{ArrayString, ArrayVec};
@@ -49,14 +48,14 @@ impl Traders {
 
     /// Whether one of them has this name.
     pub fn contains(&self, name: &[u8]) -> bool
-        ensures { result ≡ is_among self.now name.now }
+        ensures { result ≡ spec.is_among self.now name.now }
     {
         has_name(self.names.as_slice(), name)
     }
 
     /// The trader with this name (an accepted SenderSubID 50), or none where no trader has it.
     pub fn find(&self, name: &[u8]) -> Option<Name>
-        ensures { result ≡ text_if (is_among self.now) name.now }
+        ensures { result ≡ spec.text_if (spec.is_among self.now) name.now }
     {
         let own = find_name(self.names.as_slice(), name)?;
         Some(Name::of_text(own))
@@ -65,7 +64,7 @@ impl Traders {
     /// Adds a trader behind the others, or answers false and changes nothing where there are 16
     /// already.
     pub fn push(&mut self, name: &Name) -> bool
-        ensures { (self.new, result) ≡ trader_added self.old name.now }
+        ensures { (self.new, result) ≡ spec.trader_added self.old name.now }
     {
         if self.names.len() == Self::MOST {
             return false;
@@ -76,7 +75,7 @@ impl Traders {
 
     /// Whether these are the same traders in the same order.
     pub(crate) fn is_same(&self, other: &Self) -> bool
-        ensures { result ≡ same_texts self.now other.now }
+        ensures { result ≡ spec.same_texts self.now other.now }
     {
         self.names.as_slice() == other.names.as_slice()
     }
@@ -92,14 +91,14 @@ impl Traders {
 
 /// Whether one of the texts is this one.
 fn has_name(names: &[ArrayString<8>], name: &[u8]) -> bool
-    ensures { result ≡ list_any (λ own. same_text own.bytes name.now) names.now }
+    ensures { result ≡ list_any (λ own. spec.same_text own.bytes name.now) names.now }
 {
     names.iter().any(|own| own.as_bytes() == name)
 }
 
 /// The first of the texts that is this one.
 fn find_name(names: &[ArrayString<8>], name: &[u8]) -> Option<ArrayString<8>>
-    ensures { result ≡ find (λ own. same_text own.bytes name.now) names.now }
+    ensures { result ≡ find (λ own. spec.same_text own.bytes name.now) names.now }
 {
     names.iter().copied().find(|own| own.as_bytes() == name)
 }

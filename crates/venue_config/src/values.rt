@@ -7,8 +7,7 @@ ghost use Rattle.toml.specs.View.{view, items_view};
 ghost use Rattle.venue_config.specs.Keys.{date_key, id_key};
 ghost use Rattle.bond_prices.specs.Grid.{is_grid};
 ghost use Rattle.venue_config.specs.Config.{grid_of};
-ghost use Rattle.venue_config.specs.Values.{number_at, number_within, choice_within, text_at};
-ghost use Rattle.venue_config.specs.Values.{elements_in, rows_at, trader_of, traders_at};
+ghost use Rattle.venue_config.specs.Values as spec;
 
 use crate::faults::ConfigFault;
 use crate::{BondId, Name, Traders, VenueConfig};
@@ -19,7 +18,8 @@ use toml::Value;
 /// The integer at a key, from 1 to `most`.
 #[tactic(auto, unfolding(crate::specs::Values::number_at))]
 pub(crate) fn number_at(table: &Value, key: &str, most: u64) -> Result<u64, ConfigFault>
-    ensures value { result ≡ number_at (record { key = key.now; most = most }) (view table.now) }
+    ensures value { result
+        ≡ spec.number_at (record { key = key.now; most = most }) (view table.now) }
     ensures limits { IfOk result (λ number. (1 ≤ number) × (number ≤ most)) }
 {
     let Some(value) = table.get(key) else {
@@ -33,7 +33,7 @@ pub(crate) fn number_at(table: &Value, key: &str, most: u64) -> Result<u64, Conf
 
 /// An integer from 1 to `most`.
 fn number_within(number: i64, most: u64) -> Result<u64, ConfigFault>
-    ensures value { result ≡ number_within most number }
+    ensures value { result ≡ spec.number_within most number }
     ensures limits { IfOk result (λ number. (1 ≤ number) × (number ≤ most)) }
 {
     let Ok(number) = u64::try_from(number) else {
@@ -59,7 +59,7 @@ pub(crate) fn text_at<'a>(table: &'a Value, key: &str) -> Option<&'a str>
 /// The date of a configuration.
 #[tactic(auto, unfolding(crate::specs::Values::text_at))]
 pub(crate) fn read_date(document: &Value) -> Result<Date, ConfigFault>
-    ensures { result ≡ text_at date_key (view document.now) }
+    ensures { result ≡ spec.text_at date_key (view document.now) }
 {
     let Some(text) = text_at(document, "date") else {
         return Err(ConfigFault::Missing);
@@ -73,7 +73,7 @@ pub(crate) fn read_date(document: &Value) -> Result<Date, ConfigFault>
 /// The identifier of a bond.
 #[tactic(auto, unfolding(crate::specs::Values::text_at))]
 pub(crate) fn read_id(row: &Value) -> Result<BondId, ConfigFault>
-    ensures { result ≡ text_at id_key (view row.now) }
+    ensures { result ≡ spec.text_at id_key (view row.now) }
 {
     let Some(text) = text_at(row, "id") else {
         return Err(ConfigFault::Missing);
@@ -103,7 +103,7 @@ pub(crate) fn read_grid(version: u64, row: &Value) -> Result<Grid, ConfigFault>
 
 /// An integer that is a grid.
 fn grid_within(steps: i64) -> Result<Grid, ConfigFault>
-    ensures { result ≡ choice_within is_grid steps }
+    ensures { result ≡ spec.choice_within is_grid steps }
 {
     let Ok(steps) = u32::try_from(steps) else {
         return Err(ConfigFault::Limit);
@@ -118,7 +118,7 @@ fn grid_within(steps: i64) -> Result<Grid, ConfigFault>
 #[tactic(auto, using(crate::proofs::ValueLemmas::item_count_view))]
 pub(crate) fn elements_of(array: &Value, least: usize, most: usize) -> Result<&[Value], ConfigFault>
     ensures value { result_map_both (λ elements. items_view elements.now) (λ fault. fault) result
-        ≡ elements_in least most (as_array (view array.now)) }
+        ≡ spec.elements_in least most (as_array (view array.now)) }
     ensures limits { IfOk result (λ elements.
         (least ≤ length elements.now) × (length elements.now ≤ most)) }
 {
@@ -139,7 +139,7 @@ pub(crate) fn rows_at<'a>(
     most: usize,
 ) -> Result<&'a [Value], ConfigFault>
     ensures value { result_map_both (λ rows. items_view rows.now) (λ fault. fault) result
-        ≡ rows_at (record { key = key.now; least = 0; most = most }) (view document.now) }
+        ≡ spec.rows_at (record { key = key.now; least = 0; most = most }) (view document.now) }
     ensures limits { IfOk result (λ rows. length rows.now ≤ most) }
 {
     let Some(rows) = document.get(key) else {
@@ -151,7 +151,7 @@ pub(crate) fn rows_at<'a>(
 /// The traders of a firm.
 #[tactic(auto, using(crate::proofs::ValueLemmas::read_all_ok, crate::proofs::ValueLemmas::read_all_err, crate::proofs::ValueLemmas::read_all_end), unfolding(crate::specs::Values::traders_at, crate::specs::Values::elements_at))]
 pub(crate) fn read_traders(row: &Value) -> Result<Traders, ConfigFault>
-    ensures value { result ≡ traders_at (view row.now) }
+    ensures value { result ≡ spec.traders_at (view row.now) }
     ensures some { IfOk result (λ traders. 1 ≤ length traders) }
 {
     let Some(array) = row.get("traders") else {
@@ -169,7 +169,7 @@ pub(crate) fn read_traders(row: &Value) -> Result<Traders, ConfigFault>
 /// A trader of a firm, behind those before it.
 #[tactic(auto, unfolding(crate::specs::Values::trader_of))]
 fn read_trader(before: &Traders, element: &Value) -> Result<Name, ConfigFault>
-    ensures { result ≡ trader_of before.now (view element.now) }
+    ensures { result ≡ spec.trader_of before.now (view element.now) }
 {
     let Some(text) = element.as_str() else {
         return Err(ConfigFault::Missing);

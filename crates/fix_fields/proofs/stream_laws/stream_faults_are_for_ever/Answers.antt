@@ -1,8 +1,9 @@
 use Rattle.std.proofs.Common.{◌≡◌, sym, ap, ◌∙◌}
-use Rattle.fix_fields.specs.Envelope.{front_of}
+use Rattle.fix_fields.specs.Envelope.{front_of, cut_behind}
 use Rattle.fix_fields.specs.Envelope.Front.{Whole, Faulty}
-use Rattle.std.proofs.Common.{length}
+use Rattle.std.proofs.Common.{[], length}
 use Rattle.fix_fields.proofs.FrontLemmas.{front_fault, front_whole, fault_more}
+use Rattle.fix_fields.proofs.CuttingLemmas.{cut_stands}
 use Rattle.fix_fields.proofs.stream_laws.stream_faults_are_for_ever.Goals as goal
 
 pub returns-clause-one : goal.returns-clause-one
@@ -16,3 +17,7 @@ returns-clause-never c = λ fault bytes more is begins.
 
 pub returns-clause-for_ever : goal.returns-clause-for_ever
 returns-clause-for_ever c = λ fault bytes more is. fault_more fault bytes more is
+
+pub returns-clause-stands : goal.returns-clause-stands
+unfolding cut_behind
+returns-clause-stands c = λ fault piece. cut_stands piece [] fault

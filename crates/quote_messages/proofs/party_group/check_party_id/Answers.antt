@@ -22,8 +22,9 @@ returns-then-is_none c = λ date.
 
 pub returns : goal.returns
 returns c = λ date.
-    let lawful = text_if-some (is_id c.args.id.now) c.args.id.now (ap is_some (sym c.new.ensures) ∙ c.if-is_none.ensures) in
-    (party_id_fault date c.args.id.now c.args.behind.now
-     ∙ ap (λ empty. at_tag 448 (cond empty (Some TagWithoutValue) (value_fault date AnId c.args.id.now))) (sym c.if-is_empty.ensures)
-     ∙ ap (λ b. at_tag 448 (cond b None (Some IncorrectDataFormat))) lawful,
-     tt)
+    let lawful = text_if-some (is_id c.args.id.now) c.args.id.now (ap is_some (sym c.new.ensures) ∙ c.if-is_none.ensures) in (
+      party_id_fault date c.args.id.now c.args.behind.now
+          ∙ ap (λ empty. at_tag 448 (cond empty (Some TagWithoutValue) (value_fault date AnId c.args.id.now))) (sym c.if-is_empty.ensures)
+          ∙ ap (λ b. at_tag 448 (cond b None (Some IncorrectDataFormat))) lawful,
+      tt,
+    )

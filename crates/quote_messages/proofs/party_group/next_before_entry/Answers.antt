@@ -16,8 +16,9 @@ returns-then-tag-wanted c =
 pub loop-tag-preserved : goal.loop-tag-preserved
 loop-tag-preserved c =
     let rest = c.next.new.self in
-    let field : Field = (c.in-Some.tag, c.in-Some.value.now) in
-    ((tt, tt),
-     sym (passed_before c.args.wanted field rest (differs c.in-Some.tag 448 c.if-tag-eq448.false) (differs c.in-Some.tag c.args.wanted c.if-tag-wanted.false))
-     ∙ sym (ap (λ all. occurrence_of c.args.wanted (before_entry all)) c.in-Some.ensures.steps)
-     ∙ c.loop-tag.invariant.1)
+    let field : Field = (c.in-Some.tag, c.in-Some.value.now) in (
+      (tt, tt),
+      sym (passed_before c.args.wanted field rest (differs c.in-Some.tag 448 c.if-tag-eq448.false) (differs c.in-Some.tag c.args.wanted c.if-tag-wanted.false))
+          ∙ sym (ap (λ all. occurrence_of c.args.wanted (before_entry all)) c.in-Some.ensures.steps)
+          ∙ c.loop-tag.invariant.1,
+    )

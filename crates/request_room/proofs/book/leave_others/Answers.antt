@@ -2,5 +2,7 @@ use Rattle.std.proofs.Common.{not, ◌==◌, rules, tests}
 use Rattle.std.proofs.lemmas.Fn.{filter_same}
 use Rattle.request_room.proofs.book.leave_others.Goals as goal
 
-pub returns-clause-book : goal.returns-clause-book
-returns-clause-book c = filter_same _ (λ quote. not (quote.dealer == c.args.dealer)) _ (λ x b f k. search (rules, tests)) _ _ c.retain.ensures.filtered
+pub returns-clause-items : goal.returns-clause-items
+returns-clause-items c =
+    filter_same _ (λ one. not (one.quote.dealer == c.args.dealer)) _
+    (λ x b f k. search (rules, tests)) _ _ c.retain.ensures.filtered

@@ -1,24 +1,36 @@
 use Rattle.std.proofs.Common.{◌≡◌, ◌∙◌, sym, ap, Ok, Err}
 use Rattle.request_room.specs.Book.{hit_outcome, hit_refusal, hit_settled, room_after}
-use Rattle.request_room.proofs.KeptLemmas.{kept_hit, kept_hit_refused}
+use Rattle.request_room.proofs.KeptRoomLemmas.{room_hit, room_hit_refused}
 use Rattle.request_room.proofs.rooms.Room.hit.Goals as goal
 
 pub invariant_of-self-in-Err : goal.invariant_of-self-in-Err
 invariant_of-self-in-Err c =
     let room = c.self.inside in
-    let outcome : hit_outcome (room_after room.events.items) c.args.w c.args.moment c.args.answer ≡ Err c.in-Err.refused =
-    ap (λ events. hit_outcome (room_after events) c.args.w c.args.moment c.args.answer) c.self.view_is
-    ∙ sym (c.settled-outcome.ensures ∙ ap (λ refusal. hit_settled refusal c.args.answer c.award_of.result) c.hit_refusal.ensures ∙ ap (hit_settled (hit_refusal (room_after c.args.self.now) c.args.w c.args.moment) c.args.answer) c.award_of.ensures)
+    let outcome : hit_outcome (room_after room.events.items) c.args.w c.args.moment c.args.answer
+    ≡ Err c.in-Err.refused =
+    ap (λ events. hit_outcome (room_after events) c.args.w c.args.moment c.args.answer)
+    c.self.view_is
+    ∙ sym (c.settled-outcome.ensures
+    ∙ ap (λ refusal. hit_settled refusal c.args.answer c.award_of.result) c.hit_refusal.ensures
+    ∙ ap (hit_settled (hit_refusal (room_after c.args.self.now) c.args.w c.args.moment)
+    c.args.answer) c.award_of.ensures)
     ∙ c.in-Err.is in
     rw (c.in_ok-push.ensures.items, c.in_ok-reserve.ensures.items)
-    (kept_hit_refused room.events.items room.request room.ready room.book.items room.end c.args.w c.args.moment c.args.answer c.in-Err.refused outcome c.self.invariant)
+    (room_hit_refused room.events.items c.self.invariant c.args.w c.args.moment c.args.answer
+    c.in-Err.refused outcome)
 
 pub invariant_of-self-2 : goal.invariant_of-self-2
 invariant_of-self-2 c =
     let room = c.self.inside in
-    let outcome : hit_outcome (room_after room.events.items) c.args.w c.args.moment c.args.answer ≡ Ok c.in-Ok.award =
-    ap (λ events. hit_outcome (room_after events) c.args.w c.args.moment c.args.answer) c.self.view_is
-    ∙ sym (c.settled-outcome.ensures ∙ ap (λ refusal. hit_settled refusal c.args.answer c.award_of.result) c.hit_refusal.ensures ∙ ap (hit_settled (hit_refusal (room_after c.args.self.now) c.args.w c.args.moment) c.args.answer) c.award_of.ensures)
+    let outcome : hit_outcome (room_after room.events.items) c.args.w c.args.moment c.args.answer
+    ≡ Ok c.in-Ok.award =
+    ap (λ events. hit_outcome (room_after events) c.args.w c.args.moment c.args.answer)
+    c.self.view_is
+    ∙ sym (c.settled-outcome.ensures
+    ∙ ap (λ refusal. hit_settled refusal c.args.answer c.award_of.result) c.hit_refusal.ensures
+    ∙ ap (hit_settled (hit_refusal (room_after c.args.self.now) c.args.w c.args.moment)
+    c.args.answer) c.award_of.ensures)
     ∙ c.in-Ok.is in
     rw (c.in_ok-push.ensures.items, c.in_ok-reserve.ensures.items)
-    (kept_hit room.events.items room.request room.ready room.book.items room.end c.args.w c.args.moment c.args.answer c.in-Ok.award outcome c.self.invariant)
+    (room_hit room.events.items c.self.invariant c.args.w c.args.moment c.args.answer c.in-Ok.award
+    outcome)

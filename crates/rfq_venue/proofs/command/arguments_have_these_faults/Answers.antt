@@ -1,0 +1,21 @@
+use Rattle.std.proofs.Common.{refl}
+use Rattle.clap.proofs.OnLiterals.{clap_on_literals}
+use Rattle.rfq_venue.specs.Arguments.{arguments_fault}
+use Rattle.rfq_venue.proofs.command.arguments_have_these_faults.Goals as goal
+
+pub returns : goal.returns
+unfolding clap_on_literals arguments_fault
+returns c = record {
+  help = refl;
+  short_help = refl;
+  version = refl;
+  short_version = refl;
+  help_as_a_command = refl;
+  help_on_alone = refl;
+  help_first = λ rest. refl;
+  help_on_alone_first = refl;
+  frames_of_nothing = refl;
+  frames_twice = refl;
+  one_argument_more = refl;
+  no_command = refl;
+}

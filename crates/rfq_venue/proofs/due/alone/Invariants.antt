@@ -1,9 +1,0 @@
-use Rattle.std.proofs.Common.{◌≡◌, drop, length, fold}
-use Rattle.rfq_venue.specs.DealerView.{after_due, view_after}
-use Rattle.rfq_venue.proofs.due.alone.Given as goal
-
-abbrev pub invariant-loop-due : goal.invariant-loop-due
-invariant-loop-due l =
-    (fold after_due (record { desk = l.desk; words = l.words }) (drop l.due-index l.dues) ≡ view_after l.date l.row l.dues) ×
-    (length l.words ≡ l.row.quotes) ×
-    (l.desk.row ≡ l.row)

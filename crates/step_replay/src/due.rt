@@ -1,0 +1,16 @@
+//! What is due to one dealer.
+use fix_fields::Moment;
+use quote_messages::{Ask, Close, Message};
+
+/// One item of what is due to a dealer. Quotes and requests have the dealer's own numbers, from 1.
+#[derive(Drop)]
+pub enum Due {
+    /// A message of the dealer's own, and the moment at which it comes.
+    Own(Moment, Message),
+    /// A request that the dealer is shown, and the moment at which it is.
+    Shown(Ask, Moment),
+    /// A lifting of a quote of the dealer: an investor hit it.
+    Lifted(u32),
+    /// The dealer is told how a request ended (QuoteResponse 35=AJ), and the moment of the notice.
+    Closed(u64, Close, Moment),
+}

@@ -1,0 +1,25 @@
+//! The core of the venue: what is due to a dealer, and what the dealer is sent for it.
+//!
+//! A dealer learns four things of a day, in some order: its own messages come, it is shown
+//! requests, quotes of its are lifted, and it is told how requests ended. A list of these is what
+//! is [`Due`] to it. The *dealer view* of the list is every message that the dealer is sent for
+//! it, and [`alone`] gives it:
+//!
+//! ```ignore
+//! let messages = alone(alloc, &date, &row, &[Due::Shown(ask, nine), Due::Own(five_past, quote)])?;
+//! assert_eq!(messages.len(), 2); // the request, and the acceptance of the quote
+//! ```
+//!
+//! # What is promised
+//!
+//! - [`alone`] is `dealer_view` of the date, the dealer's row and the list, on every list, or
+//!   memory is refused. The view has no other argument, so nothing else of the venue goes into
+//!   it.
+//! - [`equal_lists_have_equal_views`] says so of two lists.
+#![tactic(auto)]
+
+mod dealer_view;
+mod due;
+
+pub use dealer_view::{alone, equal_lists_have_equal_views};
+pub use due::Due;

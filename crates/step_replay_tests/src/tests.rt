@@ -1,0 +1,101 @@
+//! What a dealer is sent for lists of what is due, message by message.
+use fix_fields::read_frame;
+use quote_messages::Message;
+use std::process::Abort;
+use std::test::Fail;
+use step_replay::alone;
+use venue_text::{MOST_INPUT, read_due_text};
+
+const HEAD: &str = "date 20250314
+dealer DLR1 1 10000000 T1
+";
+
+/// Lists, each with how many messages are sent for it.
+const LISTS: &[(&str, usize)] = &[
+    ("", 0),
+    // a request is shown; a lifting and bytes that are no frame send nothing
+    (
+        "shown INV1 BONDA0000001 1 2000000 09:05:00 09:00:00
+lifted 1
+own 09:00:05 x
+",
+        1,
+    ),
+    // the only quote of the day is accepted, and the next one is not
+    (
+        "shown INV1 BONDA0000001 1 2000000 09:05:00 09:00:00
+say T1 09:00:10 S 117=a1|131=R1|48=BONDA0000001|22=4|133=99.5
+say T1 09:00:20 S 117=a2|131=R1|48=BONDA0000001|22=4|133=99.5
+",
+        3,
+    ),
+    // one notice of a request, however often it is told, and none of a request that was not shown
+    (
+        "shown INV1 BONDA0000001 1 2000000 09:05:00 09:00:00
+closed 1 3 09:05:00
+closed 1 3 09:05:00
+closed 2 3 09:05:00
+",
+        2,
+    ),
+];
+
+/// Asserts how many messages are sent for a list.
+fn assert_count<T: Abort + AllocGlobal>(rt: &T, dues: &str, wanted: usize) -> Result<(), Fail> {
+    let messages = sent(rt, dues)?;
+    assert_eq!(rt; messages.len(), wanted, "{dues}");
+    Ok(())
+}
+
+/// The messages that are sent for a list.
+fn sent<T: Abort + AllocGlobal>(rt: &T, dues: &str) -> Result<Vec<Message>, Fail> {
+    let input = format!(in rt.alloc(); "{HEAD}{dues}")?;
+    if input.len() > MOST_INPUT {
+        return Ok(Vec::new(rt.alloc()));
+    }
+    let text = match read_due_text(rt.alloc(), input.as_bytes()) {
+        Ok(text) => text,
+        Err(fault) => {
+            assert!(rt; false, "{fault}");
+            return Ok(Vec::new(rt.alloc()));
+        }
+    };
+    let messages = alone(rt.alloc(), &text.date, &text.row, text.dues.as_slice())?;
+    Ok(messages)
+}
+
+#[test]
+fn lists_have_their_messages(rt: HostRuntime) -> Result<(), Fail> {
+    for (dues, wanted) in LISTS {
+        assert_count(&rt, dues, *wanted)?;
+    }
+    Ok(())
+}
+
+/// A lifting that stands before the cancel is what the cancel is answered by.
+#[test]
+fn cancel_of_a_lifted_quote_is_too_late(rt: HostRuntime) -> Result<(), Fail> {
+    let open = "shown INV1 BONDA0000001 1 2000000 09:05:00 09:00:00
+say T1 09:00:10 S 117=a1|131=R1|48=BONDA0000001|22=4|133=99.5
+say T1 09:00:20 Z 298=5|117=a1
+";
+    let lifted = "shown INV1 BONDA0000001 1 2000000 09:05:00 09:00:00
+say T1 09:00:10 S 117=a1|131=R1|48=BONDA0000001|22=4|133=99.5
+lifted 1
+say T1 09:00:20 Z 298=5|117=a1
+";
+    let withdrawn = sent(&rt, open)?;
+    let late = sent(&rt, lifted)?;
+    assert_eq!(&rt; withdrawn.len(), 3);
+    assert_eq!(&rt; late.len(), 3);
+    assert_last(&rt, withdrawn.as_slice(), b"17");
+    assert_last(&rt, late.as_slice(), b"5");
+    Ok(())
+}
+
+/// Asserts the QuoteStatus (297) of the last of some messages.
+fn assert_last<T: Abort>(rt: &T, messages: &[Message], status: &[u8]) {
+    let message = messages.last().expect(rt, "a message");
+    let frame = read_frame(message.as_bytes()).ok().expect(rt, "a frame");
+    assert!(rt; frame.get(297) == Some(status));
+}

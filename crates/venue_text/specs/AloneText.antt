@@ -1,0 +1,33 @@
+-- What `alone` prints.
+use Rattle.std.specs.Prelude.{◌≡◌, ◌≤◌, ℕ, Bool, List, length, nat_lt, Option, Some, None}
+use Rattle.std.specs.Prelude.{Result, Ok, Err, if◌then◌else◌}
+use Rattle.venue_config.specs.Rows.{dealer_values}
+use Rattle.venue_config.specs.declared.dealer_rows.DealerRow.{DealerRow}
+use Rattle.step_replay.specs.DealerView.{dealer_view}
+use Rattle.step_replay.specs.declared.due.Due.{Due}
+use Rattle.venue_text.specs.DueText.{Spelled, due_text_of}
+use Rattle.venue_text.specs.MessageLines.{messages_text}
+use Rattle.venue_text.specs.declared.lines.TheConstants.{MOST_INPUT}
+use Rattle.venue_text.specs.declared.faults.ProgramFault.{ProgramFault}
+use Rattle.venue_text.specs.declared.faults.ProgramFault.TheVariants.{Input}
+
+-- the fault of what was read, if it has one
+abbrev pub fault_of_reading : Result Spelled ProgramFault → Option ProgramFault
+fault_of_reading (Ok spelled) = None
+fault_of_reading (Err fault) = Some fault
+
+-- the first fault of an input, if it has one
+abbrev pub first_fault : List ℕ → Option ProgramFault
+first_fault input =
+    if nat_lt MOST_INPUT (length input) then Some Input else fault_of_reading (due_text_of input)
+
+-- What `alone` prints for an input: the dealer view of what the input spells, a line for each
+-- message. An input has one such text at most, since what it spells is a function of its bytes.
+pub record IsPrinted (with_frames : Bool) (input text : List ℕ) : Type 0 where
+  pub date : List ℕ
+  pub row : DealerRow
+  pub dues : List Due
+  pub fits : length input ≤ MOST_INPUT
+  pub spelled : due_text_of input
+      ≡ Ok (record { date = date; row = dealer_values row; dues = dues })
+  pub printed : text ≡ messages_text with_frames row.name (dealer_view date row dues)

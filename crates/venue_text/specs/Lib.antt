@@ -1,0 +1,10 @@
+pub mod AloneText
+pub mod DueLines
+pub mod DueText
+pub mod Faults
+pub mod Lines
+pub mod MessageLines
+pub mod OptionSteps
+pub mod ResultSteps
+pub mod SayLine
+pub mod WrittenDues

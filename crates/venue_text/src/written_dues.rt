@@ -1,0 +1,158 @@
+//! What is due to a dealer, written as lines of due text.
+ghost use Rattle.std.specs.Prelude.{◌≡◌, ◌++◌, [], decimal, IfOk, OnOk};
+ghost use Rattle.venue_text.specs.WrittenDues as spec;
+
+use crate::message_lines::{push_barred, time_of_day};
+use bond_prices::Grid;
+use fix_fields::{Date, Memory, Moment, moment_text};
+use itoa::Buffer;
+use quote_messages::{Ask, Close};
+use std::alloc::Global;
+use step_replay::Due;
+
+/// The lines of due text that spell a list, an item each: a message of the dealer's own as an
+/// `own` line, with a vertical bar for each SOH, and times with milliseconds.
+pub fn due_lines(alloc: Global, date: &Date, dues: &[Due]) -> Result<Vec<u8>, Memory>
+    ensures { IfOk result (λ text. text.items ≡ spec.due_lines date.now dues.now) }
+{
+    let mut text = Vec::new(alloc);
+    for due in dues {
+        push_due(&mut text, date, due)?;
+    }
+    Ok(text)
+}
+
+/// The line of an item.
+fn push_due(text: &mut Vec<u8>, date: &Date, due: &Due) -> Result<(), Memory>
+    ensures { OnOk result (text.new.items ≡ text.old.items ++ spec.due_line date.now due.now) }
+{
+    match due {
+        Due::Own(moment, message) => push_own(text, date, *moment, message.as_bytes()),
+        Due::Shown(ask, moment) => push_shown(text, date, ask, *moment),
+        Due::Lifted(quote) => push_lifted(text, *quote),
+        Due::Closed(request, close, moment) => push_closed(text, date, *request, *close, *moment),
+    }
+}
+
+/// `own TIME FRAME`.
+fn push_own(text: &mut Vec<u8>, date: &Date, moment: Moment, message: &[u8]) -> Result<(), Memory>
+    ensures { OnOk result (text.new.items
+        ≡ text.old.items ++ spec.due_line date.now (Due.Own moment message.now)) }
+{
+    text.extend_from_slice(b"own ")?;
+    push_time(text, date, moment)?;
+    text.push(b' ')?;
+    push_barred(text, message)?;
+    text.push(b'\n')?;
+    Ok(())
+}
+
+/// `shown INVESTOR BOND SIDE QUANTITY DEADLINE TIME`, and GRID where it is not the finest.
+fn push_shown(text: &mut Vec<u8>, date: &Date, ask: &Ask, moment: Moment) -> Result<(), Memory>
+    ensures { OnOk result (text.new.items
+        ≡ text.old.items ++ spec.due_line date.now (Due.Shown ask.now moment)) }
+{
+    text.extend_from_slice(b"shown ")?;
+    push_ask(text, date, ask)?;
+    text.push(b' ')?;
+    push_end(text, date, moment, ask.grid)?;
+    Ok(())
+}
+
+/// TIME and GRID, with which a request's line ends.
+#[tactic(auto, unfolding(crate::specs::WrittenDues::end_text))]
+fn push_end(text: &mut Vec<u8>, date: &Date, moment: Moment, grid: Grid) -> Result<(), Memory>
+    ensures { OnOk result (text.new.items ≡ text.old.items ++ spec.end_text date.now moment grid) }
+{
+    push_time(text, date, moment)?;
+    push_grid(text, grid)?;
+    text.push(b'\n')?;
+    Ok(())
+}
+
+/// GRID behind a space, where it is not the finest.
+#[tactic(auto, unfolding(crate::specs::WrittenDues::grid_text))]
+fn push_grid(text: &mut Vec<u8>, grid: Grid) -> Result<(), Memory>
+    ensures { OnOk result (text.new.items ≡ text.old.items ++ spec.grid_text grid) }
+{
+    if grid.get() == Grid::FINEST.get() {
+        return Ok(());
+    }
+    text.push(b' ')?;
+    push_number(text, u64::from(grid.get()))?;
+    Ok(())
+}
+
+/// `INVESTOR BOND SIDE QUANTITY DEADLINE`.
+fn push_ask(text: &mut Vec<u8>, date: &Date, ask: &Ask) -> Result<(), Memory>
+    ensures { OnOk result (text.new.items ≡ text.old.items ++ spec.ask_text date.now ask.now) }
+{
+    push_terms(text, ask)?;
+    text.push(b' ')?;
+    push_time(text, date, ask.deadline)?;
+    Ok(())
+}
+
+/// `INVESTOR BOND SIDE QUANTITY`.
+fn push_terms(text: &mut Vec<u8>, ask: &Ask) -> Result<(), Memory>
+    ensures { OnOk result (text.new.items ≡ text.old.items ++ spec.terms_text ask.now) }
+{
+    text.extend_from_slice(ask.investor.as_bytes())?;
+    text.push(b' ')?;
+    text.extend_from_slice(ask.bond.as_bytes())?;
+    text.push(b' ')?;
+    push_number(text, ask.side.code())?;
+    text.push(b' ')?;
+    push_number(text, ask.quantity.get())?;
+    Ok(())
+}
+
+/// `lifted N`.
+fn push_lifted(text: &mut Vec<u8>, quote: u32) -> Result<(), Memory>
+    ensures { OnOk result (text.new.items
+        ≡ text.old.items ++ spec.due_line [] (Due.Lifted quote)) }
+{
+    text.extend_from_slice(b"lifted ")?;
+    push_number(text, quote as u64)?;
+    text.push(b'\n')?;
+    Ok(())
+}
+
+/// `closed N KIND TIME`.
+fn push_closed(
+    text: &mut Vec<u8>,
+    date: &Date,
+    request: u64,
+    close: Close,
+    moment: Moment,
+) -> Result<(), Memory>
+    ensures { OnOk result (text.new.items
+        ≡ text.old.items ++ spec.due_line date.now (Due.Closed request close moment)) }
+{
+    text.extend_from_slice(b"closed ")?;
+    push_number(text, request)?;
+    text.push(b' ')?;
+    push_number(text, close.code())?;
+    text.push(b' ')?;
+    push_time(text, date, moment)?;
+    text.push(b'\n')?;
+    Ok(())
+}
+
+/// TIME, with milliseconds.
+fn push_time(text: &mut Vec<u8>, date: &Date, moment: Moment) -> Result<(), Memory>
+    ensures { OnOk result (text.new.items ≡ text.old.items ++ spec.time_text date.now moment) }
+{
+    let timestamp = moment_text(date, moment);
+    text.extend_from_slice(time_of_day(timestamp.as_bytes()))?;
+    Ok(())
+}
+
+/// A number in decimal.
+fn push_number(text: &mut Vec<u8>, number: u64) -> Result<(), Memory>
+    ensures { OnOk result (text.new.items ≡ text.old.items ++ decimal number) }
+{
+    let mut digits = Buffer::new();
+    text.extend_from_slice(digits.format(number).as_bytes())?;
+    Ok(())
+}

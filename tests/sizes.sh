@@ -1,0 +1,58 @@
+#!/bin/sh
+# Writes docs/SIZES.md: for each crate its lines that are not blank, and its must-fail edits; and, from
+# a log of the gate, how it ended and how long it took. Sizes and times stand nowhere else.
+# usage: tests/sizes.sh [LOG]     LOG as written by: { time rt ci; } >LOG 2>&1
+set -eu
+root=$(cd "$(dirname "$0")/.." && pwd)
+log=${1:-/dev/null}
+[ -r "$log" ] || { echo "cannot read $log" >&2; exit 2; }
+
+# lines WHERE NAME: the lines that are not blank of the files of such a name there; 0 where none are.
+lines() {
+    [ -d "$1" ] || { echo 0; return; }
+    find "$1" -name "$2" -type f -exec cat {} + | grep -c '[^[:space:]]' || true
+}
+
+# test_lines SRC: those of src/tests.rt, of src/tests/, and of modules of tests inside other files.
+test_lines() {
+    find "$1" -name '*.rt' -type f -exec awk -v src="$1" '
+        FNR == 1 {ours = index(FILENAME, src "/tests.rt") == 1 || index(FILENAME, src "/tests/") == 1}
+        is_for_tests && /^mod [a-z_]* \{$/ {ours = 1}
+        {is_for_tests = /^#\[cfg\(test\)\]$/}
+        ours && NF {n++}
+        END {print n + 0}' {} +
+}
+
+# functions CRATE: how many functions the gate proved of it, without its tests.
+functions() {
+    awk -v head="== $1" '/^== /{ours = $0 == head}
+        ours && match($0, /^logic=proved functions=[0-9]+/) {n = substr($0, 24, RLENGTH - 23)}
+        END {print n}' "$log"
+}
+
+crates=$(sed -n 's/^\([a-z0-9_]*\)[ a-z_=+0-9A-Z]*:.*/\1/p' "$root/crates.txt")
+{
+    echo '# Sizes and times'
+    echo
+    echo 'Written by `tests/sizes.sh`; change nothing here by hand. Lines that are not blank: code with'
+    echo 'its contracts and comments, definitions, proofs with lemmas, invariants and answers.'
+    echo
+    echo '| crate | code | definitions | proofs | tests | must-fail edits | functions proved |'
+    echo '|---|---|---|---|---|---|---|'
+    for crate in $crates; do
+        at=$root/crates/$crate
+        code=$(lines "$at/src" '*.rt')
+        tests=$(test_lines "$at/src")
+        case $crate in *_tests) tests=$code ;; esac
+        edits=$(find "$at/must-fail" -name '*.edit' 2>/dev/null | wc -l)
+        echo "| \`$crate\` | $((code - tests)) | $(lines "$at/specs" '*.antt') |" \
+            "$(lines "$at/proofs" '*.antt') | $tests | $((edits)) | $(functions "$crate") |"
+    done
+    echo
+    if [ "$log" != /dev/null ]; then
+        echo 'The gate, `rt ci`:'
+        echo
+        sed -n -e 's/^[0-9]* passed, [0-9]* failed$/- it ended `&`/p' \
+            -e 's/^\(real\|user\|sys\)[[:space:]]*\([0-9].*\)$/- \1 \2/p' "$log"
+    fi
+} >"$root/docs/SIZES.md"
