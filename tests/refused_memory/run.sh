@@ -96,7 +96,7 @@ refuse_in_test() {
 }
 
 # What frames and help have to be is what the program prints with all its memory.
-for day in first-quote replacement; do
+for day in first-quote replacement cancel-all; do
     "$program" alone --frames <"$examples/$day.due" >"$work/$day.frames"
     refuse_each "$day, no words" "$examples/$day.due" "$examples/$day.out"
     refuse_each "$day, alone" "$examples/$day.due" "$examples/$day.out" alone

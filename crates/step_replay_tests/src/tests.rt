@@ -1,6 +1,6 @@
 //! What a dealer is sent for lists of what is due, message by message.
 use fix_fields::read_frame;
-use quote_messages::Message;
+use quote_messages::SentMessage;
 use std::process::Abort;
 use std::test::Fail;
 use step_replay::alone;
@@ -38,6 +38,24 @@ closed 2 3 09:05:00
 ",
         2,
     ),
+    // a cancel of all is not answered, its drop is, and nothing is left for the next one
+    (
+        "shown INV1 BONDA0000001 1 2000000 09:05:00 09:00:00
+say T1 09:00:10 S 117=a1|131=R1|48=BONDA0000001|22=4|133=99.5
+say T1 09:00:20 Z 298=4
+drop 1 09:00:20
+drop 1 09:00:20
+",
+        3,
+    ),
+    // no quote has a number up to this one
+    (
+        "shown INV1 BONDA0000001 1 2000000 09:05:00 09:00:00
+say T1 09:00:10 S 117=a1|131=R1|48=BONDA0000001|22=4|133=99.5
+drop 0 09:00:20
+",
+        2,
+    ),
 ];
 
 /// Asserts how many messages are sent for a list.
@@ -48,7 +66,7 @@ fn assert_count<T: Abort + AllocGlobal>(rt: &T, dues: &str, wanted: usize) -> Re
 }
 
 /// The messages that are sent for a list.
-fn sent<T: Abort + AllocGlobal>(rt: &T, dues: &str) -> Result<Vec<Message>, Fail> {
+fn sent<T: Abort + AllocGlobal>(rt: &T, dues: &str) -> Result<Vec<SentMessage>, Fail> {
     let input = format!(in rt.alloc(); "{HEAD}{dues}")?;
     if input.len() > MOST_INPUT {
         return Ok(Vec::new(rt.alloc()));
@@ -94,7 +112,7 @@ say T1 09:00:20 Z 298=5|117=a1
 }
 
 /// Asserts the QuoteStatus (297) of the last of some messages.
-fn assert_last<T: Abort>(rt: &T, messages: &[Message], status: &[u8]) {
+fn assert_last<T: Abort>(rt: &T, messages: &[SentMessage], status: &[u8]) {
     let message = messages.last().expect(rt, "a message");
     let frame = read_frame(message.as_bytes()).ok().expect(rt, "a frame");
     assert!(rt; frame.get(297) == Some(status));
