@@ -1,5 +1,6 @@
 -- How the code keeps a view: a desk and a row of words. Only private functions say this.
-use Rattle.std.specs.Prelude.{◌≡◌, ◌≤◌, ℕ, ◌-◌, Bool, ◌||◌, List, length, Option, Some, None}
+use Rattle.std.specs.Prelude.{◌≡◌, ◌≤◌, ℕ, ◌-◌, Bool, true, false, ◌&&◌, ◌||◌, nat_le}
+use Rattle.std.specs.Prelude.{List, length, Option, Some, None}
 use Rattle.std.specs.Prelude.{if◌then◌else◌}
 use Rattle.std.specs.List.{list_any}
 use Rattle.quote_word.specs.PlainWords.{entry_in, answer_of, after_exchange}
@@ -27,21 +28,34 @@ abbrev pub with_asked : List (Option Settled) → Option ℕ → List (Option Se
 with_asked words None = words
 with_asked words (Some quote) = with_wish words quote Withdrawn
 
+-- the words after a lifting of a quote, where the quote has a word
+abbrev pub with_lifting : List (Option Settled) → ℕ → List (Option Settled)
+with_lifting words quote =
+    if nat_le 1 quote && nat_le quote (length words) then with_wish words quote Lifted else words
+
 -- a quote that has a word in a row of so many
 abbrev pub IsOfRow : ℕ → ℕ → Type 0
 IsOfRow count quote = (1 ≤ quote) × (quote ≤ count)
 
+-- what a word is, by whether its quote is lifted and whether it is withdrawn
+abbrev pub word_if : Bool → Bool → Option Settled
+word_if true withdrawn = Some Lifted
+word_if false true = Some Withdrawn
+word_if false false = None
+
 -- what the word of a quote is by a view
 abbrev pub word_of : DealerView → ℕ → Option Settled
-word_of view quote =
-    if is_lifted view quote then Some Lifted
-    else if is_withdrawn_at view.desk quote then Some Withdrawn
-    else None
+word_of view quote = word_if (is_lifted view quote) (is_withdrawn_at view.desk quote)
+
+-- the words of a row are those of a view
+abbrev pub AreWordsOf : DealerView → List (Option Settled) → Type 0
+AreWordsOf view words =
+    (quote : ℕ) → IsOfRow view.desk.row.quotes quote → entry_in words (quote - 1) ≡ word_of view quote
 
 -- a desk and a row of words stand for a view
 pub record StandsFor (view : DealerView) (desk : DeskEvents) (words : List (Option Settled)) : Type 0 where
   pub desk_is : desk ≡ view.desk
-  pub words_are : (quote : ℕ) → IsOfRow desk.row.quotes quote → entry_in words (quote - 1) ≡ word_of view quote
+  pub words_are : AreWordsOf view words
 
 -- a desk and its words, before an item of what is due and after it
 pub record DeskAndWords : Type 0 where

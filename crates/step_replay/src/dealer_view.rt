@@ -133,9 +133,7 @@ fn ask(words: &mut PlainWords, asked: Option<u32>) -> Option<Settled>
 
 /// Lifts the word of a quote, where the dealer can have that quote and its word is open.
 fn lift(words: &mut PlainWords, quote: u32)
-    ensures lifted { row_of.IsOfRow (length words.old) quote
-        → words.new ≡ row_of.with_wish words.old quote Settled.Lifted }
-    ensures other { (row_of.IsOfRow (length words.old) quote → ⊥) → words.new ≡ words.old }
+    ensures lifted { words.new ≡ row_of.with_lifting words.old quote }
     ensures length { length words.new ≡ length words.old }
 {
     if quote < 1 || quote > words.len() {
