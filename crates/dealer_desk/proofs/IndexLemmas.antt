@@ -247,7 +247,7 @@ both_so false c e h = cc
 
 -- Quotes by their QuoteIDs.
 
-no_number : (o : Option StandingQuote) → option_map (λ (q : StandingQuote). q.quote.number) o ≡ None → o ≡ None
+pub no_number : (o : Option StandingQuote) → option_map (λ (q : StandingQuote). q.quote.number) o ≡ None → o ≡ None
 no_number None h = refl
 no_number (Some own) h = absurd (none-some own.quote.number (sym h))
 
