@@ -1,12 +1,12 @@
 //! Laws over the definitions of a desk, each the contract of a function that does nothing.
-ghost use Rattle.std.specs.Prelude.{◌≡◌, ◌≤◌, ℕ, true, List, [], ◌∷◌, ◌++◌, Option, None, is_some, IfSome, length, filter};
+ghost use Rattle.std.specs.Prelude.{◌≡◌, ◌≤◌, ℕ, true, List, [], ◌∷◌, ◌++◌, Option, None, is_some, IfSome, length, filter, All};
 ghost use Rattle.venue_config.specs.declared.dealer_rows.DealerRow.{DealerRow};
 ghost use Rattle.quote_word.specs.declared.settled.Settled.{Settled};
 ghost use Rattle.dealer_desk.specs.declared.events.DealerEvent.{DealerEvent};
 ghost use Rattle.dealer_desk.specs.declared.events.DealerEvent.TheVariants as event;
-ghost use Rattle.dealer_desk.specs.DealerFacts.{DealerBook, DealerFact, book_of, exposure_of, finds_lifted, is_live_on, number_to_drop, quote_to_drop, quotes_accepted};
+ghost use Rattle.dealer_desk.specs.DealerFacts.{DealerBook, DealerFact, book_of, exposure_of, finds_lifted, is_live_on, is_withdrawal, number_to_drop, quote_to_drop, quotes_accepted};
 ghost use Rattle.dealer_desk.specs.DealerRules.{dealer_verdict};
-ghost use Rattle.dealer_desk.specs.DealerOutput.{DeskEvents, desk_after, event_facts, answered_words, asked_by, word_asked, book_at, rooms_at, verdict_at, room_of, verdict_duty, unpost_dropped};
+ghost use Rattle.dealer_desk.specs.DealerOutput.{DeskEvents, desk_after, event_facts, answered_words, asked_by, word_asked, facts_at, book_at, rooms_at, verdict_at, room_of, verdict_duty, unpost_dropped};
 ghost use Rattle.dealer_desk.specs.DeskLaws.{IsOfDay, request_meant, says_lifted, says_withdrawn, withdraws};
 ghost use Rattle.std.specs.List.{list_any};
 
@@ -66,4 +66,17 @@ pub fn what_is_left_is_of_the_day()
         → IfSome (unpost_dropped (rooms_at desk) moment answer (quote_to_drop (book_at desk) last)) (IsOfDay desk.row) }
     ensures drop_room { (desk : DeskEvents) (last : ℕ)
         → IfSome (quote_to_drop (book_at desk) last) (λ own. is_some (room_of (rooms_at desk) own.quote.request) ≡ true) }
+{}
+
+/// Each quote stands as its word was answered: it is withdrawn exactly where its word was asked and
+/// is withdrawn, and it is known to be lifted exactly where its word was asked and found lifted.
+pub fn quotes_stand_as_their_words_were_answered()
+    ensures withdrawn { (desk : DeskEvents)
+        → All (λ own. is_withdrawal own.end
+            ≡ list_any (says_withdrawn own.quote.number) (answered_words (facts_at desk)))
+          (book_at desk).quotes }
+    ensures lifted { (desk : DeskEvents)
+        → All (λ own. own.is_known_lifted
+            ≡ list_any (says_lifted own.quote.number) (answered_words (facts_at desk)))
+          (book_at desk).quotes }
 {}
