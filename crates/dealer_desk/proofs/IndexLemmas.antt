@@ -18,7 +18,7 @@ use Rattle.market_terms.specs.declared.lines.QuoteLine.{QuoteLine}
 use Rattle.market_terms.specs.declared.rooms.RoomRef.{RoomRef}
 use Rattle.dealer_desk.specs.DealerFacts.{DealerFact, DealerBook, request_named, request_numbered, quote_numbered, live_number_on, live_quote_on, has_lifted_quote, is_live, is_live_on, is_lifted_on, is_droppable, quote_with_id, quote_to_drop, exposure_beside, quantity_beside, live_quantity, standing_quote}
 use Rattle.dealer_desk.specs.BookChanges.{IsSound, FitsBook, book_after, closed_on, ended_at}
-use Rattle.dealer_desk.specs.DealerTable.{IsIndex, IsIdMap, IsTable, IndexView, live_number_among, with_fact}
+use Rattle.dealer_desk.specs.DealerTable.{IsIndex, IsIdMap, IsTable, IndexView, live_number_among, requests_in, with_fact}
 use Rattle.dealer_desk.specs.declared.accepted.AcceptedQuote.{AcceptedQuote}
 use Rattle.dealer_desk.specs.declared.standing.StandingRequest.{StandingRequest}
 use Rattle.dealer_desk.specs.declared.standing.StandingQuote.{StandingQuote}
@@ -28,10 +28,6 @@ use Rattle.dealer_desk.specs.declared.table.RequestRow.{RequestRow}
 use Rattle.dealer_desk.proofs.ListLemmas.{find_unique, find_at_place, fails_where_none, find_none, find_stands, stands_within, within_from, before_place, past_end, ruled_out}
 use Rattle.dealer_desk.proofs.MapLemmas.{ids_kept, ids_pushed}
 use Rattle.dealer_desk.proofs.TableLemmas.{read_at, row_read, live_stands, beside_dead, beside_live, sum_beside}
-
--- the requests of rows
-abbrev pub requests_in : List RequestRow → List StandingRequest
-requests_in rows = map (λ row. row.request) rows
 
 -- a book by its parts
 abbrev pub book_with : ℕ → ℕ → List StandingRequest → List StandingQuote → DealerBook
