@@ -134,7 +134,7 @@ closed_if false how own h = h
 pub told_stands : (row : DealerRow) (book : DealerBook) (number : ℕ) (close : Close) (moment : ℕ) → StandsIn row book → StandsIn row (book_after book (Told number close moment))
 told_stands row book number close moment stands = subst (λ (b : DealerBook). StandsIn row b) (sym (told_book book number close moment))
     (stands_requests row book.requests (map (closed_on number close) book.quotes) (told_at number) (told_keeps number)
-      (stands_changed row book.requests book.quotes (closed_on number close) (closed_keeps number close) (λ own live. closed_if (number == own.quote.request) (end.Closed close) own live) stands))
+    (stands_changed row book.requests book.quotes (closed_on number close) (closed_keeps number close) (λ own live. closed_if (number == own.quote.request) (end.Closed close) own live) stands))
 
 -- A quote behind the others.
 
@@ -189,13 +189,13 @@ gone_found requests quotes request replaced how (Some own) sound at is k y there
     let was = mapped_at (ended_at replaced how) quotes k y there in
     ap (is_live_on request) (sym was.2)
     ∙ gone_by (replaced == was.0.quote.number) request how was.0 (λ other.
-        lone_others (is_live_on request) quotes here.0 own (sound.lone request) here.1 here.2 k was.0 was.1 (λ same.
-          let mine : own.quote.number ≡ here.0 + 1 = sound.quotes_numbered here.0 own here.1 in
-          let its : was.0.quote.number ≡ k + 1 = sound.quotes_numbered k was.0 was.1 in
-          let number : own.quote.number ≡ replaced = same_Some own.quote.number replaced is in
-          let equal : replaced ≡ was.0.quote.number = omega arith in
-          let never : false ≡ true = sym other ∙ eq-eqb replaced was.0.quote.number equal in
-          cc))
+    lone_others (is_live_on request) quotes here.0 own (sound.lone request) here.1 here.2 k was.0 was.1 (λ same.
+    let mine : own.quote.number ≡ here.0 + 1 = sound.quotes_numbered here.0 own here.1 in
+    let its : was.0.quote.number ≡ k + 1 = sound.quotes_numbered k was.0 was.1 in
+    let number : own.quote.number ≡ replaced = same_Some own.quote.number replaced is in
+    let equal : replaced ≡ was.0.quote.number = omega arith in
+    let never : false ≡ true = sym other ∙ eq-eqb replaced was.0.quote.number equal in
+    cc))
 
 -- no quote on a request is live where the live one was ended
 pub gone_live : (requests : List StandingRequest) (quotes : List StandingQuote) (request replaced : ℕ) (how : QuoteEnd) → IsSound requests quotes
@@ -213,6 +213,6 @@ replaced_stands row book quote replaced how fits stands =
     let exposure : quote.quantity + sum_by live_quantity after ≤ row.exposure = subst (λ (n : ℕ). quote.quantity + n ≤ row.exposure) (sym (beside_replaced replaced (end.Withdrawn how) book.quotes)) fits.exposure in
     let kept : Stands row book.requests after = stands_changed row book.requests book.quotes (ended_at replaced (end.Withdrawn how)) (ended_keeps replaced (end.Withdrawn how)) (ended_lives replaced (end.Withdrawn how)) stands in
     subst (λ (b : DealerBook). StandsIn row (book_after b (Quoted quote))) (sym (withdrawn_book book replaced how))
-      (subst (λ (b : DealerBook). StandsIn row b) (sym (quoted_book (record book { quotes = after }) quote))
-        (stands_quoted row book.requests after quote number fits.from_first fits.to_last
-          (gone_live book.requests book.quotes quote.request replaced (end.Withdrawn how) stands.sound fits.replaced_is) room exposure kept))
+    (subst (λ (b : DealerBook). StandsIn row b) (sym (quoted_book (record book { quotes = after }) quote))
+    (stands_quoted row book.requests after quote number fits.from_first fits.to_last
+    (gone_live book.requests book.quotes quote.request replaced (end.Withdrawn how) stands.sound fits.replaced_is) room exposure kept))
