@@ -16,7 +16,7 @@ use Rattle.dealer_desk.specs.declared.standing.StandingQuote.{StandingQuote}
 use Rattle.dealer_desk.specs.declared.table.RequestRow.{RequestRow}
 use Rattle.dealer_desk.proofs.ListLemmas.{find_mapped}
 use Rattle.dealer_desk.proofs.MapLemmas.{rooms_pushed}
-use Rattle.dealer_desk.proofs.IndexLemmas.{no_number}
+use Rattle.dealer_desk.proofs.ReaderLemmas.{no_number}
 
 -- a QuoteID that no quote has is new also once a quote changed
 pub id_stays_new : (quotes : List StandingQuote) (f : StandingQuote → StandingQuote) (id : List ℕ) → ((own : StandingQuote) → (f own).quote ≡ own.quote)

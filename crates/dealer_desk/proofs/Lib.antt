@@ -8,10 +8,13 @@ mod KeptLemmas
 mod ListLemmas
 mod MapLemmas
 mod NoteLemmas
+mod ReaderLemmas
 mod RefusalLemmas
 mod SoundLemmas
 mod StandLemmas
 mod StandingWords
+mod TableGrowth
 mod TableLemmas
+mod TableReads
 mod VerdictLemmas
 mod WordLemmas

@@ -2,7 +2,7 @@ use Rattle.std.proofs.Common.{◌≡◌, ℕ, Option, Some, None, option_map, Bo
 use Rattle.dealer_desk.specs.DealerFacts.{quote_with_id, quote_numbered}
 use Rattle.dealer_desk.specs.DealerTable.{IndexView, requests_in}
 use Rattle.dealer_desk.specs.declared.standing.StandingQuote.{StandingQuote}
-use Rattle.dealer_desk.proofs.IndexLemmas.{id_missing, id_found}
+use Rattle.dealer_desk.proofs.ReaderLemmas.{id_missing, id_found}
 use Rattle.dealer_desk.proofs.index.DealerIndex.quote_with_id.Goals as goal
 
 pub returns-in_err-number : goal.returns-in_err-number
