@@ -1,14 +1,18 @@
 //! The desk of one dealer.
-ghost use Rattle.std.specs.Prelude.{◌≡◌, ◌+◌, ◌<◌, ◌≤◌, [], ◌∷◌, ◌++◌, is_some, vec_len, vec_capacity, IfOk, IfSome, OnOk, OnErr, IsOk};
+ghost use Rattle.std.specs.Prelude.{◌≡◌, ◌+◌, ◌<◌, ◌≤◌, [], ◌∷◌, ◌++◌, is_some, vec_len};
+ghost use Rattle.std.specs.Prelude.{vec_capacity, IfOk, IfSome, OnOk, OnErr, IsOk};
 ghost use Rattle.std.specs.Option.{option_map, option_to_list};
-ghost use Rattle.dealer_desk.specs.DealerFacts.{book_of, requests_shown, exposure_of, number_to_drop, quote_to_drop};
+ghost use Rattle.dealer_desk.specs.DealerFacts.{requests_shown, exposure_of, live_quote_on};
+ghost use Rattle.dealer_desk.specs.DealerFacts.{number_to_drop, quote_to_drop};
 ghost use Rattle.dealer_desk.specs.DealerOutput as spec;
-ghost use Rattle.dealer_desk.specs.DealerOutput.{DeskEvents, dealer_output, book_at, rooms_at, with_event, with_notice, with_notice_in, number_in, may_close, may_close_in, verdict_at, word_asked, verdict_duty, event_facts};
+ghost use Rattle.dealer_desk.specs.DealerOutput.{dealer_output, book_at, rooms_at, with_event};
+ghost use Rattle.dealer_desk.specs.DealerOutput.{with_notice, with_notice_in, number_in, may_close};
+ghost use Rattle.dealer_desk.specs.DealerOutput.{may_close_in, verdict_at, word_asked};
+ghost use Rattle.dealer_desk.specs.DealerOutput.{verdict_duty};
 ghost use Rattle.dealer_desk.specs.QuoteLines.{lines_of};
 
 use crate::answers::{
     cancel_status, duty_of, is_withdrawn, note_drop, outcome_of, take_note, unpost_where,
-    word_asked,
 };
 use crate::index::DealerIndex;
 use crate::rules::dealer_verdict;
@@ -43,9 +47,14 @@ impl Model for DealerDesk {
 
     ghost Value = { DeskEvents };
 
-    ghost view = { λ desk. record { date = desk.date; row = desk.row; events = desk.events.items } };
+    ghost view = { λ desk. record {
+      date = desk.date;
+      row = desk.row;
+      events = desk.events.items;
+    } };
 
-    ghost invariant = { λ desk. IsDesk desk.date desk.row desk.events.items desk.sent.items desk.index };
+    ghost invariant = { λ desk.
+        IsDesk desk.date desk.row desk.events.items desk.sent.items desk.index };
 }
 
 impl DealerDesk {
@@ -63,28 +72,34 @@ impl DealerDesk {
         })
     }
 
-    /// The verdict on bytes that come at this moment: what the session and the market make of them. It may be handed to
-    /// [`DealerDesk::take_judged`] as long as nothing else comes to the desk, so that a message is read and judged once.
+    /// The verdict on bytes that come at this moment: what the session and the market make of them.
+    /// It may be handed to [`DealerDesk::take_judged`] as long as nothing else comes to the desk,
+    /// so that a message is read and judged once. The quote whose word it asks has a number from 1
+    /// to the quotes of the dealer's row.
     pub fn judge<'a>(&self, moment: Moment, bytes: &'a [u8]) -> DealerVerdict<'a>
-        ensures { result ≡ verdict_at self.now moment bytes.now }
+        ensures verdict { result ≡ verdict_at self.now moment bytes.now }
+        ensures own { IfSome (word_asked result)
+            (λ quote. (1 ≤ quote) × (quote ≤ self.now.row.quotes)) }
     {
         let verdict = dealer_verdict(&self.date, &self.row, &self.index, moment, bytes);
         verdict
     }
 
-    /// The own number of the quote whose word has to be asked before these bytes are taken at this moment: that of the
-    /// quote that a Quote (35=S) would replace, or that a QuoteCancel (35=Z) would withdraw. Numbers are from 1 to the
-    /// quotes of the dealer's row.
+    /// The own number of the quote whose word has to be asked before these bytes are taken at this
+    /// moment: that of the quote that a Quote (35=S) would replace, or that a QuoteCancel (35=Z)
+    /// would withdraw. Numbers are from 1 to the quotes of the dealer's row.
     pub fn question(&self, moment: Moment, bytes: &[u8]) -> Option<u32>
         ensures quote { result ≡ word_asked (verdict_at self.now moment bytes.now) }
         ensures own { IfSome result (λ quote. (1 ≤ quote) × (quote ≤ self.now.row.quotes)) }
     {
         let verdict = dealer_verdict(&self.date, &self.row, &self.index, moment, bytes);
-        word_asked(&verdict)
+        let quote = verdict.word_asked();
+        quote
     }
 
-    /// Takes a message of the dealer's own, whatever its bytes are, with the answer of the word that it asks, and gives
-    /// what is left to be done in the room of its request. After an error the desk is as before.
+    /// Takes a message of the dealer's own, whatever its bytes are, with the answer of the word
+    /// that it asks, and gives what is left to be done in the room of its request. After an error
+    /// the desk is as before.
     pub fn take(
         &mut self,
         moment: Moment,
@@ -92,8 +107,10 @@ impl DealerDesk {
         answer: Option<Settled>,
     ) -> Result<Option<Duty>, Memory>
         requires { is_some answer ≡ is_some (word_asked (verdict_at self.old moment bytes.now)) }
-        ensures ok { OnOk result (self.new ≡ with_event self.old (DealerEvent.Own moment bytes.now answer)) }
-        ensures duty { IfOk result (λ duty. duty ≡ verdict_duty (rooms_at self.old) moment (verdict_at self.old moment bytes.now) answer) }
+        ensures ok { OnOk result
+            (self.new ≡ with_event self.old (DealerEvent.Own moment bytes.now answer)) }
+        ensures duty { IfOk result (λ duty. duty
+            ≡ verdict_duty (rooms_at self.old) moment (verdict_at self.old moment bytes.now) answer) }
         ensures err { OnErr result (self.new ≡ self.old) }
     {
         let verdict = dealer_verdict(&self.date, &self.row, &self.index, moment, bytes);
@@ -111,8 +128,10 @@ impl DealerDesk {
     ) -> Result<Option<Duty>, Memory>
         requires judged { verdict ≡ verdict_at self.old moment bytes.now }
         requires answered { is_some answer ≡ is_some (word_asked verdict) }
-        ensures ok { OnOk result (self.new ≡ with_event self.old (DealerEvent.Own moment bytes.now answer)) }
-        ensures duty { IfOk result (λ duty. duty ≡ verdict_duty (rooms_at self.old) moment verdict answer) }
+        ensures ok { OnOk result
+            (self.new ≡ with_event self.old (DealerEvent.Own moment bytes.now answer)) }
+        ensures duty { IfOk result
+            (λ duty. duty ≡ verdict_duty (rooms_at self.old) moment verdict answer) }
         ensures err { OnErr result (self.new ≡ self.old) }
     {
         let message = Message::copy_of(self.alloc, bytes)?;
@@ -138,11 +157,13 @@ impl DealerDesk {
         Ok(duty)
     }
 
-    /// Shows the dealer a request, and answers the number that it has among those shown to this dealer. A room is shown
-    /// once: where one was shown before, it goes on to mean its first request. After an error the desk is as before.
+    /// Shows the dealer a request, and answers the number that it has among those shown to this
+    /// dealer. A room is shown once: where one was shown before, it goes on to mean its first
+    /// request. After an error the desk is as before.
     pub fn show(&mut self, room: RoomRef, ask: Ask, moment: Moment) -> Result<u64, Memory>
         ensures number { IfOk result (λ number. number ≡ requests_shown (book_at self.old) + 1) }
-        ensures ok { OnOk result (self.new ≡ with_event self.old (DealerEvent.Shown room ask moment)) }
+        ensures ok { OnOk result
+            (self.new ≡ with_event self.old (DealerEvent.Shown room ask moment)) }
         ensures err { OnErr result (self.new ≡ self.old) }
     {
         let number = self.index.requests_shown() + 1;
@@ -161,11 +182,13 @@ impl DealerDesk {
         Ok(number)
     }
 
-    /// Tells the dealer how the request of a room ended. It answers false, and changes nothing, where that room was not
-    /// shown or was told already. After an error the desk is as before.
+    /// Tells the dealer how the request of a room ended. It answers false, and changes nothing,
+    /// where that room was not shown or was told already. After an error the desk is as before.
     pub fn tell(&mut self, room: RoomRef, close: Close, moment: Moment) -> Result<bool, Memory>
-        ensures told { IfOk result (λ told. told ≡ may_close_in self.old (number_in (rooms_at self.old) room)) }
-        ensures ok { OnOk result (self.new ≡ with_notice_in self.old (number_in (rooms_at self.old) room) close moment) }
+        ensures told { IfOk result
+            (λ told. told ≡ may_close_in self.old (number_in (rooms_at self.old) room)) }
+        ensures ok { OnOk result (self.new
+            ≡ with_notice_in self.old (number_in (rooms_at self.old) room) close moment) }
         ensures err { OnErr result (self.new ≡ self.old) }
     {
         let Some(number) = self.index.number_in(room) else {
@@ -204,9 +227,9 @@ impl DealerDesk {
         Ok(true)
     }
 
-    /// The own number of the quote whose word has to be asked before the next of the quotes up to `last` is dropped: of
-    /// those that are live and not known to be lifted the one with the lowest number. Numbers are from 1 to the quotes
-    /// of the dealer's row.
+    /// The own number of the quote whose word has to be asked before the next of the quotes up to
+    /// `last` is dropped: of those that are live and not known to be lifted the one with the lowest
+    /// number. Numbers are from 1 to the quotes of the dealer's row.
     pub fn question_drop(&self, last: u32) -> Option<u32>
         ensures quote { result ≡ number_to_drop (book_at self.now) last }
         ensures own { IfSome result (λ quote. (1 ≤ quote) × (quote ≤ self.now.row.quotes)) }
@@ -215,9 +238,10 @@ impl DealerDesk {
         Some(own.quote.number)
     }
 
-    /// Drops the next of the quotes up to `last`, with the answer of its word, for a cancel of all quotes that came at
-    /// this moment. It gives what is left to be done in the room of that quote, and the same drop once more where another
-    /// quote is left. After an error the desk is as before.
+    /// Drops the next of the quotes up to `last`, with the answer of its word, for a cancel of all
+    /// quotes that came at this moment. It gives what is left to be done in the room of that quote,
+    /// and the same drop once more where another quote is left. After an error the desk is as
+    /// before.
     pub fn drop_one(
         &mut self,
         last: u32,
@@ -225,9 +249,13 @@ impl DealerDesk {
         answer: Option<Settled>,
     ) -> Result<(Option<Duty>, Option<Duty>), Memory>
         requires { is_some answer ≡ is_some (number_to_drop (book_at self.old) last) }
-        ensures ok { OnOk result (self.new ≡ with_event self.old (DealerEvent.Drop last moment answer)) }
-        ensures unpost { IfOk result (λ duties. duties.0 ≡ spec.unpost_dropped (rooms_at self.old) moment answer (quote_to_drop (book_at self.old) last)) }
-        ensures further { IfOk result (λ duties. duties.1 ≡ spec.further_drop (book_at self.new) last moment) }
+        ensures ok { OnOk result
+            (self.new ≡ with_event self.old (DealerEvent.Drop last moment answer)) }
+        ensures unpost { IfOk result (λ duties. duties.0
+            ≡ spec.unpost_dropped (rooms_at self.old) moment answer
+            (quote_to_drop (book_at self.old) last)) }
+        ensures further { IfOk result
+            (λ duties. duties.1 ≡ spec.further_drop (book_at self.new) last moment) }
         ensures err { OnErr result (self.new ≡ self.old) }
     {
         let answered = drop_answer(&self.index, last, answer);
@@ -317,23 +345,34 @@ impl DealerDesk {
 }
 
 /// The closing notice of a request, where one may be sent.
+#[tactic(auto, unfolding(crate::specs::DealerOutput::closable))]
 fn notice_of<'a>(index: &DealerIndex, number: u64, close: Close) -> Option<OutMessage<'a>>
-    ensures { result ≡ option_map (spec.notice_of index.now.book close) (spec.closable index.now.book number) }
+    ensures { result
+        ≡ option_map (spec.notice_of index.now.book close) (spec.closable index.now.book number) }
 {
     let row = index.request_numbered(number)?;
     if row.request.is_told {
         return None;
     }
-    let quote = index.live_quote_on(number).map(|own| quoted_price(own));
+    let shown = row.request.number;
     Some(OutMessage::ClosingNotice(ClosingNotice {
         number: index.notices() + 1,
         request: Request {
-            number: row.request.number,
+            number: shown,
             ask: row.request.ask.copy(),
         },
         close,
-        quote,
+        quote: price_on(index, shown),
     }))
+}
+
+/// What a closing notice says of the dealer's live quote on a request, where there is one.
+fn price_on(index: &DealerIndex, request: u64) -> Option<QuotedPrice>
+    ensures { result ≡ option_map spec.quoted_price (live_quote_on index.now.book request) }
+{
+    let own = index.live_quote_on(request)?;
+    let price = quoted_price(own);
+    Some(price)
 }
 
 /// What a closing notice says of a quote.
@@ -347,11 +386,7 @@ fn quoted_price(own: &StandingQuote) -> QuotedPrice
 }
 
 /// What the dealer is told of the quote that a drop takes, where it takes one.
-fn drop_answer(
-    index: &DealerIndex,
-    last: u32,
-    answer: Option<Settled>,
-) -> Option<OutMessage<'_>>
+fn drop_answer(index: &DealerIndex, last: u32, answer: Option<Settled>) -> Option<OutMessage<'_>>
     ensures { result ≡ option_map (spec.drop_message answer) (quote_to_drop index.now.book last) }
 {
     let own = index.quote_to_drop(last)?;
@@ -368,7 +403,8 @@ fn unpost_of(
     moment: Moment,
     answer: Option<Settled>,
 ) -> Option<Duty>
-    ensures { result ≡ spec.unpost_dropped index.now.rooms moment answer (quote_to_drop index.now.book last) }
+    ensures { result
+        ≡ spec.unpost_dropped index.now.rooms moment answer (quote_to_drop index.now.book last) }
 {
     let own = index.quote_to_drop(last)?;
     let so = is_withdrawn(answer);
@@ -394,7 +430,8 @@ fn next_message(
     moment: Moment,
     message: &OutMessage,
 ) -> Result<SentMessage, Memory>
-    ensures { IfOk result (λ bytes. bytes ≡ spec.next_message date.now row.now sent.now moment message.now) }
+    ensures { IfOk result
+        (λ bytes. bytes ≡ spec.next_message date.now row.now sent.now moment message.now) }
 {
     let head = Head {
         date: *date,
@@ -415,7 +452,8 @@ fn answer_message(
     moment: Moment,
     answer: &Option<OutMessage>,
 ) -> Result<Option<SentMessage>, Memory>
-    ensures { IfOk result (λ bytes. spec.sent_with date.now row.now sent.now moment answer.now ≡ sent.now ++ option_to_list bytes) }
+    ensures { IfOk result (λ bytes. spec.sent_with date.now row.now sent.now moment answer.now
+        ≡ sent.now ++ option_to_list bytes) }
 {
     let Some(message) = answer else {
         return Ok(None);

@@ -1,12 +1,14 @@
 //! What a desk decides of a message.
+ghost use Rattle.std.specs.Prelude.{◌≡◌};
+ghost use Rattle.dealer_desk.specs.DealerOutput as spec;
 
 use crate::AcceptedQuote;
 use market_terms::Id;
 use quote_messages::{OutMessage, Reject};
 
-/// The verdict on a message that came to a dealer's desk. Two of them leave the last word to the word of a quote:
-/// a quote that replaces another, and a cancel, take effect where that word is withdrawn, and come too late
-/// where it is lifted.
+/// The verdict on a message that came to a dealer's desk. Two of them leave the last word to the
+/// word of a quote: a quote that replaces another, and a cancel, take effect where that word is
+/// withdrawn, and come too late where it is lifted.
 #[derive(Drop)]
 pub enum DealerVerdict<'a> {
     /// The bytes are no frame, or have no readable MsgSeqNum (34): nothing is sent.
@@ -15,7 +17,8 @@ pub enum DealerVerdict<'a> {
     OutOfSequence(Reject<'a>),
     /// The message used up its number and met a session fault.
     Rejected(Reject<'a>),
-    /// The market refuses the message, by this answer: that of the first check that it does not pass.
+    /// The market refuses the message, by this answer: that of the first check that it does not
+    /// pass.
     Refused(OutMessage<'a>),
     /// A quote is accepted, unless it would replace one that was lifted.
     QuoteAccepted {
@@ -25,8 +28,8 @@ pub enum DealerVerdict<'a> {
         id: Id<'a>,
         /// What the desk keeps of it.
         quote: AcceptedQuote,
-        /// The own number of the dealer's live quote on the same request, where there is one: it is replaced, and
-        /// its word is asked.
+        /// The own number of the dealer's live quote on the same request, where there is one: it is
+        /// replaced, and its word is asked.
         replaced: Option<u32>,
     },
     /// A cancel of one quote is confirmed, unless the quote was lifted.
@@ -50,4 +53,17 @@ pub enum DealerVerdict<'a> {
         /// Which of the requests shown to the dealer it declines, from 1.
         number: u64,
     },
+}
+
+impl<'a> DealerVerdict<'a> {
+    /// The own number of the quote whose word this verdict asks, if it asks one.
+    pub fn word_asked(&self) -> Option<u32>
+        ensures { result ≡ spec.word_asked self.now }
+    {
+        match self {
+            DealerVerdict::QuoteAccepted { replaced, .. } => *replaced,
+            DealerVerdict::CancelAccepted { quote, .. } => Some(*quote),
+            _ => None,
+        }
+    }
 }
