@@ -1,7 +1,9 @@
 -- A desk and a row of words go on standing for a view, item by item.
-use Rattle.std.proofs.Common.{◌≡◌, ◌≢◌, ◌≤◌, ◌<◌, ℕ, ◌-◌, ◌==◌, Bool, true, false, cond, ◌&&◌, ◌||◌, not, nat_le}
-use Rattle.std.proofs.Common.{List, [], ◌∷◌, ◌++◌, length, Option, Some, None, IfSome, option_map, if◌then◌else◌}
+use Rattle.std.proofs.Common.{◌≡◌, ◌≢◌, ◌≤◌, ◌<◌, ℕ, ◌+◌, ◌-◌, ◌==◌, Bool, true, false, cond, ◌&&◌, ◌||◌, not, nat_le}
+use Rattle.std.proofs.Common.{List, [], ◌∷◌, ◌++◌, length, fold, get_or, replicate, take, Option, Some, None, IfSome, option_map, if◌then◌else◌}
 use Rattle.std.proofs.Common.{refl, sym, ap, ◌∙◌, subst, arith, eq-eqb}
+use Rattle.std.proofs.lemmas.List.{get_or-replicate, take_all, take_more}
+use Rattle.std.proofs.lemmas.List.Sums.{fold-append}
 use Rattle.std.proofs.lemmas.Bool.Decides.{nat_tests}
 use Rattle.std.proofs.lemmas.List.Folds.{list_any-append}
 use Rattle.std.specs.List.{list_any}
@@ -9,17 +11,20 @@ use Rattle.quote_word.specs.PlainWords.{Exchanges, answer_of, after_exchange, en
 use Rattle.quote_word.specs.PlainWordsLaws.{exchange_answers_entry, exchange_keeps_others}
 use Rattle.quote_word.specs.declared.settled.Settled.{Settled}
 use Rattle.quote_word.specs.declared.settled.Settled.TheVariants.{Withdrawn, Lifted}
+use Rattle.venue_config.specs.declared.dealer_rows.DealerRow.{DealerRow}
 use Rattle.market_terms.specs.declared.asks.Ask.{Ask}
 use Rattle.market_terms.specs.declared.closes.Close.{Close}
 use Rattle.dealer_desk.specs.DealerFacts.{number_to_drop}
 use Rattle.dealer_desk.specs.DealerOutput.{DeskEvents, asked_by, asked_word, book_at, may_close}
-use Rattle.dealer_desk.specs.DealerOutput.{verdict_at, word_asked, with_event, with_notice}
+use Rattle.dealer_desk.specs.DealerOutput.{desk_after, verdict_at, word_asked, with_event, with_notice}
 use Rattle.dealer_desk.specs.DeskLaws.{says_withdrawn}
 use Rattle.dealer_desk.specs.declared.events.DealerEvent.{DealerEvent}
 use Rattle.dealer_desk.specs.declared.events.DealerEvent.TheVariants as event
+use Rattle.step_replay.specs.declared.due.Due.{Due}
 use Rattle.step_replay.specs.declared.due.Due.TheVariants as due
 use Rattle.step_replay.specs.DealerView.{DealerView, after_due, answer_to, is_lifted}
-use Rattle.step_replay.specs.DealerView.{is_withdrawn_at, no_room, with_event_at_desk}
+use Rattle.step_replay.specs.DealerView.{dealer_view, is_withdrawn_at, no_room, sent_at}
+use Rattle.step_replay.specs.DealerView.{view_after, view_at_start, with_event_at_desk}
 use Rattle.step_replay.specs.RowOfWords.{AreWordsOf, GrowsByEvents, Happens, IsOfRow, StandsFor}
 use Rattle.step_replay.specs.RowOfWords.{answer_in, with_asked, with_lifting, with_wish}
 use Rattle.step_replay.specs.RowOfWords.{withdraws_by, word_if, word_of}
@@ -344,3 +349,40 @@ lifted_happens desk words words_after quote count after_are view stands =
       desk_is = stands.desk_is ∙ lifting_desk view quote (has_word && not withdrawn);
       words_are = subst (AreWordsOf (after_due view (due.Lifted quote))) (same ∙ sym after_are) words_are;
     }
+
+-- A list, item by item.
+
+-- at the start every word is open
+pub start_stands : (date : List ℕ) (row : DealerRow) (desk : DeskEvents) (words : List (Option Settled))
+    → desk ≡ record { date = date; row = row; events = [] } → words ≡ replicate row.quotes None
+    → StandsFor (view_at_start date row) desk words
+unfolding desk_after
+start_stands date row desk words desk_is words_are = record {
+  desk_is = desk_is;
+  words_are = λ quote within.
+      let low : 1 ≤ quote = within.0 in
+      let high : quote ≤ row.quotes = within.1 in
+      let below : quote - 1 < row.quotes = omega arith in
+      ap (λ (row_of_words : List (Option Settled)). entry_in row_of_words (quote - 1)) words_are
+      ∙ get_or-replicate row.quotes (quote - 1) None None below;
+}
+
+-- one item more
+pub item_stands : (date : List ℕ) (row : DealerRow) (dues : List Due) (place : ℕ) (item : Due)
+    → (desk : DeskEvents) (words : List (Option Settled)) → place < length dues → item ≡ get_or dues place item
+    → StandsFor (after_due (view_after date row (take place dues)) item) desk words
+    → StandsFor (view_after date row (take (place + 1) dues)) desk words
+item_stands date row dues place item desk words within is stands =
+    let front : List Due = take place dues in
+    let more : take (place + 1) dues ≡ front ++ item ∷ [] =
+        take_more dues place item within ∙ ap (λ (found : Due). front ++ found ∷ []) (sym is) in
+    let view : view_after date row (take (place + 1) dues) ≡ after_due (view_after date row front) item =
+        ap (view_after date row) more ∙ fold-append after_due (view_at_start date row) front (item ∷ []) in
+    subst (λ (after : DealerView). StandsFor after desk words) (sym view) stands
+
+-- the whole list
+pub all_sent : (date : List ℕ) (row : DealerRow) (dues : List Due) (place : ℕ)
+    → (desk : DeskEvents) (words : List (Option Settled)) → length dues ≤ place
+    → StandsFor (view_after date row (take place dues)) desk words → sent_at desk ≡ dealer_view date row dues
+all_sent date row dues place desk words done stands =
+    ap sent_at stands.desk_is ∙ ap (dealer_view date row) (take_all place dues done)
