@@ -9,7 +9,10 @@ use Rattle.step_replay.proofs.dealer_view.quotes_are_withdrawn_event_by_event.Go
 pub returns : goal.returns
 returns c desk more quote =
     let said = c.facts_say_how_words_were_answered.ensures.withdrawn in
+    let grown = c.words_are_asked_event_by_event.ensures desk.date desk.row desk.events more in
     said (facts_at (with_event desk more)) quote
-    ∙ ap (list_any (says_withdrawn quote)) (c.words_are_asked_event_by_event.ensures desk.date desk.row desk.events more)
-    ∙ list_any-append (says_withdrawn quote) (answered_words (facts_at desk)) (asked_by desk.date desk.row (book_at desk) more)
-    ∙ ap (λ (before : Bool). before || withdraws_by desk more quote) (sym (said (facts_at desk) quote))
+    ∙ ap (list_any (says_withdrawn quote)) grown
+    ∙ list_any-append (says_withdrawn quote) (answered_words (facts_at desk))
+        (asked_by desk.date desk.row (book_at desk) more)
+    ∙ ap (λ (before : Bool). before || withdraws_by desk more quote)
+        (sym (said (facts_at desk) quote))
