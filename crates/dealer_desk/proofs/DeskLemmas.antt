@@ -50,7 +50,7 @@ verdict_stands row book (verdict.DeclineAccepted request number) answer stands h
 verdict_stands row book other answer stands holds = stands
 
 -- a verdict holds of a book whatever the number of messages that came
-holds_used : (row : DealerRow) (book : DealerBook) (used : ℕ) (given : DealerVerdict) → Holds row book given → Holds row (record book { used = used }) given
+pub holds_used : (row : DealerRow) (book : DealerBook) (used : ℕ) (given : DealerVerdict) → Holds row book given → Holds row (record book { used = used }) given
 holds_used row book used (verdict.QuoteAccepted request id quote replaced) holds = holds
 holds_used row book used (verdict.CancelAccepted id quote request) holds = holds
 holds_used row book used (verdict.DeclineAccepted request number) holds = holds

@@ -27,7 +27,7 @@ use Rattle.dealer_desk.specs.declared.standing.QuoteEnd.TheVariants as end
 use Rattle.dealer_desk.specs.declared.table.RequestRow.{RequestRow}
 use Rattle.dealer_desk.proofs.ListLemmas.{find_unique, find_at_place, fails_where_none, find_none, find_stands, stands_within, within_from, before_place, past_end, ruled_out}
 use Rattle.dealer_desk.proofs.MapLemmas.{ids_kept, ids_pushed}
-use Rattle.dealer_desk.proofs.TableLemmas.{read_at, row_read, beside_dead, beside_live, sum_beside}
+use Rattle.dealer_desk.proofs.TableLemmas.{read_at, row_read, live_stands, beside_dead, beside_live, sum_beside}
 
 -- the requests of rows
 abbrev pub requests_in : List RequestRow → List StandingRequest
@@ -247,7 +247,7 @@ both_so false c e h = cc
 
 -- Quotes by their QuoteIDs.
 
-no_number : (o : Option StandingQuote) → option_map (λ (q : StandingQuote). q.quote.number) o ≡ None → o ≡ None
+pub no_number : (o : Option StandingQuote) → option_map (λ (q : StandingQuote). q.quote.number) o ≡ None → o ≡ None
 no_number None h = refl
 no_number (Some own) h = absurd (none-some own.quote.number (sym h))
 
@@ -298,6 +298,18 @@ pub live_found_by : (used notices : ℕ) (requests : List StandingRequest) (quot
 unfolding live_quote_on
 live_found_by used notices requests quotes request number sound is =
     found_by_number used notices requests quotes (is_live_on request) sound (find (is_live_on request) quotes) refl number is
+
+-- the number of a live quote is that of a quote
+pub live_within : (used notices : ℕ) (requests : List StandingRequest) (quotes : List StandingQuote) (request number : ℕ) → IsSound requests quotes
+    → live_number_on (book_with used notices requests quotes) request ≡ Some number → (1 ≤ number) × (number ≤ length quotes)
+unfolding live_quote_on
+live_within used notices requests quotes request number sound is =
+    let live = live_stands requests quotes request number sound is in
+    let place : number ≡ live.place + 1 = live.number_is in
+    let inside : live.place < length quotes = within_from quotes live.place live.own live.stands in
+    let least : 1 ≤ number = omega arith in
+    let most : number ≤ length quotes = omega arith in
+    (least, most)
 
 -- The quote that a drop takes.
 

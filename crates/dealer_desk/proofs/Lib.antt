@@ -2,6 +2,7 @@ mod BookLemmas
 mod BookPush
 mod DeskLemmas
 mod DutyLemmas
+mod GrowthLemmas
 mod IndexLemmas
 mod KeptLemmas
 mod ListLemmas
@@ -10,6 +11,7 @@ mod NoteLemmas
 mod RefusalLemmas
 mod SoundLemmas
 mod StandLemmas
+mod StandingWords
 mod TableLemmas
 mod VerdictLemmas
 mod WordLemmas

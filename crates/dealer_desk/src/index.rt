@@ -149,10 +149,10 @@ impl DealerIndex {
     pub(crate) fn live_quote_on(&self, request: u64) -> Option<&StandingQuote>
         ensures { option_map (λ own. own.now) result ≡ facts.live_quote_on self.now.book request }
     {
+        let quotes = self.table.quotes.as_slice();
         let row = self.request_numbered(request)?;
         let number = row.live?;
-        let own = self.quote_numbered(number)?;
-        Some(own)
+        Some(&quotes[number as usize - 1])
     }
 
     /// The quote that a drop of the quotes up to this own number takes.

@@ -1,18 +1,18 @@
 //! Laws over the definitions of a desk, each the contract of a function that does nothing.
 ghost use Rattle.std.specs.Prelude.{◌≡◌, ◌≤◌, ℕ, true, List, [], ◌∷◌, ◌++◌, Option, None, is_some};
-ghost use Rattle.std.specs.Prelude.{IfSome, length, filter};
+ghost use Rattle.std.specs.Prelude.{IfSome, length, filter, All};
 ghost use Rattle.venue_config.specs.declared.dealer_rows.DealerRow.{DealerRow};
 ghost use Rattle.quote_word.specs.declared.settled.Settled.{Settled};
 ghost use Rattle.dealer_desk.specs.declared.events.DealerEvent.{DealerEvent};
 ghost use Rattle.dealer_desk.specs.declared.events.DealerEvent.TheVariants as event;
 ghost use Rattle.dealer_desk.specs.DealerFacts.{DealerBook, DealerFact, book_of, exposure_of};
-ghost use Rattle.dealer_desk.specs.DealerFacts.{finds_lifted, is_live_on, number_to_drop};
-ghost use Rattle.dealer_desk.specs.DealerFacts.{quote_to_drop, quotes_accepted};
+ghost use Rattle.dealer_desk.specs.DealerFacts.{finds_lifted, is_live_on, is_withdrawal};
+ghost use Rattle.dealer_desk.specs.DealerFacts.{number_to_drop, quote_to_drop, quotes_accepted};
 ghost use Rattle.dealer_desk.specs.DealerRules.{dealer_verdict};
 ghost use Rattle.dealer_desk.specs.DealerOutput.{DeskEvents, desk_after, event_facts};
-ghost use Rattle.dealer_desk.specs.DealerOutput.{answered_words, asked_by, word_asked, book_at};
-ghost use Rattle.dealer_desk.specs.DealerOutput.{rooms_at, verdict_at, room_of, verdict_duty};
-ghost use Rattle.dealer_desk.specs.DealerOutput.{unpost_dropped};
+ghost use Rattle.dealer_desk.specs.DealerOutput.{answered_words, asked_by, word_asked, facts_at};
+ghost use Rattle.dealer_desk.specs.DealerOutput.{book_at, rooms_at, verdict_at, room_of};
+ghost use Rattle.dealer_desk.specs.DealerOutput.{verdict_duty, unpost_dropped};
 ghost use Rattle.dealer_desk.specs.DeskLaws.{IsOfDay, request_meant, says_lifted, says_withdrawn};
 ghost use Rattle.dealer_desk.specs.DeskLaws.{withdraws};
 ghost use Rattle.std.specs.List.{list_any};
@@ -88,4 +88,17 @@ pub fn what_is_left_is_of_the_day()
     ensures drop_room { (desk : DeskEvents) (last : ℕ)
         → IfSome (quote_to_drop (book_at desk) last)
         (λ own. is_some (room_of (rooms_at desk) own.quote.request) ≡ true) }
+{}
+
+/// Each quote stands as its word was answered: it is withdrawn exactly where its word was asked and
+/// is withdrawn, and it is known to be lifted exactly where its word was asked and found lifted.
+pub fn quotes_stand_as_their_words_were_answered()
+    ensures withdrawn { (desk : DeskEvents)
+        → All (λ own. is_withdrawal own.end
+            ≡ list_any (says_withdrawn own.quote.number) (answered_words (facts_at desk)))
+          (book_at desk).quotes }
+    ensures lifted { (desk : DeskEvents)
+        → All (λ own. own.is_known_lifted
+            ≡ list_any (says_lifted own.quote.number) (answered_words (facts_at desk)))
+          (book_at desk).quotes }
 {}
