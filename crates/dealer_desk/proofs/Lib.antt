@@ -8,6 +8,7 @@ mod KeptLemmas
 mod ListLemmas
 mod MapLemmas
 mod NoteLemmas
+mod NoticeLemmas
 mod RefusalLemmas
 mod SoundLemmas
 mod StandLemmas

@@ -1,0 +1,5 @@
+use Rattle.dealer_desk.proofs.KeptLemmas.{kept_empty}
+use Rattle.dealer_desk.proofs.desks.DealerDesk.new.Goals as goal
+
+pub invariant_of-result : goal.invariant_of-result
+invariant_of-result c = ?
