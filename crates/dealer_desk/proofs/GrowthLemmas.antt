@@ -9,14 +9,14 @@ use Rattle.market_terms.specs.declared.rooms.RoomRef.{RoomRef}
 use Rattle.dealer_desk.specs.DealerFacts.{DealerFact, DealerBook}
 use Rattle.dealer_desk.specs.BookChanges.{book_after}
 use Rattle.dealer_desk.specs.DealerOutput.{is_same_room}
-use Rattle.dealer_desk.specs.DealerTable.{IsIndex, IsIdMap, IsRoomMap, IsTable, IndexView, room_cmp, with_request}
+use Rattle.dealer_desk.specs.DealerTable.{IsIndex, IsIdMap, IsRoomMap, IsTable, IndexView, room_cmp, with_request, requests_in}
 use Rattle.dealer_desk.specs.declared.accepted.AcceptedQuote.{AcceptedQuote}
 use Rattle.dealer_desk.specs.declared.standing.StandingRequest.{StandingRequest}
 use Rattle.dealer_desk.specs.declared.standing.StandingQuote.{StandingQuote}
 use Rattle.dealer_desk.specs.declared.table.RequestRow.{RequestRow}
 use Rattle.dealer_desk.proofs.ListLemmas.{find_mapped}
 use Rattle.dealer_desk.proofs.MapLemmas.{rooms_pushed}
-use Rattle.dealer_desk.proofs.IndexLemmas.{requests_in, no_number}
+use Rattle.dealer_desk.proofs.ReaderLemmas.{no_number}
 
 -- a QuoteID that no quote has is new also once a quote changed
 pub id_stays_new : (quotes : List StandingQuote) (f : StandingQuote → StandingQuote) (id : List ℕ) → ((own : StandingQuote) → (f own).quote ≡ own.quote)

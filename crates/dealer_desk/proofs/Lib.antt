@@ -9,10 +9,13 @@ mod ListLemmas
 mod MapLemmas
 mod NoteLemmas
 mod NoticeLemmas
+mod ReaderLemmas
 mod RefusalLemmas
 mod SoundLemmas
 mod StandLemmas
 mod StandingWords
+mod TableGrowth
 mod TableLemmas
+mod TableReads
 mod VerdictLemmas
 mod WordLemmas

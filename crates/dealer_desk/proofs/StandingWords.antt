@@ -29,7 +29,7 @@ use Rattle.dealer_desk.specs.declared.verdicts.DealerVerdict.TheVariants as verd
 use Rattle.dealer_desk.proofs.BookLemmas.{came_book, dropped_book, shown_book, quoted_book, withdrawn_book, late_book, declined_book, told_book, or_false, or_true}
 use Rattle.dealer_desk.proofs.BookPush.{any_push, books_push}
 use Rattle.dealer_desk.proofs.ListLemmas.{mapped_at, pushed_at, ruled_out, within_from}
-use Rattle.dealer_desk.proofs.TableLemmas.{live_stands}
+use Rattle.dealer_desk.proofs.TableGrowth.{live_stands}
 use Rattle.dealer_desk.proofs.StandLemmas.{StandsIn, stands_empty}
 use Rattle.dealer_desk.proofs.VerdictLemmas.{Holds, verdict_holds}
 use Rattle.dealer_desk.proofs.DeskLemmas.{event_stands, holds_used}

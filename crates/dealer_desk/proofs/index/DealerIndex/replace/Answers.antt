@@ -3,15 +3,16 @@ use Rattle.std.proofs.lemmas.List.{length-map}
 use Rattle.venue_config.specs.Texts.{same_text}
 use Rattle.dealer_desk.specs.DealerFacts.{Quoted, Withdrawn, standing_quote, DealerBook}
 use Rattle.dealer_desk.specs.BookChanges.{FitsBook, IsLiveNumber, book_after, ended_at}
-use Rattle.dealer_desk.specs.DealerTable.{IndexView, live_number_among, with_fact}
+use Rattle.dealer_desk.specs.DealerTable.{IndexView, live_number_among, with_fact, requests_in}
 use Rattle.dealer_desk.specs.declared.standing.StandingQuote.{StandingQuote}
 use Rattle.dealer_desk.specs.declared.standing.StandingRequest.{StandingRequest}
 use Rattle.dealer_desk.specs.declared.standing.QuoteEnd.{QuoteEnd}
 use Rattle.dealer_desk.specs.declared.standing.QuoteEnd.TheVariants as end
 use Rattle.dealer_desk.specs.declared.standing.Withdrawal.TheVariants as by
 use Rattle.dealer_desk.proofs.BookLemmas.{quoted_book, withdrawn_book}
-use Rattle.dealer_desk.proofs.TableLemmas.{ended_keeps, live_stands, replaced_none}
-use Rattle.dealer_desk.proofs.IndexLemmas.{requests_in, book_with, same_book, view_after, index_changed, index_pushed, fits_live, fits_beside, fits_id}
+use Rattle.dealer_desk.proofs.TableLemmas.{ended_keeps}
+use Rattle.dealer_desk.proofs.TableGrowth.{live_stands, replaced_none}
+use Rattle.dealer_desk.proofs.IndexLemmas.{book_with, same_book, view_after, index_changed, index_pushed, fits_live, fits_beside, fits_id}
 use Rattle.dealer_desk.proofs.GrowthLemmas.{id_stays_new}
 use Rattle.dealer_desk.proofs.index.DealerIndex.replace.Goals as goal
 

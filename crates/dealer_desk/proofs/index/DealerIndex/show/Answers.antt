@@ -4,8 +4,9 @@ use Rattle.market_terms.specs.declared.rooms.RoomRef.{RoomRef}
 use Rattle.dealer_desk.specs.DealerFacts.{Shown, standing_request}
 use Rattle.dealer_desk.specs.declared.standing.StandingRequest.{StandingRequest}
 use Rattle.dealer_desk.specs.declared.table.RequestRow.{RequestRow}
+use Rattle.dealer_desk.specs.DealerTable.{requests_in}
 use Rattle.dealer_desk.proofs.BookLemmas.{shown_book}
-use Rattle.dealer_desk.proofs.IndexLemmas.{requests_in, book_with, same_book}
+use Rattle.dealer_desk.proofs.IndexLemmas.{book_with, same_book}
 use Rattle.dealer_desk.proofs.GrowthLemmas.{index_shown, view_shown}
 use Rattle.dealer_desk.proofs.index.DealerIndex.show.Goals as goal
 
