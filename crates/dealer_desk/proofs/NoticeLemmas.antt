@@ -72,9 +72,9 @@ pub kept_notice : (date : List ℕ) (row : DealerRow) (events : List DealerEvent
 kept_notice date row events sent index index2 number close moment notice bytes kept gives written changed =
     let due = noticed index.book close notice (closable index.book number) gives in
     let said : bytes ≡ next_message date row sent moment (notice_of index.book close due.0) =
-      written ∙ ap (λ (m : OutMessage). next_message date row sent moment m) due.2 in
+    written ∙ ap (λ (m : OutMessage). next_message date row sent moment m) due.2 in
     subst (λ (b : List ℕ). IsDesk date row (events ++ event.Told number close moment ∷ []) (sent ++ b ∷ []) index2) (sym said)
-      (kept_told date row events sent index index2 number due.0 close moment kept due.1 changed)
+    (kept_told date row events sent index index2 number due.0 close moment kept due.1 changed)
 
 -- whether a notice is due, as a contract says it
 is_mapped : (book : DealerBook) (close : Close) (found : Option StandingRequest)

@@ -95,10 +95,10 @@ pub fn what_is_left_is_of_the_day()
 pub fn quotes_stand_as_their_words_were_answered()
     ensures withdrawn { (desk : DeskEvents)
         → All (λ own. is_withdrawal own.end
-            ≡ list_any (says_withdrawn own.quote.number) (answered_words (facts_at desk)))
-          (book_at desk).quotes }
+        ≡ list_any (says_withdrawn own.quote.number) (answered_words (facts_at desk)))
+        (book_at desk).quotes }
     ensures lifted { (desk : DeskEvents)
         → All (λ own. own.is_known_lifted
-            ≡ list_any (says_lifted own.quote.number) (answered_words (facts_at desk)))
-          (book_at desk).quotes }
+        ≡ list_any (says_lifted own.quote.number) (answered_words (facts_at desk)))
+        (book_at desk).quotes }
 {}

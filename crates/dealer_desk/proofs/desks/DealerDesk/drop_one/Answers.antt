@@ -14,11 +14,11 @@ invariant_of-self-2 c =
     let desk = c.self.inside in
     rw (c.in_ok-push.ensures.items, c.in_ok-reserve.ensures.items, c.push_some.ensures.items, c.in_ok-reserve-2.ensures.items)
     (kept_drop desk.date desk.row desk.events.items desk.sent.items desk.index c.note_drop.new.index
-      c.args.last c.args.moment c.args.answer c.drop_answer-answered.result c.in_ok-sent.sent
-      c.self.invariant
-      c.drop_answer-answered.ensures
-      (rw c.deref.ensures.value at c.in_ok-sent.ensures)
-      c.note_drop.ensures)
+    c.args.last c.args.moment c.args.answer c.drop_answer-answered.result c.in_ok-sent.sent
+    c.self.invariant
+    c.drop_answer-answered.ensures
+    (rw c.deref.ensures.value at c.in_ok-sent.ensures)
+    c.note_drop.ensures)
 
 pub returns-clause-further : goal.returns-clause-further
 returns-clause-further c =

@@ -8,8 +8,8 @@ returns-clause-own c =
     let desk = c.self.inside in
     rw (← c.self.view_is)
     (subst
-      (λ (found : Option StandingQuote).
-        IfSome (option_map (λ (own : StandingQuote). own.quote.number) found)
-          (λ quote. (1 ≤ quote) × (quote ≤ desk.row.quotes)))
-      (sym c.in_ok-own.ensures)
-      (asked_drop desk.date desk.row desk.events.items desk.sent.items desk.index c.args.last c.self.invariant))
+    (λ (found : Option StandingQuote).
+    IfSome (option_map (λ (own : StandingQuote). own.quote.number) found)
+    (λ quote. (1 ≤ quote) × (quote ≤ desk.row.quotes)))
+    (sym c.in_ok-own.ensures)
+    (asked_drop desk.date desk.row desk.events.items desk.sent.items desk.index c.args.last c.self.invariant))
