@@ -131,7 +131,7 @@ impl DealerDesk {
         ensures ok { OnOk result
             (self.new ≡ with_event self.old (DealerEvent.Own moment bytes.now answer)) }
         ensures duty { IfOk result
-            (λ duty. duty ≡ verdict_duty (rooms_at self.old) moment verdict answer) }
+            (λ duty. duty ≡ verdict_duty (rooms_at self.old) moment verdict.entry answer) }
         ensures err { OnErr result (self.new ≡ self.old) }
     {
         let message = Message::copy_of(self.alloc, bytes)?;
