@@ -130,7 +130,7 @@ index_pushed used notices rows rows2 quotes quotes2 lines lines2 exposure exposu
   notices_fit = index.notices_fit;
   table = table;
   ids = subst (λ (qs : List StandingQuote). IsIdMap qs by_id2) (sym changed)
-    (ids_pushed quotes by_id by_id2 quote index.ids unused (λ id. updates id ∙ ap (λ (k : List ℕ). cond (is_at (slice_cmp nat_cmp k) id) (Some quote.number) (get (slice_cmp nat_cmp) by_id id)) same));
+      (ids_pushed quotes by_id by_id2 quote index.ids unused (λ id. updates id ∙ ap (λ (k : List ℕ). cond (is_at (slice_cmp nat_cmp k) id) (Some quote.number) (get (slice_cmp nat_cmp) by_id id)) same));
   room_map = index.room_map;
   as_many = index.as_many ∙ sym (length-map rows (λ (r : RequestRow). r.request)) ∙ sym many ∙ length-map rows2 (λ (r : RequestRow). r.request);
 }

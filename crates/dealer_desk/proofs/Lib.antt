@@ -8,6 +8,7 @@ mod KeptLemmas
 mod ListLemmas
 mod MapLemmas
 mod NoteLemmas
+mod NoticeLemmas
 mod ReaderLemmas
 mod RefusalLemmas
 mod SoundLemmas

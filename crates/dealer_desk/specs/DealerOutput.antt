@@ -176,7 +176,7 @@ no_facts = record { facts = []; sent = [] }
 abbrev pub next_message : List ℕ → DealerRow → List (List ℕ) → ℕ → OutMessage → List ℕ
 next_message date row sent moment message =
     written (record { date = date; firm = row.name; number = length sent + 1; moment = moment })
-      message
+    message
 
 -- what is sent with the message of an event, if it sends one
 abbrev pub sent_with : List ℕ → DealerRow → List (List ℕ) → ℕ → Option OutMessage → List (List ℕ)
@@ -285,7 +285,7 @@ unpost_dropped rooms moment answer None = None
 unpost_dropped rooms moment answer (Some own) =
     if is_withdrawn answer
     then option_map (λ room. duty.Unpost room own.quote.number moment)
-      (room_of rooms own.quote.request)
+    (room_of rooms own.quote.request)
     else None
 
 -- the same drop once more, where another quote is left to be dropped

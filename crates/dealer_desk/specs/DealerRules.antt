@@ -135,7 +135,7 @@ quote_answer book moment quote request (Some reason) = quote_refused quote reaso
 quote_answer book moment quote None None = quote_refused quote Other
 quote_answer book moment quote (Some request) None =
     verdict.QuoteAccepted quote.request quote.id (quote_kept book moment quote request)
-      (live_number_on book request.number)
+    (live_number_on book request.number)
 
 -- the verdict on a quote on this request
 abbrev pub quote_on : DealerRow → DealerBook → ℕ → Quote → Option StandingRequest → DealerVerdict

@@ -1,10 +1,8 @@
 //! How a verdict is answered, noted and handed on.
-ghost use Rattle.std.specs.Prelude.{◌≡◌, ◌<◌, ◌+◌, ◌^◌, ℕ, List, [], ◌∷◌, Some, None, OnOk, OnErr};
-ghost use Rattle.std.specs.Prelude.{IfSome, if◌then◌else◌};
+ghost use Rattle.std.specs.Prelude.{◌≡◌, ◌<◌, ◌+◌, ◌^◌, ℕ, List, ◌∷◌, Some, None, OnOk, OnErr};
+ghost use Rattle.std.specs.Prelude.{if◌then◌else◌};
 ghost use Rattle.std.specs.Option.{option_map};
-ghost use Rattle.dealer_desk.specs.DealerFacts.{Came, number_to_drop};
-ghost use Rattle.dealer_desk.specs.BookChanges.{IsSound, IsLiveNumber};
-ghost use Rattle.dealer_desk.specs.declared.standing.Withdrawal.TheVariants as by;
+ghost use Rattle.dealer_desk.specs.DealerFacts.{Came};
 ghost use Rattle.dealer_desk.specs.DealerOutput as spec;
 ghost use Rattle.dealer_desk.specs.RuleCuts.{IsLawfulNote, note_of, note_of_quote, note_of_cancel};
 ghost use Rattle.dealer_desk.specs.RuleCuts.{note_uses, note_facts, with_facts};
@@ -307,32 +305,4 @@ fn decline_of(index: &DealerIndex, number: u64, moment: Moment) -> Option<Duty>
 {
     let room = index.room_of(number)?;
     Some(Duty::Decline { room, moment })
-}
-
-/// Notes the answer of the word of the quote that a drop takes, where it takes one.
-pub(crate) fn note_drop(index: &mut DealerIndex, last: u32, answer: Option<Settled>)
-    requires { IsSound index.old.book.requests index.old.book.quotes }
-    ensures { index.new ≡ with_facts index.old
-        (spec.settled_facts (number_to_drop index.old.book last) by.Cancel answer) }
-{
-    let Some(quote) = number_to_drop(index, last) else {
-        return;
-    };
-    match answer {
-        Some(Settled::Withdrawn) => index.cancel(quote),
-        Some(Settled::Lifted) => index.find_lifted(quote),
-        None => {}
-    }
-}
-
-/// The own number of the quote that a drop takes: it is live.
-fn number_to_drop(index: &DealerIndex, last: u32) -> Option<u32>
-    requires { IsSound index.now.book.requests index.now.book.quotes }
-    ensures number { result ≡ number_to_drop index.now.book last }
-    ensures live { IfSome result (λ quote. IsLiveNumber index.now.book.quotes quote) }
-{
-    let Some(own) = index.quote_to_drop(last) else {
-        return None;
-    };
-    Some(own.quote.number)
 }

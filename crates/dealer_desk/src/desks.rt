@@ -1,8 +1,6 @@
 //! The desk of one dealer.
-ghost use Rattle.std.specs.Prelude.{◌≡◌, ◌+◌, ◌<◌, ◌≤◌, [], ◌∷◌, ◌++◌, is_some, vec_len};
-ghost use Rattle.std.specs.Prelude.{vec_capacity, IfOk, IfSome, OnOk, OnErr, IsOk};
-ghost use Rattle.std.specs.Option.{option_map, option_to_list};
-ghost use Rattle.dealer_desk.specs.DealerFacts.{requests_shown, exposure_of, live_quote_on};
+ghost use Rattle.std.specs.Prelude.{◌≡◌, ◌+◌, ◌≤◌, [], is_some, IfOk, IfSome, OnOk, OnErr};
+ghost use Rattle.dealer_desk.specs.DealerFacts.{requests_shown, exposure_of};
 ghost use Rattle.dealer_desk.specs.DealerFacts.{number_to_drop, quote_to_drop};
 ghost use Rattle.dealer_desk.specs.DealerOutput as spec;
 ghost use Rattle.dealer_desk.specs.DealerOutput.{dealer_output, book_at, rooms_at, with_event};
@@ -11,17 +9,15 @@ ghost use Rattle.dealer_desk.specs.DealerOutput.{may_close_in, verdict_at, word_
 ghost use Rattle.dealer_desk.specs.DealerOutput.{verdict_duty};
 ghost use Rattle.dealer_desk.specs.QuoteLines.{lines_of};
 
-use crate::answers::{
-    cancel_status, duty_of, is_withdrawn, note_drop, outcome_of, take_note, unpost_where,
-};
+use crate::answers::{duty_of, outcome_of, take_note};
+use crate::drops::{drop_answer, further_drop, note_drop, unpost_of};
 use crate::index::DealerIndex;
 use crate::rules::dealer_verdict;
-use crate::{DealerEvent, DealerVerdict, StandingQuote};
+use crate::sending::{answer_message, next_message, notice_of, push_some};
+use crate::{DealerEvent, DealerVerdict};
 use fix_fields::{Date, Memory, Moment};
 use market_terms::{Ask, Close, Duty, QuoteLine, RoomRef};
-use quote_messages::{
-    ClosingNotice, Head, Message, OutMessage, QuotedPrice, Request, SentMessage, write_out,
-};
+use quote_messages::{Message, OutMessage, Request, SentMessage};
 use quote_word::Settled;
 use std::alloc::Global;
 use std::marker::Model;
@@ -131,7 +127,7 @@ impl DealerDesk {
         ensures ok { OnOk result
             (self.new ≡ with_event self.old (DealerEvent.Own moment bytes.now answer)) }
         ensures duty { IfOk result
-            (λ duty. duty ≡ verdict_duty (rooms_at self.old) moment verdict answer) }
+            (λ duty. duty ≡ verdict_duty (rooms_at self.old) moment verdict.entry answer) }
         ensures err { OnErr result (self.new ≡ self.old) }
     {
         let message = Message::copy_of(self.alloc, bytes)?;
@@ -342,135 +338,4 @@ impl DealerDesk {
     {
         &self.row
     }
-}
-
-/// The closing notice of a request, where one may be sent.
-#[tactic(auto, unfolding(crate::specs::DealerOutput::closable))]
-fn notice_of<'a>(index: &DealerIndex, number: u64, close: Close) -> Option<OutMessage<'a>>
-    ensures { result
-        ≡ option_map (spec.notice_of index.now.book close) (spec.closable index.now.book number) }
-{
-    let row = index.request_numbered(number)?;
-    if row.request.is_told {
-        return None;
-    }
-    let shown = row.request.number;
-    Some(OutMessage::ClosingNotice(ClosingNotice {
-        number: index.notices() + 1,
-        request: Request {
-            number: shown,
-            ask: row.request.ask.copy(),
-        },
-        close,
-        quote: price_on(index, shown),
-    }))
-}
-
-/// What a closing notice says of the dealer's live quote on a request, where there is one.
-fn price_on(index: &DealerIndex, request: u64) -> Option<QuotedPrice>
-    ensures { result ≡ option_map spec.quoted_price (live_quote_on index.now.book request) }
-{
-    let own = index.live_quote_on(request)?;
-    let price = quoted_price(own);
-    Some(price)
-}
-
-/// What a closing notice says of a quote.
-fn quoted_price(own: &StandingQuote) -> QuotedPrice
-    ensures { result ≡ spec.quoted_price own.now }
-{
-    QuotedPrice {
-        id: own.quote.id.copy(),
-        price: own.quote.price,
-    }
-}
-
-/// What the dealer is told of the quote that a drop takes, where it takes one.
-fn drop_answer(index: &DealerIndex, last: u32, answer: Option<Settled>) -> Option<OutMessage<'_>>
-    ensures { result ≡ option_map (spec.drop_message answer) (quote_to_drop index.now.book last) }
-{
-    let own = index.quote_to_drop(last)?;
-    Some(OutMessage::CancelAnswer {
-        id: Some(own.quote.id.as_id()),
-        status: cancel_status(answer),
-    })
-}
-
-/// What is left to be done in the room of the quote that a drop takes.
-fn unpost_of(
-    index: &DealerIndex,
-    last: u32,
-    moment: Moment,
-    answer: Option<Settled>,
-) -> Option<Duty>
-    ensures { result
-        ≡ spec.unpost_dropped index.now.rooms moment answer (quote_to_drop index.now.book last) }
-{
-    let own = index.quote_to_drop(last)?;
-    let so = is_withdrawn(answer);
-    unpost_where(so, index, own.quote.number, own.quote.request, moment)
-}
-
-/// The same drop once more, where another quote is left to be dropped.
-fn further_drop(index: &DealerIndex, last: u32, moment: Moment) -> Option<Duty>
-    ensures { result ≡ spec.further_drop index.now.book last moment }
-{
-    if index.quote_to_drop(last).is_none() {
-        return None;
-    }
-    Some(Duty::Drop { last, moment })
-}
-
-/// A message as the next one that the dealer is sent.
-fn next_message(
-    alloc: Global,
-    date: &Date,
-    row: &DealerRow,
-    sent: &[SentMessage],
-    moment: Moment,
-    message: &OutMessage,
-) -> Result<SentMessage, Memory>
-    ensures { IfOk result
-        (λ bytes. bytes ≡ spec.next_message date.now row.now sent.now moment message.now) }
-{
-    let head = Head {
-        date: *date,
-        firm: row.name.copy(),
-        number: sent.len() as u64 + 1,
-        moment,
-    };
-    let bytes = write_out(alloc, &head, message)?;
-    Ok(bytes)
-}
-
-/// The same of an answer, where there is one.
-fn answer_message(
-    alloc: Global,
-    date: &Date,
-    row: &DealerRow,
-    sent: &[SentMessage],
-    moment: Moment,
-    answer: &Option<OutMessage>,
-) -> Result<Option<SentMessage>, Memory>
-    ensures { IfOk result (λ bytes. spec.sent_with date.now row.now sent.now moment answer.now
-        ≡ sent.now ++ option_to_list bytes) }
-{
-    let Some(message) = answer else {
-        return Ok(None);
-    };
-    let bytes = next_message(alloc, date, row, sent, moment, message)?;
-    Ok(Some(bytes))
-}
-
-/// Puts a value behind the others, where there is one.
-fn push_some<T: Drop>(items: &mut Vec<T>, item: Option<T>) -> Result<(), Memory>
-    requires { vec_len items.old < vec_capacity items.old }
-    ensures ok { IsOk result }
-    ensures items { items.new.items ≡ items.old.items ++ option_to_list item }
-{
-    let Some(item) = item else {
-        return Ok(());
-    };
-    items.push(item)?;
-    Ok(())
 }

@@ -6,13 +6,13 @@ ghost use Rattle.quote_word.specs.declared.settled.Settled.{Settled};
 ghost use Rattle.dealer_desk.specs.declared.events.DealerEvent.{DealerEvent};
 ghost use Rattle.dealer_desk.specs.declared.events.DealerEvent.TheVariants as event;
 ghost use Rattle.dealer_desk.specs.DealerFacts.{DealerBook, DealerFact, book_of, exposure_of};
-ghost use Rattle.dealer_desk.specs.DealerFacts.{finds_lifted, is_live_on, is_withdrawal, number_to_drop};
-ghost use Rattle.dealer_desk.specs.DealerFacts.{quote_to_drop, quotes_accepted};
+ghost use Rattle.dealer_desk.specs.DealerFacts.{finds_lifted, is_live_on, is_withdrawal};
+ghost use Rattle.dealer_desk.specs.DealerFacts.{number_to_drop, quote_to_drop, quotes_accepted};
 ghost use Rattle.dealer_desk.specs.DealerRules.{dealer_verdict};
 ghost use Rattle.dealer_desk.specs.DealerOutput.{DeskEvents, desk_after, event_facts};
-ghost use Rattle.dealer_desk.specs.DealerOutput.{answered_words, asked_by, word_asked, book_at};
-ghost use Rattle.dealer_desk.specs.DealerOutput.{rooms_at, verdict_at, room_of, verdict_duty};
-ghost use Rattle.dealer_desk.specs.DealerOutput.{facts_at, unpost_dropped};
+ghost use Rattle.dealer_desk.specs.DealerOutput.{answered_words, asked_by, word_asked, facts_at};
+ghost use Rattle.dealer_desk.specs.DealerOutput.{book_at, rooms_at, verdict_at, room_of};
+ghost use Rattle.dealer_desk.specs.DealerOutput.{verdict_duty, unpost_dropped};
 ghost use Rattle.dealer_desk.specs.DeskLaws.{IsOfDay, request_meant, says_lifted, says_withdrawn};
 ghost use Rattle.dealer_desk.specs.DeskLaws.{withdraws};
 ghost use Rattle.std.specs.List.{list_any};
@@ -95,10 +95,10 @@ pub fn what_is_left_is_of_the_day()
 pub fn quotes_stand_as_their_words_were_answered()
     ensures withdrawn { (desk : DeskEvents)
         → All (λ own. is_withdrawal own.end
-            ≡ list_any (says_withdrawn own.quote.number) (answered_words (facts_at desk)))
-          (book_at desk).quotes }
+        ≡ list_any (says_withdrawn own.quote.number) (answered_words (facts_at desk)))
+        (book_at desk).quotes }
     ensures lifted { (desk : DeskEvents)
         → All (λ own. own.is_known_lifted
-            ≡ list_any (says_lifted own.quote.number) (answered_words (facts_at desk)))
-          (book_at desk).quotes }
+        ≡ list_any (says_lifted own.quote.number) (answered_words (facts_at desk)))
+        (book_at desk).quotes }
 {}

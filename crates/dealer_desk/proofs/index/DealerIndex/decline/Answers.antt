@@ -19,9 +19,9 @@ invariant_of-self c =
     let t = i.table in
     let n = c.decline.new.self in
     index_changed i.used i.notices i.used i.notices t.rows.items n.rows.items t.quotes.items n.quotes.items t.lines.items n.lines.items t.exposure n.exposure t.first_droppable n.first_droppable
-      i.rooms.items i.by_id i.by_room (λ (q : StandingQuote). q) c.self.invariant c.self.invariant.used_fits c.self.invariant.notices_fit
-      c.decline.ensures.table (c.decline.ensures.quotes ∙ unchanged t.quotes.items) (λ own. refl)
-      (ap (λ (rs : List StandingRequest). length rs) c.decline.ensures.requests ∙ length-map (requests_in t.rows.items) (declined_at c.args.request))
+    i.rooms.items i.by_id i.by_room (λ (q : StandingQuote). q) c.self.invariant c.self.invariant.used_fits c.self.invariant.notices_fit
+    c.decline.ensures.table (c.decline.ensures.quotes ∙ unchanged t.quotes.items) (λ own. refl)
+    (ap (λ (rs : List StandingRequest). length rs) c.decline.ensures.requests ∙ length-map (requests_in t.rows.items) (declined_at c.args.request))
 
 pub returns : goal.returns
 returns c =
@@ -30,5 +30,5 @@ returns c =
     let n = c.decline.new.self in
     let book = book_with i.used i.notices (requests_in t.rows.items) t.quotes.items in
     view_after c.args.self.now book (book_with i.used i.notices (requests_in n.rows.items) n.quotes.items) i.rooms.items (Declined c.args.request) c.self.view_is
-      (same_book i.used i.notices (requests_in n.rows.items) (map (declined_at c.args.request) (requests_in t.rows.items)) n.quotes.items t.quotes.items c.decline.ensures.requests c.decline.ensures.quotes
-        ∙ sym (declined_book book c.args.request))
+    (same_book i.used i.notices (requests_in n.rows.items) (map (declined_at c.args.request) (requests_in t.rows.items)) n.quotes.items t.quotes.items c.decline.ensures.requests c.decline.ensures.quotes
+    ∙ sym (declined_book book c.args.request))
