@@ -1,10 +1,10 @@
 //! What a dealer is sent for lists of what is due, message by message.
-use fix_fields::read_frame;
-use quote_messages::SentMessage;
+use fix_fields::{Moment, read_frame};
+use quote_messages::{Close, SentMessage};
 use std::process::Abort;
 use std::test::Fail;
-use step_replay::alone;
-use venue_text::{MOST_INPUT, read_due_text};
+use step_replay::{Due, alone};
+use venue_text::{DueText, MOST_INPUT, read_due_text};
 
 const HEAD: &str = "date 20250314
 dealer DLR1 1 10000000 T1
@@ -67,19 +67,19 @@ fn assert_count<T: Abort + AllocGlobal>(rt: &T, dues: &str, wanted: usize) -> Re
 
 /// The messages that are sent for a list.
 fn sent<T: Abort + AllocGlobal>(rt: &T, dues: &str) -> Result<Vec<SentMessage>, Fail> {
-    let input = format!(in rt.alloc(); "{HEAD}{dues}")?;
-    if input.len() > MOST_INPUT {
-        return Ok(Vec::new(rt.alloc()));
-    }
-    let text = match read_due_text(rt.alloc(), input.as_bytes()) {
-        Ok(text) => text,
-        Err(fault) => {
-            assert!(rt; false, "{fault}");
-            return Ok(Vec::new(rt.alloc()));
-        }
-    };
+    let text = read(rt, dues)?;
     let messages = alone(rt.alloc(), &text.date, &text.row, text.dues.as_slice())?;
     Ok(messages)
+}
+
+/// What a list behind the head spells.
+fn read<T: Abort + AllocGlobal>(rt: &T, dues: &str) -> Result<DueText, Fail> {
+    let input = format!(in rt.alloc(); "{HEAD}{dues}")?;
+    assert!(rt; input.len() <= MOST_INPUT);
+    let text = read_due_text(rt.alloc(), input.as_bytes())
+        .ok()
+        .expect(rt, "due text");
+    Ok(text)
 }
 
 #[test]
@@ -116,4 +116,24 @@ fn assert_last<T: Abort>(rt: &T, messages: &[SentMessage], status: &[u8]) {
     let message = messages.last().expect(rt, "a message");
     let frame = read_frame(message.as_bytes()).ok().expect(rt, "a frame");
     assert!(rt; frame.get(297) == Some(status));
+}
+
+/// Numbers past those that a text may have: no quote and no request has them, and a drop up to one
+/// takes whatever is left.
+#[test]
+fn numbers_may_be_the_greatest(rt: HostRuntime) -> Result<(), Fail> {
+    let mut text = read(
+        &rt,
+        "shown INV1 BONDA0000001 1 2000000 09:05:00 09:00:00
+say T1 09:00:10 S 117=a1|131=R1|48=BONDA0000001|22=4|133=99.5
+",
+    )?;
+    let moment = Moment::new(32_420_000).expect(&rt, "a moment");
+    text.dues.push(Due::Lifted(u32::MAX))?;
+    text.dues.push(Due::Closed(u64::MAX, Close::Hit, moment))?;
+    text.dues.push(Due::Drop(u32::MAX, moment))?;
+    let messages = alone(rt.alloc(), &text.date, &text.row, text.dues.as_slice())?;
+    assert_eq!(&rt; messages.len(), 3);
+    assert_last(&rt, messages.as_slice(), b"17");
+    Ok(())
 }
