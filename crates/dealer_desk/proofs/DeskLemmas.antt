@@ -1,119 +1,246 @@
--- One event more at a desk, and what the desk keeps of it.
-use Rattle.std.proofs.lemmas.List.{append-nil}
-use Rattle.std.proofs.Common.{◌≡◌, ℕ, ◌≤◌, List, [], ◌∷◌, ◌++◌, Option, Some, None, IfSome, refl, ap, ◌∙◌, sym}
-use Rattle.std.specs.Option.{option_to_list}
-use Rattle.std.proofs.lemmas.List.Sums.{fold-append}
+-- One event more at a desk, and what holds of a desk after any events.
+use Rattle.std.proofs.Common.{◌≡◌, ◌<◌, ◌≤◌, ℕ, zero, suc, ◌+◌, Bool, true, false, cond, List, [], ◌∷◌, ◌++◌, length, map, filter, fold, Option, Some, None, is_some, option_map, refl, sym, ap, subst, ◌∙◌, arith}
+use Rattle.std.specs.List.{sum_by, filter_map}
+use Rattle.std.proofs.lemmas.List.{length-append, length-map, append-nil}
+use Rattle.std.proofs.lemmas.List.Sums.{sum_by-append, sum_by-cons, fold-append}
+use Rattle.std.proofs.lemmas.List.Elements.{filter_map-append}
+use Rattle.venue_config.specs.declared.dealer_rows.DealerRow.{DealerRow}
 use Rattle.market_terms.specs.declared.asks.Ask.{Ask}
 use Rattle.market_terms.specs.declared.closes.Close.{Close}
 use Rattle.market_terms.specs.declared.rooms.RoomRef.{RoomRef}
-use Rattle.quote_messages.specs.declared.out_messages.Request.{Request}
-use Rattle.quote_messages.specs.declared.out_messages.OutMessage.{OutMessage}
 use Rattle.quote_word.specs.declared.settled.Settled.{Settled}
-use Rattle.venue_config.specs.declared.dealer_rows.DealerRow.{DealerRow}
+use Rattle.quote_word.specs.declared.settled.Settled.TheVariants as settled
+use Rattle.dealer_desk.specs.DealerFacts.{DealerFact, Came, Shown, Quoted, Withdrawn, Late, Dropped, Declined, Told, DealerBook, book_of, used_number, is_notice, number_to_drop, is_live_on, quotes_accepted, exposure_of}
+use Rattle.dealer_desk.specs.BookChanges.{book_after, request_after, request_added, counted}
 use Rattle.dealer_desk.specs.DealerRules.{dealer_verdict}
-use Rattle.dealer_desk.specs.DealerOutput.{DeskState, IsKept, desk_after, after_event, no_facts, next_message, next_request, notice_of, closable, after_notice, asked_words, asked_by, sent_with, verdict_facts, verdict_answer, word_asked}
-use Rattle.dealer_desk.specs.declared.facts.DealerFact.{DealerFact}
-use Rattle.dealer_desk.specs.declared.facts.DealerFact.TheVariants.{Shown, Told}
+use Rattle.dealer_desk.specs.DealerOutput.{DeskState, no_facts, after_event, desk_after, event_facts, verdict_facts, settled_facts, answer_facts, uses_number, closable, rooms_of, shown_room, answered_word, answered_words, asked_word, asked_by, word_asked}
+use Rattle.dealer_desk.specs.declared.standing.StandingRequest.{StandingRequest}
+use Rattle.dealer_desk.specs.declared.standing.Withdrawal.{Withdrawal}
+use Rattle.dealer_desk.specs.declared.standing.Withdrawal.TheVariants as by
 use Rattle.dealer_desk.specs.declared.events.DealerEvent.{DealerEvent}
 use Rattle.dealer_desk.specs.declared.events.DealerEvent.TheVariants as event
 use Rattle.dealer_desk.specs.declared.verdicts.DealerVerdict.{DealerVerdict}
-use Rattle.dealer_desk.proofs.VerdictLemmas.{Stands, verdict_keeps, adds_no_quote}
+use Rattle.dealer_desk.specs.declared.verdicts.DealerVerdict.TheVariants as verdict
+use Rattle.dealer_desk.proofs.BookLemmas.{came_book}
+use Rattle.dealer_desk.proofs.BookPush.{books_push}
+use Rattle.dealer_desk.proofs.StandLemmas.{Stands, StandsIn, stands_empty, came_stands, dropped_stands, shown_stands, withdrawn_stands, late_stands, declined_stands, told_stands, accepted_stands, replaced_stands}
+use Rattle.dealer_desk.proofs.VerdictLemmas.{Holds, verdict_holds}
 
 -- a desk after one event more is that after the others, and then after this one
 pub desk_after_push : (date : List ℕ) (row : DealerRow) (events : List DealerEvent) (event : DealerEvent) → desk_after date row (events ++ event ∷ []) ≡ after_event date row (desk_after date row events) event
 unfolding desk_after
 desk_after_push date row events event = fold-append (after_event date row) no_facts events (event ∷ [])
 
--- a desk to which nothing came
-pub desk_after_nothing : (date : List ℕ) (row : DealerRow) → desk_after date row [] ≡ no_facts
+-- so are its facts
+pub facts_push : (date : List ℕ) (row : DealerRow) (events : List DealerEvent) (event : DealerEvent)
+    → (desk_after date row (events ++ event ∷ [])).facts ≡ (desk_after date row events).facts ++ event_facts date row (book_of (desk_after date row events).facts) event
+facts_push date row events event = ap (λ (d : DeskState). d.facts) (desk_after_push date row events event)
+
+-- What the facts of an event keep.
+
+verdict_stands : (row : DealerRow) (book : DealerBook) (given : DealerVerdict) (answer : Option Settled) → StandsIn row book → Holds row book given → StandsIn row (fold book_after book (verdict_facts given answer))
+verdict_stands row book (verdict.QuoteAccepted request id quote None) answer stands holds = accepted_stands row book quote holds stands
+verdict_stands row book (verdict.QuoteAccepted request id quote (Some replaced)) (Some settled.Withdrawn) stands holds = replaced_stands row book quote replaced by.Replacement holds stands
+verdict_stands row book (verdict.QuoteAccepted request id quote (Some replaced)) (Some settled.Lifted) stands holds = late_stands row book replaced stands
+verdict_stands row book (verdict.QuoteAccepted request id quote (Some replaced)) None stands holds = stands
+verdict_stands row book (verdict.CancelAccepted id quote request) (Some settled.Withdrawn) stands holds = withdrawn_stands row book quote by.Cancel stands
+verdict_stands row book (verdict.CancelAccepted id quote request) (Some settled.Lifted) stands holds = late_stands row book quote stands
+verdict_stands row book (verdict.CancelAccepted id quote request) None stands holds = stands
+verdict_stands row book (verdict.DeclineAccepted request number) answer stands holds = declined_stands row book number stands
+verdict_stands row book other answer stands holds = stands
+
+-- a verdict holds of a book whatever the number of messages that came
+pub holds_used : (row : DealerRow) (book : DealerBook) (used : ℕ) (given : DealerVerdict) → Holds row book given → Holds row (record book { used = used }) given
+holds_used row book used (verdict.QuoteAccepted request id quote replaced) holds = holds
+holds_used row book used (verdict.CancelAccepted id quote request) holds = holds
+holds_used row book used (verdict.DeclineAccepted request number) holds = holds
+holds_used row book used other holds = tt
+
+own_stands : (row : DealerRow) (book : DealerBook) (moment : ℕ) (bytes : List ℕ) (used : Bool) (given : DealerVerdict) (answer : Option Settled) → StandsIn row book → Holds row book given
+    → StandsIn row (fold book_after (book_after book (Came moment bytes used)) (verdict_facts given answer))
+own_stands row book moment bytes used given answer stands holds =
+    subst (λ (b : DealerBook). StandsIn row (fold book_after b (verdict_facts given answer))) (sym (came_book book moment bytes used))
+    (verdict_stands row (record book { used = cond used (book.used + 1) book.used }) given answer stands (holds_used row book (cond used (book.used + 1) book.used) given holds))
+
+told_if : (row : DealerRow) (book : DealerBook) (b : Bool) (request : ℕ) (close : Close) (moment : ℕ) → StandsIn row book → StandsIn row (fold book_after book (cond b (Told request close moment ∷ []) []))
+told_if row book true request close moment stands = told_stands row book request close moment stands
+told_if row book false request close moment stands = stands
+
+settled_stands : (row : DealerRow) (book : DealerBook) (asked : Option ℕ) (how : Withdrawal) (answer : Option Settled) → StandsIn row book → StandsIn row (fold book_after book (settled_facts asked how answer))
+settled_stands row book None how answer stands = stands
+settled_stands row book (Some quote) how (Some settled.Withdrawn) stands = withdrawn_stands row book quote how stands
+settled_stands row book (Some quote) how (Some settled.Lifted) stands = late_stands row book quote stands
+settled_stands row book (Some quote) how None stands = stands
+
+pub event_stands : (date : List ℕ) (row : DealerRow) (book : DealerBook) (came : DealerEvent) → StandsIn row book → StandsIn row (fold book_after book (event_facts date row book came))
+unfolding event_facts
+event_stands date row book (event.Own moment bytes answer) stands =
+    let given = dealer_verdict date row book moment bytes in
+    own_stands row book moment bytes (uses_number given) given answer stands (verdict_holds date row book moment bytes stands)
+event_stands date row book (event.Shown room ask moment) stands = shown_stands row book ask moment stands
+event_stands date row book (event.Told request close moment) stands = told_if row book (is_some (closable book request)) request close moment stands
+event_stands date row book (event.Drop last moment answer) stands =
+    settled_stands row (book_after book (Dropped last moment)) (number_to_drop book last) by.Cancel answer (dropped_stands row book last moment stands)
+
+-- How many messages used up a number and how many notices were sent: at most one an event.
+
+abbrev weight : DealerFact → ℕ
+weight (Came moment bytes used) = 1
+weight (Told request close moment) = 1
+weight fact = 0
+
+counted_more : (b : Bool) (n : ℕ) → counted b n ≤ n + 1
+counted_more true n = omega arith
+counted_more false n = omega arith
+
+fact_counts : (book : DealerBook) (fact : DealerFact) → (book_after book fact).used + (book_after book fact).notices ≤ book.used + book.notices + weight fact
+unfolding book_after
+fact_counts book (Came moment bytes used) = let more = counted_more used book.used in omega arith
+fact_counts book (Told request close moment) = omega arith
+fact_counts book fact = omega arith
+
+facts_count : (book : DealerBook) (facts : List DealerFact) → (fold book_after book facts).used + (fold book_after book facts).notices ≤ book.used + book.notices + sum_by weight facts
+facts_count book [] = omega arith
+facts_count book (fact ∷ facts) =
+    let here = fact_counts book fact in
+    let rest = facts_count (book_after book fact) facts in
+    rw (sum_by-cons weight fact facts) (omega arith)
+
+verdict_weight : (given : DealerVerdict) (answer : Option Settled) → sum_by weight (verdict_facts given answer) ≡ 0
+verdict_weight (verdict.QuoteAccepted request id quote None) answer = refl
+verdict_weight (verdict.QuoteAccepted request id quote (Some replaced)) (Some settled.Withdrawn) = refl
+verdict_weight (verdict.QuoteAccepted request id quote (Some replaced)) (Some settled.Lifted) = refl
+verdict_weight (verdict.QuoteAccepted request id quote (Some replaced)) None = refl
+verdict_weight (verdict.CancelAccepted id quote request) (Some settled.Withdrawn) = refl
+verdict_weight (verdict.CancelAccepted id quote request) (Some settled.Lifted) = refl
+verdict_weight (verdict.CancelAccepted id quote request) None = refl
+verdict_weight (verdict.DeclineAccepted request number) answer = refl
+verdict_weight other answer = refl
+
+told_weight : (b : Bool) (request : ℕ) (close : Close) (moment : ℕ) → sum_by weight (cond b (Told request close moment ∷ []) []) ≤ 1
+told_weight true request close moment = omega arith
+told_weight false request close moment = omega arith
+
+settled_weight : (asked : Option ℕ) (how : Withdrawal) (answer : Option Settled) → sum_by weight (settled_facts asked how answer) ≡ 0
+settled_weight None how answer = refl
+settled_weight (Some quote) how (Some settled.Withdrawn) = refl
+settled_weight (Some quote) how (Some settled.Lifted) = refl
+settled_weight (Some quote) how None = refl
+
+event_weight : (date : List ℕ) (row : DealerRow) (book : DealerBook) (came : DealerEvent) → sum_by weight (event_facts date row book came) ≤ 1
+unfolding event_facts
+event_weight date row book (event.Own moment bytes answer) =
+    let given = dealer_verdict date row book moment bytes in
+    let none = verdict_weight given answer in
+    rw (sum_by-cons weight (Came moment bytes (uses_number given)) (verdict_facts given answer)) (omega arith)
+event_weight date row book (event.Shown room ask moment) = omega arith
+event_weight date row book (event.Told request close moment) = told_weight (is_some (closable book request)) request close moment
+event_weight date row book (event.Drop last moment answer) =
+    let none = settled_weight (number_to_drop book last) by.Cancel answer in
+    rw (sum_by-cons weight (Dropped last moment) (settled_facts (number_to_drop book last) by.Cancel answer)) (omega arith)
+
+-- As many rooms as requests.
+
+abbrev shows : DealerFact → ℕ
+shows (Shown ask moment) = 1
+shows fact = 0
+
+added_many : (number : ℕ) (fact : DealerFact) → length (request_added number fact) ≡ shows fact
+added_many number (Shown ask moment) = omega arith
+added_many number fact = refl
+
+fact_shows : (book : DealerBook) (fact : DealerFact) → length (book_after book fact).requests ≡ length book.requests + shows fact
+unfolding book_after
+fact_shows book fact =
+    length-append (map (request_after fact) book.requests) (request_added (length book.requests + 1) fact)
+    ∙ ap (λ (n : ℕ). n + length (request_added (length book.requests + 1) fact)) (length-map book.requests (request_after fact))
+    ∙ ap (λ (n : ℕ). length book.requests + n) (added_many (length book.requests + 1) fact)
+
+facts_show : (book : DealerBook) (facts : List DealerFact) → length (fold book_after book facts).requests ≡ length book.requests + sum_by shows facts
+facts_show book [] = omega arith
+facts_show book (fact ∷ facts) =
+    let here = fact_shows book fact in
+    let rest = facts_show (book_after book fact) facts in
+    rw (sum_by-cons shows fact facts) (omega arith)
+
+verdict_shows : (given : DealerVerdict) (answer : Option Settled) → sum_by shows (verdict_facts given answer) ≡ 0
+verdict_shows (verdict.QuoteAccepted request id quote None) answer = refl
+verdict_shows (verdict.QuoteAccepted request id quote (Some replaced)) (Some settled.Withdrawn) = refl
+verdict_shows (verdict.QuoteAccepted request id quote (Some replaced)) (Some settled.Lifted) = refl
+verdict_shows (verdict.QuoteAccepted request id quote (Some replaced)) None = refl
+verdict_shows (verdict.CancelAccepted id quote request) (Some settled.Withdrawn) = refl
+verdict_shows (verdict.CancelAccepted id quote request) (Some settled.Lifted) = refl
+verdict_shows (verdict.CancelAccepted id quote request) None = refl
+verdict_shows (verdict.DeclineAccepted request number) answer = refl
+verdict_shows other answer = refl
+
+told_shows : (b : Bool) (request : ℕ) (close : Close) (moment : ℕ) → sum_by shows (cond b (Told request close moment ∷ []) []) ≡ 0
+told_shows true request close moment = refl
+told_shows false request close moment = refl
+
+settled_shows : (asked : Option ℕ) (how : Withdrawal) (answer : Option Settled) → sum_by shows (settled_facts asked how answer) ≡ 0
+settled_shows None how answer = refl
+settled_shows (Some quote) how (Some settled.Withdrawn) = refl
+settled_shows (Some quote) how (Some settled.Lifted) = refl
+settled_shows (Some quote) how None = refl
+
+event_shows : (date : List ℕ) (row : DealerRow) (book : DealerBook) (came : DealerEvent) → sum_by shows (event_facts date row book came) ≡ length (rooms_of (came ∷ []))
+unfolding event_facts
+event_shows date row book (event.Own moment bytes answer) =
+    let given = dealer_verdict date row book moment bytes in
+    sum_by-cons shows (Came moment bytes (uses_number given)) (verdict_facts given answer) ∙ ap (λ (n : ℕ). 0 + n) (verdict_shows given answer)
+event_shows date row book (event.Shown room ask moment) = omega arith
+event_shows date row book (event.Told request close moment) = told_shows (is_some (closable book request)) request close moment
+event_shows date row book (event.Drop last moment answer) =
+    sum_by-cons shows (Dropped last moment) (settled_facts (number_to_drop book last) by.Cancel answer) ∙ ap (λ (n : ℕ). 0 + n) (settled_shows (number_to_drop book last) by.Cancel answer)
+
+rooms_more : (came : DealerEvent) (events : List DealerEvent) → length (rooms_of (came ∷ events)) ≡ length (rooms_of (came ∷ [])) + length (rooms_of events)
+rooms_more (event.Shown room ask moment) events = omega arith
+rooms_more other events = omega arith
+
+-- What holds of a desk.
+
+pub record Stood (row : DealerRow) (book : DealerBook) (events rooms : ℕ) : Type 0 where
+  pub stands : StandsIn row book
+  pub counts : book.used + book.notices ≤ events
+  pub as_many : length book.requests ≡ rooms
+
+stood_event : (date : List ℕ) (row : DealerRow) (book : DealerBook) (came : DealerEvent) (events rooms : ℕ) → Stood row book events rooms
+    → Stood row (fold book_after book (event_facts date row book came)) (events + 1) (rooms + length (rooms_of (came ∷ [])))
+stood_event date row book came events rooms stood =
+    let count = facts_count book (event_facts date row book came) in
+    let one = event_weight date row book came in
+    let was = stood.counts in
+    record {
+      stands = event_stands date row book came stood.stands;
+      counts = omega arith;
+      as_many = facts_show book (event_facts date row book came) ∙ ap (λ (n : ℕ). n + sum_by shows (event_facts date row book came)) stood.as_many ∙ ap (λ (n : ℕ). rooms + n) (event_shows date row book came);
+    }
+
+stood_events : (date : List ℕ) (row : DealerRow) (desk : DeskState) (events : List DealerEvent) (before rooms after shown : ℕ) → before + length events ≡ after → rooms + length (rooms_of events) ≡ shown
+    → Stood row (book_of desk.facts) before rooms → Stood row (book_of (fold (after_event date row) desk events).facts) after shown
+stood_events date row desk [] before rooms after shown many as_many stood = record {
+  stands = stood.stands;
+  counts = let was = stood.counts in omega arith;
+  as_many = let was = stood.as_many in omega arith;
+}
+stood_events date row desk (came ∷ events) before rooms after shown many as_many stood =
+    let more = rooms_more came events in
+    let next : before + 1 + length events ≡ after = omega arith in
+    let next_rooms : rooms + length (rooms_of (came ∷ [])) + length (rooms_of events) ≡ shown = omega arith in
+    stood_events date row (after_event date row desk came) events (before + 1) (rooms + length (rooms_of (came ∷ []))) after shown next next_rooms
+    (subst (λ (b : DealerBook). Stood row b (before + 1) (rooms + length (rooms_of (came ∷ [])))) (sym (books_push desk.facts (event_facts date row (book_of desk.facts) came)))
+    (stood_event date row (book_of desk.facts) came before rooms stood))
+
+pub desk_sound : (date : List ℕ) (row : DealerRow) (events : List DealerEvent) → Stood row (book_of (desk_after date row events).facts) (length events) (length (rooms_of events))
 unfolding desk_after
-desk_after_nothing date row = refl
+desk_sound date row events =
+    let many : 0 + length events ≡ length events = omega arith in
+    let as_many : 0 + length (rooms_of events) ≡ length (rooms_of events) = omega arith in
+    stood_events date row no_facts events 0 0 (length events) (length (rooms_of events)) many as_many
+    (record { stands = stands_empty row; counts = omega arith; as_many = omega arith })
 
--- what stands by what is kept
-stands_by : (date : List ℕ) (row : DealerRow) (events : List DealerEvent) (facts : List DealerFact) (sent : List (List ℕ)) → IsKept date row events facts sent → Stands row facts
-stands_by date row events facts sent kept = record { numbered = kept.numbered; within = kept.within }
-
--- what a desk keeps after a message of its own came
-kept_after_own : (date : List ℕ) (row : DealerRow) (events : List DealerEvent) (facts : List DealerFact) (sent : List (List ℕ)) (moment : ℕ) (bytes : List ℕ) (answer : Option Settled)
-    → IsKept date row events facts sent
-    → IsKept date row (events ++ event.Own moment bytes answer ∷ []) (facts ++ verdict_facts (dealer_verdict date row facts moment bytes) answer) (sent_with date row sent moment (verdict_answer (dealer_verdict date row facts moment bytes) answer))
-unfolding after_event
-kept_after_own date row events facts sent moment bytes answer kept =
-    let more = desk_after_push date row events (event.Own moment bytes answer) in
-    let stands = (verdict_keeps date row facts moment bytes (stands_by date row events facts sent kept)).stands answer in
-    record {
-      facts_are = rw (more, kept.facts_are) refl;
-      sent_are = rw (more, kept.facts_are, kept.sent_are) refl;
-      numbered = stands.numbered;
-      within = stands.within;
-    }
-
--- the same of lists that were put together step by step
-pub kept_after_take : (date : List ℕ) (row : DealerRow) (events : List DealerEvent) (facts : List DealerFact) (sent : List (List ℕ)) (moment : ℕ) (bytes : List ℕ) (answer : Option Settled)
-    (verdict : DealerVerdict) (added : List DealerFact) (reply : Option OutMessage) (message : Option (List ℕ))
-    → IsKept date row events facts sent
-    → verdict ≡ dealer_verdict date row facts moment bytes
-    → added ≡ verdict_facts verdict answer
-    → reply ≡ verdict_answer verdict answer
-    → sent_with date row sent moment reply ≡ sent ++ option_to_list message
-    → IsKept date row (events ++ event.Own moment bytes answer ∷ []) (facts ++ added) (sent ++ option_to_list message)
-kept_after_take date row events facts sent moment bytes answer verdict added reply message kept is adds replies written =
-    let whole = kept_after_own date row events facts sent moment bytes answer kept in
-    let facts_same : facts ++ added ≡ facts ++ verdict_facts (dealer_verdict date row facts moment bytes) answer =
-    ap (λ more. facts ++ more) (adds ∙ ap (λ v. verdict_facts v answer) is) in
-    let sent_same : sent ++ option_to_list message ≡ sent_with date row sent moment (verdict_answer (dealer_verdict date row facts moment bytes) answer) =
-    sym written ∙ ap (sent_with date row sent moment) (replies ∙ ap (λ v. verdict_answer v answer) is) in
-    rw (facts_same, sent_same) whole
-
--- what a desk keeps after a request was shown
-pub kept_after_shown : (date : List ℕ) (row : DealerRow) (events : List DealerEvent) (facts : List DealerFact) (sent : List (List ℕ)) (room : RoomRef) (ask : Ask) (moment : ℕ)
-    → IsKept date row events facts sent
-    → IsKept date row (events ++ event.Shown room ask moment ∷ []) (facts ++ Shown room ask moment ∷ []) (sent ++ next_message date row sent moment (next_request facts ask) ∷ [])
-unfolding after_event
-kept_after_shown date row events facts sent room ask moment kept =
-    let more = desk_after_push date row events (event.Shown room ask moment) in
-    let stands = adds_no_quote row facts (Shown room ask moment ∷ []) (stands_by date row events facts sent kept) refl refl in
-    record {
-      facts_are = rw (more, kept.facts_are) refl;
-      sent_are = rw (more, kept.facts_are, kept.sent_are) refl;
-      numbered = stands.numbered;
-      within = stands.within;
-    }
-
--- what a desk keeps after a notice that was due
-pub kept_after_told : (date : List ℕ) (row : DealerRow) (events : List DealerEvent) (facts : List DealerFact) (sent : List (List ℕ)) (number : ℕ) (request : Request) (close : Close) (moment : ℕ)
-    → IsKept date row events facts sent
-    → closable facts number ≡ Some request
-    → IsKept date row (events ++ event.Told number close moment ∷ []) (facts ++ Told number close moment ∷ []) (sent ++ next_message date row sent moment (notice_of facts request close) ∷ [])
-unfolding after_event
-kept_after_told date row events facts sent number request close moment kept due =
-    let more = desk_after_push date row events (event.Told number close moment) in
-    let stands = adds_no_quote row facts (Told number close moment ∷ []) (stands_by date row events facts sent kept) refl refl in
-    record {
-      facts_are = rw (more, ← kept.facts_are, due) refl;
-      sent_are = rw (more, ← kept.facts_are, ← kept.sent_are, due) refl;
-      numbered = stands.numbered;
-      within = stands.within;
-    }
-
--- the word that is asked is that of a quote of the day
-pub asked_own : (date : List ℕ) (row : DealerRow) (events : List DealerEvent) (facts : List DealerFact) (sent : List (List ℕ)) (moment : ℕ) (bytes : List ℕ)
-    → IsKept date row events facts sent
-    → IfSome (word_asked (dealer_verdict date row facts moment bytes)) (λ quote. (1 ≤ quote) × (quote ≤ row.quotes))
-asked_own date row events facts sent moment bytes kept = (verdict_keeps date row facts moment bytes (stands_by date row events facts sent kept)).asked
-
--- a notice asks no word
-notice_asks_none : (date : List ℕ) (row : DealerRow) (desk : DeskState) (number : ℕ) (due : Option Request) (close : Close) (moment : ℕ) → (after_notice date row desk number due close moment).asked ≡ desk.asked
-notice_asks_none date row desk number None close moment = refl
-notice_asks_none date row desk number (Some request) close moment = refl
-
--- an event adds the word that it asked
-event_asks : (date : List ℕ) (row : DealerRow) (desk : DeskState) (event : DealerEvent) → (after_event date row desk event).asked ≡ desk.asked ++ asked_by date row desk event
-unfolding after_event
-event_asks date row desk (event.Own moment message answer) = refl
-event_asks date row desk (event.Shown room ask moment) = sym (append-nil desk.asked)
-event_asks date row desk (event.Told request close moment) = notice_asks_none date row desk request (closable desk.facts request) close moment ∙ sym (append-nil desk.asked)
-
--- the words that were asked, after one event more
-pub asked_after_push : (date : List ℕ) (row : DealerRow) (events : List DealerEvent) (event : DealerEvent) → asked_words date row (events ++ event ∷ []) ≡ asked_words date row events ++ asked_by date row (desk_after date row events) event
-asked_after_push date row events event = ap (λ desk. desk.asked) (desk_after_push date row events event) ∙ event_asks date row (desk_after date row events) event
+-- so the exposure is within the limit of the row
+pub within_limit : (date : List ℕ) (row : DealerRow) (events : List DealerEvent) → exposure_of (book_of (desk_after date row events).facts) ≤ row.exposure
+unfolding exposure_of
+within_limit date row events = (desk_sound date row events).stands.within

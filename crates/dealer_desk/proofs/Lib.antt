@@ -1,4 +1,21 @@
-pub mod RefusalLemmas
-pub mod ExposureLemmas
-pub mod VerdictLemmas
-pub mod DeskLemmas
+mod BookLemmas
+mod BookPush
+mod DeskLemmas
+mod DutyLemmas
+mod GrowthLemmas
+mod IndexLemmas
+mod KeptLemmas
+mod ListLemmas
+mod MapLemmas
+mod NoteLemmas
+mod NoticeLemmas
+mod ReaderLemmas
+mod RefusalLemmas
+mod SoundLemmas
+mod StandLemmas
+mod StandingWords
+mod TableGrowth
+mod TableLemmas
+mod TableReads
+mod VerdictLemmas
+mod WordLemmas

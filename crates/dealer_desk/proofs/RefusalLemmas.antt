@@ -23,28 +23,3 @@ one_passes false at checks more rest h = rest h
 pub passed_first : (checks more : Checks) → first_refusal checks ≡ None → first_refusal (checks ++ more) ≡ first_refusal more
 passed_first [] more h = refl
 passed_first (check ∷ checks) more h = one_passes check.0 check.1 checks more (passed_first checks more) h
-
--- two lists of checks refuse nothing together where neither does
-one_of_both : (b : Bool) (at : QuoteRejectReason) (checks more : Checks) → (first_refusal (checks ++ more) ≡ None → (first_refusal checks ≡ None) × (first_refusal more ≡ None)) → cond b (Some at) (first_refusal (checks ++ more)) ≡ None → (cond b (Some at) (first_refusal checks) ≡ None) × (first_refusal more ≡ None)
-one_of_both true at checks more rest h = cc
-one_of_both false at checks more rest h = rest h
-
-pub both_pass : (checks more : Checks) → first_refusal (checks ++ more) ≡ None → (first_refusal checks ≡ None) × (first_refusal more ≡ None)
-both_pass [] more h = (refl, h)
-both_pass (check ∷ checks) more h = one_of_both check.0 check.1 checks more (both_pass checks more) h
-
--- no condition of the checks holds
-abbrev pub NoneHolds : Checks → Type 0
-NoneHolds [] = Unit {0}
-NoneHolds (check ∷ checks) = (check.0 ≡ false) × NoneHolds checks
-
-not_chosen : (b : Bool) (reason : QuoteRejectReason) (rest : Option QuoteRejectReason) → cond b (Some reason) rest ≡ None → (b ≡ false) × (rest ≡ None)
-not_chosen true reason rest h = cc
-not_chosen false reason rest h = (refl, h)
-
--- checks that refuse nothing have no condition that holds
-pub none_holds : (checks : Checks) → first_refusal checks ≡ None → NoneHolds checks
-none_holds [] h = tt
-none_holds (check ∷ checks) h =
-    let parts = not_chosen check.0 check.1 (first_refusal checks) h in
-    (parts.0, none_holds checks parts.1)

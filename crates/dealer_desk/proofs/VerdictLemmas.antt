@@ -1,243 +1,217 @@
--- What every verdict keeps: the exposure within its limit, own numbers within the day's quotes, and a word that is asked
--- is that of one of these.
-use Rattle.std.proofs.Common.{◌≡◌, ℕ, ◌+◌, ◌≤◌, Bool, true, false, ◌==◌, ◌&&◌, nat_lt, nat_le, cond, List, [], ◌∷◌, ◌++◌, Option, Some, None, Result, Ok, Err, IfSome, find, arith, refl, sym}
-use Rattle.std.specs.List.{sum_by, list_all}
-use Rattle.std.specs.Option.{option_map}
-use Rattle.std.proofs.lemmas.List.Folds.{list_all-append}
-use Rattle.std.proofs.lemmas.List.Elements.{filter_map-append}
-use Rattle.std.proofs.lemmas.Bool.{and_parts}
+-- What holds of every verdict on a book that stands: an accepted quote fits, a cancel names a live quote, and a decline a
+-- request that was shown.
+use Rattle.std.proofs.Common.{◌≡◌, ◌<◌, ◌≤◌, ℕ, ◌+◌, Bool, true, false, ◌||◌, nat_le, nat_lt, cond, List, [], ◌∷◌, ◌++◌, length, find, Option, Some, None, is_none, is_some, IfSome, option_map, slice_get, refl, sym, ap, subst, ◌∙◌, arith}
+use Rattle.std.proofs.lemmas.Option.{none-some, same_Some}
 use Rattle.std.proofs.lemmas.Bool.Decides.{nat_tests}
+use Rattle.venue_config.specs.Texts.{same_text}
+use Rattle.venue_config.specs.declared.dealer_rows.DealerRow.{DealerRow}
+use Rattle.market_terms.specs.Checks.{first_refusal}
+use Rattle.quote_messages.specs.Written.{request_name}
 use Rattle.quote_messages.specs.Arrivals.{dealer_arrival}
 use Rattle.quote_messages.specs.declared.arrivals.Arrival.{Arrival}
 use Rattle.quote_messages.specs.declared.arrivals.Arrival.TheVariants as arrival
+use Rattle.quote_messages.specs.declared.quotes.Quote.{Quote}
 use Rattle.quote_messages.specs.declared.quotes.CancelScope.{CancelScope}
 use Rattle.quote_messages.specs.declared.quotes.CancelScope.TheVariants as cancels
-use Rattle.quote_messages.specs.declared.out_messages.Request.{Request}
-use Rattle.quote_messages.specs.declared.quotes.Quote.{Quote}
 use Rattle.quote_messages.specs.declared.quotes.DealerMessage.{DealerMessage}
-use Rattle.quote_messages.specs.declared.quotes.DealerMessage.TheVariants.{Quote as AQuote, Cancel as ACancel, Decline as ADecline}
+use Rattle.quote_messages.specs.declared.quotes.DealerMessage.TheVariants as message
+use Rattle.quote_messages.specs.declared.out_messages.OutMessage.TheVariants as out
+use Rattle.quote_messages.specs.declared.out_messages.CancelStatus.TheVariants as status
 use Rattle.quote_messages.specs.declared.reject_reasons.QuoteRejectReason.{QuoteRejectReason}
 use Rattle.quote_word.specs.declared.settled.Settled.{Settled}
-use Rattle.quote_word.specs.declared.settled.Settled.TheVariants.{Withdrawn as IsWithdrawn, Lifted as IsLifted}
-use Rattle.venue_config.specs.declared.dealer_rows.DealerRow.{DealerRow}
-use Rattle.dealer_desk.specs.DealerFacts.{exposure_of, exposure_beside, quotes_of, accepted_quote, quotes_accepted, quote_with_id, is_live, live_quote_on, live_number_on, request_named, expected_number}
-use Rattle.market_terms.specs.Checks.{first_refusal}
-use Rattle.dealer_desk.specs.DealerRules.{standing_checks, terms_checks, day_checks, cancel_checks, decline_checks, quote_refusal, quote_answer, quote_on, quote_kept, quote_verdict, replacing, cancel_verdict, cancel_of, cancel_answer, decline_verdict, decline_of, decline_answer, message_verdict, arrival_verdict, dealer_verdict}
-use Rattle.dealer_desk.specs.DealerOutput.{verdict_facts, word_asked, is_numbered_within}
-use Rattle.dealer_desk.specs.declared.facts.AcceptedQuote.{AcceptedQuote}
-use Rattle.dealer_desk.specs.declared.facts.DealerFact.{DealerFact}
-use Rattle.dealer_desk.specs.declared.facts.DealerFact.TheVariants.{Came, Quoted, Withdrawn, Late, Declined}
-use Rattle.dealer_desk.specs.declared.shown.ShownRequest.{ShownRequest}
+use Rattle.quote_word.specs.declared.settled.Settled.TheVariants as settled
+use Rattle.dealer_desk.specs.DealerFacts.{DealerBook, expected_number, request_named, quotes_accepted, quote_with_id, live_quote_on, exposure_beside, is_withdrawal, is_closing, is_live, quote_to_drop}
+use Rattle.dealer_desk.specs.DealerRules.{quote_checks, quote_refusal, quote_answer, quote_verdict, cancel_checks, cancel_answer, cancel_of, cancel_all, cancel_verdict, decline_checks, decline_answer, decline_verdict, message_verdict, arrival_verdict, dealer_verdict}
+use Rattle.dealer_desk.specs.DealerOutput.{word_asked}
+use Rattle.dealer_desk.specs.BookChanges.{IsSound, IsLiveNumber, FitsBook}
+use Rattle.dealer_desk.specs.RuleCuts.{IsLawful, IsLawfulNote, note_of}
+use Rattle.dealer_desk.specs.declared.accepted.AcceptedQuote.{AcceptedQuote}
+use Rattle.dealer_desk.specs.declared.standing.StandingRequest.{StandingRequest}
+use Rattle.dealer_desk.specs.declared.standing.StandingQuote.{StandingQuote}
+use Rattle.dealer_desk.specs.declared.standing.QuoteEnd.{QuoteEnd}
+use Rattle.dealer_desk.specs.declared.standing.QuoteEnd.TheVariants as end
 use Rattle.dealer_desk.specs.declared.verdicts.DealerVerdict.{DealerVerdict}
-use Rattle.dealer_desk.specs.declared.verdicts.DealerVerdict.TheVariants.{QuoteRefused, QuoteAccepted, QuoteReplaces, CancelRefused, CancelAsks}
-use Rattle.dealer_desk.proofs.ExposureLemmas.{beside_nothing, find_among_live, quantity_in, exposure_with, exposure_replacing}
-use Rattle.dealer_desk.proofs.RefusalLemmas.{both_pass, none_holds}
+use Rattle.dealer_desk.specs.declared.verdicts.DealerVerdict.TheVariants as verdict
+use Rattle.dealer_desk.proofs.ListLemmas.{find_stands, within_from}
+use Rattle.dealer_desk.proofs.TableGrowth.{live_stands}
+use Rattle.dealer_desk.proofs.StandLemmas.{Stands, StandsIn, Fits, fits_book}
 
--- what stands at a desk
-pub record Stands (row : DealerRow) (facts : List DealerFact) : Type 0 where
-  pub numbered : list_all (is_numbered_within row.quotes) (quotes_of facts) ≡ true
-  pub within : exposure_of facts ≤ row.exposure
+-- a number of a request that was shown
+abbrev pub IsShown : DealerBook → ℕ → Type 0
+IsShown book number = (1 ≤ number) × (number ≤ length book.requests)
 
--- what a verdict keeps
-pub record Keeps (row : DealerRow) (facts : List DealerFact) (verdict : DealerVerdict) : Type 0 where
-  pub stands : (answer : Option Settled) → Stands row (facts ++ verdict_facts verdict answer)
-  pub asked : IfSome (word_asked verdict) (λ quote. (1 ≤ quote) × (quote ≤ row.quotes))
+-- what holds of a verdict
+abbrev pub Holds : DealerRow → DealerBook → DealerVerdict → Type 0
+Holds row book (verdict.QuoteAccepted request id quote replaced) = Fits row book.requests book.quotes quote replaced
+Holds row book (verdict.CancelAccepted id quote request) = IsLiveNumber book.quotes quote × IsShown book request
+Holds row book (verdict.DeclineAccepted request number) = IsShown book number
+Holds row book other = Unit {0}
 
--- Facts without a quote.
+-- Checks that refuse nothing.
 
-both : (a b : Bool) → a ≡ true → b ≡ true → (a && b) ≡ true
-both true b p q = q
-both false b p q = cc
+abbrev pub NoneHolds : List (Bool × QuoteRejectReason) → Type 0
+NoneHolds [] = Unit {0}
+NoneHolds (check ∷ checks) = (check.0 ≡ false) × NoneHolds checks
 
--- more facts, with lawful numbers and no more quantity than there is room for
-numbered_with : (row : DealerRow) (facts added : List DealerFact) → list_all (is_numbered_within row.quotes) (quotes_of facts) ≡ true → list_all (is_numbered_within row.quotes) (quotes_of added) ≡ true → list_all (is_numbered_within row.quotes) (quotes_of (facts ++ added)) ≡ true
-numbered_with row facts added old new =
-    rw (filter_map-append accepted_quote facts added, list_all-append (is_numbered_within row.quotes) (quotes_of facts) (quotes_of added))
-    (both _ _ old new)
+not_chosen : (b : Bool) (reason : QuoteRejectReason) (rest : Option QuoteRejectReason) → cond b (Some reason) rest ≡ None → (b ≡ false) × (rest ≡ None)
+not_chosen true reason rest h = cc
+not_chosen false reason rest h = (refl, h)
 
-pub adds_no_quote : (row : DealerRow) (facts added : List DealerFact) → Stands row facts → quotes_of added ≡ [] → sum_by quantity_in added ≡ 0 → Stands row (facts ++ added)
-adds_no_quote row facts added stands none nothing =
-    let less = exposure_with facts added in
-    record {
-      numbered = numbered_with row facts added stands.numbered (rw none refl);
-      within = omega (arith, less, nothing, stands.within);
-    }
+pub none_holds : (checks : List (Bool × QuoteRejectReason)) → first_refusal checks ≡ None → NoneHolds checks
+none_holds [] h = tt
+none_holds (check ∷ checks) h =
+    let parts = not_chosen check.0 check.1 (first_refusal checks) h in
+    (parts.0, none_holds checks parts.1)
 
--- One fact, or two, without a quote.
-came_alone : (row : DealerRow) (facts : List DealerFact) (in_sequence : Bool) → Stands row facts → Stands row (facts ++ Came in_sequence ∷ [])
-came_alone row facts in_sequence stands = adds_no_quote row facts (Came in_sequence ∷ []) stands refl refl
+no_some : {A : Type 0} (o : Option A) → is_some o ≡ false → o ≡ None
+no_some None h = refl
+no_some (Some x) h = cc
 
-late : (row : DealerRow) (facts : List DealerFact) (quote : ℕ) → Stands row facts → Stands row (facts ++ Came true ∷ Late quote ∷ [])
-late row facts quote stands = adds_no_quote row facts (Came true ∷ Late quote ∷ []) stands refl refl
+-- What is found stands in the book.
 
-withdrawn : (row : DealerRow) (facts : List DealerFact) (quote : ℕ) → Stands row facts → Stands row (facts ++ Came true ∷ Withdrawn quote ∷ [])
-withdrawn row facts quote stands = adds_no_quote row facts (Came true ∷ Withdrawn quote ∷ []) stands refl refl
+request_shown : (row : DealerRow) (book : DealerBook) (name : List ℕ) (shown : StandingRequest) → StandsIn row book → request_named book name ≡ Some shown → IsShown book shown.number
+unfolding request_named
+request_shown row book name shown stands is =
+    let here = find_stands (λ (request : StandingRequest). same_text (request_name request.number) name) book.requests shown is in
+    let number : shown.number ≡ here.0 + 1 = stands.sound.requests_numbered here.0 shown here.1 in
+    let inside : here.0 < length book.requests = within_from book.requests here.0 shown here.1 in
+    let first : 1 ≤ shown.number = omega arith in
+    let last : shown.number ≤ length book.requests = omega arith in
+    (first, last)
 
-declined : (row : DealerRow) (facts : List DealerFact) (request : ℕ) → Stands row facts → Stands row (facts ++ Came true ∷ Declined request ∷ [])
-declined row facts request stands = adds_no_quote row facts (Came true ∷ Declined request ∷ []) stands refl refl
-
--- A verdict that changes nothing.
-refusal_keeps : (row : DealerRow) (facts : List DealerFact) → Stands row facts → (request id : List ℕ) (reason : QuoteRejectReason) → Keeps row facts (QuoteRefused request id reason)
-refusal_keeps row facts stands request id reason = record { stands = λ answer. came_alone row facts true stands; asked = tt }
-
--- Numbers of quotes that are found.
-
-chosen : (b : Bool) (x : AcceptedQuote) (rest : Option AcceptedQuote) (P : AcceptedQuote → Type 0) → P x → IfSome rest P → IfSome (cond b (Some x) rest) P
-chosen true x rest P here there = here
-chosen false x rest P here there = there
-
-within_bounds : (row : DealerRow) (quote : AcceptedQuote) → is_numbered_within row.quotes quote ≡ true → (1 ≤ quote.number) × (quote.number ≤ row.quotes)
-within_bounds row quote h =
-    let parts = and_parts (nat_le 1 quote.number) (nat_le quote.number row.quotes) h in
-    let least : nat_le 1 quote.number ≡ true = parts.0 in
-    let most : nat_le quote.number row.quotes ≡ true = parts.1 in
-    (grind (arith, nat_tests), grind (arith, nat_tests))
-
-found_within : (row : DealerRow) (p : AcceptedQuote → Bool) (quotes : List AcceptedQuote) → list_all (is_numbered_within row.quotes) quotes ≡ true → IfSome (find p quotes) (λ quote. (1 ≤ quote.number) × (quote.number ≤ row.quotes))
-found_within row p [] h = tt
-found_within row p (quote ∷ quotes) h =
-    let parts = and_parts (is_numbered_within row.quotes quote) (list_all (is_numbered_within row.quotes) quotes) h in
-    chosen (p quote) quote (find p quotes) (λ own. (1 ≤ own.number) × (own.number ≤ row.quotes)) (within_bounds row quote parts.0) (found_within row p quotes parts.1)
+quote_stands : (book : DealerBook) (id : List ℕ) (own : StandingQuote) → quote_with_id book id ≡ Some own → (k : ℕ) × (slice_get book.quotes k ≡ Some own)
+unfolding quote_with_id
+quote_stands book id own is =
+    let here = find_stands (λ (other : StandingQuote). same_text other.quote.id id) book.quotes own is in
+    (here.0, here.1)
 
 -- Quotes.
 
--- what the last two checks of an accepted quote leave
-record Room (row : DealerRow) (facts : List DealerFact) (quantity : ℕ) (live : Option ℕ) : Type 0 where
-  number : quotes_accepted facts + 1 ≤ row.quotes
-  exposure : quantity + exposure_beside facts live ≤ row.exposure
+not_many : (m n : ℕ) → nat_le m n ≡ false → n < m
+not_many m n h = grind (arith, nat_tests)
 
-room_left : (row : DealerRow) (facts : List DealerFact) (moment : ℕ) (quote : Quote) (request : Request) → quote_refusal row facts moment quote request ≡ None → Room row facts request.ask.quantity (live_number_on facts request.number)
-unfolding quote_refusal
-room_left row facts moment quote request h =
-    let behind = (both_pass (standing_checks facts request.number) (terms_checks moment quote request.ask ++ day_checks row facts moment quote request) h).1 in
-    let day = none_holds (day_checks row facts moment quote request) (both_pass (terms_checks moment quote request.ask) (day_checks row facts moment quote request) behind).1 in
-    let used : nat_le row.quotes (quotes_accepted facts) ≡ false = day.1.1.0 in
-    let exposed : nat_lt row.exposure (request.ask.quantity + exposure_beside facts (live_number_on facts request.number)) ≡ false = day.1.1.1.0 in
-    record { number = grind (arith, nat_tests); exposure = grind (arith, nat_tests) }
+not_more : (m n : ℕ) → nat_lt m n ≡ false → n ≤ m
+not_more m n h = grind (arith, nat_tests)
 
-numbered_next : (row : DealerRow) (number : ℕ) → number + 1 ≤ row.quotes → (nat_le 1 (number + 1) && nat_le (number + 1) row.quotes) ≡ true
-numbered_next row number h =
-    let least : nat_le 1 (number + 1) ≡ true = grind (arith, nat_tests) in
-    let most : nat_le (number + 1) row.quotes ≡ true = grind (arith, nat_tests) in
-    rw (least, most) refl
-
-accepted_keeps : (row : DealerRow) (facts : List DealerFact) (moment : ℕ) (quote : Quote) (request : Request) → Stands row facts → Room row facts request.ask.quantity None → Keeps row facts (QuoteAccepted quote.request quote.id (quote_kept facts moment quote request))
-accepted_keeps row facts moment quote request stands room =
-    let kept = quote_kept facts moment quote request in
-    let added = Came true ∷ Quoted kept ∷ [] in
-    let less : exposure_of (facts ++ added) ≤ exposure_of facts + (0 + request.ask.quantity) = exposure_with facts added in
-    let fits : request.ask.quantity + exposure_of facts ≤ row.exposure = rw (sym (beside_nothing facts)) room.exposure in
+quote_fits : (row : DealerRow) (book : DealerBook) (moment : ℕ) (quote : Quote) (shown : StandingRequest) → IsShown book shown.number → quote_refusal row book moment quote (Some shown) ≡ None
+    → Holds row book (quote_answer book moment quote (Some shown) None)
+unfolding quote_refusal quote_with_id live_quote_on exposure_beside
+quote_fits row book moment quote shown range passed =
+    let h = none_holds (quote_checks row book moment quote (Some shown)) passed in
     record {
-      stands = λ answer. record {
-        numbered = numbered_with row facts added stands.numbered (rw (numbered_next row (quotes_accepted facts) room.number) refl);
-        within = omega (arith, less, fits);
-      };
-      asked = tt;
+      number_is = refl;
+      id_is_new = no_some (quote_with_id book quote.id) h.1.1.1.1.1.1.1.1.0;
+      from_first = range.0;
+      to_last = range.1;
+      replaced_is = refl;
+      room = not_many row.quotes (length book.quotes) h.1.1.1.1.1.1.1.1.1.1.0;
+      exposure = not_more row.exposure _ h.1.1.1.1.1.1.1.1.1.1.1.0;
     }
 
-same_number : (number : ℕ) → (number == number) ≡ true
-same_number number = grind (arith, nat_tests)
-
-replaced_stands : (row : DealerRow) (facts : List DealerFact) (moment : ℕ) (quote : Quote) (request : Request) (replaced : ℕ) → Stands row facts → Room row facts request.ask.quantity (Some replaced) → Stands row (facts ++ Came true ∷ Withdrawn replaced ∷ Quoted (quote_kept facts moment quote request) ∷ [])
-replaced_stands row facts moment quote request replaced stands room =
-    let kept = quote_kept facts moment quote request in
-    let added = Came true ∷ Withdrawn replaced ∷ Quoted kept ∷ [] in
-    let less : exposure_of (facts ++ added) ≤ exposure_beside facts (Some replaced) + (0 + request.ask.quantity) = exposure_replacing facts added replaced (rw (same_number replaced) refl) in
-    record {
-      numbered = numbered_with row facts added stands.numbered (rw (numbered_next row (quotes_accepted facts) room.number) refl);
-      within = omega (arith, less, room.exposure);
-    }
-
-replaces_keeps : (row : DealerRow) (facts : List DealerFact) (moment : ℕ) (quote : Quote) (request : Request) (replaced : ℕ) → Stands row facts → Room row facts request.ask.quantity (Some replaced) → (1 ≤ replaced) × (replaced ≤ row.quotes) → Keeps row facts (QuoteReplaces quote.request quote.id (quote_kept facts moment quote request) replaced)
-replaces_keeps row facts moment quote request replaced stands room asked =
-    let by_answer : (answer : Option Settled) → Stands row (facts ++ verdict_facts (QuoteReplaces quote.request quote.id (quote_kept facts moment quote request) replaced) answer) = λ answer.
-    elim answer as (λ given. Stands row (facts ++ verdict_facts (QuoteReplaces quote.request quote.id (quote_kept facts moment quote request) replaced) given)) [
-      | None ↦ late row facts replaced stands
-      | Some settled ↦ elim settled as (λ given. Stands row (facts ++ verdict_facts (QuoteReplaces quote.request quote.id (quote_kept facts moment quote request) replaced) (Some given))) [
-        | IsWithdrawn ↦ replaced_stands row facts moment quote request replaced stands room
-        | IsLifted ↦ late row facts replaced stands
-      ]
-    ] in
-    record { stands = by_answer; asked = asked }
-
-replacing_keeps : (row : DealerRow) (facts : List DealerFact) (moment : ℕ) (quote : Quote) (request : Request) (live : Option ℕ) → Stands row facts → Room row facts request.ask.quantity live → IfSome live (λ number. (1 ≤ number) × (number ≤ row.quotes)) → Keeps row facts (replacing quote (quote_kept facts moment quote request) live)
-replacing_keeps row facts moment quote request None stands room asked = accepted_keeps row facts moment quote request stands room
-replacing_keeps row facts moment quote request (Some replaced) stands room asked = replaces_keeps row facts moment quote request replaced stands room asked
-
-number_of_found : (row : DealerRow) (found : Option AcceptedQuote) → IfSome found (λ quote. (1 ≤ quote.number) × (quote.number ≤ row.quotes)) → IfSome (option_map (λ quote. quote.number) found) (λ number. (1 ≤ number) × (number ≤ row.quotes))
-number_of_found row None h = tt
-number_of_found row (Some quote) h = h
-
-live_within : (row : DealerRow) (facts : List DealerFact) (request : ℕ) → Stands row facts → IfSome (live_number_on facts request) (λ number. (1 ≤ number) × (number ≤ row.quotes))
-unfolding live_quote_on
-live_within row facts request stands =
-    number_of_found row (live_quote_on facts request) (rw (find_among_live (λ quote. quote.request == request) (is_live facts) (quotes_of facts)) (found_within row _ (quotes_of facts) stands.numbered))
-
-answer_keeps : (row : DealerRow) (facts : List DealerFact) (moment : ℕ) (quote : Quote) (request : Request) (refusal : Option QuoteRejectReason) → Stands row facts → quote_refusal row facts moment quote request ≡ refusal → Keeps row facts (quote_answer facts moment quote request refusal)
-answer_keeps row facts moment quote request (Some reason) stands is = refusal_keeps row facts stands quote.request quote.id reason
-answer_keeps row facts moment quote request None stands is =
-    replacing_keeps row facts moment quote request (live_number_on facts request.number) stands (room_left row facts moment quote request is) (live_within row facts request.number stands)
-
-quote_on_keeps : (row : DealerRow) (facts : List DealerFact) (moment : ℕ) (quote : Quote) (shown : Option ShownRequest) → Stands row facts → Keeps row facts (quote_on row facts moment quote shown)
-quote_on_keeps row facts moment quote None stands = refusal_keeps row facts stands quote.request quote.id _
-quote_on_keeps row facts moment quote (Some shown) stands = answer_keeps row facts moment quote shown.request (quote_refusal row facts moment quote shown.request) stands refl
+quote_holds : (row : DealerRow) (book : DealerBook) (moment : ℕ) (quote : Quote) (found : Option StandingRequest) (refusal : Option QuoteRejectReason)
+    → ((shown : StandingRequest) → found ≡ Some shown → IsShown book shown.number) → quote_refusal row book moment quote found ≡ refusal → Holds row book (quote_answer book moment quote found refusal)
+quote_holds row book moment quote found (Some reason) range is = tt
+quote_holds row book moment quote None None range is = tt
+quote_holds row book moment quote (Some shown) None range is = quote_fits row book moment quote shown (range shown refl) is
 
 -- Cancels.
 
-cancel_refusal_keeps : (row : DealerRow) (facts : List DealerFact) → Stands row facts → (id : Option (List ℕ)) (reason : QuoteRejectReason) → Keeps row facts (CancelRefused id reason)
-cancel_refusal_keeps row facts stands id reason = record { stands = λ answer. came_alone row facts true stands; asked = tt }
+live_end : (e : Option QuoteEnd) (known : Bool) → is_withdrawal e ≡ false → (is_closing e || known) ≡ false → is_none e ≡ true
+live_end None known w c = refl
+live_end (Some (end.Withdrawn by)) known w c = cc
+live_end (Some (end.Closed close)) known w c = cc
 
-asks_keeps : (row : DealerRow) (facts : List DealerFact) (id : List ℕ) (number request : ℕ) → Stands row facts → (1 ≤ number) × (number ≤ row.quotes) → Keeps row facts (CancelAsks id number request)
-asks_keeps row facts id number request stands asked =
-    let by_answer : (answer : Option Settled) → Stands row (facts ++ verdict_facts (CancelAsks id number request) answer) = λ answer.
-    elim answer as (λ given. Stands row (facts ++ verdict_facts (CancelAsks id number request) given)) [
-      | None ↦ late row facts number stands
-      | Some settled ↦ elim settled as (λ given. Stands row (facts ++ verdict_facts (CancelAsks id number request) (Some given))) [
-        | IsWithdrawn ↦ withdrawn row facts number stands
-        | IsLifted ↦ late row facts number stands
-      ]
-    ] in
-    record { stands = by_answer; asked = asked }
+cancel_answered : (row : DealerRow) (book : DealerBook) (id : List ℕ) (own : StandingQuote) (k : ℕ) (refusal : Option QuoteRejectReason) → StandsIn row book → slice_get book.quotes k ≡ Some own
+    → first_refusal (cancel_checks own) ≡ refusal → Holds row book (cancel_answer id own refusal)
+cancel_answered row book id own k (Some reason) stands at is = tt
+cancel_answered row book id own k None stands at is =
+    let h = none_holds (cancel_checks own) is in (
+      record {
+        own = own;
+        place = k;
+        number_is = stands.sound.quotes_numbered k own at;
+        stands = at;
+        live = live_end own.end own.is_known_lifted h.0 h.1.0;
+      },
+      (stands.sound.from_first k own at, stands.sound.to_last k own at),
+    )
 
-cancel_answer_keeps : (row : DealerRow) (facts : List DealerFact) (id : List ℕ) (quote : AcceptedQuote) (refusal : Option QuoteRejectReason) → Stands row facts → (1 ≤ quote.number) × (quote.number ≤ row.quotes) → Keeps row facts (cancel_answer id quote refusal)
-cancel_answer_keeps row facts id quote (Some reason) stands own = cancel_refusal_keeps row facts stands (Some id) reason
-cancel_answer_keeps row facts id quote None stands own = asks_keeps row facts id quote.number quote.request stands own
+cancel_holds : (row : DealerRow) (book : DealerBook) (id : List ℕ) (found : Option StandingQuote) → StandsIn row book → ((own : StandingQuote) → found ≡ Some own → (k : ℕ) × (slice_get book.quotes k ≡ Some own))
+    → Holds row book (cancel_of id found)
+cancel_holds row book id None stands there = tt
+cancel_holds row book id (Some own) stands there = let here = there own refl in cancel_answered row book id own here.0 (first_refusal (cancel_checks own)) stands here.1 refl
 
-cancel_of_keeps : (row : DealerRow) (facts : List DealerFact) (id : List ℕ) (quote : Option AcceptedQuote) → Stands row facts → IfSome quote (λ own. (1 ≤ own.number) × (own.number ≤ row.quotes)) → Keeps row facts (cancel_of facts id quote)
-cancel_of_keeps row facts id None stands own = record { stands = λ answer. came_alone row facts true stands; asked = tt }
-cancel_of_keeps row facts id (Some quote) stands own = cancel_answer_keeps row facts id quote (first_refusal (cancel_checks facts quote)) stands own
+all_holds : (row : DealerRow) (book : DealerBook) (id : Option (List ℕ)) (b : Bool) (last : ℕ) → Holds row book (cond b (verdict.Refused (out.CancelAnswer id status.Unknown)) (verdict.DropsFollow last))
+all_holds row book id true last = tt
+all_holds row book id false last = tt
 
-cancel_keeps : (row : DealerRow) (facts : List DealerFact) (scope : CancelScope) → Stands row facts → Keeps row facts (cancel_verdict facts scope)
-unfolding cancel_verdict quote_with_id
-cancel_keeps row facts (cancels.One id) stands = cancel_of_keeps row facts id (quote_with_id facts id) stands (found_within row _ (quotes_of facts) stands.numbered)
-cancel_keeps row facts (cancels.All id) stands = cancel_refusal_keeps row facts stands id _
-cancel_keeps row facts (cancels.Other cancel_type id) stands = cancel_refusal_keeps row facts stands id _
+scope_holds : (row : DealerRow) (book : DealerBook) (scope : CancelScope) → StandsIn row book → Holds row book (cancel_verdict book scope)
+unfolding cancel_verdict
+scope_holds row book (cancels.One id) stands = cancel_holds row book id (quote_with_id book id) stands (quote_stands book id)
+scope_holds row book (cancels.All id) stands = all_holds row book id (is_none (quote_to_drop book (quotes_accepted book))) (quotes_accepted book)
+scope_holds row book (cancels.Other cancel_type id) stands = tt
 
 -- Declines.
 
-decline_answer_keeps : (row : DealerRow) (facts : List DealerFact) (name : List ℕ) (number : ℕ) (refusal : Option QuoteRejectReason) → Stands row facts → Keeps row facts (decline_answer name number refusal)
-decline_answer_keeps row facts name number (Some reason) stands = record { stands = λ answer. came_alone row facts true stands; asked = tt }
-decline_answer_keeps row facts name number None stands = record { stands = λ answer. declined row facts number stands; asked = tt }
-
-decline_of_keeps : (row : DealerRow) (facts : List DealerFact) (name : List ℕ) (shown : Option ShownRequest) → Stands row facts → Keeps row facts (decline_of facts name shown)
-decline_of_keeps row facts name None stands = record { stands = λ answer. came_alone row facts true stands; asked = tt }
-decline_of_keeps row facts name (Some shown) stands = decline_answer_keeps row facts name shown.request.number (first_refusal (decline_checks facts shown.request.number)) stands
+decline_holds : (row : DealerRow) (book : DealerBook) (name : List ℕ) (found : Option StandingRequest) (refusal : Option QuoteRejectReason)
+    → ((shown : StandingRequest) → found ≡ Some shown → IsShown book shown.number) → Holds row book (decline_answer name found refusal)
+decline_holds row book name found (Some reason) range = tt
+decline_holds row book name None None range = tt
+decline_holds row book name (Some shown) None range = range shown refl
 
 -- All messages.
 
-message_keeps : (row : DealerRow) (facts : List DealerFact) (moment : ℕ) (message : DealerMessage) → Stands row facts → Keeps row facts (message_verdict row facts moment message)
+message_holds : (row : DealerRow) (book : DealerBook) (moment : ℕ) (said : DealerMessage) → StandsIn row book → Holds row book (message_verdict row book moment said)
 unfolding quote_verdict decline_verdict
-message_keeps row facts moment (AQuote quote) stands = quote_on_keeps row facts moment quote (request_named facts quote.request) stands
-message_keeps row facts moment (ACancel cancel) stands = cancel_keeps row facts cancel.scope stands
-message_keeps row facts moment (ADecline decline) stands = decline_of_keeps row facts decline.request (request_named facts decline.request) stands
+message_holds row book moment (message.Quote quote) stands =
+    quote_holds row book moment quote (request_named book quote.request) (quote_refusal row book moment quote (request_named book quote.request)) (λ shown is. request_shown row book quote.request shown stands is) refl
+message_holds row book moment (message.Cancel cancel) stands = scope_holds row book cancel.scope stands
+message_holds row book moment (message.Decline decline) stands =
+    decline_holds row book decline.request (request_named book decline.request) (first_refusal (decline_checks book (request_named book decline.request))) (λ shown is. request_shown row book decline.request shown stands is)
 
-arrival_keeps : (row : DealerRow) (facts : List DealerFact) (moment : ℕ) (came : Arrival DealerMessage) → Stands row facts → Keeps row facts (arrival_verdict row facts moment came)
-arrival_keeps row facts moment arrival.Dropped stands = record { stands = λ answer. came_alone row facts false stands; asked = tt }
-arrival_keeps row facts moment (arrival.OutOfSequence reject) stands = record { stands = λ answer. came_alone row facts false stands; asked = tt }
-arrival_keeps row facts moment (arrival.Rejected reject) stands = record { stands = λ answer. came_alone row facts true stands; asked = tt }
-arrival_keeps row facts moment (arrival.Taken message) stands = message_keeps row facts moment message stands
+arrival_holds : (row : DealerRow) (book : DealerBook) (moment : ℕ) (came : Arrival DealerMessage) → StandsIn row book → Holds row book (arrival_verdict row book moment came)
+arrival_holds row book moment arrival.Dropped stands = tt
+arrival_holds row book moment (arrival.OutOfSequence reject) stands = tt
+arrival_holds row book moment (arrival.Rejected reject) stands = tt
+arrival_holds row book moment (arrival.Taken said) stands = message_holds row book moment said stands
 
--- what the verdict on any bytes keeps
-pub verdict_keeps : (date : List ℕ) (row : DealerRow) (facts : List DealerFact) (moment : ℕ) (bytes : List ℕ) → Stands row facts → Keeps row facts (dealer_verdict date row facts moment bytes)
+-- what holds of the verdict on any bytes
+pub verdict_holds : (date : List ℕ) (row : DealerRow) (book : DealerBook) (moment : ℕ) (bytes : List ℕ) → StandsIn row book → Holds row book (dealer_verdict date row book moment bytes)
 unfolding dealer_verdict
-verdict_keeps date row facts moment bytes stands = arrival_keeps row facts moment (dealer_arrival date row (expected_number facts) bytes) stands
+verdict_holds date row book moment bytes stands = arrival_holds row book moment (dealer_arrival date row (expected_number book) bytes) stands
+
+-- So it is lawful, and what is noted of it.
+
+pub lawful : (row : DealerRow) (book : DealerBook) (given : DealerVerdict) → Holds row book given → IsLawful book given
+lawful row book (verdict.QuoteAccepted request id quote replaced) holds = fits_book row book quote replaced holds
+lawful row book (verdict.CancelAccepted id quote request) holds = holds.0
+lawful row book (verdict.DeclineAccepted request number) holds = holds
+lawful row book other holds = tt
+
+pub lawful_note : (row : DealerRow) (book : DealerBook) (given : DealerVerdict) (answer : Option Settled) → StandsIn row book → Holds row book given → IsLawfulNote book (note_of given answer)
+lawful_note row book (verdict.QuoteAccepted request id quote None) answer stands holds = fits_book row book quote None holds
+lawful_note row book (verdict.QuoteAccepted request id quote (Some replaced)) (Some settled.Withdrawn) stands holds = fits_book row book quote (Some replaced) holds
+lawful_note row book (verdict.QuoteAccepted request id quote (Some replaced)) (Some settled.Lifted) stands holds = live_stands book.requests book.quotes quote.request replaced stands.sound holds.replaced_is
+lawful_note row book (verdict.QuoteAccepted request id quote (Some replaced)) None stands holds = tt
+lawful_note row book (verdict.CancelAccepted id quote request) (Some settled.Withdrawn) stands holds = holds.0
+lawful_note row book (verdict.CancelAccepted id quote request) (Some settled.Lifted) stands holds = holds.0
+lawful_note row book (verdict.CancelAccepted id quote request) None stands holds = tt
+lawful_note row book (verdict.DeclineAccepted request number) answer stands holds = holds
+lawful_note row book other answer stands holds = tt
+
+-- The quote whose word is asked is one of the day's.
+
+pub live_within : (row : DealerRow) (requests : List StandingRequest) (quotes : List StandingQuote) (number : ℕ) → Stands row requests quotes → IsLiveNumber quotes number → (1 ≤ number) × (number ≤ row.quotes)
+live_within row requests quotes number stands live =
+    let inside : live.place < length quotes = within_from quotes live.place live.own live.stands in
+    let is : number ≡ live.place + 1 = live.number_is in
+    let few : length quotes ≤ row.quotes = stands.few in
+    let first : 1 ≤ number = omega arith in
+    let last : number ≤ row.quotes = omega arith in
+    (first, last)
+
+pub asked_within : (row : DealerRow) (book : DealerBook) (given : DealerVerdict) → StandsIn row book → Holds row book given → IfSome (word_asked given) (λ quote. (1 ≤ quote) × (quote ≤ row.quotes))
+asked_within row book (verdict.QuoteAccepted request id quote None) stands holds = tt
+asked_within row book (verdict.QuoteAccepted request id quote (Some replaced)) stands holds = live_within row book.requests book.quotes replaced stands (live_stands book.requests book.quotes quote.request replaced stands.sound holds.replaced_is)
+asked_within row book (verdict.CancelAccepted id quote request) stands holds = live_within row book.requests book.quotes quote stands holds.0
+asked_within row book other stands holds = tt

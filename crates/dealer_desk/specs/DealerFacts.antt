@@ -1,175 +1,227 @@
--- What follows from the facts of a dealer's desk: its numbers, the requests that it was shown, its quotes and what
--- became of them, and its exposure.
-use Rattle.std.specs.Prelude.{ℕ, ◌+◌, Bool, true, false, ◌&&◌, ◌==◌, not, List, [], ◌∷◌, count_by, filter, Option, Some, None, find}
-use Rattle.std.specs.List.{filter_map, list_any, sum_by}
-use Rattle.std.specs.Option.{option_map}
+-- The facts of a dealer's desk, and what stands by them: its numbers, the requests that it was
+-- shown, its quotes and what became of them, and its exposure. Facts are only ever added. They bear
+-- the dealer's own numbers and no room.
+use Rattle.std.specs.Prelude.{ℕ, ◌+◌, Bool, true, false, ◌&&◌, ◌==◌, not, nat_le, List, [], ◌∷◌, length, filter, find, count_by, Option, Some, None, is_none, if◌then◌else◌}
+use Rattle.std.specs.List.{list_any, sum_by}
+use Rattle.std.specs.Option.{option_map, option_or}
 use Rattle.venue_config.specs.Texts.{same_text}
 use Rattle.quote_messages.specs.Written.{request_name}
 use Rattle.market_terms.specs.declared.asks.Ask.{Ask}
-use Rattle.dealer_desk.specs.declared.shown.ShownRequest.{ShownRequest}
-use Rattle.market_terms.specs.declared.rooms.RoomRef.{RoomRef}
-use Rattle.dealer_desk.specs.declared.facts.AcceptedQuote.{AcceptedQuote}
-use Rattle.dealer_desk.specs.declared.facts.DealerFact.{DealerFact}
-use Rattle.dealer_desk.specs.declared.facts.DealerFact.TheVariants.{Came, Shown, Quoted, Withdrawn, Late, Declined, Told}
+use Rattle.market_terms.specs.declared.closes.Close.{Close}
+use Rattle.dealer_desk.specs.declared.accepted.AcceptedQuote.{AcceptedQuote}
+use Rattle.dealer_desk.specs.declared.standing.StandingRequest.{StandingRequest}
+use Rattle.dealer_desk.specs.declared.standing.StandingQuote.{StandingQuote}
+use Rattle.dealer_desk.specs.declared.standing.Withdrawal.{Withdrawal}
+use Rattle.dealer_desk.specs.declared.standing.QuoteEnd.{QuoteEnd}
+use Rattle.dealer_desk.specs.declared.standing.QuoteEnd.TheVariants as end
 
--- Numbers.
+-- What became so at a desk. Quotes and requests stand in it by the dealer's own numbers, from 1.
+pub data DealerFact : Type 0 where
+  Came : ℕ → List ℕ → Bool → DealerFact  -- then these bytes came, and used up a number or not
+  Shown : Ask → ℕ → DealerFact  -- the dealer was shown a request that asks for this, at this moment
+  Quoted : AcceptedQuote → DealerFact  -- a quote was accepted
+  Withdrawn : ℕ → Withdrawal → DealerFact  -- this quote's word was asked, and it is withdrawn
+  Late : ℕ → DealerFact  -- the word of this quote was asked, and the quote was lifted before
+  Dropped : ℕ → ℕ → DealerFact  -- a drop of the quotes up to this one took its turn, at this moment
+  Declined : ℕ → DealerFact  -- the dealer declined this request
+  Told : ℕ → Close → ℕ → DealerFact  -- the dealer was told how this request ended, at this moment
+
+-- What one fact says.
 
 -- whether a message used up the number that was expected
 abbrev pub used_number : DealerFact → Bool
-used_number (Came in_sequence) = in_sequence
+used_number (Came moment bytes used) = used
 used_number fact = false
-
--- the MsgSeqNum (34) that the desk expects next
-abbrev pub expected_number : List DealerFact → ℕ
-expected_number facts = count_by used_number facts + 1
-
--- Requests.
-
--- a request that a fact says was shown: its room, and what is asked for
-abbrev pub shown_request : DealerFact → Option (RoomRef × Ask)
-shown_request (Shown room ask moment) = Some (room, ask)
-shown_request fact = None
-
--- whether a fact is a request that was shown
-abbrev pub is_request : DealerFact → Bool
-is_request (Shown room ask moment) = true
-is_request fact = false
-
--- how many requests were shown
-abbrev pub requests_shown : List DealerFact → ℕ
-requests_shown facts = count_by is_request facts
-
--- requests numbered onward from a number
-abbrev pub numbered_after : ℕ → List (RoomRef × Ask) → List ShownRequest
-numbered_after number [] = []
-numbered_after number (shown ∷ more) =
-    record { room = shown.0; request = record { number = number + 1; ask = shown.1 } } ∷ numbered_after (number + 1) more
-
--- the requests that were shown, numbered from 1
-abbrev pub requests_of : List DealerFact → List ShownRequest
-requests_of facts = numbered_after 0 (filter_map shown_request facts)
-
--- the request that a QuoteReqID (131) names
-unfoldable pub request_named : List DealerFact → List ℕ → Option ShownRequest
-request_named facts name = find (λ shown. same_text (request_name shown.request.number) name) (requests_of facts)
-
--- the request with this number
-unfoldable pub request_numbered : List DealerFact → ℕ → Option ShownRequest
-request_numbered facts number = find (λ shown. shown.request.number == number) (requests_of facts)
-
--- whether two rooms are one: that of the same request of the same investor
-abbrev pub is_same_room : RoomRef → RoomRef → Bool
-is_same_room one other = (one.investor == other.investor) && (one.n == other.n)
-
--- the request that was shown in a room
-unfoldable pub request_in : List DealerFact → RoomRef → Option ShownRequest
-request_in facts room = find (λ shown. is_same_room shown.room room) (requests_of facts)
-
--- whether a fact is a decline of this request
-abbrev pub is_decline_of : ℕ → DealerFact → Bool
-is_decline_of number (Declined request) = request == number
-is_decline_of number fact = false
-
--- whether the dealer declined a request
-abbrev pub is_declined : List DealerFact → ℕ → Bool
-is_declined facts request = list_any (is_decline_of request) facts
-
--- whether a fact is the closing notice of this request
-abbrev pub is_notice_of : ℕ → DealerFact → Bool
-is_notice_of number (Told request close moment) = request == number
-is_notice_of number fact = false
-
--- whether the closing notice of a request was sent
-abbrev pub is_told : List DealerFact → ℕ → Bool
-is_told facts request = list_any (is_notice_of request) facts
 
 -- whether a fact is a closing notice
 abbrev pub is_notice : DealerFact → Bool
 is_notice (Told request close moment) = true
 is_notice fact = false
 
--- how many closing notices were sent
-abbrev pub notices_told : List DealerFact → ℕ
-notices_told facts = count_by is_notice facts
+-- whether it is the closing notice of this request
+abbrev pub tells : ℕ → DealerFact → Bool
+tells number (Told request close moment) = request == number
+tells number fact = false
+
+-- whether a fact declines this request
+abbrev pub declines : ℕ → DealerFact → Bool
+declines number (Declined request) = request == number
+declines number fact = false
+
+-- whether a fact says that this quote is known to be lifted
+abbrev pub finds_lifted : ℕ → DealerFact → Bool
+finds_lifted number (Late quote) = quote == number
+finds_lifted number fact = false
+
+-- how a fact ends this quote: it withdraws it, or closes its request
+abbrev pub ends : AcceptedQuote → DealerFact → Option QuoteEnd
+ends own (Withdrawn quote by) = if quote == own.number then Some (end.Withdrawn by) else None
+ends own (Told request close moment) =
+    if request == own.request then Some (end.Closed close) else None
+ends own fact = None
+
+-- Requests and quotes as they stand by the facts behind them.
+
+-- a request, by the facts behind it
+abbrev pub standing_request : ℕ → Ask → List DealerFact → StandingRequest
+standing_request number ask later = record {
+  number = number;
+  ask = ask;
+  is_declined = list_any (declines number) later;
+  is_told = list_any (tells number) later;
+}
+
+-- the requests that the dealer was shown, numbered onward from a number
+abbrev pub requests_from : ℕ → List DealerFact → List StandingRequest
+requests_from number [] = []
+requests_from number (Shown ask moment ∷ later) =
+    standing_request number ask later ∷ requests_from (number + 1) later
+requests_from number (fact ∷ later) = requests_from number later
+
+-- what the first of some facts says that says something
+abbrev pub first_said : {A : Type 0} → (DealerFact → Option A) → List DealerFact → Option A
+first_said says [] = None
+first_said says (fact ∷ later) = option_or (says fact) (first_said says later)
+
+-- a quote, by the facts behind it
+abbrev pub standing_quote : AcceptedQuote → List DealerFact → StandingQuote
+standing_quote quote later = record {
+  quote = quote;
+  is_known_lifted = list_any (finds_lifted quote.number) later;
+  end = first_said (ends quote) later;
+}
+
+-- the quotes that were accepted, the first one first
+abbrev pub standings : List DealerFact → List StandingQuote
+standings [] = []
+standings (Quoted quote ∷ later) = standing_quote quote later ∷ standings later
+standings (fact ∷ later) = standings later
+
+-- The book of a desk: what stands by its facts, which every rule asks. It is how many messages used
+-- up a number, how many closing notices were sent, the requests and the quotes.
+pub record DealerBook : Type 0 where
+  pub used : ℕ
+  pub notices : ℕ
+  pub requests : List StandingRequest
+  pub quotes : List StandingQuote
+
+-- the book by the facts that stand; requests are numbered from 1
+abbrev pub book_of : List DealerFact → DealerBook
+book_of facts = record {
+  used = count_by used_number facts;
+  notices = count_by is_notice facts;
+  requests = requests_from 1 facts;
+  quotes = standings facts;
+}
+
+-- Numbers.
+
+-- the MsgSeqNum (34) that the desk expects next
+abbrev pub expected_number : DealerBook → ℕ
+expected_number book = book.used + 1
+
+-- how many requests the dealer was shown
+abbrev pub requests_shown : DealerBook → ℕ
+requests_shown book = length book.requests
+
+-- how many quotes were accepted in the day
+abbrev pub quotes_accepted : DealerBook → ℕ
+quotes_accepted book = length book.quotes
+
+-- Requests.
+
+-- the request that a QuoteReqID (131) names
+unfoldable pub request_named : DealerBook → List ℕ → Option StandingRequest
+request_named book name =
+    find (λ request. same_text (request_name request.number) name) book.requests
+
+-- the request with this number
+unfoldable pub request_numbered : DealerBook → ℕ → Option StandingRequest
+request_numbered book number = find (λ request. request.number == number) book.requests
 
 -- Quotes.
 
--- whether a fact is an accepted quote
-abbrev pub is_quote : DealerFact → Bool
-is_quote (Quoted quote) = true
-is_quote fact = false
-
--- how many quotes were accepted in the day
-abbrev pub quotes_accepted : List DealerFact → ℕ
-quotes_accepted facts = count_by is_quote facts
-
--- the quote that a fact says was accepted
-abbrev pub accepted_quote : DealerFact → Option AcceptedQuote
-accepted_quote (Quoted quote) = Some quote
-accepted_quote fact = None
-
--- the quotes that were accepted, the first one first
-abbrev pub quotes_of : List DealerFact → List AcceptedQuote
-quotes_of facts = filter_map accepted_quote facts
-
 -- the accepted quote with this QuoteID (117)
-unfoldable pub quote_with_id : List DealerFact → List ℕ → Option AcceptedQuote
-quote_with_id facts id = find (λ quote. same_text quote.id id) (quotes_of facts)
+unfoldable pub quote_with_id : DealerBook → List ℕ → Option StandingQuote
+quote_with_id book id = find (λ own. same_text own.quote.id id) book.quotes
 
--- whether a fact is the withdrawal of this quote
-abbrev pub is_withdrawal_of : ℕ → DealerFact → Bool
-is_withdrawal_of number (Withdrawn quote) = quote == number
-is_withdrawal_of number fact = false
+-- the accepted quote with this own number
+unfoldable pub quote_numbered : DealerBook → ℕ → Option StandingQuote
+quote_numbered book number = find (λ own. own.quote.number == number) book.quotes
 
 -- whether a quote was withdrawn, by a cancel or by its replacement
-abbrev pub is_withdrawn : List DealerFact → ℕ → Bool
-is_withdrawn facts quote = list_any (is_withdrawal_of quote) facts
+abbrev pub is_withdrawal : Option QuoteEnd → Bool
+is_withdrawal (Some (end.Withdrawn by)) = true
+is_withdrawal (Some (end.Closed close)) = false
+is_withdrawal None = false
 
--- whether a fact says that a message asked the word of this quote and found it lifted
-abbrev pub is_late_for : ℕ → DealerFact → Bool
-is_late_for number (Late quote) = quote == number
-is_late_for number fact = false
+-- whether it ended with its request
+abbrev pub is_closing : Option QuoteEnd → Bool
+is_closing (Some (end.Withdrawn by)) = false
+is_closing (Some (end.Closed close)) = true
+is_closing None = false
 
--- whether a quote is known to be lifted
-abbrev pub is_known_lifted : List DealerFact → ℕ → Bool
-is_known_lifted facts quote = list_any (is_late_for quote) facts
+-- A quote is live until it is withdrawn or its request's closing notice was sent.
+abbrev pub is_live : StandingQuote → Bool
+is_live own = is_none own.end
 
--- whether a fact is a quote on this request that is known to be lifted
-abbrev pub is_lifted_on : List DealerFact → ℕ → DealerFact → Bool
-is_lifted_on facts request (Quoted quote) = (quote.request == request) && is_known_lifted facts quote.number
-is_lifted_on facts request fact = false
-
--- whether a quote on this request is known to be lifted
-abbrev pub has_lifted_quote : List DealerFact → ℕ → Bool
-has_lifted_quote facts request = list_any (is_lifted_on facts request) facts
-
--- a quote is live until it is withdrawn or its request's closing notice was sent
-abbrev pub is_live : List DealerFact → AcceptedQuote → Bool
-is_live facts quote = not (is_withdrawn facts quote.number) && not (is_told facts quote.request)
+-- whether a quote is live and answers this request
+abbrev pub is_live_on : ℕ → StandingQuote → Bool
+is_live_on request own = is_live own && (own.quote.request == request)
 
 -- the live quotes, the first one first
-abbrev pub live_quotes : List DealerFact → List AcceptedQuote
-live_quotes facts = filter (is_live facts) (quotes_of facts)
+abbrev pub live_quotes : DealerBook → List StandingQuote
+live_quotes book = filter is_live book.quotes
 
 -- the dealer's live quote on a request
-unfoldable pub live_quote_on : List DealerFact → ℕ → Option AcceptedQuote
-live_quote_on facts request = find (λ quote. quote.request == request) (live_quotes facts)
+unfoldable pub live_quote_on : DealerBook → ℕ → Option StandingQuote
+live_quote_on book request = find (is_live_on request) book.quotes
 
 -- the own number of the dealer's live quote on a request
-abbrev pub live_number_on : List DealerFact → ℕ → Option ℕ
-live_number_on facts request = option_map (λ quote. quote.number) (live_quote_on facts request)
+abbrev pub live_number_on : DealerBook → ℕ → Option ℕ
+live_number_on book request = option_map (λ own. own.quote.number) (live_quote_on book request)
+
+-- whether a quote answers this request and is known to be lifted
+abbrev pub is_lifted_on : ℕ → StandingQuote → Bool
+is_lifted_on request own = own.is_known_lifted && (own.quote.request == request)
+
+-- whether the dealer's quote on a request is known to be lifted
+unfoldable pub has_lifted_quote : DealerBook → ℕ → Bool
+has_lifted_quote book request = list_any (is_lifted_on request) book.quotes
+
+-- a quote is droppable while it is live and not known to be lifted
+abbrev pub is_droppable : StandingQuote → Bool
+is_droppable own = is_live own && not own.is_known_lifted
+
+-- the quote that a drop of the quotes up to this one takes: of the droppable ones the one with the
+-- lowest number
+unfoldable pub quote_to_drop : DealerBook → ℕ → Option StandingQuote
+quote_to_drop book last = find (λ own. is_droppable own && nat_le own.quote.number last) book.quotes
+
+-- its own number
+abbrev pub number_to_drop : DealerBook → ℕ → Option ℕ
+number_to_drop book last = option_map (λ own. own.quote.number) (quote_to_drop book last)
 
 -- Exposure.
 
+-- what a quote adds to the exposure: its quantity while it is live
+abbrev pub live_quantity : StandingQuote → ℕ
+live_quantity own = if is_live own then own.quote.quantity else 0
+
 -- the exposure: the sum of the quantities of the live quotes
-abbrev pub exposure_of : List DealerFact → ℕ
-exposure_of facts = sum_by (λ quote. quote.quantity) (live_quotes facts)
+unfoldable pub exposure_of : DealerBook → ℕ
+exposure_of book = sum_by live_quantity book.quotes
 
--- whether a quote stands beside one that is to be replaced, where one is
-abbrev pub stands_beside : Option ℕ → AcceptedQuote → Bool
-stands_beside (Some replaced) quote = not (quote.number == replaced)
-stands_beside None quote = true
+-- whether a quote is the one that is to be replaced, where one is
+abbrev pub is_number : Option ℕ → ℕ → Bool
+is_number None number = false
+is_number (Some replaced) number = number == replaced
 
--- the exposure beside a quote that is to be replaced: the sum of the quantities of the other live quotes
-abbrev pub exposure_beside : List DealerFact → Option ℕ → ℕ
-exposure_beside facts replaced = sum_by (λ quote. quote.quantity) (filter (stands_beside replaced) (live_quotes facts))
+-- what a quote adds to the exposure beside one that is to be replaced
+abbrev pub quantity_beside : Option ℕ → StandingQuote → ℕ
+quantity_beside replaced own = if is_number replaced own.quote.number then 0 else live_quantity own
+
+-- the exposure beside a quote that is to be replaced: the sum of the quantities of the other live
+-- quotes
+unfoldable pub exposure_beside : DealerBook → Option ℕ → ℕ
+exposure_beside book replaced = sum_by (quantity_beside replaced) book.quotes

@@ -1,31 +1,33 @@
 -- The rules of the market for a dealer: what becomes of a message that came to its desk.
-use Rattle.std.specs.Prelude.{ℕ, ◌+◌, Bool, false, ◌==◌, ◌||◌, not, nat_lt, nat_le, List, [], ◌∷◌, ◌++◌, Option, Some, None, unwrap_or, is_none, is_some, Result, Ok, Err, if◌then◌else◌}
+use Rattle.std.specs.Prelude.{ℕ, ◌+◌, Bool, false, ◌==◌, ◌||◌, not, nat_lt, nat_le}
+use Rattle.std.specs.Prelude.{List, [], ◌∷◌, Option, Some, None, unwrap_or, is_none, is_some, Result, Ok, Err, if◌then◌else◌}
 use Rattle.bond_prices.specs.Grid.{on_grid}
 use Rattle.bond_prices.specs.declared.fault.PriceFault.{PriceFault}
 use Rattle.venue_config.specs.Texts.{same_text}
+use Rattle.venue_config.specs.declared.dealer_rows.DealerRow.{DealerRow}
 use Rattle.market_terms.specs.Checks.{first_refusal, is_not_after}
-use Rattle.dealer_desk.specs.DealerFacts.{expected_number, request_named, quotes_accepted, quote_with_id, live_number_on, exposure_beside, is_declined, is_told, is_withdrawn, is_known_lifted, has_lifted_quote}
+use Rattle.market_terms.specs.declared.asks.Ask.{Ask}
 use Rattle.market_terms.specs.declared.asks.Side.{Side}
 use Rattle.market_terms.specs.declared.asks.Side.TheVariants.{Buy, Sell}
-use Rattle.market_terms.specs.declared.asks.Ask.{Ask}
-use Rattle.quote_messages.specs.declared.out_messages.Request.{Request}
-use Rattle.venue_config.specs.declared.dealer_rows.DealerRow.{DealerRow}
-use Rattle.dealer_desk.specs.declared.shown.ShownRequest.{ShownRequest}
-use Rattle.dealer_desk.specs.declared.facts.AcceptedQuote.{AcceptedQuote}
-use Rattle.dealer_desk.specs.declared.facts.DealerFact.{DealerFact}
+use Rattle.quote_messages.specs.Arrivals.{dealer_arrival}
+use Rattle.quote_messages.specs.declared.arrivals.Arrival.{Arrival}
+use Rattle.quote_messages.specs.declared.arrivals.Arrival.TheVariants.{Dropped, OutOfSequence, Rejected, Taken}
 use Rattle.quote_messages.specs.declared.quotes.Quote.{Quote}
 use Rattle.quote_messages.specs.declared.quotes.CancelScope.{CancelScope}
 use Rattle.quote_messages.specs.declared.quotes.CancelScope.TheVariants as cancels
-use Rattle.quote_messages.specs.Arrivals.{dealer_arrival}
-use Rattle.quote_messages.specs.declared.arrivals.Arrival.{Arrival}
-use Rattle.quote_messages.specs.declared.arrivals.Arrival.TheVariants as arrival
 use Rattle.quote_messages.specs.declared.quotes.Decline.{Decline}
 use Rattle.quote_messages.specs.declared.quotes.DealerMessage.{DealerMessage}
-use Rattle.quote_messages.specs.declared.quotes.DealerMessage.TheVariants.{Quote as AQuote, Cancel as ACancel, Decline as ADecline}
+use Rattle.quote_messages.specs.declared.quotes.DealerMessage.TheVariants as message
+use Rattle.quote_messages.specs.declared.out_messages.OutMessage.TheVariants as out
+use Rattle.quote_messages.specs.declared.out_messages.CancelStatus.TheVariants as status
 use Rattle.quote_messages.specs.declared.reject_reasons.QuoteRejectReason.{QuoteRejectReason}
 use Rattle.quote_messages.specs.declared.reject_reasons.QuoteRejectReason.TheVariants.{UnknownSymbol, ExceedsLimit, TooLate, DuplicateQuote, InvalidPrice, Other}
+use Rattle.dealer_desk.specs.DealerFacts.{DealerBook, expected_number, request_named, quotes_accepted, quote_with_id, live_number_on, exposure_beside, is_withdrawal, is_closing, has_lifted_quote, quote_to_drop}
+use Rattle.dealer_desk.specs.declared.accepted.AcceptedQuote.{AcceptedQuote}
+use Rattle.dealer_desk.specs.declared.standing.StandingRequest.{StandingRequest}
+use Rattle.dealer_desk.specs.declared.standing.StandingQuote.{StandingQuote}
 use Rattle.dealer_desk.specs.declared.verdicts.DealerVerdict.{DealerVerdict}
-use Rattle.dealer_desk.specs.declared.verdicts.DealerVerdict.TheVariants.{Dropped, OutOfSequence, Rejected, QuoteRefused, QuoteAccepted, QuoteReplaces, CancelRefused, CancelUnknown, CancelAsks, DeclineRefused, DeclineAccepted}
+use Rattle.dealer_desk.specs.declared.verdicts.DealerVerdict.TheVariants as verdict
 
 -- Prices: a buyer asks for an offer, a seller for a bid.
 
@@ -39,172 +41,192 @@ abbrev pub other_price : Side → Quote → Option (Result ℕ PriceFault)
 other_price Buy quote = quote.bid
 other_price Sell quote = quote.offer
 
--- a price that is in range and in whole 256ths, with none on the other side
+-- a price that is read as 256ths, with none on the other side
 abbrev pub lone_price : Option (Result ℕ PriceFault) → Option (Result ℕ PriceFault) → Option ℕ
 lone_price (Some (Ok price)) None = Some price
 lone_price (Some (Ok price)) (Some other) = None
 lone_price (Some (Err fault)) other = None
 lone_price None other = None
 
--- a price that is on the grid of the bond
+-- a price, where it is on the grid of the bond
 abbrev pub if_on_grid : ℕ → Option ℕ → Option ℕ
 if_on_grid grid None = None
 if_on_grid grid (Some price) = if on_grid price grid then Some price else None
 
 -- the price at which a quote answers an ask, if it is a lawful answer
 unfoldable pub price_for : Ask → Quote → Option ℕ
-price_for ask quote = if_on_grid ask.grid (lone_price (asked_price ask.side quote) (other_price ask.side quote))
+price_for ask quote =
+    if_on_grid ask.grid (lone_price (asked_price ask.side quote) (other_price ask.side quote))
 
 -- The conditions of the checks.
-
--- whether a moment is at or past a deadline
-abbrev pub is_past : ℕ → ℕ → Bool
-is_past deadline moment = nat_le deadline moment
 
 -- whether a value stands and is not the one that is wanted
 abbrev pub differs_from : ℕ → Option ℕ → Bool
 differs_from wanted None = false
 differs_from wanted (Some found) = not (found == wanted)
 
--- The checks of the market, in their order: a condition, and the reason that it gives.
+-- whether BidSize (134) or OfferSize (135) stands and is not the quantity that is asked for
+abbrev pub sizes_differ : ℕ → Quote → Bool
+sizes_differ quantity quote =
+    differs_from quantity quote.bid_size || differs_from quantity quote.offer_size
 
--- a quote on a request: whether the request takes quotes of this dealer at all
-abbrev pub standing_checks : List DealerFact → ℕ → List (Bool × QuoteRejectReason)
-standing_checks facts request =
-    (is_declined facts request, Other)
-    ∷ (is_told facts request || has_lifted_quote facts request, TooLate)
-    ∷ []
+-- whether a request was found of which this holds
+abbrev pub of_request : Option StandingRequest → (StandingRequest → Bool) → Bool
+of_request None holds = false
+of_request (Some request) holds = holds request
 
--- what the quote says, beside what is asked for
-abbrev pub terms_checks : ℕ → Quote → Ask → List (Bool × QuoteRejectReason)
-terms_checks moment quote ask =
-    (is_past ask.deadline moment, TooLate)
-    ∷ (not (same_text quote.bond ask.bond), UnknownSymbol)
-    ∷ (is_none (price_for ask quote), InvalidPrice)
-    ∷ (differs_from ask.quantity quote.bid_size, Other)
-    ∷ (differs_from ask.quantity quote.offer_size, Other)
-    ∷ (differs_from 1 quote.quote_type, Other)
-    ∷ []
-
--- what the dealer's day leaves room for
-abbrev pub day_checks : DealerRow → List DealerFact → ℕ → Quote → Request → List (Bool × QuoteRejectReason)
-day_checks row facts moment quote request =
-    (is_some (quote_with_id facts quote.id), DuplicateQuote)
-    ∷ (is_not_after moment quote.valid_until, Other)
-    ∷ (nat_le row.quotes (quotes_accepted facts), ExceedsLimit)
-    ∷ (nat_lt row.exposure (request.ask.quantity + exposure_beside facts (live_number_on facts request.number)), ExceedsLimit)
-    ∷ []
-
--- all checks of a quote on a request that was shown, but for the word of a quote that it replaces
-abbrev pub quote_checks : DealerRow → List DealerFact → ℕ → Quote → Request → List (Bool × QuoteRejectReason)
-quote_checks row facts moment quote request =
-    standing_checks facts request.number
-    ++ terms_checks moment quote request.ask
-    ++ day_checks row facts moment quote request
-
--- a cancel of a quote that was accepted
-abbrev pub cancel_checks : List DealerFact → AcceptedQuote → List (Bool × QuoteRejectReason)
-cancel_checks facts quote =
-    (is_withdrawn facts quote.number, Other)
-    ∷ (is_told facts quote.request || is_known_lifted facts quote.number, TooLate)
-    ∷ []
-
--- a decline of a request that was shown
-abbrev pub decline_checks : List DealerFact → ℕ → List (Bool × QuoteRejectReason)
-decline_checks facts request =
-    (is_declined facts request, Other)
-    ∷ (is_told facts request, TooLate)
-    ∷ (is_some (live_number_on facts request), Other)
-    ∷ []
+-- the quantity of a quote that answers this ask, with those of the dealer's other live quotes
+abbrev pub exposure_with : DealerBook → StandingRequest → ℕ
+exposure_with book request =
+    request.ask.quantity + exposure_beside book (live_number_on book request.number)
 
 -- Quotes.
 
--- why a quote on a request that was shown is refused, if it is
-unfoldable pub quote_refusal : DealerRow → List DealerFact → ℕ → Quote → Request → Option QuoteRejectReason
-quote_refusal row facts moment quote request = first_refusal (quote_checks row facts moment quote request)
+-- The checks of a quote in their order, line by line of the rule book's table: a condition, and the
+-- reason that it gives. The last line of that table is the word of the quote that this one would
+-- replace: the verdict names that quote, and its word is asked where none of these lines refuses.
+abbrev pub quote_checks : DealerRow → DealerBook → ℕ → Quote → Option StandingRequest
+    → List (Bool × QuoteRejectReason)
+quote_checks row book moment quote request =
+    (is_none request, Other)
+    ∷ (of_request request (λ shown. shown.is_declined), Other)
+    ∷ (of_request request (λ shown. shown.is_told || has_lifted_quote book shown.number), TooLate)
+    ∷ (of_request request (λ shown. nat_le shown.ask.deadline moment), TooLate)
+    ∷ (of_request request (λ shown. not (same_text quote.bond shown.ask.bond)), UnknownSymbol)
+    ∷ (of_request request (λ shown. is_none (price_for shown.ask quote)), InvalidPrice)
+    ∷ (of_request request (λ shown. sizes_differ shown.ask.quantity quote), Other)
+    ∷ (differs_from 1 quote.quote_type, Other)
+    ∷ (is_some (quote_with_id book quote.id), DuplicateQuote)
+    ∷ (is_not_after moment quote.valid_until, Other)
+    ∷ (nat_le row.quotes (quotes_accepted book), ExceedsLimit)
+    ∷ (of_request request (λ shown. nat_lt row.exposure (exposure_with book shown)), ExceedsLimit)
+    ∷ []
+
+-- why a quote is refused before any word is asked, if it is
+unfoldable pub quote_refusal : DealerRow → DealerBook → ℕ → Quote → Option StandingRequest
+    → Option QuoteRejectReason
+quote_refusal row book moment quote request =
+    first_refusal (quote_checks row book moment quote request)
 
 -- what is kept of an accepted quote
-abbrev pub quote_kept : List DealerFact → ℕ → Quote → Request → AcceptedQuote
-quote_kept facts moment quote request = record {
-  number = quotes_accepted facts + 1;
+abbrev pub quote_kept : DealerBook → ℕ → Quote → StandingRequest → AcceptedQuote
+quote_kept book moment quote request = record {
+  number = quotes_accepted book + 1;
   id = quote.id;
   request = request.number;
+  trader = quote.trader;
+  bond = request.ask.bond;
+  side = request.ask.side;
   quantity = request.ask.quantity;
   price = unwrap_or (price_for request.ask quote) 0;
   valid_until = quote.valid_until;
   moment = moment;
 }
 
--- a quote that no check refuses is accepted, and replaces the dealer's live quote on the request where there is one
-abbrev pub replacing : Quote → AcceptedQuote → Option ℕ → DealerVerdict
-replacing quote kept None = QuoteAccepted quote.request quote.id kept
-replacing quote kept (Some replaced) = QuoteReplaces quote.request quote.id kept replaced
+-- the refusal of a quote
+abbrev pub quote_refused : Quote → QuoteRejectReason → DealerVerdict
+quote_refused quote reason = verdict.Refused (out.QuoteAnswer quote.request quote.id (Some reason))
 
--- a refusal, or else the quote is accepted
-abbrev pub quote_answer : List DealerFact → ℕ → Quote → Request → Option QuoteRejectReason → DealerVerdict
-quote_answer facts moment quote request (Some reason) = QuoteRefused quote.request quote.id reason
-quote_answer facts moment quote request None = replacing quote (quote_kept facts moment quote request) (live_number_on facts request.number)
+-- a quote on a request that no check refuses is accepted; it replaces the dealer's live quote
+-- there, where there is one
+abbrev pub quote_answer : DealerBook → ℕ → Quote → Option StandingRequest
+    → Option QuoteRejectReason → DealerVerdict
+quote_answer book moment quote request (Some reason) = quote_refused quote reason
+quote_answer book moment quote None None = quote_refused quote Other
+quote_answer book moment quote (Some request) None =
+    verdict.QuoteAccepted quote.request quote.id (quote_kept book moment quote request)
+    (live_number_on book request.number)
 
--- a quote on no request that was shown is refused before all else
-abbrev pub quote_on : DealerRow → List DealerFact → ℕ → Quote → Option ShownRequest → DealerVerdict
-quote_on row facts moment quote None = QuoteRefused quote.request quote.id Other
-quote_on row facts moment quote (Some shown) = quote_answer facts moment quote shown.request (quote_refusal row facts moment quote shown.request)
+-- the verdict on a quote on this request
+abbrev pub quote_on : DealerRow → DealerBook → ℕ → Quote → Option StandingRequest → DealerVerdict
+quote_on row book moment quote request =
+    quote_answer book moment quote request (quote_refusal row book moment quote request)
 
 -- the verdict on a quote: QuoteReqID (131) names its request
-unfoldable pub quote_verdict : DealerRow → List DealerFact → ℕ → Quote → DealerVerdict
-quote_verdict row facts moment quote = quote_on row facts moment quote (request_named facts quote.request)
+unfoldable pub quote_verdict : DealerRow → DealerBook → ℕ → Quote → DealerVerdict
+quote_verdict row book moment quote =
+    quote_on row book moment quote (request_named book quote.request)
 
 -- Cancels.
 
+-- the checks of a cancel of one quote that was accepted, line by line; the last line of the rule
+-- book's table is the word of the quote
+abbrev pub cancel_checks : StandingQuote → List (Bool × QuoteRejectReason)
+cancel_checks own =
+    (is_withdrawal own.end, Other)
+    ∷ (is_closing own.end || own.is_known_lifted, TooLate)
+    ∷ []
+
 -- a refusal, or else the word of the quote is asked
-abbrev pub cancel_answer : List ℕ → AcceptedQuote → Option QuoteRejectReason → DealerVerdict
-cancel_answer id quote (Some reason) = CancelRefused (Some id) reason
-cancel_answer id quote None = CancelAsks id quote.number quote.request
+abbrev pub cancel_answer : List ℕ → StandingQuote → Option QuoteRejectReason → DealerVerdict
+cancel_answer id own (Some reason) =
+    verdict.Refused (out.CancelAnswer (Some id) (status.Refused reason))
+cancel_answer id own None = verdict.CancelAccepted id own.quote.number own.quote.request
 
 -- a cancel of a QuoteID that no accepted quote has is told so
-abbrev pub cancel_of : List DealerFact → List ℕ → Option AcceptedQuote → DealerVerdict
-cancel_of facts id None = CancelUnknown id
-cancel_of facts id (Some quote) = cancel_answer id quote (first_refusal (cancel_checks facts quote))
+abbrev pub cancel_of : List ℕ → Option StandingQuote → DealerVerdict
+cancel_of id None = verdict.Refused (out.CancelAnswer (Some id) status.Unknown)
+cancel_of id (Some own) = cancel_answer id own (first_refusal (cancel_checks own))
 
--- the verdict on a cancel: QuoteCancelType (298) 5 cancels the quote that QuoteID (117) names; every other type is
--- refused
-unfoldable pub cancel_verdict : List DealerFact → CancelScope → DealerVerdict
-cancel_verdict facts (cancels.One id) = cancel_of facts id (quote_with_id facts id)
-cancel_verdict facts (cancels.All id) = CancelRefused id Other
-cancel_verdict facts (cancels.Other cancel_type id) = CancelRefused id Other
+-- a cancel of all quotes: the droppable ones of those that were accepted so far are dropped one by
+-- one, and where none is droppable that is told at once
+abbrev pub cancel_all : DealerBook → Option (List ℕ) → DealerVerdict
+cancel_all book id =
+    if is_none (quote_to_drop book (quotes_accepted book))
+    then verdict.Refused (out.CancelAnswer id status.Unknown)
+    else verdict.DropsFollow (quotes_accepted book)
+
+-- the verdict on a cancel: QuoteCancelType (298) 5 cancels the quote that QuoteID (117) names, 4
+-- cancels all quotes, and every other type is refused
+unfoldable pub cancel_verdict : DealerBook → CancelScope → DealerVerdict
+cancel_verdict book (cancels.One id) = cancel_of id (quote_with_id book id)
+cancel_verdict book (cancels.All id) = cancel_all book id
+cancel_verdict book (cancels.Other cancel_type id) =
+    verdict.Refused (out.CancelAnswer id (status.Refused Other))
 
 -- Declines.
 
--- a refusal, or else the decline is accepted
-abbrev pub decline_answer : List ℕ → ℕ → Option QuoteRejectReason → DealerVerdict
-decline_answer name number (Some reason) = DeclineRefused name reason
-decline_answer name number None = DeclineAccepted name number
+-- the checks of a decline, line by line
+abbrev pub decline_checks : DealerBook → Option StandingRequest → List (Bool × QuoteRejectReason)
+decline_checks book request =
+    (is_none request, Other)
+    ∷ (of_request request (λ shown. shown.is_declined), Other)
+    ∷ (of_request request (λ shown. shown.is_told), TooLate)
+    ∷ (of_request request (λ shown. is_some (live_number_on book shown.number)), Other)
+    ∷ []
 
--- a decline of no request that was shown is refused before all else
-abbrev pub decline_of : List DealerFact → List ℕ → Option ShownRequest → DealerVerdict
-decline_of facts name None = DeclineRefused name Other
-decline_of facts name (Some shown) = decline_answer name shown.request.number (first_refusal (decline_checks facts shown.request.number))
+-- a refusal, or else the decline is accepted
+abbrev pub decline_answer : List ℕ → Option StandingRequest → Option QuoteRejectReason
+    → DealerVerdict
+decline_answer name request (Some reason) = verdict.Refused (out.DeclineAnswer name (Some reason))
+decline_answer name None None = verdict.Refused (out.DeclineAnswer name (Some Other))
+decline_answer name (Some request) None = verdict.DeclineAccepted name request.number
+
+-- the verdict on a decline of this request
+abbrev pub decline_on : DealerBook → List ℕ → Option StandingRequest → DealerVerdict
+decline_on book name request =
+    decline_answer name request (first_refusal (decline_checks book request))
 
 -- the verdict on a decline: QuoteReqID (131) names its request
-unfoldable pub decline_verdict : List DealerFact → Decline → DealerVerdict
-decline_verdict facts decline = decline_of facts decline.request (request_named facts decline.request)
+unfoldable pub decline_verdict : DealerBook → List ℕ → DealerVerdict
+decline_verdict book name = decline_on book name (request_named book name)
 
 -- All messages.
 
 -- the market's verdict on a message
-abbrev pub message_verdict : DealerRow → List DealerFact → ℕ → DealerMessage → DealerVerdict
-message_verdict row facts moment (AQuote quote) = quote_verdict row facts moment quote
-message_verdict row facts moment (ACancel cancel) = cancel_verdict facts cancel.scope
-message_verdict row facts moment (ADecline decline) = decline_verdict facts decline
+abbrev pub message_verdict : DealerRow → DealerBook → ℕ → DealerMessage → DealerVerdict
+message_verdict row book moment (message.Quote quote) = quote_verdict row book moment quote
+message_verdict row book moment (message.Cancel cancel) = cancel_verdict book cancel.scope
+message_verdict row book moment (message.Decline decline) = decline_verdict book decline.request
 
 -- the verdict on what came: the session has the first word, and then the market
-abbrev pub arrival_verdict : DealerRow → List DealerFact → ℕ → Arrival DealerMessage → DealerVerdict
-arrival_verdict row facts moment arrival.Dropped = Dropped
-arrival_verdict row facts moment (arrival.OutOfSequence reject) = OutOfSequence reject
-arrival_verdict row facts moment (arrival.Rejected reject) = Rejected reject
-arrival_verdict row facts moment (arrival.Taken message) = message_verdict row facts moment message
+abbrev pub arrival_verdict : DealerRow → DealerBook → ℕ → Arrival DealerMessage → DealerVerdict
+arrival_verdict row book moment Dropped = verdict.Dropped
+arrival_verdict row book moment (OutOfSequence reject) = verdict.OutOfSequence reject
+arrival_verdict row book moment (Rejected reject) = verdict.Rejected reject
+arrival_verdict row book moment (Taken message) = message_verdict row book moment message
 
--- what becomes of bytes that came to a dealer's desk at a moment, given the facts that stood
-unfoldable pub dealer_verdict : List ℕ → DealerRow → List DealerFact → ℕ → List ℕ → DealerVerdict
-dealer_verdict date row facts moment bytes =
-    arrival_verdict row facts moment (dealer_arrival date row (expected_number facts) bytes)
+-- what becomes of bytes that came to a dealer's desk at a moment, given the book as it stood
+unfoldable pub dealer_verdict : List ℕ → DealerRow → DealerBook → ℕ → List ℕ → DealerVerdict
+dealer_verdict date row book moment bytes =
+    arrival_verdict row book moment (dealer_arrival date row (expected_number book) bytes)

@@ -1,104 +1,128 @@
-//! The rules of the market for what a dealer takes back: cancels of quotes, and declines of requests.
-ghost use Rattle.std.specs.Prelude.{◌≡◌};
+//! The rules of the market for what a dealer takes back: cancels of quotes, and declines of
+//! requests.
+ghost use Rattle.std.specs.Prelude.{◌≡◌, [], ◌∷◌, Some};
 ghost use Rattle.market_terms.specs.Checks.{first_refusal};
-ghost use Rattle.dealer_desk.specs.DealerFacts.{quote_with_id};
-ghost use Rattle.dealer_desk.specs.DealerRules.{cancel_verdict, cancel_of, cancel_checks, decline_verdict, decline_checks};
+ghost use Rattle.dealer_desk.specs.DealerFacts.{live_number_on};
+ghost use Rattle.dealer_desk.specs.DealerRules as spec;
 
-use crate::counts::{is_declined, is_told, request_named};
-use crate::quotes::{is_known_lifted, is_withdrawn, live_number_on, quote_with_id};
-use crate::{AcceptedQuote, DealerFact, DealerVerdict};
-use quote_messages::{CancelScope, Decline, Id, QuoteRejectReason};
+use crate::index::DealerIndex;
+use crate::table::RequestRow;
+use crate::{DealerVerdict, QuoteEnd, StandingQuote};
+use market_terms::Id;
+use quote_messages::{CancelScope, CancelStatus, OutMessage, QuoteRejectReason};
 
 /// The verdict on a QuoteCancel of these quotes.
 #[tactic(auto, unfolding(crate::specs::DealerRules::cancel_verdict))]
-pub(crate) fn cancel_verdict<'a>(facts: &[DealerFact], scope: CancelScope<'a>) -> DealerVerdict<'a>
-    ensures { result ≡ cancel_verdict facts.now scope.entry }
+pub(crate) fn cancel_verdict<'a>(index: &DealerIndex, scope: CancelScope<'a>) -> DealerVerdict<'a>
+    ensures { result ≡ spec.cancel_verdict index.now.book scope.entry }
 {
     match scope {
-        CancelScope::One(id) => cancel_one(facts, id),
-        CancelScope::All(id) => refused(id),
-        CancelScope::Other { id, .. } => refused(id),
-    }
-}
-
-/// A cancel of any other type than that of one quote.
-fn refused(id: Option<Id<'_>>) -> DealerVerdict<'_>
-    ensures { result ≡ DealerVerdict.CancelRefused id.entry QuoteRejectReason.Other }
-{
-    DealerVerdict::CancelRefused {
-        id,
-        reason: QuoteRejectReason::Other,
+        CancelScope::One(id) => cancel_one(index, id),
+        CancelScope::All(id) => cancel_all(index, id),
+        CancelScope::Other { id, .. } => {
+            refused(id, CancelStatus::Refused(QuoteRejectReason::Other))
+        }
     }
 }
 
 /// The verdict on a cancel of the quote with this QuoteID (117).
-fn cancel_one<'a>(facts: &[DealerFact], id: Id<'a>) -> DealerVerdict<'a>
-    ensures { result ≡ cancel_of facts.now id.entry (quote_with_id facts.now id.entry) }
+fn cancel_one<'a>(index: &DealerIndex, id: Id<'a>) -> DealerVerdict<'a>
+    ensures { result ≡ spec.cancel_verdict index.now.book (CancelScope.One id.entry) }
 {
-    let Some(quote) = quote_with_id(facts, id.as_bytes()) else {
-        return DealerVerdict::CancelUnknown { id };
+    let Some(own) = index.quote_with_id(&id) else {
+        return refused(Some(id), CancelStatus::Unknown);
     };
-    if let Some(reason) = cancel_refusal(facts, quote) {
-        let id = Some(id);
-        return DealerVerdict::CancelRefused { id, reason };
+    if let Some(reason) = cancel_refusal(own) {
+        return refused(Some(id), CancelStatus::Refused(reason));
     }
-    DealerVerdict::CancelAsks {
+    DealerVerdict::CancelAccepted {
         id,
-        quote: quote.number,
-        request: quote.request,
+        quote: own.quote.number,
+        request: own.quote.request,
     }
+}
+
+/// The verdict on a cancel of all quotes.
+fn cancel_all<'a>(index: &DealerIndex, id: Option<Id<'a>>) -> DealerVerdict<'a>
+    ensures { result ≡ spec.cancel_all index.now.book id.entry }
+{
+    let last = index.quotes_accepted();
+    if index.quote_to_drop(last).is_none() {
+        return refused(id, CancelStatus::Unknown);
+    }
+    DealerVerdict::DropsFollow { last }
 }
 
 /// Why an accepted quote can't be cancelled any more, as far as the desk knows.
-fn cancel_refusal(facts: &[DealerFact], quote: &AcceptedQuote) -> Option<QuoteRejectReason>
-    ensures { result ≡ first_refusal (cancel_checks facts.now quote.now) }
+fn cancel_refusal(own: &StandingQuote) -> Option<QuoteRejectReason>
+    ensures { result ≡ first_refusal (spec.cancel_checks own.now) }
 {
-    if is_withdrawn(facts, quote.number) {
-        return Some(QuoteRejectReason::Other);
+    match own.end {
+        Some(QuoteEnd::Withdrawn(_)) => Some(QuoteRejectReason::Other),
+        Some(QuoteEnd::Closed(_)) => Some(QuoteRejectReason::TooLate),
+        None => late_where(own.is_known_lifted),
     }
-    if is_told(facts, quote.request) || is_known_lifted(facts, quote.number) {
+}
+
+/// The refusal of a cancel that comes too late, where it does.
+fn late_where(so: bool) -> Option<QuoteRejectReason>
+    ensures { result ≡ first_refusal ((so, QuoteRejectReason.TooLate) ∷ []) }
+{
+    if so {
         return Some(QuoteRejectReason::TooLate);
     }
     None
 }
 
-/// The verdict on a decline.
-#[tactic(auto, unfolding(crate::specs::DealerRules::decline_verdict))]
-pub(crate) fn decline_verdict<'a>(facts: &[DealerFact], decline: Decline<'a>) -> DealerVerdict<'a>
-    ensures { result ≡ decline_verdict facts.now decline.entry }
+/// A cancel that withdraws nothing.
+fn refused(id: Option<Id<'_>>, status: CancelStatus) -> DealerVerdict<'_>
+    ensures { result ≡ DealerVerdict.Refused (OutMessage.CancelAnswer id.entry status) }
 {
-    let name = decline.request;
-    let Some(shown) = request_named(facts, name.as_bytes()) else {
-        return DealerVerdict::DeclineRefused {
-            request: name,
-            reason: QuoteRejectReason::Other,
-        };
+    DealerVerdict::Refused(OutMessage::CancelAnswer { id, status })
+}
+
+/// The verdict on a decline of the request with this QuoteReqID (131).
+#[tactic(auto, unfolding(crate::specs::DealerRules::decline_verdict))]
+pub(crate) fn decline_verdict<'a>(index: &DealerIndex, request: Id<'a>) -> DealerVerdict<'a>
+    ensures { result ≡ spec.decline_verdict index.now.book request.entry }
+{
+    let Some(shown) = index.request_named(request.as_bytes()) else {
+        return decline_refused(request, QuoteRejectReason::Other);
     };
-    let number = shown.request.number;
-    if let Some(reason) = decline_refusal(facts, number) {
-        return DealerVerdict::DeclineRefused {
-            request: name,
-            reason,
-        };
+    if let Some(reason) = decline_refusal(index, shown) {
+        return decline_refused(request, reason);
     }
     DealerVerdict::DeclineAccepted {
-        request: name,
-        number,
+        request,
+        number: shown.request.number,
     }
 }
 
-/// Why a request can't be declined, if it can't.
-fn decline_refusal(facts: &[DealerFact], request: u64) -> Option<QuoteRejectReason>
-    ensures { result ≡ first_refusal (decline_checks facts.now request) }
+/// Why a request that was shown can't be declined, if it can't.
+fn decline_refusal(_index: &DealerIndex, shown: &RequestRow) -> Option<QuoteRejectReason>
+    requires { shown.now.live ≡ live_number_on _index.now.book shown.now.request.number }
+    ensures { result
+        ≡ first_refusal (spec.decline_checks _index.now.book (Some shown.now.request)) }
 {
-    if is_declined(facts, request) {
+    if shown.request.is_declined {
         return Some(QuoteRejectReason::Other);
     }
-    if is_told(facts, request) {
+    if shown.request.is_told {
         return Some(QuoteRejectReason::TooLate);
     }
-    if live_number_on(facts, request).is_some() {
+    if shown.live.is_some() {
         return Some(QuoteRejectReason::Other);
     }
     None
+}
+
+/// The refusal of a decline.
+fn decline_refused(request: Id<'_>, reason: QuoteRejectReason) -> DealerVerdict<'_>
+    ensures { result
+        ≡ DealerVerdict.Refused (OutMessage.DeclineAnswer request.entry (Some reason)) }
+{
+    DealerVerdict::Refused(OutMessage::DeclineAnswer {
+        request,
+        refusal: Some(reason),
+    })
 }

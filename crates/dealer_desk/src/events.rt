@@ -1,7 +1,8 @@
 //! The events at a dealer's desk.
 
 use fix_fields::Moment;
-use quote_messages::{Ask, Close, Message, RoomRef};
+use market_terms::{Ask, Close, RoomRef};
+use quote_messages::Message;
 use quote_word::Settled;
 
 /// What comes to a desk, in the order in which it came.
@@ -18,7 +19,7 @@ pub enum DealerEvent {
     },
     /// A request is shown to the dealer.
     Shown {
-        /// The room of the request.
+        /// The room of the request. Nothing that is sent looks at it.
         room: RoomRef,
         /// What is asked for.
         ask: Ask,
@@ -33,5 +34,15 @@ pub enum DealerEvent {
         close: Close,
         /// The moment of the notice.
         moment: Moment,
+    },
+    /// The next of the quotes that a cancel of all quotes means is dropped.
+    Drop {
+        /// How many quotes of the dealer were accepted when the cancel came: no later one is
+        /// dropped.
+        last: u32,
+        /// The moment of the cancel.
+        moment: Moment,
+        /// What the word that it asked is from then on, where it asked one.
+        answer: Option<Settled>,
     },
 }

@@ -1,42 +1,40 @@
-//! The rules of the market for a dealer, over the facts of its desk. Each function goes over the facts anew.
-ghost use Rattle.std.specs.Prelude.{◌≡◌, ◌+◌, ◌<◌, ◌≤◌, Some, None, MatchResult};
+//! The rules of the market for a dealer, over the index of its desk.
+ghost use Rattle.std.specs.Prelude.{◌≡◌, ◌+◌, Some, None, MatchResult};
 ghost use Rattle.market_terms.specs.Checks.{first_refusal, is_not_after};
-ghost use Rattle.dealer_desk.specs.DealerRules.{dealer_verdict, quote_verdict, quote_refusal, standing_checks, terms_checks, day_checks, price_for, differs_from, quote_kept, lone_price, if_on_grid, replacing};
-ghost use Rattle.dealer_desk.specs.DealerFacts.{exposure_of, live_number_on, quotes_accepted};
+ghost use Rattle.dealer_desk.specs.DealerRules as spec;
+ghost use Rattle.dealer_desk.specs.DealerFacts.{live_number_on, has_lifted_quote, quotes_accepted};
+ghost use Rattle.dealer_desk.specs.RuleCuts.{standing_checks, terms_checks, day_checks};
 
 use crate::cancels::{cancel_verdict, decline_verdict};
-use crate::counts::{expected_number, is_declined, is_told, request_named};
-use crate::quotes::{
-    exposure_beside, has_lifted_quote, live_number_on, quote_with_id, quotes_accepted,
-};
-use crate::{AcceptedQuote, DealerFact, DealerVerdict};
+use crate::index::DealerIndex;
+use crate::table::RequestRow;
+use crate::{AcceptedQuote, DealerVerdict};
 use bond_prices::{Grid, PriceFault, Ticks, on_grid};
 use fix_fields::{Date, Moment};
+use market_terms::{Ask, IdBuf, Quantity, Side};
 use quote_messages::{
-    Arrival, Ask, DealerMessage, IdBuf, Quantity, Quote, QuoteRejectReason, Request, Side,
-    receive_dealer,
+    Arrival, DealerMessage, OutMessage, Quote, QuoteRejectReason, receive_dealer,
 };
 use venue_config::DealerRow;
 
-/// The verdict on bytes that came at a moment, by the facts that stand.
+/// The verdict on bytes that came at a moment, by the index as it stands.
 #[tactic(auto, unfolding(crate::specs::DealerRules::dealer_verdict))]
 pub(crate) fn dealer_verdict<'a>(
     date: &Date,
     row: &DealerRow,
-    facts: &[DealerFact],
+    index: &DealerIndex,
     moment: Moment,
     bytes: &'a [u8],
 ) -> DealerVerdict<'a>
-    requires { exposure_of facts.now ≤ 1000000000000000 }
-    ensures { result ≡ dealer_verdict date.now row.now facts.now moment bytes.now }
+    ensures { result ≡ spec.dealer_verdict date.now row.now index.now.book moment bytes.now }
 {
-    match receive_dealer(date, row, expected_number(facts), bytes) {
+    match receive_dealer(date, row, index.expected_number(), bytes) {
         Arrival::Dropped => DealerVerdict::Dropped,
         Arrival::OutOfSequence(reject) => DealerVerdict::OutOfSequence(reject),
         Arrival::Rejected(reject) => DealerVerdict::Rejected(reject),
-        Arrival::Taken(DealerMessage::Quote(quote)) => quote_verdict(row, facts, moment, quote),
-        Arrival::Taken(DealerMessage::Cancel(cancel)) => cancel_verdict(facts, cancel.scope),
-        Arrival::Taken(DealerMessage::Decline(decline)) => decline_verdict(facts, decline),
+        Arrival::Taken(DealerMessage::Quote(quote)) => quote_verdict(row, index, moment, quote),
+        Arrival::Taken(DealerMessage::Cancel(cancel)) => cancel_verdict(index, cancel.scope),
+        Arrival::Taken(DealerMessage::Decline(decline)) => decline_verdict(index, decline.request),
     }
 }
 
@@ -44,70 +42,79 @@ pub(crate) fn dealer_verdict<'a>(
 #[tactic(auto, unfolding(crate::specs::DealerRules::quote_verdict))]
 fn quote_verdict<'a>(
     row: &DealerRow,
-    facts: &[DealerFact],
+    index: &DealerIndex,
     moment: Moment,
     quote: Quote<'a>,
 ) -> DealerVerdict<'a>
-    requires { exposure_of facts.now ≤ 1000000000000000 }
-    ensures { result ≡ quote_verdict row.now facts.now moment quote.entry }
+    ensures { result ≡ spec.quote_verdict row.now index.now.book moment quote.entry }
 {
-    let Some(shown) = request_named(facts, quote.request.as_bytes()) else {
+    let Some(shown) = index.request_named(quote.request.as_bytes()) else {
         return refused(quote, QuoteRejectReason::Other);
     };
-    let live = live_number_on(facts, shown.request.number);
-    match check_quote(row, facts, moment, &quote, &shown.request, live) {
+    match check_quote(row, index, moment, &quote, shown) {
         Err(reason) => refused(quote, reason),
-        Ok(kept) => replacing(quote, kept, live),
+        Ok(kept) => DealerVerdict::QuoteAccepted {
+            request: quote.request,
+            id: quote.id,
+            quote: kept,
+            replaced: shown.live,
+        },
     }
 }
 
-/// What the desk keeps of a quote that no check refuses, or the reason of the first check that does. `live` is the
-/// own number of the dealer's live quote on the request.
+/// What the desk keeps of a quote that no check refuses, or the reason of the first check that
+/// does.
 #[tactic(auto, unfolding(crate::specs::DealerRules::quote_refusal))]
 fn check_quote(
     row: &DealerRow,
-    facts: &[DealerFact],
+    index: &DealerIndex,
     moment: Moment,
     quote: &Quote,
-    request: &Request,
-    live: Option<u32>,
+    shown: &RequestRow,
 ) -> Result<AcceptedQuote, QuoteRejectReason>
-    requires most { exposure_of facts.now ≤ 1000000000000000 }
-    requires live { live ≡ live_number_on facts.now request.now.number }
+    requires live { shown.now.live ≡ live_number_on index.now.book shown.now.request.number }
+    requires lifted { shown.now.has_lifted
+        ≡ has_lifted_quote index.now.book shown.now.request.number }
     ensures { MatchResult result
-        (λ kept. (quote_refusal row.now facts.now moment quote.now request.now ≡ None) × (kept ≡ quote_kept facts.now moment quote.now request.now))
-        (λ reason. quote_refusal row.now facts.now moment quote.now request.now ≡ Some reason) }
+        (λ kept. (spec.quote_refusal row.now index.now.book moment quote.now
+        (Some shown.now.request) ≡ None)
+        × (kept ≡ spec.quote_kept index.now.book moment quote.now shown.now.request))
+        (λ reason. spec.quote_refusal row.now index.now.book moment quote.now
+        (Some shown.now.request) ≡ Some reason) }
 {
-    if let Some(reason) = standing_refusal(facts, request.number) {
+    if let Some(reason) = standing_refusal(index, shown) {
         return Err(reason);
     }
-    let price = match price_by_terms(moment, quote, &request.ask) {
+    let price = match price_by_terms(moment, quote, &shown.request.ask) {
         Ok(price) => price,
         Err(reason) => return Err(reason),
     };
-    match number_in_day(row, facts, moment, quote, request, live) {
-        Ok(number) => Ok(kept(number, quote, request, price, moment)),
+    match number_in_day(row, index, moment, quote, shown) {
+        Ok(number) => Ok(kept(number, quote, shown, price, moment)),
         Err(reason) => Err(reason),
     }
 }
 
 /// Why a request takes no quote of this dealer at all, if it does not.
-fn standing_refusal(facts: &[DealerFact], request: u64) -> Option<QuoteRejectReason>
-    ensures { result ≡ first_refusal (standing_checks facts.now request) }
+fn standing_refusal(_index: &DealerIndex, shown: &RequestRow) -> Option<QuoteRejectReason>
+    requires { shown.now.has_lifted ≡ has_lifted_quote _index.now.book shown.now.request.number }
+    ensures { result ≡ first_refusal (standing_checks _index.now.book shown.now.request) }
 {
-    if is_declined(facts, request) {
+    if shown.request.is_declined {
         return Some(QuoteRejectReason::Other);
     }
-    if is_told(facts, request) || has_lifted_quote(facts, request) {
+    if shown.request.is_told || shown.has_lifted {
         return Some(QuoteRejectReason::TooLate);
     }
     None
 }
 
-/// The price of a quote whose terms answer the ask, or the reason of the first of these checks that refuses it.
+/// The price of a quote whose terms answer the ask, or the reason of the first of these checks that
+/// refuses it.
 fn price_by_terms(moment: Moment, quote: &Quote, ask: &Ask) -> Result<Ticks, QuoteRejectReason>
     ensures { MatchResult result
-        (λ price. (first_refusal (terms_checks moment quote.now ask.now) ≡ None) × (price_for ask.now quote.now ≡ Some price))
+        (λ price. (first_refusal (terms_checks moment quote.now ask.now) ≡ None)
+        × (spec.price_for ask.now quote.now ≡ Some price))
         (λ reason. first_refusal (terms_checks moment quote.now ask.now) ≡ Some reason) }
 {
     if ask.deadline <= moment {
@@ -119,11 +126,7 @@ fn price_by_terms(moment: Moment, quote: &Quote, ask: &Ask) -> Result<Ticks, Quo
     let Some(price) = price_for(ask, quote) else {
         return Err(QuoteRejectReason::InvalidPrice);
     };
-    let quantity = ask.quantity.get();
-    if differs_from(quantity, units(quote.bid_size)) {
-        return Err(QuoteRejectReason::Other);
-    }
-    if differs_from(quantity, units(quote.offer_size)) {
+    if sizes_differ(ask.quantity, quote) {
         return Err(QuoteRejectReason::Other);
     }
     if differs_from(TRADEABLE, quote.quote_type) {
@@ -132,41 +135,52 @@ fn price_by_terms(moment: Moment, quote: &Quote, ask: &Ask) -> Result<Ticks, Quo
     Ok(price)
 }
 
-/// The own number of a quote that the dealer's day leaves room for, or the reason of the first of these checks that
-/// refuses it.
-#[tactic(auto, using(crate::proofs::ExposureLemmas::exposure_beside_le, crate::proofs::ExposureLemmas::exposure_beside_is_by_fact))]
+/// The own number of a quote that the dealer's day leaves room for, or the reason of the first of
+/// these checks that refuses it.
 fn number_in_day(
     row: &DealerRow,
-    facts: &[DealerFact],
+    index: &DealerIndex,
     moment: Moment,
     quote: &Quote,
-    request: &Request,
-    live: Option<u32>,
+    shown: &RequestRow,
 ) -> Result<u32, QuoteRejectReason>
-    requires most { exposure_of facts.now ≤ 1000000000000000 }
-    requires live { live ≡ live_number_on facts.now request.now.number }
+    requires { shown.now.live ≡ live_number_on index.now.book shown.now.request.number }
     ensures { MatchResult result
-        (λ number. (first_refusal (day_checks row.now facts.now moment quote.now request.now) ≡ None) × (number ≡ quotes_accepted facts.now + 1))
-        (λ reason. first_refusal (day_checks row.now facts.now moment quote.now request.now) ≡ Some reason) }
+        (λ number. (first_refusal
+        (day_checks row.now index.now.book moment quote.now shown.now.request) ≡ None)
+        × (number ≡ quotes_accepted index.now.book + 1))
+        (λ reason. first_refusal
+        (day_checks row.now index.now.book moment quote.now shown.now.request) ≡ Some reason) }
 {
-    if quote_with_id(facts, quote.id.as_bytes()).is_some() {
+    if index.quote_with_id(&quote.id).is_some() {
         return Err(QuoteRejectReason::DuplicateQuote);
     }
     if is_not_after(moment, quote.valid_until) {
         return Err(QuoteRejectReason::Other);
     }
-    let accepted = quotes_accepted(facts);
-    if row.quotes as usize <= accepted {
+    let accepted = index.quotes_accepted();
+    if row.quotes <= accepted {
         return Err(QuoteRejectReason::ExceedsLimit);
     }
-    if row.exposure < request.ask.quantity.get() + exposure_beside(facts, live) {
+    let quantity = shown.request.ask.quantity.get();
+    if row.exposure < quantity + index.exposure_beside(shown.live) {
         return Err(QuoteRejectReason::ExceedsLimit);
     }
-    Ok(accepted as u32 + 1)
+    Ok(accepted + 1)
 }
 
 /// QuoteType (537) of a quote that can be hit.
 const TRADEABLE: u64 = 1;
+
+/// Whether BidSize (134) or OfferSize (135) stands and is not the quantity that is asked for.
+fn sizes_differ(quantity: Quantity, quote: &Quote) -> bool
+    ensures { result ≡ spec.sizes_differ quantity quote.now }
+{
+    if differs_from(quantity.get(), units(quote.bid_size)) {
+        return true;
+    }
+    differs_from(quantity.get(), units(quote.offer_size))
+}
 
 /// The number of units of a quantity.
 fn units(quantity: Option<Quantity>) -> Option<u64>
@@ -180,7 +194,7 @@ fn units(quantity: Option<Quantity>) -> Option<u64>
 
 /// Whether a value stands and is not the one that is wanted.
 fn differs_from(wanted: u64, found: Option<u64>) -> bool
-    ensures { result ≡ differs_from wanted found }
+    ensures { result ≡ spec.differs_from wanted found }
 {
     match found {
         Some(found) => found != wanted,
@@ -198,11 +212,11 @@ fn is_not_after(moment: Moment, until: Option<Moment>) -> bool
     }
 }
 
-/// The price at which a quote answers an ask: in range and on the grid of the bond, on the asked side, with none on the
-/// other.
+/// The price at which a quote answers an ask: on the asked side, on the grid of the bond, with none
+/// on the other side.
 #[tactic(auto, unfolding(crate::specs::DealerRules::price_for))]
 fn price_for(ask: &Ask, quote: &Quote) -> Option<Ticks>
-    ensures { result ≡ price_for ask.now quote.now }
+    ensures { result ≡ spec.price_for ask.now quote.now }
 {
     match ask.side {
         Side::Buy => if_on_grid(ask.grid, lone_price(quote.offer, quote.bid)),
@@ -210,9 +224,9 @@ fn price_for(ask: &Ask, quote: &Quote) -> Option<Ticks>
     }
 }
 
-/// A price that is on the grid of the bond.
+/// A price, where it is on the grid.
 fn if_on_grid(grid: Grid, price: Option<Ticks>) -> Option<Ticks>
-    ensures { result ≡ if_on_grid grid price }
+    ensures { result ≡ spec.if_on_grid grid price }
 {
     let price = price?;
     if !on_grid(price, grid) {
@@ -226,7 +240,7 @@ fn lone_price(
     asked: Option<Result<Ticks, PriceFault>>,
     other: Option<Result<Ticks, PriceFault>>,
 ) -> Option<Ticks>
-    ensures { result ≡ lone_price asked other }
+    ensures { result ≡ spec.lone_price asked other }
 {
     match (asked, other) {
         (Some(Ok(price)), None) => Some(price),
@@ -236,28 +250,31 @@ fn lone_price(
 
 /// The refusal of a quote.
 fn refused(quote: Quote<'_>, reason: QuoteRejectReason) -> DealerVerdict<'_>
-    ensures { result ≡ DealerVerdict.QuoteRefused quote.entry.request quote.entry.id reason }
+    ensures { result ≡ spec.quote_refused quote.entry reason }
 {
-    DealerVerdict::QuoteRefused {
+    DealerVerdict::Refused(OutMessage::QuoteAnswer {
         request: quote.request,
         id: quote.id,
-        reason,
-    }
+        refusal: Some(reason),
+    })
 }
 
 /// What the desk keeps of a quote on a request, at a price.
 fn kept(
     number: u32,
     quote: &Quote,
-    request: &Request,
+    shown: &RequestRow,
     price: Ticks,
     moment: Moment,
 ) -> AcceptedQuote
     ensures { result ≡ record {
       number = number;
       id = quote.now.id;
-      request = request.now.number;
-      quantity = request.now.ask.quantity;
+      request = shown.now.request.number;
+      trader = quote.now.trader;
+      bond = shown.now.request.ask.bond;
+      side = shown.now.request.ask.side;
+      quantity = shown.now.request.ask.quantity;
       price = price;
       valid_until = quote.now.valid_until;
       moment = moment;
@@ -266,29 +283,13 @@ fn kept(
     AcceptedQuote {
         number,
         id: IdBuf::of(&quote.id),
-        request: request.number,
-        quantity: request.ask.quantity,
+        request: shown.request.number,
+        trader: quote.trader.copy(),
+        bond: shown.request.ask.bond,
+        side: shown.request.ask.side,
+        quantity: shown.request.ask.quantity,
         price,
         valid_until: quote.valid_until,
         moment,
-    }
-}
-
-/// The acceptance of a quote that replaces the dealer's live quote on the request, where there is one.
-fn replacing<'a>(quote: Quote<'a>, kept: AcceptedQuote, live: Option<u32>) -> DealerVerdict<'a>
-    ensures { result ≡ replacing quote.entry kept live }
-{
-    let Some(replaced) = live else {
-        return DealerVerdict::QuoteAccepted {
-            request: quote.request,
-            id: quote.id,
-            quote: kept,
-        };
-    };
-    DealerVerdict::QuoteReplaces {
-        request: quote.request,
-        id: quote.id,
-        quote: kept,
-        replaced,
     }
 }

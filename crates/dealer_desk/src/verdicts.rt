@@ -1,10 +1,14 @@
 //! What a desk decides of a message.
+ghost use Rattle.std.specs.Prelude.{◌≡◌};
+ghost use Rattle.dealer_desk.specs.DealerOutput as spec;
 
 use crate::AcceptedQuote;
-use quote_messages::{Id, QuoteRejectReason, Reject};
+use market_terms::Id;
+use quote_messages::{OutMessage, Reject};
 
-/// The verdict on a message that came to a dealer's desk. Two of them leave the last word to the word of a quote:
-/// a replacement and a cancel stand where that word is withdrawn, and come too late where it is lifted.
+/// The verdict on a message that came to a dealer's desk. Two of them leave the last word to the
+/// word of a quote: a quote that replaces another, and a cancel, take effect where that word is
+/// withdrawn, and come too late where it is lifted.
 #[derive(Drop)]
 pub enum DealerVerdict<'a> {
     /// The bytes are no frame, or have no readable MsgSeqNum (34): nothing is sent.
@@ -13,16 +17,10 @@ pub enum DealerVerdict<'a> {
     OutOfSequence(Reject<'a>),
     /// The message used up its number and met a session fault.
     Rejected(Reject<'a>),
-    /// A quote is refused.
-    QuoteRefused {
-        /// QuoteReqID (131) as received.
-        request: Id<'a>,
-        /// QuoteID (117) as received.
-        id: Id<'a>,
-        /// QuoteRejectReason (300): that of the first check that it does not pass.
-        reason: QuoteRejectReason,
-    },
-    /// A quote is accepted.
+    /// The market refuses the message, by this answer: that of the first check that it does not
+    /// pass.
+    Refused(OutMessage<'a>),
+    /// A quote is accepted, unless it would replace one that was lifted.
     QuoteAccepted {
         /// QuoteReqID (131) as received.
         request: Id<'a>,
@@ -30,32 +28,12 @@ pub enum DealerVerdict<'a> {
         id: Id<'a>,
         /// What the desk keeps of it.
         quote: AcceptedQuote,
+        /// The own number of the dealer's live quote on the same request, where there is one: it is
+        /// replaced, and its word is asked.
+        replaced: Option<u32>,
     },
-    /// A quote is accepted if the dealer's live quote on the same request is withdrawn for it.
-    QuoteReplaces {
-        /// QuoteReqID (131) as received.
-        request: Id<'a>,
-        /// QuoteID (117) as received.
-        id: Id<'a>,
-        /// What the desk keeps of it.
-        quote: AcceptedQuote,
-        /// The own number of the quote that it replaces, whose word is asked.
-        replaced: u32,
-    },
-    /// A cancel is refused.
-    CancelRefused {
-        /// QuoteID (117) as received, where it stood.
-        id: Option<Id<'a>>,
-        /// QuoteRejectReason (300): that of the first check that it does not pass.
-        reason: QuoteRejectReason,
-    },
-    /// A cancel names no quote that was accepted.
-    CancelUnknown {
-        /// QuoteID (117) as received.
-        id: Id<'a>,
-    },
-    /// A cancel is confirmed if its quote's word is withdrawn.
-    CancelAsks {
+    /// A cancel of one quote is confirmed, unless the quote was lifted.
+    CancelAccepted {
         /// QuoteID (117) as received.
         id: Id<'a>,
         /// The own number of the quote, whose word is asked.
@@ -63,12 +41,10 @@ pub enum DealerVerdict<'a> {
         /// Which of the requests shown to the dealer the quote answers.
         request: u64,
     },
-    /// A decline is refused.
-    DeclineRefused {
-        /// QuoteReqID (131) as received.
-        request: Id<'a>,
-        /// QuoteRejectReason (300): that of the first check that it does not pass.
-        reason: QuoteRejectReason,
+    /// A cancel of all quotes: they are dropped one by one, up to this own number.
+    DropsFollow {
+        /// The own number of the dealer's last accepted quote.
+        last: u32,
     },
     /// A decline is accepted.
     DeclineAccepted {
@@ -77,4 +53,17 @@ pub enum DealerVerdict<'a> {
         /// Which of the requests shown to the dealer it declines, from 1.
         number: u64,
     },
+}
+
+impl<'a> DealerVerdict<'a> {
+    /// The own number of the quote whose word this verdict asks, if it asks one.
+    pub fn word_asked(&self) -> Option<u32>
+        ensures { result ≡ spec.word_asked self.now }
+    {
+        match self {
+            DealerVerdict::QuoteAccepted { replaced, .. } => *replaced,
+            DealerVerdict::CancelAccepted { quote, .. } => Some(*quote),
+            _ => None,
+        }
+    }
 }

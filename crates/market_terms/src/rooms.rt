@@ -12,7 +12,7 @@ use std::marker::Model;
 use venue_config::Name;
 
 /// The room of a request: that of the n-th accepted request of an investor.
-#[derive(Clone, Copy, PartialEq, Eq)]
+#[derive(Clone, Copy, PartialEq, Eq, PartialOrd, Ord)]
 pub struct RoomRef {
     /// The number of the investor among the firms of the configuration.
     pub investor: u16,

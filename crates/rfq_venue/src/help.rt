@@ -22,6 +22,7 @@ and then, in the order in which it happens,
   lifted N                                          the dealer's quote N is lifted
   closed N KIND TIME                                the dealer is told how its request N ended:
                                                     1 hit, 3 expired, 4 cover, 5 done away, 6 passed
+  drop LAST TIME                                    a turn of the cancel of all quotes (298=4) of TIME
 One space divides the parts of a line. Empty lines and lines that begin with # are skipped.
 
   NAME, INVESTOR  1 to 8 capital letters and digits, the first a letter; not VENUE or CLOCK
@@ -36,6 +37,7 @@ One space divides the parts of a line. Empty lines and lines that begin with # a
   TYPE            S a quote, Z a cancel, AG a decline
   BODY            TAG=VALUE|TAG=VALUE|..; the whole frame has at most 4096 bytes
   N               the dealer's own number, from 1
+  LAST            the own number of the last quote that the cancel of all means
 
 Each message is printed as FIRM MSGSEQNUM TIME TYPE BODY, or with --frames as FIRM FRAME.
 No arguments at all mean `alone`. The status is 0 when done, 1 for a fault, with one line on

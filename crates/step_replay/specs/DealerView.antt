@@ -1,66 +1,76 @@
 -- What a dealer is sent, as a function of what is due to it.
-use Rattle.std.specs.Prelude.{ℕ, ◌-◌, ◌&&◌, nat_le, List, [], length, replicate, fold}
-use Rattle.std.specs.Prelude.{Option, Some, None, if◌then◌else◌}
-use Rattle.quote_word.specs.PlainWords.{entry_in, answer_of, after_exchange}
+use Rattle.std.specs.Prelude.{ℕ, ◌==◌, Bool, ◌&&◌, not, nat_le, List, [], ◌∷◌, ◌++◌, fold}
+use Rattle.std.specs.Prelude.{if◌then◌else◌}
+use Rattle.std.specs.List.{list_any}
+use Rattle.std.specs.Option.{option_map}
 use Rattle.quote_word.specs.declared.settled.Settled.{Settled}
 use Rattle.quote_word.specs.declared.settled.Settled.TheVariants.{Withdrawn, Lifted}
 use Rattle.market_terms.specs.declared.rooms.RoomRef.{RoomRef}
 use Rattle.venue_config.specs.declared.dealer_rows.DealerRow.{DealerRow}
-use Rattle.dealer_desk.specs.DealerOutput.{DeskEvents, dealer_output, verdict_at, word_asked}
-use Rattle.dealer_desk.specs.DealerOutput.{with_event, with_notice}
+use Rattle.dealer_desk.specs.DealerFacts.{number_to_drop}
+use Rattle.dealer_desk.specs.DealerOutput.{DeskEvents, dealer_output, facts_at, book_at}
+use Rattle.dealer_desk.specs.DealerOutput.{verdict_at, word_asked, with_event, with_notice}
+use Rattle.dealer_desk.specs.DeskLaws.{withdraws}
+use Rattle.dealer_desk.specs.declared.events.DealerEvent.{DealerEvent}
 use Rattle.dealer_desk.specs.declared.events.DealerEvent.TheVariants as event
 use Rattle.step_replay.specs.declared.due.Due.{Due}
 use Rattle.step_replay.specs.declared.due.Due.TheVariants as due
 
--- a dealer's desk and the words of its quotes: quotes are numbered from 1, words from 0
+-- How far a list of what is due has come: the dealer's desk, and the quotes whose lifting counts,
+-- by their own numbers, in the order of the list.
 pub record DealerView : Type 0 where
   pub desk : DeskEvents
-  pub words : List (Option Settled)
+  pub lifted : List ℕ
 
--- at the start of the day nothing came, and no word is settled
+-- at the start of the day nothing came, and no quote is lifted
 abbrev pub view_at_start : List ℕ → DealerRow → DealerView
 view_at_start date row = record {
   desk = record { date = date; row = row; events = [] };
-  words = replicate row.quotes None;
+  lifted = [];
 }
 
--- what the word of a quote is from then on, where its dealer withdraws it: lifted where it was
--- lifted before
-abbrev pub withdrawal_of : List (Option Settled) → ℕ → Settled
-withdrawal_of words quote = answer_of (entry_in words (quote - 1)) Withdrawn
+-- whether a lifting of this quote that counts stands in the list so far
+abbrev pub is_lifted : DealerView → ℕ → Bool
+is_lifted view quote = list_any (λ lifted. lifted == quote) view.lifted
 
--- the words after a wish for a quote's word
-abbrev pub words_after : List (Option Settled) → ℕ → Settled → List (Option Settled)
-words_after words quote wish = after_exchange (entry_in words (quote - 1)) words (quote - 1) wish
+-- The answer to whoever asks the word of a quote, a message or a drop: lifted where a lifting of
+-- the quote that counts stands before it in the list, and else withdrawn.
+abbrev pub answer_to : DealerView → ℕ → Settled
+answer_to view quote = if is_lifted view quote then Lifted else Withdrawn
 
--- a message of the dealer's own, with the word that it asks, if it asks one
-abbrev pub after_own : DealerView → ℕ → List ℕ → Option ℕ → DealerView
-after_own view moment message None =
-    record view { desk = with_event view.desk (event.Own moment message None) }
-after_own view moment message (Some quote) = record {
-  desk = with_event view.desk (event.Own moment message (Some (withdrawal_of view.words quote)));
-  words = words_after view.words quote Withdrawn;
-}
+-- whether a quote was withdrawn at a desk
+abbrev pub is_withdrawn_at : DeskEvents → ℕ → Bool
+is_withdrawn_at desk quote = list_any (withdraws quote) (facts_at desk)
 
--- A lifting of a quote counts where the dealer can have that quote, and where the quote was not
--- withdrawn before.
-abbrev pub with_lifting : List (Option Settled) → ℕ → List (Option Settled)
-with_lifting words quote =
-    if nat_le 1 quote && nat_le quote (length words) then words_after words quote Lifted else words
+-- A lifting counts of a quote that the dealer can have in its day, from 1 to the quotes of its row,
+-- and that was not withdrawn before.
+abbrev pub lifting_counts : DealerView → ℕ → Bool
+lifting_counts view quote =
+    nat_le 1 quote && nat_le quote view.desk.row.quotes && not (is_withdrawn_at view.desk quote)
+
+-- the view after one event more at the desk
+abbrev pub with_event_at_desk : DealerView → DealerEvent → DealerView
+with_event_at_desk view event = record view { desk = with_event view.desk event }
 
 -- the view has no rooms: each request is shown in this one
 abbrev pub no_room : RoomRef
 no_room = record { investor = 0; n = 0 }
 
--- the view after one item more of what is due
+-- The view after one item more of what is due. A message of the dealer's own, and a drop, are an
+-- event each, with the answer to the word that they ask, if they ask one. A lifting that does not
+-- count changes nothing, and neither does a notice of a request that was not shown or was told.
 unfoldable pub after_due : DealerView → Due → DealerView
 after_due view (due.Own moment message) =
-    after_own view moment message (word_asked (verdict_at view.desk moment message))
-after_due view (due.Shown ask moment) =
-    record view { desk = with_event view.desk (event.Shown no_room ask moment) }
-after_due view (due.Lifted quote) = record view { words = with_lifting view.words quote }
+    let asked = word_asked (verdict_at view.desk moment message) in
+    with_event_at_desk view (event.Own moment message (option_map (answer_to view) asked))
+after_due view (due.Shown ask moment) = with_event_at_desk view (event.Shown no_room ask moment)
+after_due view (due.Lifted quote) =
+    if lifting_counts view quote then record view { lifted = view.lifted ++ quote ∷ [] } else view
 after_due view (due.Closed request close moment) =
     record view { desk = with_notice view.desk request close moment }
+after_due view (due.Drop last moment) =
+    let asked = number_to_drop (book_at view.desk) last in
+    with_event_at_desk view (event.Drop last moment (option_map (answer_to view) asked))
 
 -- the view after all of it, item by item
 abbrev pub view_after : List ℕ → DealerRow → List Due → DealerView

@@ -1,1 +1,2 @@
 pub mod DealerView
+pub mod RowOfWords

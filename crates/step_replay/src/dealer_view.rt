@@ -1,22 +1,28 @@
 //! What a dealer is sent for what is due to it.
-ghost use Rattle.std.specs.Prelude.{◌≡◌, ℕ, List, length, IfOk, OnOk};
+ghost use Rattle.std.specs.Prelude.{◌≡◌, ◌||◌, ℕ, List, length, IfOk, IfSome, OnOk};
+ghost use Rattle.std.specs.Option.{option_map};
 ghost use Rattle.venue_config.specs.declared.dealer_rows.DealerRow.{DealerRow};
-ghost use Rattle.dealer_desk.specs.DealerOutput.{verdict_at, word_asked};
+ghost use Rattle.dealer_desk.specs.DealerFacts.{number_to_drop};
+ghost use Rattle.dealer_desk.specs.DealerOutput.{book_at, verdict_at, with_event, word_asked};
+ghost use Rattle.dealer_desk.specs.declared.events.DealerEvent.{DealerEvent};
 ghost use Rattle.step_replay.specs.declared.due.Due.{Due};
 ghost use Rattle.step_replay.specs.DealerView as spec;
+ghost use Rattle.step_replay.specs.RowOfWords as row_of;
 
 use crate::Due;
-use dealer_desk::DealerDesk;
+use dealer_desk::{
+    DealerDesk, facts_say_how_words_were_answered, words_are_asked_event_by_event,
+};
 use fix_fields::{Date, Memory, Moment};
 use quote_messages::{RoomRef, SentMessage};
-use quote_word::{PlainWords, Words};
+use quote_word::{PlainWords, Settled, Words};
 use std::alloc::Global;
 use venue_config::DealerRow;
 
 /// Every message that a dealer is sent on a day, for what is due to it and nothing else. It is
-/// total: it fails only for memory. A lifting of a quote that the dealer can't have, or whose
-/// word is settled, has no effect, and neither has a closing notice of a request that was not
-/// shown or whose notice was sent.
+/// total: it fails only for memory. A lifting of a quote that the dealer can't have, or that was
+/// withdrawn, has no effect, and neither has a closing notice of a request that was not shown or
+/// whose notice was sent, nor a drop where no quote is left to be dropped.
 pub fn alone(
     alloc: Global,
     date: &Date,
@@ -35,14 +41,15 @@ pub fn alone(
 }
 
 /// Lets an item happen at the desk of its dealer, or to the word of its quote.
-#[tactic(auto, unfolding(crate::specs::DealerView::after_due))]
 fn do_due(desk: &mut DealerDesk, words: &mut PlainWords, due: &Due) -> Result<(), Memory>
     requires { length words.old ≡ desk.old.row.quotes }
-    ensures ok { OnOk result (record { desk = desk.new; words = words.new }
-        ≡ spec.after_due (record { desk = desk.old; words = words.old }) due.now) }
+    ensures ok { OnOk result (row_of.Happens due.now
+        (record { desk = desk.old; words = words.old })
+        (record { desk = desk.new; words = words.new })) }
     ensures words { OnOk result (length words.new ≡ length words.old) }
     ensures row { OnOk result (desk.new.row ≡ desk.old.row) }
 {
+    quotes_are_withdrawn_event_by_event();
     match due {
         Due::Own(moment, message) => {
             take_own(desk, words, *moment, message.as_bytes())?;
@@ -60,6 +67,10 @@ fn do_due(desk: &mut DealerDesk, words: &mut PlainWords, due: &Due) -> Result<()
             desk.tell_request(*request, *close, *moment)?;
             Ok(())
         }
+        Due::Drop(last, moment) => {
+            drop_next(desk, words, *last, *moment)?;
+            Ok(())
+        }
     }
 }
 
@@ -74,29 +85,70 @@ fn take_own(
     bytes: &[u8],
 ) -> Result<(), Memory>
     requires { length words.old ≡ desk.old.row.quotes }
-    ensures ok { OnOk result (record { desk = desk.new; words = words.new }
-        ≡ spec.after_own (record { desk = desk.old; words = words.old }) moment bytes.now
-        (word_asked (verdict_at desk.old moment bytes.now))) }
-    ensures words { length words.new ≡ length words.old }
+    ensures ok { OnOk result (let asked = word_asked (verdict_at desk.old moment bytes.now) in
+        desk.new ≡ with_event desk.old
+          (DealerEvent.Own moment bytes.now (option_map (row_of.answer_in words.old) asked))) }
+    ensures words { words.new
+        ≡ row_of.with_asked words.old (word_asked (verdict_at desk.old moment bytes.now)) }
+    ensures asked { IfSome (word_asked (verdict_at desk.old moment bytes.now))
+        (row_of.IsOfRow desk.old.row.quotes) }
 {
-    let Some(quote) = desk.question(moment, bytes) else {
-        desk.take(moment, bytes, None)?;
-        return Ok(());
-    };
-    let answer = words.withdraw(quote - 1);
-    desk.take(moment, bytes, Some(answer))?;
+    let verdict = desk.judge(moment, bytes);
+    let answer = ask(words, verdict.word_asked());
+    desk.take_judged(moment, bytes, verdict, answer)?;
     Ok(())
+}
+
+/// Drops the next of the quotes up to `last`, with the answer of its word.
+fn drop_next(
+    desk: &mut DealerDesk,
+    words: &mut PlainWords,
+    last: u32,
+    moment: Moment,
+) -> Result<(), Memory>
+    requires { length words.old ≡ desk.old.row.quotes }
+    ensures ok { OnOk result (let asked = number_to_drop (book_at desk.old) last in
+        desk.new ≡ with_event desk.old
+          (DealerEvent.Drop last moment (option_map (row_of.answer_in words.old) asked))) }
+    ensures words { words.new
+        ≡ row_of.with_asked words.old (number_to_drop (book_at desk.old) last) }
+    ensures asked { IfSome (number_to_drop (book_at desk.old) last)
+        (row_of.IsOfRow desk.old.row.quotes) }
+{
+    let answer = ask(words, desk.question_drop(last));
+    desk.drop_one(last, moment, answer)?;
+    Ok(())
+}
+
+/// Withdraws the word of the quote that is asked, and answers what it is from then on.
+fn ask(words: &mut PlainWords, asked: Option<u32>) -> Option<Settled>
+    requires { IfSome asked (row_of.IsOfRow (length words.old)) }
+    ensures answer { result ≡ option_map (row_of.answer_in words.old) asked }
+    ensures words { words.new ≡ row_of.with_asked words.old asked }
+{
+    let quote = asked?;
+    let answer = words.withdraw(quote - 1);
+    Some(answer)
 }
 
 /// Lifts the word of a quote, where the dealer can have that quote and its word is open.
 fn lift(words: &mut PlainWords, quote: u32)
-    ensures lifted { words.new ≡ spec.with_lifting words.old quote }
+    ensures lifted { words.new ≡ row_of.with_lifting words.old quote }
     ensures length { length words.new ≡ length words.old }
 {
     if quote < 1 || quote > words.len() {
         return;
     }
     words.lift(quote - 1);
+}
+
+/// A quote is withdrawn at a desk where it was before, or where the last event asked its word and
+/// was answered so. It does nothing, and is called for what it says.
+fn quotes_are_withdrawn_event_by_event()
+    ensures { row_of.GrowsByEvents }
+{
+    words_are_asked_event_by_event();
+    facts_say_how_words_were_answered();
 }
 
 /// The dealer view is a function of the date, the dealer's row and the list: two lists that are

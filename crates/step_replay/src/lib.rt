@@ -1,14 +1,18 @@
 //! The core of the venue: what is due to a dealer, and what the dealer is sent for it.
 //!
-//! A dealer learns four things of a day, in some order: its own messages come, it is shown
-//! requests, quotes of its are lifted, and it is told how requests ended. A list of these is what
-//! is [`Due`] to it. The *dealer view* of the list is every message that the dealer is sent for
-//! it, and [`alone`] gives it:
+//! A dealer learns five things of a day, in some order: its own messages come, it is shown
+//! requests, quotes of its are lifted, it is told how requests ended, and the quotes that it
+//! cancels all at once are dropped in turn. A list of these is what is [`Due`] to it. The *dealer
+//! view* of the list is every message that the dealer is sent for it, and [`alone`] gives it:
 //!
 //! ```ignore
 //! let messages = alone(alloc, &date, &row, &[Due::Shown(ask, nine), Due::Own(five_past, quote)])?;
 //! assert_eq!(messages.len(), 2); // the request, and the acceptance of the quote
 //! ```
+//!
+//! A message or a drop that asks the word of a quote is answered *lifted* where a lifting of that
+//! quote that counts stands before it in the list, and else *withdrawn*. A lifting counts of a
+//! quote that the dealer can have in its day and that was not withdrawn before.
 //!
 //! # What is promised
 //!

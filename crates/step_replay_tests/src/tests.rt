@@ -1,10 +1,10 @@
 //! What a dealer is sent for lists of what is due, message by message.
-use fix_fields::read_frame;
-use quote_messages::Message;
+use fix_fields::{Moment, read_frame};
+use quote_messages::{Close, SentMessage};
 use std::process::Abort;
 use std::test::Fail;
-use step_replay::alone;
-use venue_text::{MOST_INPUT, read_due_text};
+use step_replay::{Due, alone};
+use venue_text::{DueText, MOST_INPUT, read_due_text};
 
 const HEAD: &str = "date 20250314
 dealer DLR1 1 10000000 T1
@@ -38,6 +38,24 @@ closed 2 3 09:05:00
 ",
         2,
     ),
+    // a cancel of all is not answered, its drop is, and nothing is left for the next one
+    (
+        "shown INV1 BONDA0000001 1 2000000 09:05:00 09:00:00
+say T1 09:00:10 S 117=a1|131=R1|48=BONDA0000001|22=4|133=99.5
+say T1 09:00:20 Z 298=4
+drop 1 09:00:20
+drop 1 09:00:20
+",
+        3,
+    ),
+    // no quote has a number up to this one
+    (
+        "shown INV1 BONDA0000001 1 2000000 09:05:00 09:00:00
+say T1 09:00:10 S 117=a1|131=R1|48=BONDA0000001|22=4|133=99.5
+drop 0 09:00:20
+",
+        2,
+    ),
 ];
 
 /// Asserts how many messages are sent for a list.
@@ -48,20 +66,20 @@ fn assert_count<T: Abort + AllocGlobal>(rt: &T, dues: &str, wanted: usize) -> Re
 }
 
 /// The messages that are sent for a list.
-fn sent<T: Abort + AllocGlobal>(rt: &T, dues: &str) -> Result<Vec<Message>, Fail> {
-    let input = format!(in rt.alloc(); "{HEAD}{dues}")?;
-    if input.len() > MOST_INPUT {
-        return Ok(Vec::new(rt.alloc()));
-    }
-    let text = match read_due_text(rt.alloc(), input.as_bytes()) {
-        Ok(text) => text,
-        Err(fault) => {
-            assert!(rt; false, "{fault}");
-            return Ok(Vec::new(rt.alloc()));
-        }
-    };
+fn sent<T: Abort + AllocGlobal>(rt: &T, dues: &str) -> Result<Vec<SentMessage>, Fail> {
+    let text = read(rt, dues)?;
     let messages = alone(rt.alloc(), &text.date, &text.row, text.dues.as_slice())?;
     Ok(messages)
+}
+
+/// What a list behind the head spells.
+fn read<T: Abort + AllocGlobal>(rt: &T, dues: &str) -> Result<DueText, Fail> {
+    let input = format!(in rt.alloc(); "{HEAD}{dues}")?;
+    assert!(rt; input.len() <= MOST_INPUT);
+    let text = read_due_text(rt.alloc(), input.as_bytes())
+        .ok()
+        .expect(rt, "due text");
+    Ok(text)
 }
 
 #[test]
@@ -94,8 +112,28 @@ say T1 09:00:20 Z 298=5|117=a1
 }
 
 /// Asserts the QuoteStatus (297) of the last of some messages.
-fn assert_last<T: Abort>(rt: &T, messages: &[Message], status: &[u8]) {
+fn assert_last<T: Abort>(rt: &T, messages: &[SentMessage], status: &[u8]) {
     let message = messages.last().expect(rt, "a message");
     let frame = read_frame(message.as_bytes()).ok().expect(rt, "a frame");
     assert!(rt; frame.get(297) == Some(status));
+}
+
+/// Numbers past those that a text may have: no quote and no request has them, and a drop up to one
+/// takes whatever is left.
+#[test]
+fn numbers_may_be_the_greatest(rt: HostRuntime) -> Result<(), Fail> {
+    let mut text = read(
+        &rt,
+        "shown INV1 BONDA0000001 1 2000000 09:05:00 09:00:00
+say T1 09:00:10 S 117=a1|131=R1|48=BONDA0000001|22=4|133=99.5
+",
+    )?;
+    let moment = Moment::new(32_420_000).expect(&rt, "a moment");
+    text.dues.push(Due::Lifted(u32::MAX))?;
+    text.dues.push(Due::Closed(u64::MAX, Close::Hit, moment))?;
+    text.dues.push(Due::Drop(u32::MAX, moment))?;
+    let messages = alone(rt.alloc(), &text.date, &text.row, text.dues.as_slice())?;
+    assert_eq!(&rt; messages.len(), 3);
+    assert_last(&rt, messages.as_slice(), b"17");
+    Ok(())
 }

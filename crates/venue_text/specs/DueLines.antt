@@ -152,6 +152,13 @@ closed_of date text = do
   moment ← time_of date (behind_part behind_number)
   Some (due.Closed number close moment)
 
+-- behind `drop`: LAST TIME, LAST the number of a quote
+unfoldable pub drop_of : List ℕ → List ℕ → Option Due
+drop_of date text = do
+  last ← number_of (first_part text)
+  moment ← time_of date (behind_part text)
+  Some (due.Drop last moment)
+
 -- what a line other than `say` makes due, by its keyword
 abbrev pub due_by_keyword : List ℕ → List ℕ → List ℕ → Option Due
 due_by_keyword date keyword text =
@@ -159,6 +166,7 @@ due_by_keyword date keyword text =
     else if same_text keyword (codes "own") then own_of date text
     else if same_text keyword (codes "lifted") then lifted_of text
     else if same_text keyword (codes "closed") then closed_of date text
+    else if same_text keyword (codes "drop") then drop_of date text
     else None
 
 -- what a line makes due, and the number of the next `say` line

@@ -40,6 +40,8 @@ due_line date (due.Lifted quote) = codes "lifted " ++ decimal quote ++ 10 ∷ []
 due_line date (due.Closed request close moment) =
     codes "closed " ++ decimal request ++ 32 ∷ decimal (close_code close)
     ++ 32 ∷ time_text date moment ++ 10 ∷ []
+due_line date (due.Drop last moment) =
+    codes "drop " ++ decimal last ++ 32 ∷ time_text date moment ++ 10 ∷ []
 
 -- a list of what is due, a line an item
 abbrev pub due_lines : List ℕ → List Due → List ℕ

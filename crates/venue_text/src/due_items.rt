@@ -32,6 +32,9 @@ pub(crate) fn read_by_keyword(
     if same_text(keyword, b"closed") {
         return Ok(read_closed(date, text));
     }
+    if same_text(keyword, b"drop") {
+        return Ok(read_drop(date, text));
+    }
     Ok(None)
 }
 
@@ -99,6 +102,17 @@ fn read_closed(date: &Date, text: &[u8]) -> Option<Due>
     let close = read_close(kind)?;
     let moment = read_time(date, time)?;
     Some(Due::Closed(number, close, moment))
+}
+
+/// Behind `drop`: `LAST TIME`.
+#[tactic(auto, unfolding(crate::specs::DueLines::drop_of))]
+fn read_drop(date: &Date, text: &[u8]) -> Option<Due>
+    ensures { result ≡ spec.drop_of date.now text.now }
+{
+    let (last, time) = cut_part(text);
+    let last = read_number(last)?;
+    let moment = read_time(date, time)?;
+    Some(Due::Drop(last as u32, moment))
 }
 
 /// KIND, how a request ended: the digit of QuoteRespType (694).

@@ -31,6 +31,7 @@ fn push_due(text: &mut Vec<u8>, date: &Date, due: &Due) -> Result<(), Memory>
         Due::Shown(ask, moment) => push_shown(text, date, ask, *moment),
         Due::Lifted(quote) => push_lifted(text, *quote),
         Due::Closed(request, close, moment) => push_closed(text, date, *request, *close, *moment),
+        Due::Drop(last, moment) => push_drop(text, date, *last, *moment),
     }
 }
 
@@ -133,6 +134,19 @@ fn push_closed(
     push_number(text, request)?;
     text.push(b' ')?;
     push_number(text, close.code())?;
+    text.push(b' ')?;
+    push_time(text, date, moment)?;
+    text.push(b'\n')?;
+    Ok(())
+}
+
+/// `drop LAST TIME`.
+fn push_drop(text: &mut Vec<u8>, date: &Date, last: u32, moment: Moment) -> Result<(), Memory>
+    ensures { OnOk result (text.new.items
+        ≡ text.old.items ++ spec.due_line date.now (Due.Drop last moment)) }
+{
+    text.extend_from_slice(b"drop ")?;
+    push_number(text, u64::from(last))?;
     text.push(b' ')?;
     push_time(text, date, moment)?;
     text.push(b'\n')?;

@@ -8,6 +8,8 @@
 #[cfg(test)]
 mod days;
 #[cfg(test)]
+mod drops;
+#[cfg(test)]
 mod fixtures;
 #[cfg(test)]
 mod forms;

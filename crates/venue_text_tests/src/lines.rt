@@ -56,6 +56,9 @@ closed 2 3 09:00:50.010
 closed 3 4 09:00:50.100
 closed 4 5 10:00:50.000
 closed 999999999 6 23:59:59.999
+drop 0 09:00:30.000
+drop 999999999 23:59:59.999
+shown INV1 BONDA0000001 2 1 09:05:00.000 09:00:00.000 32
 own 09:00:10.000  x y
 ";
 
@@ -66,7 +69,7 @@ fn items_are_written_as_they_are_read(rt: HostRuntime) -> Result<(), Fail> {
         assert!(&rt; false);
         return Ok(());
     };
-    assert_eq!(&rt; text.dues.len(), 11);
+    assert_eq!(&rt; text.dues.len(), 14);
     assert_eq!(&rt; text.row.quotes, 4);
     let lines = due_lines(rt.alloc(), &text.date, text.dues.as_slice())?;
     assert!(&rt; lines.as_slice() == ITEMS.as_bytes());

@@ -1,0 +1,221 @@
+-- What a desk keeps beside its events, after one event more.
+use Rattle.std.proofs.Common.{◌≡◌, ◌<◌, ◌≤◌, ℕ, ◌+◌, ◌^◌, Bool, true, false, cond, List, [], ◌∷◌, ◌++◌, length, fold, Option, Some, None, is_some, IfSome, option_map, refl, sym, ap, subst, ◌∙◌, arith}
+use Rattle.std.specs.Option.{option_to_list}
+use Rattle.std.proofs.lemmas.List.{append-nil}
+use Rattle.std.proofs.lemmas.List.Elements.{filter_map-append}
+use Rattle.venue_config.specs.declared.dealer_rows.DealerRow.{DealerRow}
+use Rattle.market_terms.specs.declared.asks.Ask.{Ask}
+use Rattle.market_terms.specs.declared.closes.Close.{Close}
+use Rattle.market_terms.specs.declared.rooms.RoomRef.{RoomRef}
+use Rattle.quote_messages.specs.declared.out_messages.OutMessage.{OutMessage}
+use Rattle.quote_word.specs.declared.settled.Settled.{Settled}
+use Rattle.quote_word.specs.declared.settled.Settled.TheVariants as settled
+use Rattle.dealer_desk.specs.DealerFacts.{DealerFact, Came, Shown, Told, Dropped, DealerBook, book_of, exposure_of, number_to_drop, quote_to_drop}
+use Rattle.dealer_desk.specs.DealerRules.{dealer_verdict}
+use Rattle.dealer_desk.specs.DealerOutput.{DeskEvents, DeskState, book_at, rooms_at, verdict_at, desk_after, event_facts, event_message, verdict_facts, verdict_message, settled_facts, uses_number, closable, rooms_of, shown_room, sent_with, moment_of, next_message, next_request, notice_of, drop_message, word_asked}
+use Rattle.dealer_desk.specs.BookChanges.{book_after, IsSound}
+use Rattle.dealer_desk.specs.DealerTable.{IndexView, with_fact, with_request}
+use Rattle.dealer_desk.specs.RuleCuts.{IsDesk, IsLawfulNote, note_of, note_uses, note_facts, with_facts}
+use Rattle.dealer_desk.specs.declared.outcomes.Note.{Note}
+use Rattle.dealer_desk.specs.declared.standing.StandingRequest.{StandingRequest}
+use Rattle.dealer_desk.specs.declared.standing.Withdrawal.TheVariants as by
+use Rattle.dealer_desk.specs.declared.events.DealerEvent.{DealerEvent}
+use Rattle.dealer_desk.specs.declared.events.DealerEvent.TheVariants as event
+use Rattle.dealer_desk.specs.declared.verdicts.DealerVerdict.{DealerVerdict}
+use Rattle.dealer_desk.specs.declared.verdicts.DealerVerdict.TheVariants as verdict
+use Rattle.dealer_desk.proofs.BookLemmas.{dropped_book}
+use Rattle.dealer_desk.proofs.BookPush.{books_push}
+use Rattle.dealer_desk.proofs.StandLemmas.{StandsIn}
+use Rattle.dealer_desk.proofs.VerdictLemmas.{verdict_holds, lawful_note, asked_within}
+use Rattle.dealer_desk.proofs.DeskLemmas.{Stood, desk_sound, desk_after_push}
+use Rattle.dealer_desk.proofs.DutyLemmas.{drop_asks}
+
+-- what holds of the book of an index
+pub index_stands : (date : List ℕ) (row : DealerRow) (events : List DealerEvent) (sent : List (List ℕ)) (index : IndexView) → IsDesk date row events sent index → Stood row index.book (length events) (length index.rooms)
+index_stands date row events sent index kept =
+    subst (λ (b : DealerBook). Stood row b (length events) (length index.rooms)) (sym kept.book_is)
+    (subst (λ (rs : List RoomRef). Stood row (book_of (desk_after date row events).facts) (length events) (length rs)) (sym kept.rooms_are) (desk_sound date row events))
+
+-- so the book is sound, and the exposure within the limit
+pub index_sound : (date : List ℕ) (row : DealerRow) (events : List DealerEvent) (sent : List (List ℕ)) (index : IndexView)
+    → IsDesk date row events sent index → IsSound index.book.requests index.book.quotes
+index_sound date row events sent index kept = (index_stands date row events sent index kept).stands.sound
+
+pub exposure_within : (date : List ℕ) (row : DealerRow) (events : List DealerEvent) (sent : List (List ℕ)) (index : IndexView)
+    → IsDesk date row events sent index → exposure_of index.book ≤ row.exposure
+unfolding exposure_of
+exposure_within date row events sent index kept = (index_stands date row events sent index kept).stands.within
+
+-- What a contract sees of a desk, and of the book and the rooms of its index.
+
+abbrev pub seen : List ℕ → DealerRow → List DealerEvent → DeskEvents
+seen date row events = record { date = date; row = row; events = events }
+
+pub book_seen : (date : List ℕ) (row : DealerRow) (events : List DealerEvent) (sent : List (List ℕ)) (index : IndexView) (self : DeskEvents)
+    → IsDesk date row events sent index → seen date row events ≡ self → index.book ≡ book_at self
+book_seen date row events sent index self kept is = kept.book_is ∙ ap (λ (d : DeskEvents). book_at d) is
+
+pub rooms_seen : (date : List ℕ) (row : DealerRow) (events : List DealerEvent) (sent : List (List ℕ)) (index : IndexView) (self : DeskEvents)
+    → IsDesk date row events sent index → seen date row events ≡ self → index.rooms ≡ rooms_at self
+rooms_seen date row events sent index self kept is = kept.rooms_are ∙ ap (λ (d : DeskEvents). rooms_at d) is
+
+pub verdict_seen : (date : List ℕ) (row : DealerRow) (events : List DealerEvent) (sent : List (List ℕ)) (index : IndexView) (self : DeskEvents) (moment : ℕ) (bytes : List ℕ)
+    → IsDesk date row events sent index → seen date row events ≡ self
+    → dealer_verdict date row index.book moment bytes ≡ verdict_at self moment bytes
+verdict_seen date row events sent index self moment bytes kept is =
+    ap (λ (b : DealerBook). dealer_verdict date row b moment bytes) kept.book_is ∙ ap (λ (d : DeskEvents). verdict_at d moment bytes) is
+
+-- any event
+pub kept_event : (date : List ℕ) (row : DealerRow) (events : List DealerEvent) (sent sent2 : List (List ℕ)) (index index2 : IndexView) (more : DealerEvent)
+    → IsDesk date row events sent index
+    → sent2 ≡ sent_with date row sent (moment_of more) (event_message date row index.book more)
+    → index2.book ≡ fold book_after index.book (event_facts date row index.book more)
+    → index2.rooms ≡ index.rooms ++ rooms_of (more ∷ [])
+    → IsDesk date row (events ++ more ∷ []) sent2 index2
+kept_event date row events sent sent2 index index2 more kept sends books rooms =
+    let d = desk_after date row events in
+    let push = desk_after_push date row events more in
+    record {
+      sent_are = sends
+          ∙ ap (λ (b : DealerBook). sent_with date row sent (moment_of more) (event_message date row b more)) kept.book_is
+          ∙ ap (λ (s : List (List ℕ)). sent_with date row s (moment_of more) (event_message date row (book_of d.facts) more)) kept.sent_are
+          ∙ ap (λ (s : DeskState). s.sent) (sym push);
+      book_is = books
+          ∙ ap (λ (b : DealerBook). fold book_after b (event_facts date row b more)) kept.book_is
+          ∙ sym (books_push d.facts (event_facts date row (book_of d.facts) more))
+          ∙ ap (λ (s : DeskState). book_of s.facts) (sym push);
+      rooms_are = rooms ∙ ap (λ (rs : List RoomRef). rs ++ rooms_of (more ∷ [])) kept.rooms_are ∙ sym (filter_map-append shown_room events (more ∷ []));
+    }
+
+books_of : (index : IndexView) (facts : List DealerFact) → (with_facts index facts).book ≡ fold book_after index.book facts
+books_of index [] = refl
+books_of index (fact ∷ facts) = books_of (with_fact index fact) facts
+
+rooms_stay : (index : IndexView) (facts : List DealerFact) → (with_facts index facts).rooms ≡ index.rooms
+rooms_stay index [] = refl
+rooms_stay index (fact ∷ facts) = rooms_stay (with_fact index fact) facts
+
+-- a desk at the start of the day
+pub kept_empty : (date : List ℕ) (row : DealerRow) → IsDesk date row [] [] (record { book = book_of []; rooms = [] })
+unfolding desk_after
+kept_empty date row = record { sent_are = refl; book_is = refl; rooms_are = refl }
+
+-- A message of the dealer's own.
+
+noted : (given : DealerVerdict) (answer : Option Settled) → note_facts (note_of given answer) ≡ verdict_facts given answer
+noted (verdict.QuoteAccepted request id quote None) answer = refl
+noted (verdict.QuoteAccepted request id quote (Some replaced)) (Some settled.Withdrawn) = refl
+noted (verdict.QuoteAccepted request id quote (Some replaced)) (Some settled.Lifted) = refl
+noted (verdict.QuoteAccepted request id quote (Some replaced)) None = refl
+noted (verdict.CancelAccepted id quote request) (Some settled.Withdrawn) = refl
+noted (verdict.CancelAccepted id quote request) (Some settled.Lifted) = refl
+noted (verdict.CancelAccepted id quote request) None = refl
+noted (verdict.DeclineAccepted request number) answer = refl
+noted verdict.Dropped answer = refl
+noted (verdict.OutOfSequence reject) answer = refl
+noted other answer = refl
+
+used_up : (given : DealerVerdict) (answer : Option Settled) → note_uses (note_of given answer) ≡ uses_number given
+used_up (verdict.QuoteAccepted request id quote None) answer = refl
+used_up (verdict.QuoteAccepted request id quote (Some replaced)) (Some settled.Withdrawn) = refl
+used_up (verdict.QuoteAccepted request id quote (Some replaced)) (Some settled.Lifted) = refl
+used_up (verdict.QuoteAccepted request id quote (Some replaced)) None = refl
+used_up (verdict.CancelAccepted id quote request) (Some settled.Withdrawn) = refl
+used_up (verdict.CancelAccepted id quote request) (Some settled.Lifted) = refl
+used_up (verdict.CancelAccepted id quote request) None = refl
+used_up (verdict.DeclineAccepted request number) answer = refl
+used_up verdict.Dropped answer = refl
+used_up (verdict.OutOfSequence reject) answer = refl
+used_up other answer = refl
+
+pub kept_own : (date : List ℕ) (row : DealerRow) (events : List DealerEvent) (sent : List (List ℕ)) (index index2 : IndexView) (moment : ℕ) (bytes : List ℕ) (answer : Option Settled)
+    (given : DealerVerdict) (note : Note) (reply : Option OutMessage) (message : Option (List ℕ))
+    → IsDesk date row events sent index
+    → given ≡ dealer_verdict date row index.book moment bytes
+    → note ≡ note_of given answer
+    → reply ≡ verdict_message given answer
+    → sent_with date row sent moment reply ≡ sent ++ option_to_list message
+    → index2 ≡ with_facts index (Came moment bytes (note_uses note) ∷ note_facts note)
+    → IsDesk date row (events ++ event.Own moment bytes answer ∷ []) (sent ++ option_to_list message) index2
+unfolding event_facts event_message
+kept_own date row events sent index index2 moment bytes answer given note reply message kept is notes replies written changed =
+    let facts : List DealerFact = Came moment bytes (note_uses note) ∷ note_facts note in
+    let same : facts ≡ event_facts date row index.book (event.Own moment bytes answer) =
+    ap (λ (n : Note). Came moment bytes (note_uses n) ∷ note_facts n) notes
+    ∙ ap (λ (b : Bool). Came moment bytes b ∷ note_facts (note_of given answer)) (used_up given answer)
+    ∙ ap (λ (fs : List DealerFact). Came moment bytes (uses_number given) ∷ fs) (noted given answer)
+    ∙ ap (λ (v : DealerVerdict). Came moment bytes (uses_number v) ∷ verdict_facts v answer) is in
+    kept_event date row events sent (sent ++ option_to_list message) index index2 (event.Own moment bytes answer) kept
+    (sym written ∙ ap (sent_with date row sent moment) (replies ∙ ap (λ (v : DealerVerdict). verdict_message v answer) is))
+    (ap (λ (i : IndexView). i.book) changed ∙ books_of index facts ∙ ap (fold book_after index.book) same)
+    (ap (λ (i : IndexView). i.rooms) changed ∙ rooms_stay index facts ∙ sym (append-nil index.rooms))
+
+-- what the index takes note of is lawful
+pub own_lawful : (date : List ℕ) (row : DealerRow) (events : List DealerEvent) (sent : List (List ℕ)) (index : IndexView) (moment : ℕ) (bytes : List ℕ) (answer : Option Settled) (given : DealerVerdict) (note : Note)
+    → IsDesk date row events sent index → given ≡ dealer_verdict date row index.book moment bytes → note ≡ note_of given answer → IsLawfulNote index.book note
+own_lawful date row events sent index moment bytes answer given note kept is notes =
+    let s = index_stands date row events sent index kept in
+    subst (λ (n : Note). IsLawfulNote index.book n) (sym (notes ∙ ap (λ (v : DealerVerdict). note_of v answer) is))
+    (lawful_note row index.book (dealer_verdict date row index.book moment bytes) answer s.stands (verdict_holds date row index.book moment bytes s.stands))
+
+-- the numbers that are counted stay below the number of events
+pub used_below : (date : List ℕ) (row : DealerRow) (events : List DealerEvent) (sent : List (List ℕ)) (index : IndexView) → IsDesk date row events sent index → length events + 1 < 2 ^ 63 → index.book.used + 1 < 2 ^ 63
+used_below date row events sent index kept few = let s = (index_stands date row events sent index kept).counts in omega arith
+
+pub notices_below : (date : List ℕ) (row : DealerRow) (events : List DealerEvent) (sent : List (List ℕ)) (index : IndexView) → IsDesk date row events sent index → length events + 1 < 2 ^ 63 → index.book.notices + 1 < 2 ^ 63
+notices_below date row events sent index kept few = let s = (index_stands date row events sent index kept).counts in omega arith
+
+-- the word that a message asks is that of a quote of the day
+pub asked_own : (date : List ℕ) (row : DealerRow) (events : List DealerEvent) (sent : List (List ℕ)) (index : IndexView) (moment : ℕ) (bytes : List ℕ) → IsDesk date row events sent index
+    → IfSome (word_asked (dealer_verdict date row index.book moment bytes)) (λ quote. (1 ≤ quote) × (quote ≤ row.quotes))
+asked_own date row events sent index moment bytes kept =
+    let s = index_stands date row events sent index kept in
+    asked_within row index.book (dealer_verdict date row index.book moment bytes) s.stands (verdict_holds date row index.book moment bytes s.stands)
+
+-- the same of a drop
+pub asked_drop : (date : List ℕ) (row : DealerRow) (events : List DealerEvent) (sent : List (List ℕ)) (index : IndexView) (last : ℕ) → IsDesk date row events sent index
+    → IfSome (number_to_drop index.book last) (λ quote. (1 ≤ quote) × (quote ≤ row.quotes))
+asked_drop date row events sent index last kept =
+    let s = index_stands date row events sent index kept in
+    drop_asks row index.book last (quote_to_drop index.book last) s.stands refl
+
+-- A request that is shown.
+
+pub kept_shown : (date : List ℕ) (row : DealerRow) (events : List DealerEvent) (sent : List (List ℕ)) (index index2 : IndexView) (room : RoomRef) (ask : Ask) (moment : ℕ)
+    → IsDesk date row events sent index
+    → index2 ≡ with_request index room (Shown ask moment)
+    → IsDesk date row (events ++ event.Shown room ask moment ∷ []) (sent ++ next_message date row sent moment (next_request index.book ask) ∷ []) index2
+unfolding event_facts event_message
+kept_shown date row events sent index index2 room ask moment kept changed =
+    kept_event date row events sent (sent ++ next_message date row sent moment (next_request index.book ask) ∷ []) index index2 (event.Shown room ask moment) kept
+    refl (ap (λ (i : IndexView). i.book) changed) (ap (λ (i : IndexView). i.rooms) changed)
+
+-- A notice that is due.
+
+pub kept_told : (date : List ℕ) (row : DealerRow) (events : List DealerEvent) (sent : List (List ℕ)) (index index2 : IndexView) (number : ℕ) (request : StandingRequest) (close : Close) (moment : ℕ)
+    → IsDesk date row events sent index
+    → closable index.book number ≡ Some request
+    → index2 ≡ with_fact index (Told number close moment)
+    → IsDesk date row (events ++ event.Told number close moment ∷ []) (sent ++ next_message date row sent moment (notice_of index.book close request) ∷ []) index2
+unfolding event_facts event_message
+kept_told date row events sent index index2 number request close moment kept due changed =
+    kept_event date row events sent (sent ++ next_message date row sent moment (notice_of index.book close request) ∷ []) index index2 (event.Told number close moment) kept
+    (ap (λ (o : Option StandingRequest). sent_with date row sent moment (option_map (notice_of index.book close) o)) (sym due))
+    (ap (λ (i : IndexView). i.book) changed ∙ ap (λ (o : Option StandingRequest). fold book_after index.book (cond (is_some o) (Told number close moment ∷ []) [])) (sym due))
+    (ap (λ (i : IndexView). i.rooms) changed ∙ sym (append-nil index.rooms))
+
+-- A drop.
+
+pub kept_drop : (date : List ℕ) (row : DealerRow) (events : List DealerEvent) (sent : List (List ℕ)) (index index2 : IndexView) (last moment : ℕ) (answer : Option Settled) (reply : Option OutMessage) (message : Option (List ℕ))
+    → IsDesk date row events sent index
+    → reply ≡ option_map (drop_message answer) (quote_to_drop index.book last)
+    → sent_with date row sent moment reply ≡ sent ++ option_to_list message
+    → index2 ≡ with_facts index (settled_facts (number_to_drop index.book last) by.Cancel answer)
+    → IsDesk date row (events ++ event.Drop last moment answer ∷ []) (sent ++ option_to_list message) index2
+unfolding event_facts event_message
+kept_drop date row events sent index index2 last moment answer reply message kept replies written changed =
+    let facts : List DealerFact = settled_facts (number_to_drop index.book last) by.Cancel answer in
+    kept_event date row events sent (sent ++ option_to_list message) index index2 (event.Drop last moment answer) kept
+    (sym written ∙ ap (sent_with date row sent moment) replies)
+    (ap (λ (i : IndexView). i.book) changed ∙ books_of index facts ∙ ap (λ (b : DealerBook). fold book_after b facts) (sym (dropped_book index.book last moment)))
+    (ap (λ (i : IndexView). i.rooms) changed ∙ rooms_stay index facts ∙ sym (append-nil index.rooms))
