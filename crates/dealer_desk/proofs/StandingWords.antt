@@ -1,6 +1,6 @@
 -- How quotes stand, and how their words were answered.
 use Rattle.std.proofs.Common.{◌≡◌, ◌<◌, ◌≤◌, ℕ, ◌+◌, Bool, true, false, ◌||◌, ◌==◌, cond, List, [], ◌∷◌, ◌++◌, length, map, fold, All, Option, Some, None, is_none, is_some, option_map, slice_get, get_or, inl, inr, refl, sym, ap, subst, ◌∙◌, arith}
-use Rattle.std.specs.List.{list_any, filter_map}
+use Rattle.std.specs.List.{list_any}
 use Rattle.std.specs.Option.{option_or}
 use Rattle.std.proofs.lemmas.Bool.{eqb-true}
 use Rattle.std.proofs.lemmas.Option.{none-some, same_Some, slice_get-get_or}
@@ -10,8 +10,8 @@ use Rattle.venue_config.specs.declared.dealer_rows.DealerRow.{DealerRow}
 use Rattle.market_terms.specs.declared.closes.Close.{Close}
 use Rattle.quote_word.specs.declared.settled.Settled.{Settled}
 use Rattle.quote_word.specs.declared.settled.Settled.TheVariants as settled
-use Rattle.dealer_desk.specs.DealerFacts.{DealerFact, Came, Shown, Quoted, Withdrawn, Late, Dropped, Declined, Told, DealerBook, book_of, number_to_drop, quote_to_drop, is_withdrawal, standing_quote}
-use Rattle.dealer_desk.specs.BookChanges.{IsSound, IsLiveNumber, book_after, ended_at, late_at, closed_on, declined_at, told_at}
+use Rattle.dealer_desk.specs.DealerFacts.{DealerFact, Quoted, Withdrawn, Told, DealerBook, book_of, number_to_drop, quote_to_drop, is_withdrawal, standing_quote}
+use Rattle.dealer_desk.specs.BookChanges.{IsSound, IsLiveNumber, book_after, ended_at, late_at, closed_on}
 use Rattle.dealer_desk.specs.DealerRules.{dealer_verdict}
 use Rattle.dealer_desk.specs.DealerOutput.{DeskState, DeskEvents, no_facts, after_event, desk_after, facts_at, book_at, event_facts, verdict_facts, settled_facts, answer_facts, uses_number, closable, answered_word, answered_words}
 use Rattle.dealer_desk.specs.DeskLaws.{says_lifted, says_withdrawn}

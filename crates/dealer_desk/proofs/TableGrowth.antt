@@ -1,19 +1,18 @@
 -- What a table keeps when a request is closed, and when a request or a quote more comes.
-use Rattle.std.proofs.Common.{◌≡◌, ◌<◌, ◌≤◌, ◌⊎◌, ℕ, zero, suc, ◌+◌, ◌-◌, Bool, true, false, ◌&&◌, ◌||◌, ◌==◌, cond, not, List, [], ◌∷◌, ◌++◌, length, map, set, filter, find, Option, Some, None, is_none, option_map, slice_get, slice_set, slice_index_or, get_or, inl, inr, refl, sym, ap, subst, ◌∙◌, arith, length-set, get_or-set_same}
+use Rattle.std.proofs.Common.{◌≡◌, ◌<◌, ◌≤◌, ℕ, zero, suc, ◌+◌, ◌-◌, Bool, true, false, ◌&&◌, ◌||◌, ◌==◌, cond, not, List, [], ◌∷◌, ◌++◌, length, map, set, find, Option, Some, None, is_none, option_map, slice_get, get_or, inl, inr, refl, sym, ap, subst, ◌∙◌, arith}
 use Rattle.std.specs.List.{list_any, sum_by, position_or_len}
 use Rattle.std.specs.Option.{option_or}
 use Rattle.std.proofs.Math.Dec.{eqb}
 use Rattle.std.proofs.lemmas.Bool.{eqb-true, eq-eqb}
 use Rattle.std.proofs.lemmas.Bool.Decides.{eqb_tells}
-use Rattle.std.proofs.lemmas.Option.{none-some, same_Some, get_or_from_slice_get, slice_get-get_or, slice_get-map}
-use Rattle.std.proofs.lemmas.List.{map-set, map-append, length-map, length-append, get_or-map}
-use Rattle.std.proofs.lemmas.List.Sums.{sum_by-cons, sum_by-set, sum_by_push, prefix_len-le-length}
-use Rattle.std.proofs.lemmas.List.Folds.{list_any_at, list_any-append, find-append, position_or_len_push}
+use Rattle.std.proofs.lemmas.Option.{none-some, same_Some}
+use Rattle.std.proofs.lemmas.List.{map-append, length-map, length-append}
+use Rattle.std.proofs.lemmas.List.Sums.{sum_by-cons, sum_by_push}
+use Rattle.std.proofs.lemmas.List.Folds.{list_any-append, find-append, position_or_len_push}
 use Rattle.market_terms.specs.declared.lines.QuoteLine.{QuoteLine}
-use Rattle.market_terms.specs.declared.lines.QuoteState.{QuoteState}
 use Rattle.dealer_desk.specs.DealerFacts.{standing_request, standing_quote, is_live, is_live_on, is_lifted_on, is_droppable, live_quantity, quantity_beside}
-use Rattle.dealer_desk.specs.QuoteLines.{state_of, line_of}
-use Rattle.dealer_desk.specs.BookChanges.{IsSound, IsLiveNumber, ended_at, late_at, closed_on, declined_at, told_at}
+use Rattle.dealer_desk.specs.QuoteLines.{line_of}
+use Rattle.dealer_desk.specs.BookChanges.{IsSound, IsLiveNumber, ended_at, closed_on}
 use Rattle.dealer_desk.specs.DealerTable.{IsTable, IsRow, live_number_among}
 use Rattle.dealer_desk.specs.declared.accepted.AcceptedQuote.{AcceptedQuote}
 use Rattle.dealer_desk.specs.declared.standing.StandingRequest.{StandingRequest}
@@ -24,8 +23,8 @@ use Rattle.market_terms.specs.declared.asks.Ask.{Ask}
 use Rattle.market_terms.specs.declared.closes.Close.{Close}
 use Rattle.market_terms.specs.declared.closes.Close.TheVariants as closes
 use Rattle.dealer_desk.specs.declared.table.RequestRow.{RequestRow}
-use Rattle.dealer_desk.proofs.ListLemmas.{set_at, set_map, pushed_at, any_none, set_same, all_fixed, find_stands, fails_where_none, mapped_at, find_none, find_mapped, any_mapped, lone_others, within_from, stands_within, ruled_out, before_place}
-use Rattle.dealer_desk.proofs.SoundLemmas.{sound_mapped, sound_requests, sound_shown, sound_quoted, none_live}
+use Rattle.dealer_desk.proofs.ListLemmas.{set_at, set_map, pushed_at, any_none, all_fixed, find_stands, fails_where_none, mapped_at, find_none, lone_others, ruled_out}
+use Rattle.dealer_desk.proofs.SoundLemmas.{sound_shown, sound_quoted, none_live}
 use Rattle.dealer_desk.proofs.TableLemmas.{and_false, chosen, chosen_first, ended_own, left_false, nothing, or_some, other_number, quantity_live, requests_kept, sum_changed}
 use Rattle.dealer_desk.proofs.TableReads.{read_at}
 

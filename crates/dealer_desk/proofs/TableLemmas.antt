@@ -1,31 +1,27 @@
 -- What a table keeps when one of its quotes changes.
-use Rattle.std.proofs.Common.{◌≡◌, ◌<◌, ◌≤◌, ◌⊎◌, ℕ, zero, suc, ◌+◌, ◌-◌, Bool, true, false, ◌&&◌, ◌||◌, ◌==◌, cond, not, List, [], ◌∷◌, ◌++◌, length, map, set, filter, find, Option, Some, None, is_none, option_map, slice_get, slice_set, slice_index_or, get_or, inl, inr, refl, sym, ap, subst, ◌∙◌, arith, length-set, get_or-set_same}
-use Rattle.std.specs.List.{list_any, sum_by, position_or_len}
+use Rattle.std.proofs.Common.{◌≡◌, ◌<◌, ◌≤◌, ℕ, ◌+◌, ◌-◌, Bool, true, false, ◌&&◌, ◌==◌, cond, List, length, map, set, Option, Some, None, is_none, option_map, slice_get, get_or, inl, inr, refl, sym, ap, subst, ◌∙◌, arith, length-set}
+use Rattle.std.specs.List.{sum_by, position_or_len}
 use Rattle.std.specs.Option.{option_or}
-use Rattle.std.proofs.Math.Dec.{eqb}
 use Rattle.std.proofs.lemmas.Bool.{eqb-true, eq-eqb}
 use Rattle.std.proofs.lemmas.Bool.Decides.{eqb_tells}
-use Rattle.std.proofs.lemmas.Option.{none-some, same_Some, get_or_from_slice_get, slice_get-get_or, slice_get-map}
-use Rattle.std.proofs.lemmas.List.{map-set, map-append, length-map, length-append, get_or-map}
-use Rattle.std.proofs.lemmas.List.Sums.{sum_by-cons, sum_by-set, sum_by_push, prefix_len-le-length}
-use Rattle.std.proofs.lemmas.List.Folds.{list_any_at, list_any-append, find-append, position_or_len_push}
+use Rattle.std.proofs.lemmas.Option.{same_Some, get_or_from_slice_get}
+use Rattle.std.proofs.lemmas.List.{map-set, length-map, get_or-map}
+use Rattle.std.proofs.lemmas.List.Sums.{sum_by-set}
+use Rattle.std.proofs.lemmas.List.Folds.{list_any_at}
 use Rattle.market_terms.specs.declared.lines.QuoteLine.{QuoteLine}
-use Rattle.market_terms.specs.declared.lines.QuoteState.{QuoteState}
-use Rattle.dealer_desk.specs.DealerFacts.{standing_request, standing_quote, is_live, is_live_on, is_lifted_on, is_droppable, live_quantity, quantity_beside}
+use Rattle.dealer_desk.specs.DealerFacts.{is_live, is_live_on, is_lifted_on, is_droppable, live_quantity}
 use Rattle.dealer_desk.specs.QuoteLines.{state_of, line_of}
-use Rattle.dealer_desk.specs.BookChanges.{IsSound, IsLiveNumber, ended_at, late_at, closed_on, declined_at, told_at}
-use Rattle.dealer_desk.specs.DealerTable.{IsTable, IsRow, live_number_among}
+use Rattle.dealer_desk.specs.BookChanges.{IsSound, ended_at, late_at}
+use Rattle.dealer_desk.specs.DealerTable.{IsTable, IsRow}
 use Rattle.dealer_desk.specs.declared.accepted.AcceptedQuote.{AcceptedQuote}
 use Rattle.dealer_desk.specs.declared.standing.StandingRequest.{StandingRequest}
 use Rattle.dealer_desk.specs.declared.standing.StandingQuote.{StandingQuote}
 use Rattle.dealer_desk.specs.declared.standing.QuoteEnd.{QuoteEnd}
 use Rattle.dealer_desk.specs.declared.standing.QuoteEnd.TheVariants as end
-use Rattle.market_terms.specs.declared.asks.Ask.{Ask}
-use Rattle.market_terms.specs.declared.closes.Close.{Close}
 use Rattle.market_terms.specs.declared.closes.Close.TheVariants as closes
 use Rattle.dealer_desk.specs.declared.table.RequestRow.{RequestRow}
-use Rattle.dealer_desk.proofs.ListLemmas.{set_at, set_map, pushed_at, any_none, set_same, all_fixed, find_stands, fails_where_none, mapped_at, find_none, find_mapped, any_mapped, lone_others, within_from, stands_within, ruled_out, before_place}
-use Rattle.dealer_desk.proofs.SoundLemmas.{sound_mapped, sound_requests, sound_shown, sound_quoted, none_live}
+use Rattle.dealer_desk.proofs.ListLemmas.{set_at, set_map, set_same, mapped_at, find_none, find_mapped, any_mapped, lone_others, within_from, ruled_out}
+use Rattle.dealer_desk.proofs.SoundLemmas.{sound_mapped}
 
 -- Changes of one quote.
 

@@ -15,7 +15,6 @@ use Rattle.quote_messages.specs.declared.arrivals.Arrival.TheVariants.{Dropped, 
 use Rattle.quote_messages.specs.declared.quotes.Quote.{Quote}
 use Rattle.quote_messages.specs.declared.quotes.CancelScope.{CancelScope}
 use Rattle.quote_messages.specs.declared.quotes.CancelScope.TheVariants as cancels
-use Rattle.quote_messages.specs.declared.quotes.Decline.{Decline}
 use Rattle.quote_messages.specs.declared.quotes.DealerMessage.{DealerMessage}
 use Rattle.quote_messages.specs.declared.quotes.DealerMessage.TheVariants as message
 use Rattle.quote_messages.specs.declared.out_messages.OutMessage.TheVariants as out

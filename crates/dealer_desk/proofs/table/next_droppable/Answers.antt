@@ -1,12 +1,9 @@
-use Rattle.std.proofs.Common.{◌≡◌, ◌+◌, ◌<◌, ℕ, true, false, Some, slice_get, sym, ap, ◌∙◌, arith}
+use Rattle.std.proofs.Common.{◌≡◌, ◌<◌, false, Some, slice_get, sym, ap, ◌∙◌, arith}
 use borrow.Author.Count.{below_more}
 use Rattle.dealer_desk.specs.DealerFacts.{is_droppable}
 use Rattle.dealer_desk.specs.declared.standing.StandingQuote.{StandingQuote}
 use Rattle.std.proofs.lemmas.Option.{get_or_from_slice_get}
 use Rattle.dealer_desk.proofs.ListLemmas.{first_place, no_place}
-use Rattle.dealer_desk.proofs.TableLemmas.{late_table}
-use Rattle.dealer_desk.proofs.BookLemmas.{told_book}
-use Rattle.dealer_desk.proofs.MapLemmas.{ids_kept}
 use Rattle.dealer_desk.proofs.table.next_droppable.Goals as goal
 
 pub loop-i-preserved : goal.loop-i-preserved

@@ -1,5 +1,5 @@
-use Rattle.std.proofs.Common.{◌≡◌, ◌≤◌, ◌+◌, ℕ, List, [], ◌∷◌, ◌++◌, length, None, sym, ap, subst, ◌∙◌}
-use Rattle.dealer_desk.specs.DealerFacts.{Quoted, standing_quote, live_number_on, exposure_beside, quote_with_id}
+use Rattle.std.proofs.Common.{◌≡◌, List, [], ◌∷◌, ◌++◌, length, None, sym, ap, subst, ◌∙◌}
+use Rattle.dealer_desk.specs.DealerFacts.{Quoted, standing_quote}
 use Rattle.dealer_desk.specs.BookChanges.{FitsBook}
 use Rattle.dealer_desk.specs.DealerTable.{IndexView, live_number_among, requests_in}
 use Rattle.dealer_desk.specs.declared.standing.StandingQuote.{StandingQuote}

@@ -1,11 +1,10 @@
-use Rattle.std.proofs.Common.{◌≡◌, ◌≤◌, ℕ, List, length, map, refl, sym, ap, subst, ◌∙◌}
+use Rattle.std.proofs.Common.{List, length, map, refl, sym, ap, ◌∙◌}
 use Rattle.std.proofs.lemmas.List.{length-map}
 use Rattle.dealer_desk.specs.DealerFacts.{Declined}
 use Rattle.dealer_desk.specs.BookChanges.{declined_at}
-use Rattle.dealer_desk.specs.DealerTable.{IndexView, requests_in}
+use Rattle.dealer_desk.specs.DealerTable.{requests_in}
 use Rattle.dealer_desk.specs.declared.standing.StandingRequest.{StandingRequest}
 use Rattle.dealer_desk.specs.declared.standing.StandingQuote.{StandingQuote}
-use Rattle.dealer_desk.specs.declared.table.RequestRow.{RequestRow}
 use Rattle.dealer_desk.proofs.BookLemmas.{declined_book}
 use Rattle.dealer_desk.proofs.IndexLemmas.{book_with, same_book, view_after, index_changed, unchanged, most_rows}
 use Rattle.dealer_desk.proofs.index.DealerIndex.decline.Goals as goal

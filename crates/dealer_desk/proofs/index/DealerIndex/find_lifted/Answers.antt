@@ -1,4 +1,4 @@
-use Rattle.std.proofs.Common.{◌≡◌, ℕ, List, length, map, refl, sym, ap, subst, ◌∙◌}
+use Rattle.std.proofs.Common.{List, length, map, sym, ap, subst, ◌∙◌}
 use Rattle.dealer_desk.specs.DealerFacts.{Late}
 use Rattle.dealer_desk.specs.BookChanges.{IsLiveNumber, late_at}
 use Rattle.dealer_desk.specs.DealerTable.{IndexView, requests_in}

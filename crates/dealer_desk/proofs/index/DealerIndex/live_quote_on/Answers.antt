@@ -1,4 +1,4 @@
-use Rattle.std.proofs.Common.{◌≡◌, ◌<◌, ◌≤◌, ◌-◌, ℕ, List, length, get_or, Option, Some, None, option_map, Bor, sym, ap, subst, ◌∙◌, arith}
+use Rattle.std.proofs.Common.{◌≡◌, ◌≤◌, ◌-◌, List, length, get_or, Some, None, option_map, Bor, sym, ap, subst, ◌∙◌, arith}
 use Rattle.dealer_desk.specs.DealerFacts.{live_quote_on, live_number_on, quote_numbered, request_numbered}
 use Rattle.dealer_desk.specs.DealerTable.{IndexView, requests_in}
 use Rattle.dealer_desk.specs.declared.standing.StandingQuote.{StandingQuote}

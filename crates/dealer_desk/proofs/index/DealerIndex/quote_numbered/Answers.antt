@@ -1,4 +1,4 @@
-use Rattle.std.proofs.Common.{rules, ◌≡◌, ◌<◌, ◌≤◌, ℕ, length, Some, None, inl, inr, sym, subst, ◌∙◌, arith}
+use Rattle.std.proofs.Common.{rules, ◌≡◌, ◌<◌, ◌≤◌, length, Some, None, inl, inr, sym, subst, arith}
 use Rattle.dealer_desk.specs.DealerFacts.{quote_numbered}
 use Rattle.dealer_desk.specs.DealerTable.{IndexView, requests_in}
 use Rattle.dealer_desk.proofs.ReaderLemmas.{quote_found, quote_missing}

@@ -1,8 +1,7 @@
-use Rattle.std.proofs.Common.{◌≡◌, ◌≤◌, ◌<◌, ◌+◌, ℕ, List, [], ◌∷◌, ◌++◌, length, map, find, Some, None, sym, ap, subst, ◌∙◌, arith}
-use Rattle.std.proofs.lemmas.List.{length-map}
+use Rattle.std.proofs.Common.{◌≡◌, List, [], ◌∷◌, ◌++◌, length, map, find, Some, None, sym, ap, subst, ◌∙◌}
 use Rattle.venue_config.specs.Texts.{same_text}
-use Rattle.dealer_desk.specs.DealerFacts.{Quoted, Withdrawn, standing_quote, DealerBook}
-use Rattle.dealer_desk.specs.BookChanges.{FitsBook, IsLiveNumber, book_after, ended_at}
+use Rattle.dealer_desk.specs.DealerFacts.{Quoted, Withdrawn, standing_quote}
+use Rattle.dealer_desk.specs.BookChanges.{FitsBook, IsLiveNumber, ended_at}
 use Rattle.dealer_desk.specs.DealerTable.{IndexView, live_number_among, with_fact, requests_in}
 use Rattle.dealer_desk.specs.declared.standing.StandingQuote.{StandingQuote}
 use Rattle.dealer_desk.specs.declared.standing.StandingRequest.{StandingRequest}

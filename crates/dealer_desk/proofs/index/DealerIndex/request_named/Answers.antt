@@ -1,7 +1,7 @@
-use Rattle.std.proofs.Common.{rules, ◌≡◌, ◌<◌, ◌≤◌, ◌^◌, ◌⊎◌, ℕ, length, true, Option, Some, None, option_map, inl, inr, Bor, sym, ap, subst, ◌∙◌, arith}
+use Rattle.std.proofs.Common.{rules, ◌≡◌, ◌<◌, ◌≤◌, ◌^◌, length, Some, None, option_map, inl, inr, Bor, sym, ap, subst, ◌∙◌, arith}
 use Rattle.std.proofs.lemmas.Option.{none-some}
 use Rattle.dealer_desk.specs.DealerFacts.{request_named, live_number_on, has_lifted_quote}
-use Rattle.dealer_desk.specs.DealerTable.{IndexView, requests_in}
+use Rattle.dealer_desk.specs.DealerTable.{IndexView}
 use Rattle.dealer_desk.specs.declared.table.RequestRow.{RequestRow}
 use Rattle.dealer_desk.proofs.ReaderLemmas.{named_missing, named_past, named_found, request_found, request_missing, row_live, row_lifted}
 use Rattle.dealer_desk.proofs.index.DealerIndex.request_named.Goals as goal

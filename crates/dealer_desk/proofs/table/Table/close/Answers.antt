@@ -1,6 +1,5 @@
-use Rattle.std.proofs.Common.{◌≡◌, ℕ, ◌≤◌, true, length, map, sym, ap, subst, ◌∙◌, arith}
+use Rattle.std.proofs.Common.{◌≡◌, ℕ, ◌≤◌, true, length, map, sym, ap, subst, ◌∙◌}
 use Rattle.dealer_desk.specs.BookChanges.{told_at}
-use Rattle.dealer_desk.specs.declared.table.RequestRow.{RequestRow}
 use Rattle.dealer_desk.proofs.TableReads.{request_table, told_requests, told_keeps}
 use Rattle.dealer_desk.proofs.TableGrowth.{as_many_rows}
 use Rattle.dealer_desk.proofs.table.Table.close.Goals as goal

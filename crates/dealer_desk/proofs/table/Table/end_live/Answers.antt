@@ -1,8 +1,5 @@
-use Rattle.std.proofs.Common.{◌≡◌, ℕ, ◌+◌, ◌-◌, ◌<◌, ◌≤◌, false, length, map, Some, None, slice_get, slice_set, get_or, refl, sym, ap, subst, ◌∙◌, arith}
-use Rattle.dealer_desk.specs.DealerFacts.{is_droppable}
-use Rattle.dealer_desk.specs.declared.standing.StandingQuote.{StandingQuote}
-use Rattle.std.specs.List.{position_or_len}
-use Rattle.dealer_desk.proofs.TableReads.{IsRead, is_read, end_live_table, end_live_quotes, row_kept, none_before, first_within}
+use Rattle.std.proofs.Common.{◌≡◌, ℕ, ◌-◌, ◌≤◌, length, Some, None, slice_get, refl, sym, ap, subst, ◌∙◌, arith}
+use Rattle.dealer_desk.proofs.TableReads.{is_read, end_live_table, end_live_quotes, row_kept, none_before, first_within}
 use Rattle.dealer_desk.proofs.TableLemmas.{quantity_within}
 use Rattle.dealer_desk.proofs.table.Table.end_live.Goals as goal
 

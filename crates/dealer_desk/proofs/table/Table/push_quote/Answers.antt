@@ -1,9 +1,7 @@
-use Rattle.std.proofs.Common.{rules, ◌≡◌, ◌≤◌, ℕ, ◌+◌, ◌-◌, List, [], ◌∷◌, ◌++◌, Some, None, length, set, sym, ap, subst, refl, ◌∙◌, arith}
+use Rattle.std.proofs.Common.{◌≡◌, ℕ, ◌+◌, ◌-◌, List, [], ◌∷◌, ◌++◌, Some, set, sym, subst, refl}
 use Rattle.dealer_desk.specs.DealerFacts.{standing_quote}
-use Rattle.dealer_desk.specs.QuoteLines.{line_of}
 use Rattle.dealer_desk.specs.DealerTable.{IsTable}
 use Rattle.dealer_desk.specs.declared.standing.StandingQuote.{StandingQuote}
-use Rattle.dealer_desk.specs.declared.table.RequestRow.{RequestRow}
 use Rattle.market_terms.specs.declared.lines.QuoteLine.{QuoteLine}
 use Rattle.dealer_desk.proofs.TableGrowth.{push_quote_table, request_row_kept}
 use Rattle.dealer_desk.proofs.table.Table.push_quote.Goals as goal

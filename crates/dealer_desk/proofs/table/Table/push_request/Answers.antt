@@ -1,7 +1,6 @@
 use Rattle.std.proofs.Common.{rules, ◌≡◌, ℕ, ◌+◌, List, [], ◌∷◌, ◌++◌, false, None, length, sym, ap, subst, ◌∙◌}
 use Rattle.dealer_desk.specs.DealerFacts.{standing_request}
 use Rattle.dealer_desk.specs.DealerTable.{IsTable}
-use Rattle.dealer_desk.specs.declared.standing.StandingRequest.{StandingRequest}
 use Rattle.dealer_desk.specs.declared.table.RequestRow.{RequestRow}
 use Rattle.dealer_desk.proofs.TableGrowth.{push_request_table}
 use Rattle.dealer_desk.proofs.table.Table.push_request.Goals as goal
