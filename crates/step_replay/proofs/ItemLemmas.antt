@@ -1,39 +1,33 @@
 -- A desk and a row of words go on standing for a view, item by item.
-use Rattle.std.proofs.Common.{◌≡◌, ◌≢◌, ◌≤◌, ◌<◌, ℕ, ◌+◌, ◌-◌, ◌==◌, nat_le}
-use Rattle.std.proofs.Common.{Bool, true, false, ◌&&◌, ◌||◌, not, if◌then◌else◌}
-use Rattle.std.proofs.Common.{List, [], ◌∷◌, ◌++◌, length, fold, get_or, replicate, take}
-use Rattle.std.proofs.Common.{Option, Some, None, IfSome, option_map}
-use Rattle.std.proofs.Common.{refl, sym, ap, ◌∙◌, subst, arith, eq-eqb}
-use Rattle.std.proofs.lemmas.Bool.Decides.{nat_tests}
+use Rattle.std.proofs.Common.{◌≡◌, ◌≤◌, ◌<◌, ℕ, ◌+◌, ◌-◌, nat_le}
+use Rattle.std.proofs.Common.{Bool, true, false, ◌&&◌, not, if◌then◌else◌}
+use Rattle.std.proofs.Common.{List, [], ◌∷◌, ◌++◌, length, get_or, replicate, take}
+use Rattle.std.proofs.Common.{Option, None, IfSome, option_map}
+use Rattle.std.proofs.Common.{refl, sym, ap, ◌∙◌, subst, arith}
 use Rattle.std.proofs.lemmas.List.{get_or-replicate, take_all, take_more}
-use Rattle.std.proofs.lemmas.List.Folds.{list_any-append}
 use Rattle.std.proofs.lemmas.List.Sums.{fold-append}
-use Rattle.std.specs.List.{list_any}
-use Rattle.quote_word.specs.PlainWords.{answer_of, after_exchange, entry_in}
-use Rattle.quote_word.specs.PlainWordsLaws.{exchange_answers_entry, exchange_keeps_others}
+use Rattle.quote_word.specs.PlainWords.{entry_in}
 use Rattle.quote_word.specs.declared.settled.Settled.{Settled}
-use Rattle.quote_word.specs.declared.settled.Settled.TheVariants.{Withdrawn, Lifted}
+use Rattle.quote_word.specs.declared.settled.Settled.TheVariants.{Lifted}
 use Rattle.venue_config.specs.declared.dealer_rows.DealerRow.{DealerRow}
 use Rattle.market_terms.specs.declared.asks.Ask.{Ask}
 use Rattle.market_terms.specs.declared.closes.Close.{Close}
 use Rattle.dealer_desk.specs.DealerFacts.{number_to_drop}
-use Rattle.dealer_desk.specs.DealerOutput.{DeskEvents, asked_by, asked_word, book_at, desk_after}
+use Rattle.dealer_desk.specs.DealerOutput.{DeskEvents, asked_word, book_at, desk_after}
 use Rattle.dealer_desk.specs.DealerOutput.{may_close, verdict_at, word_asked, with_event}
 use Rattle.dealer_desk.specs.DealerOutput.{with_notice}
-use Rattle.dealer_desk.specs.DeskLaws.{says_withdrawn}
 use Rattle.dealer_desk.specs.declared.events.DealerEvent.{DealerEvent}
 use Rattle.dealer_desk.specs.declared.events.DealerEvent.TheVariants as event
 use Rattle.step_replay.specs.declared.due.Due.{Due}
 use Rattle.step_replay.specs.declared.due.Due.TheVariants as due
 use Rattle.step_replay.specs.DealerView.{DealerView, after_due, answer_to, dealer_view}
-use Rattle.step_replay.specs.DealerView.{is_lifted, is_withdrawn_at, no_room, sent_at}
+use Rattle.step_replay.specs.DealerView.{is_withdrawn_at, no_room, sent_at}
 use Rattle.step_replay.specs.DealerView.{view_after, view_at_start, with_event_at_desk}
 use Rattle.step_replay.specs.RowOfWords.{AreWordsOf, GrowsByEvents, Happens, IsOfRow, Row}
 use Rattle.step_replay.specs.RowOfWords.{StandsFor}
 use Rattle.step_replay.specs.RowOfWords.{answer_in, with_asked, with_lifting, with_wish}
-use Rattle.step_replay.specs.RowOfWords.{withdraws_by, word_if, word_of}
 use Rattle.step_replay.proofs.RowLemmas.{asked_stands, asks_at, lifting_desk, lifting_words}
-use Rattle.step_replay.proofs.RowLemmas.{unasked, with_lifted}
+use Rattle.step_replay.proofs.RowLemmas.{unasked}
 
 -- Items.
 
@@ -41,26 +35,26 @@ use Rattle.step_replay.proofs.RowLemmas.{unasked, with_lifted}
 module _ (grows : GrowsByEvents) (asked : DeskEvents → Option ℕ)
     (more : Option Settled → DealerEvent)
     (asks : (desk : DeskEvents) (answer : Option Settled)
-        → asks_at desk (more answer) ≡ asked_word (asked desk) answer)
+    → asks_at desk (more answer) ≡ asked_word (asked desk) answer)
     (desk after : DeskEvents) (words words_after : Row) (count : length words ≡ desk.row.quotes)
     (within : IfSome (asked desk) (IsOfRow desk.row.quotes))
     (after_is : after ≡ with_event desk (more (option_map (answer_in words) (asked desk))))
     (words_are : words_after ≡ with_asked words (asked desk)) where
   asking_stands : (view : DealerView) → StandsFor view desk words
       → StandsFor (with_event_at_desk view (more (option_map (answer_to view) (asked view.desk))))
-          after words_after
+      after words_after
   asking_stands view stands =
       let same = stands.desk_is in
       let now = asked_stands grows view words (asked view.desk) more (asks view.desk)
-          (subst (λ (d : DeskEvents). length words ≡ d.row.quotes) same count)
-          (subst (λ (d : DeskEvents). IfSome (asked d) (IsOfRow d.row.quotes)) same within)
-          stands.words_are in
+      (subst (λ (d : DeskEvents). length words ≡ d.row.quotes) same count)
+      (subst (λ (d : DeskEvents). IfSome (asked d) (IsOfRow d.row.quotes)) same within)
+      stands.words_are in
       let event = more (option_map (answer_to view) (asked view.desk)) in
       record {
         desk_is = after_is
-          ∙ ap (λ (d : DeskEvents).
-              with_event d (more (option_map (answer_in words) (asked d)))) same
-          ∙ now.desk_is;
+            ∙ ap (λ (d : DeskEvents).
+            with_event d (more (option_map (answer_in words) (asked d)))) same
+            ∙ now.desk_is;
         words_are = subst (AreWordsOf (with_event_at_desk view event))
             (sym (words_are ∙ ap (λ (d : DeskEvents). with_asked words (asked d)) same))
             now.words_are;
@@ -72,15 +66,15 @@ pub own_happens : GrowsByEvents → (desk after : DeskEvents) (words words_after
     → length words ≡ desk.row.quotes
     → IfSome (word_asked (verdict_at desk moment bytes)) (IsOfRow desk.row.quotes)
     → after ≡ with_event desk (event.Own moment bytes
-        (option_map (answer_in words) (word_asked (verdict_at desk moment bytes))))
+    (option_map (answer_in words) (word_asked (verdict_at desk moment bytes))))
     → words_after ≡ with_asked words (word_asked (verdict_at desk moment bytes))
     → Happens (due.Own moment bytes) (record { desk = desk; words = words })
-        (record { desk = after; words = words_after })
+    (record { desk = after; words = words_after })
 unfolding after_due
 own_happens grows desk after words words_after moment bytes count within after_is words_are =
     asking_stands grows (λ d. word_asked (verdict_at d moment bytes))
-      (λ answer. event.Own moment bytes answer) (λ d answer. refl)
-      desk after words words_after count within after_is words_are
+    (λ answer. event.Own moment bytes answer) (λ d answer. refl)
+    desk after words words_after count within after_is words_are
 
 -- a drop, with the answer of the row
 pub drop_happens : GrowsByEvents → (desk after : DeskEvents) (words words_after : Row)
@@ -88,25 +82,25 @@ pub drop_happens : GrowsByEvents → (desk after : DeskEvents) (words words_afte
     → length words ≡ desk.row.quotes
     → IfSome (number_to_drop (book_at desk) last) (IsOfRow desk.row.quotes)
     → after ≡ with_event desk (event.Drop last moment
-        (option_map (answer_in words) (number_to_drop (book_at desk) last)))
+    (option_map (answer_in words) (number_to_drop (book_at desk) last)))
     → words_after ≡ with_asked words (number_to_drop (book_at desk) last)
     → Happens (due.Drop last moment) (record { desk = desk; words = words })
-        (record { desk = after; words = words_after })
+    (record { desk = after; words = words_after })
 unfolding after_due
 drop_happens grows desk after words words_after last moment count within after_is words_are =
     asking_stands grows (λ d. number_to_drop (book_at d) last)
-      (λ answer. event.Drop last moment answer) (λ d answer. refl)
-      desk after words words_after count within after_is words_are
+    (λ answer. event.Drop last moment answer) (λ d answer. refl)
+    desk after words words_after count within after_is words_are
 
 -- a request that is shown
 pub shown_happens : GrowsByEvents → (desk after : DeskEvents) (words : Row) (ask : Ask) (moment : ℕ)
     → after ≡ with_event desk (event.Shown no_room ask moment)
     → Happens (due.Shown ask moment) (record { desk = desk; words = words })
-        (record { desk = after; words = words })
+    (record { desk = after; words = words })
 unfolding after_due
 shown_happens grows desk after words ask moment after_is view stands = record {
   desk_is = after_is
-    ∙ ap (λ (d : DeskEvents). with_event d (event.Shown no_room ask moment)) stands.desk_is;
+      ∙ ap (λ (d : DeskEvents). with_event d (event.Shown no_room ask moment)) stands.desk_is;
   words_are = unasked grows view words (event.Shown no_room ask moment) refl stands.words_are;
 }
 
@@ -121,11 +115,11 @@ pub closed_happens : GrowsByEvents → (desk after : DeskEvents) (words : Row)
     → (request : ℕ) (close : Close) (moment : ℕ)
     → after ≡ with_notice desk request close moment
     → Happens (due.Closed request close moment) (record { desk = desk; words = words })
-        (record { desk = after; words = words })
+    (record { desk = after; words = words })
 unfolding after_due
 closed_happens grows desk after words request close moment after_is view stands = record {
   desk_is = after_is
-    ∙ ap (λ (d : DeskEvents). with_notice d request close moment) stands.desk_is;
+      ∙ ap (λ (d : DeskEvents). with_notice d request close moment) stands.desk_is;
   words_are = notice_words grows view words (event.Told request close moment)
       (may_close view.desk request) refl stands.words_are;
 }
@@ -134,7 +128,7 @@ closed_happens grows desk after words request close moment after_is view stands 
 pub lifted_happens : (desk : DeskEvents) (words words_after : Row) (quote : ℕ)
     → length words ≡ desk.row.quotes → words_after ≡ with_lifting words quote
     → Happens (due.Lifted quote) (record { desk = desk; words = words })
-        (record { desk = desk; words = words_after })
+    (record { desk = desk; words = words_after })
 unfolding after_due
 lifted_happens desk words words_after quote count after_are view stands =
     let as_many = subst (λ (d : DeskEvents). length words ≡ d.row.quotes) stands.desk_is count in
@@ -142,7 +136,7 @@ lifted_happens desk words words_after quote count after_are view stands =
     let withdrawn = is_withdrawn_at view.desk quote in
     let lifted = with_wish words quote Lifted in
     let same = ap (λ (n : ℕ). if nat_le 1 quote && nat_le quote n then lifted else words)
-        (sym as_many) in
+    (sym as_many) in
     record {
       desk_is = stands.desk_is ∙ lifting_desk view quote (has_word && not withdrawn);
       words_are = subst (AreWordsOf (after_due view (due.Lifted quote))) (same ∙ sym after_are)
@@ -175,7 +169,7 @@ pub item_stands : (date : List ℕ) (row : DealerRow) (dues : List Due) (place :
 item_stands date row dues place item desk words within is stands =
     let front : List Due = take place dues in
     let more : take (place + 1) dues ≡ front ++ item ∷ [] =
-        take_more dues place item within ∙ ap (λ (found : Due). front ++ found ∷ []) (sym is) in
+    take_more dues place item within ∙ ap (λ (found : Due). front ++ found ∷ []) (sym is) in
     let start = view_at_start date row in
     let view = ap (view_after date row) more ∙ fold-append after_due start front (item ∷ []) in
     subst (λ (after : DealerView). StandsFor after desk words) (sym view) stands

@@ -1,36 +1,26 @@
 -- What becomes of the row of words that stands for a view, exchange by exchange.
-use Rattle.std.proofs.Common.{◌≡◌, ◌≢◌, ◌≤◌, ◌<◌, ℕ, ◌+◌, ◌-◌, ◌==◌, nat_le}
+use Rattle.std.proofs.Common.{◌≡◌, ◌≢◌, ◌≤◌, ◌<◌, ℕ, ◌-◌, ◌==◌, nat_le}
 use Rattle.std.proofs.Common.{Bool, true, false, ◌&&◌, ◌||◌, not, if◌then◌else◌}
-use Rattle.std.proofs.Common.{List, [], ◌∷◌, ◌++◌, length, fold, get_or, replicate, take}
+use Rattle.std.proofs.Common.{List, [], ◌∷◌, ◌++◌, length}
 use Rattle.std.proofs.Common.{Option, Some, None, IfSome, option_map}
 use Rattle.std.proofs.Common.{refl, sym, ap, ◌∙◌, subst, arith, eq-eqb}
 use Rattle.std.proofs.lemmas.Bool.Decides.{nat_tests}
-use Rattle.std.proofs.lemmas.List.{get_or-replicate, take_all, take_more}
 use Rattle.std.proofs.lemmas.List.Folds.{list_any-append}
-use Rattle.std.proofs.lemmas.List.Sums.{fold-append}
 use Rattle.std.specs.List.{list_any}
 use Rattle.quote_word.specs.PlainWords.{answer_of, after_exchange, entry_in}
 use Rattle.quote_word.specs.PlainWordsLaws.{exchange_answers_entry, exchange_keeps_others}
 use Rattle.quote_word.specs.declared.settled.Settled.{Settled}
 use Rattle.quote_word.specs.declared.settled.Settled.TheVariants.{Withdrawn, Lifted}
-use Rattle.venue_config.specs.declared.dealer_rows.DealerRow.{DealerRow}
-use Rattle.market_terms.specs.declared.asks.Ask.{Ask}
-use Rattle.market_terms.specs.declared.closes.Close.{Close}
-use Rattle.dealer_desk.specs.DealerFacts.{number_to_drop}
-use Rattle.dealer_desk.specs.DealerOutput.{DeskEvents, asked_by, asked_word, book_at, desk_after}
-use Rattle.dealer_desk.specs.DealerOutput.{may_close, verdict_at, word_asked, with_event}
-use Rattle.dealer_desk.specs.DealerOutput.{with_notice}
+use Rattle.dealer_desk.specs.DealerOutput.{DeskEvents, asked_by, asked_word, book_at}
+use Rattle.dealer_desk.specs.DealerOutput.{with_event}
 use Rattle.dealer_desk.specs.DeskLaws.{says_withdrawn}
 use Rattle.dealer_desk.specs.declared.events.DealerEvent.{DealerEvent}
-use Rattle.dealer_desk.specs.declared.events.DealerEvent.TheVariants as event
-use Rattle.step_replay.specs.declared.due.Due.{Due}
-use Rattle.step_replay.specs.declared.due.Due.TheVariants as due
-use Rattle.step_replay.specs.DealerView.{DealerView, after_due, answer_to, dealer_view}
-use Rattle.step_replay.specs.DealerView.{is_lifted, is_withdrawn_at, no_room, sent_at}
-use Rattle.step_replay.specs.DealerView.{view_after, view_at_start, with_event_at_desk}
-use Rattle.step_replay.specs.RowOfWords.{AreWordsOf, GrowsByEvents, Happens, IsOfRow, Row}
+use Rattle.step_replay.specs.DealerView.{DealerView, answer_to}
+use Rattle.step_replay.specs.DealerView.{is_lifted, is_withdrawn_at}
+use Rattle.step_replay.specs.DealerView.{with_event_at_desk}
+use Rattle.step_replay.specs.RowOfWords.{AreWordsOf, GrowsByEvents, IsOfRow, Row}
 use Rattle.step_replay.specs.RowOfWords.{StandsFor}
-use Rattle.step_replay.specs.RowOfWords.{answer_in, with_asked, with_lifting, with_wish}
+use Rattle.step_replay.specs.RowOfWords.{answer_in, with_asked, with_wish}
 use Rattle.step_replay.specs.RowOfWords.{withdraws_by, word_if, word_of}
 
 -- Tests.
@@ -58,14 +48,14 @@ in_row quote count is = (grind (arith, nat_tests), grind (arith, nat_tests))
 -- the word of the quote is what is answered
 same_after : (words : Row) (quote : ℕ) (wish : Settled) → IsOfRow (length words) quote
     → entry_in (with_wish words quote wish) (quote - 1)
-      ≡ Some (answer_of (entry_in words (quote - 1)) wish)
+    ≡ Some (answer_of (entry_in words (quote - 1)) wish)
 same_after words quote wish within =
     let low : 1 ≤ quote = within.0 in
     let high : quote ≤ length words = within.1 in
     let below : quote - 1 < length words = omega arith in
     let answer = answer_of (entry_in words (quote - 1)) wish in
     exchange_answers_entry words (with_wish words quote wish) (quote - 1) wish answer below
-      (record { answered = refl; changed = refl })
+    (record { answered = refl; changed = refl })
 
 -- and no other quote's word changes
 other_after : (words : Row) (quote other : ℕ) (wish : Settled)
@@ -75,7 +65,7 @@ other_after words quote other wish low low_too differs =
     let apart : other - 1 ≢ quote - 1 = omega arith in
     let answer = answer_of (entry_in words (quote - 1)) wish in
     exchange_keeps_others words (with_wish words quote wish) (quote - 1) (other - 1) wish answer
-      (record { answered = refl; changed = refl }) apart
+    (record { answered = refl; changed = refl }) apart
 
 -- A withdrawal.
 
@@ -100,8 +90,8 @@ answers_agree view words quote are within =
 -- the words of a view after one event more
 word_grows : GrowsByEvents → (view : DealerView) (more : DealerEvent) (quote : ℕ)
     → word_of (with_event_at_desk view more) quote
-      ≡ word_if (is_lifted view quote)
-          (is_withdrawn_at view.desk quote || withdraws_by view.desk more quote)
+    ≡ word_if (is_lifted view quote)
+    (is_withdrawn_at view.desk quote || withdraws_by view.desk more quote)
 word_grows grows view more quote =
     ap (word_if (is_lifted view quote)) (grows view.desk more quote)
 
@@ -116,8 +106,8 @@ pub unasked : GrowsByEvents → (view : DealerView) (words : Row) (more : Dealer
 unasked grows view words more asks are quote within =
     let before = is_withdrawn_at view.desk quote in
     let none =
-        ap (λ (asked : List (ℕ × Settled)). before || list_any (says_withdrawn quote) asked) asks
-        ∙ or_false before in
+    ap (λ (asked : List (ℕ × Settled)). before || list_any (says_withdrawn quote) asked) asks
+    ∙ or_false before in
     are quote within
     ∙ sym (word_grows grows view more quote ∙ ap (word_if (is_lifted view quote)) none)
 
@@ -128,7 +118,7 @@ then_withdrawn before quote asked = before || list_any (says_withdrawn quote) as
 -- the word of a quote that is asked, and answered so
 word_taken : (lifted before : Bool) (quote : ℕ) → (quote == quote) ≡ true
     → word_if lifted (then_withdrawn before quote ((quote, answer_if lifted) ∷ []))
-      ≡ Some (answer_if lifted)
+    ≡ Some (answer_if lifted)
 word_taken true before quote same = refl
 word_taken false before quote same = ap (word_if false) (or_true before (quote == quote) same)
 
@@ -155,11 +145,11 @@ module _ (grows : GrowsByEvents) (view : DealerView) (words : Row) (asked : ℕ)
   -- the latter by the word that is asked
   word_now : (quote : ℕ) → word quote
       ≡ word_if (is_lifted view quote) (then_withdrawn (is_withdrawn_at view.desk quote) quote
-          ((asked, answer_to view asked) ∷ []))
+      ((asked, answer_to view asked) ∷ []))
   word_now quote =
       word_grows grows view more quote
       ∙ ap (λ (words_asked : List (ℕ × Settled)). word_if (is_lifted view quote)
-          (then_withdrawn (is_withdrawn_at view.desk quote) quote words_asked)) asks
+      (then_withdrawn (is_withdrawn_at view.desk quote) quote words_asked)) asks
 
   asked_word_is : entry asked ≡ word asked
   asked_word_is =
@@ -198,7 +188,7 @@ pub asked_stands : GrowsByEvents → (view : DealerView) (words : Row) (asked : 
     → length words ≡ view.desk.row.quotes → IfSome asked (IsOfRow view.desk.row.quotes)
     → AreWordsOf view words
     → StandsFor (with_event_at_desk view (more (option_map (answer_to view) asked)))
-        (with_event view.desk (more (option_map (answer_in words) asked))) (with_asked words asked)
+    (with_event view.desk (more (option_map (answer_in words) asked))) (with_asked words asked)
 asked_stands grows view words None more asks count within are = record {
   desk_is = refl;
   words_are = unasked grows view words (more None) (asks None) are;
@@ -248,7 +238,7 @@ module _ (view : DealerView) (words : Row) (quote : ℕ)
   -- whether a quote is lifted then
   lifted_now : (other : ℕ)
       → is_lifted (with_lifted view quote) other
-        ≡ (is_lifted view other || ((quote == other) || false))
+      ≡ (is_lifted view other || ((quote == other) || false))
   lifted_now other = list_any-append (λ lifted. lifted == other) view.lifted (quote ∷ [])
 
   withdrawn_before : is_withdrawn_at view.desk quote ≡ true
@@ -256,7 +246,7 @@ module _ (view : DealerView) (words : Row) (quote : ℕ)
   withdrawn_before is =
       let exchange : Option Settled → Row = λ e. after_exchange e words (quote - 1) Lifted in
       let stays = ap exchange (are quote within) ∙ settled_stays (is_lifted view quote)
-          (is_withdrawn_at view.desk quote) words (quote - 1) Lifted is in
+      (is_withdrawn_at view.desk quote) words (quote - 1) Lifted is in
       subst (AreWordsOf view) (sym stays) are
 
   lifted_word_is : is_withdrawn_at view.desk quote ≡ false → lifted_entry quote ≡ lifted_word quote
@@ -266,9 +256,9 @@ module _ (view : DealerView) (words : Row) (quote : ℕ)
       same_after words quote Lifted (within.0, rw count within.1)
       ∙ ap (λ (entry : Option Settled). Some (answer_of entry Lifted)) (are quote within)
       ∙ ap (λ (answer : Settled). Some answer)
-          (answer_to_lifting (is_lifted view quote) withdrawn is)
+      (answer_to_lifting (is_lifted view quote) withdrawn is)
       ∙ sym (word_lifted (is_lifted (with_lifted view quote) quote) withdrawn
-          (lifted_now quote ∙ or_true (is_lifted view quote) (quote == quote) same))
+      (lifted_now quote ∙ or_true (is_lifted view quote) (quote == quote) same))
 
   left_word_is : (other : ℕ) → other ≢ quote → (quote == other) ≡ false
       → IsOfRow view.desk.row.quotes other → lifted_entry other ≡ lifted_word other
@@ -276,7 +266,7 @@ module _ (view : DealerView) (words : Row) (quote : ℕ)
       other_after words quote other Lifted within.0 inside.0 differs
       ∙ are other inside
       ∙ ap (λ (lifted : Bool). word_if lifted (is_withdrawn_at view.desk other))
-          (sym (lifted_now other ∙ or_none (is_lifted view other) true (quote == other) test))
+      (sym (lifted_now other ∙ or_none (is_lifted view other) true (quote == other) test))
 
   each_lifted_is : is_withdrawn_at view.desk quote ≡ false → (other : ℕ) (same : Bool)
       → (quote == other) ≡ same → IsOfRow view.desk.row.quotes other
@@ -299,7 +289,7 @@ pub lifting_words : (view : DealerView) (words : Row) (quote : ℕ) (has_word wi
     → is_withdrawn_at view.desk quote ≡ withdrawn
     → length words ≡ view.desk.row.quotes → AreWordsOf view words
     → AreWordsOf (if has_word && not withdrawn then with_lifted view quote else view)
-        (if has_word then with_wish words quote Lifted else words)
+    (if has_word then with_wish words quote Lifted else words)
 lifting_words view words quote false withdrawn has is count are = are
 lifting_words view words quote true true has is count are =
     withdrawn_before view words quote count (in_row quote view.desk.row.quotes has) are is

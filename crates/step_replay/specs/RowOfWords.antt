@@ -83,4 +83,4 @@ withdraws_by desk more quote =
 abbrev pub GrowsByEvents : Type 0
 GrowsByEvents = (desk : DeskEvents) (more : DealerEvent) (quote : ℕ)
     → is_withdrawn_at (with_event desk more) quote
-      ≡ (is_withdrawn_at desk quote || withdraws_by desk more quote)
+    ≡ (is_withdrawn_at desk quote || withdraws_by desk more quote)

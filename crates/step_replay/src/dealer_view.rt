@@ -10,9 +10,7 @@ ghost use Rattle.step_replay.specs.DealerView as spec;
 ghost use Rattle.step_replay.specs.RowOfWords as row_of;
 
 use crate::Due;
-use dealer_desk::{
-    DealerDesk, facts_say_how_words_were_answered, words_are_asked_event_by_event,
-};
+use dealer_desk::{DealerDesk, facts_say_how_words_were_answered, words_are_asked_event_by_event};
 use fix_fields::{Date, Memory, Moment};
 use quote_messages::{RoomRef, SentMessage};
 use quote_word::{PlainWords, Settled, Words};
@@ -87,7 +85,7 @@ fn take_own(
     requires { length words.old ≡ desk.old.row.quotes }
     ensures ok { OnOk result (let asked = word_asked (verdict_at desk.old moment bytes.now) in
         desk.new ≡ with_event desk.old
-          (DealerEvent.Own moment bytes.now (option_map (row_of.answer_in words.old) asked))) }
+        (DealerEvent.Own moment bytes.now (option_map (row_of.answer_in words.old) asked))) }
     ensures words { words.new
         ≡ row_of.with_asked words.old (word_asked (verdict_at desk.old moment bytes.now)) }
     ensures asked { IfSome (word_asked (verdict_at desk.old moment bytes.now))
@@ -109,7 +107,7 @@ fn drop_next(
     requires { length words.old ≡ desk.old.row.quotes }
     ensures ok { OnOk result (let asked = number_to_drop (book_at desk.old) last in
         desk.new ≡ with_event desk.old
-          (DealerEvent.Drop last moment (option_map (row_of.answer_in words.old) asked))) }
+        (DealerEvent.Drop last moment (option_map (row_of.answer_in words.old) asked))) }
     ensures words { words.new
         ≡ row_of.with_asked words.old (number_to_drop (book_at desk.old) last) }
     ensures asked { IfSome (number_to_drop (book_at desk.old) last)

@@ -28,4 +28,4 @@ pub returns : goal.returns
 returns c =
     c.into_sent.ensures
     ∙ all_sent c.args.date.now c.args.row.now c.args.dues.now c.loop-due.due-index
-        c.loop-due.desk c.loop-due.words c.loop-due-test.false c.loop-due.invariant.stands
+    c.loop-due.desk c.loop-due.words c.loop-due-test.false c.loop-due.invariant.stands

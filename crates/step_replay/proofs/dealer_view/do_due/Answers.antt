@@ -15,12 +15,12 @@ returns-in_ok-take_own-in-Own-clause-ok c =
     let moment = c.in-Own.moment in
     let before : DeskAndWords = record { desk = c.args.desk.now; words = c.args.words.now } in
     let after : DeskAndWords =
-        record { desk = c.take_own.new.desk; words = c.take_own.new.words } in
+    record { desk = c.take_own.new.desk; words = c.take_own.new.words } in
     let is = ap (λ (bytes : List ℕ). due.Own moment bytes) c.as_bytes.ensures ∙ sym c.in-Own.is in
     subst (λ (d : Due). Happens d before after) is
-      (own_happens c.quotes_are_withdrawn_event_by_event.ensures before.desk after.desk
-        before.words after.words moment c.as_bytes.result.now c.requires c.take_own.ensures.asked
-        c.in_ok-take_own-in-Own.ensures.ok c.take_own.ensures.words)
+    (own_happens c.quotes_are_withdrawn_event_by_event.ensures before.desk after.desk
+    before.words after.words moment c.as_bytes.result.now c.requires c.take_own.ensures.asked
+    c.in_ok-take_own-in-Own.ensures.ok c.take_own.ensures.words)
 
 pub returns-in_ok-show-in-Shown-clause-ok : goal.returns-in_ok-show-in-Shown-clause-ok
 returns-in_ok-show-in-Shown-clause-ok c =
@@ -29,17 +29,17 @@ returns-in_ok-show-in-Shown-clause-ok c =
     let after : DeskAndWords = record { desk = c.show.new.self; words = c.args.words.now } in
     let shown = λ (ask : Ask). with_event c.args.desk.now (event.Shown no_room ask moment) in
     subst (λ (d : Due). Happens d before after) (sym c.in-Shown.is)
-      (shown_happens c.quotes_are_withdrawn_event_by_event.ensures before.desk after.desk
-        before.words c.in-Shown.ask moment
-        (c.in_ok-show-in-Shown.ensures.ok ∙ ap shown c.copy.ensures))
+    (shown_happens c.quotes_are_withdrawn_event_by_event.ensures before.desk after.desk
+    before.words c.in-Shown.ask moment
+    (c.in_ok-show-in-Shown.ensures.ok ∙ ap shown c.copy.ensures))
 
 pub returns-in-Lifted-clause-ok : goal.returns-in-Lifted-clause-ok
 returns-in-Lifted-clause-ok c =
     let before : DeskAndWords = record { desk = c.args.desk.now; words = c.args.words.now } in
     let after : DeskAndWords = record { desk = c.args.desk.now; words = c.lift.new.words } in
     subst (λ (d : Due). Happens d before after) (sym c.in-Lifted.is)
-      (lifted_happens before.desk before.words after.words c.in-Lifted.quote c.requires
-        c.lift.ensures.lifted)
+    (lifted_happens before.desk before.words after.words c.in-Lifted.quote c.requires
+    c.lift.ensures.lifted)
 
 pub returns-in_ok-tell_request-in-Closed-clause-ok :
     goal.returns-in_ok-tell_request-in-Closed-clause-ok
@@ -47,16 +47,16 @@ returns-in_ok-tell_request-in-Closed-clause-ok c =
     let before : DeskAndWords = record { desk = c.args.desk.now; words = c.args.words.now } in
     let after : DeskAndWords = record { desk = c.tell_request.new.self; words = before.words } in
     subst (λ (d : Due). Happens d before after) (sym c.in-Closed.is)
-      (closed_happens c.quotes_are_withdrawn_event_by_event.ensures before.desk after.desk
-        before.words c.in-Closed.request c.in-Closed.close c.in-Closed.moment
-        c.in_ok-tell_request-in-Closed.ensures.ok)
+    (closed_happens c.quotes_are_withdrawn_event_by_event.ensures before.desk after.desk
+    before.words c.in-Closed.request c.in-Closed.close c.in-Closed.moment
+    c.in_ok-tell_request-in-Closed.ensures.ok)
 
 pub returns-in_ok-drop_next-in-Drop-clause-ok : goal.returns-in_ok-drop_next-in-Drop-clause-ok
 returns-in_ok-drop_next-in-Drop-clause-ok c =
     let before : DeskAndWords = record { desk = c.args.desk.now; words = c.args.words.now } in
     let after : DeskAndWords =
-        record { desk = c.drop_next.new.desk; words = c.drop_next.new.words } in
+    record { desk = c.drop_next.new.desk; words = c.drop_next.new.words } in
     subst (λ (d : Due). Happens d before after) (sym c.in-Drop.is)
-      (drop_happens c.quotes_are_withdrawn_event_by_event.ensures before.desk after.desk
-        before.words after.words c.in-Drop.last c.in-Drop.moment c.requires
-        c.drop_next.ensures.asked c.in_ok-drop_next-in-Drop.ensures.ok c.drop_next.ensures.words)
+    (drop_happens c.quotes_are_withdrawn_event_by_event.ensures before.desk after.desk
+    before.words after.words c.in-Drop.last c.in-Drop.moment c.requires
+    c.drop_next.ensures.asked c.in_ok-drop_next-in-Drop.ensures.ok c.drop_next.ensures.words)

@@ -13,6 +13,6 @@ returns c desk more quote =
     said (facts_at (with_event desk more)) quote
     ∙ ap (list_any (says_withdrawn quote)) grown
     ∙ list_any-append (says_withdrawn quote) (answered_words (facts_at desk))
-        (asked_by desk.date desk.row (book_at desk) more)
+    (asked_by desk.date desk.row (book_at desk) more)
     ∙ ap (λ (before : Bool). before || withdraws_by desk more quote)
-        (sym (said (facts_at desk) quote))
+    (sym (said (facts_at desk) quote))
