@@ -5,6 +5,7 @@ mod drops;
 mod fixtures;
 mod forged;
 mod full_days;
+mod judged;
 mod lines;
 mod memory;
 mod shown;

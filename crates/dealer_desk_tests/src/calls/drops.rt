@@ -4,8 +4,7 @@ use super::fixtures::{
     FIRST_ROOM, SECOND_ROOM, ask, asked_desk, at, desk, drops, left_text, message, sum, takes,
 };
 use dealer_desk::DealerDesk;
-use fix_fields::{Memory, Moment};
-use quote_messages::Duty;
+use fix_fields::Moment;
 use std::alloc::Global;
 use std::process::Abort;
 use std::test::Fail;
@@ -19,69 +18,59 @@ const QUOTED: &[(&str, &str, &str)] = &[
     ("Z", "4", "298=4|"),
 ];
 
-/// A drop: LAST, the own number of the quote whose word it asks, or 0, what it leaves to be done,
-/// in its order, and the exposure behind it.
-type Dropped = (u32, u32, &'static str, &'static str, u64);
+/// A drop: LAST; and the own number of the quote whose word it asks, or 0, what it leaves to be
+/// done, in its order, and the exposure behind it.
+type Dropped = (u32, &'static str);
 
 /// Drops at 09:00:30. The third quote is lifted.
 const DROPS: &[Dropped] = &[
-    (0, 0, "-", "-", 2_000_001),
-    (1, 0, "-", "-", 2_000_001),
-    (3, 2, "unpost 7.2 2 32430000", "drop 3 32430000", 2_000_000),
-    (2, 0, "-", "-", 2_000_000),
-    (4_294_967_295, 3, "-", "-", 2_000_000),
-    (3, 0, "-", "-", 2_000_000),
+    (0, "0, -, -, 2000001"),
+    (1, "0, -, -, 2000001"),
+    (3, "2, unpost 7.2 2 32430000, drop 3 32430000, 2000000"),
+    (2, "0, -, -, 2000000"),
+    (4_294_967_295, "3, -, -, 2000000"),
+    (3, "0, -, -, 2000000"),
 ];
 
 #[test]
 fn drops_are_answered(rt: HostRuntime) -> Result<(), Fail> {
-    let alloc = rt.alloc();
-    let mut desk = asked_desk(&rt, alloc, 4, 2_000_001)?;
-    for (msg_type, number, fields) in QUOTED {
-        let bytes = message(alloc, msg_type, number, fields)?;
-        let (_, left) = takes(&mut desk, at(&rt, 32_410_000), bytes.as_slice(), 0)?;
-        let left = left_text(alloc, &left)?;
-        assert!(rt;
-            *number != "4" || left.as_str() == "drop 3 32410000",
-            "what a cancel leaves"
-        );
-    }
-    assert_eq!(rt; desk.sent().len(), 5, "a cancel of all is not answered");
-    for dropped in DROPS {
-        is_dropped(&rt, alloc, &mut desk, *dropped)?;
+    let mut desk = cancelled_desk(&rt, rt.alloc())?;
+    for &(last, wanted) in DROPS {
+        is_dropped(&rt, rt.alloc(), &mut desk, last, wanted)?;
     }
     assert_eq!(rt; desk.events().len(), 12, "each drop is an event");
     assert_eq!(rt; desk.sent().len(), 7, "the messages");
     Ok(())
 }
 
-/// A drop asks this word and leaves this.
+/// A desk that took [`QUOTED`]: the cancel of all is not answered, and its drops are left.
+fn cancelled_desk(rt: &impl Abort, alloc: Global) -> Result<DealerDesk, Fail> {
+    let mut desk = asked_desk(rt, alloc, 4, 2_000_001)?;
+    let mut left = None;
+    for (msg_type, number, fields) in QUOTED {
+        let bytes = message(alloc, msg_type, number, fields)?;
+        left = takes(&mut desk, at(rt, 32_410_000), bytes.as_slice(), 0)?.1;
+    }
+    let left = left_text(alloc, &left)?;
+    assert_eq!(rt; left.as_str(), "drop 3 32410000", "what it leaves");
+    assert_eq!(rt; desk.sent().len(), 5, "what was sent");
+    Ok(desk)
+}
+
+/// A drop up to `last` asks a word and leaves something, as wanted.
 fn is_dropped(
     rt: &impl Abort,
     alloc: Global,
     desk: &mut DealerDesk,
-    dropped: Dropped,
+    last: u32,
+    wanted: &str,
 ) -> Result<(), Fail> {
-    let (last, asked, first_left, then_left, exposure) = dropped;
     let (quote, unpost, further) = drops(desk, at(rt, 32_430_000), last, 3)?;
-    assert_eq!(rt; quote, asked, "the word of a drop up to {last}");
     let unpost = left_text(alloc, &unpost)?;
-    assert_eq!(rt;
-        unpost.as_str(),
-        first_left,
-        "what a drop up to {last} leaves"
-    );
     let further = left_text(alloc, &further)?;
-    assert_eq!(rt;
-        further.as_str(),
-        then_left,
-        "what a drop up to {last} leaves then"
-    );
-    assert_eq!(rt;
-        desk.exposure(),
-        exposure,
-        "the exposure behind a drop up to {last}"
-    );
+    let exposure = desk.exposure();
+    let dropped = format!(in alloc; "{quote}, {unpost}, {further}, {exposure}")?;
+    assert_eq!(rt; dropped.as_str(), wanted, "a drop up to {last}");
     Ok(())
 }
 

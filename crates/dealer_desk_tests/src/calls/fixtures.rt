@@ -149,7 +149,7 @@ pub(crate) fn drops(
 }
 
 /// What the word of a quote answers to a withdrawal.
-fn answer_of(quote: u32, lifted: u32) -> Settled {
+pub(crate) fn answer_of(quote: u32, lifted: u32) -> Settled {
     if quote == lifted {
         Settled::Lifted
     } else {

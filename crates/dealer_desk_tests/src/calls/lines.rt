@@ -1,7 +1,7 @@
 //! The lines of a dealer's blotter: one of each accepted quote, and what became of it.
 use super::fixtures::{FIRST_ROOM, SECOND_ROOM, asked_desk, at, drops, message, takes};
 use dealer_desk::DealerDesk;
-use quote_messages::{Close, QuoteState};
+use quote_messages::{Close, QuoteLine, QuoteState};
 use std::alloc::Global;
 use std::process::Abort;
 use std::test::Fail;
@@ -54,16 +54,21 @@ fn a_line_for_each_quote(rt: HostRuntime) -> Result<(), Fail> {
         assert!(rt; false, "a third line");
         return Ok(());
     };
-    assert!(rt; line.q == 3 && line.request == 1, "the numbers");
-    assert!(rt; line.moment.get() == 32_410_000, "the moment");
+    is_third(&rt, line);
+    Ok(())
+}
+
+/// Asserts what the line of the third quote says beside its state.
+fn is_third(rt: &impl Abort, line: &QuoteLine) {
+    let numbers = (line.q, line.request, line.moment.get());
+    assert!(rt; numbers == (3, 1, 32_410_000), "the numbers and the moment");
+    let terms = (line.quantity.get(), line.price.get());
+    assert!(rt; terms == (2_000_000, 25_345), "the quantity and the price");
     assert!(rt; line.trader.as_bytes() == b"T1".as_slice(), "the trader");
     assert!(rt;
         line.bond.as_bytes() == b"BONDA0000001".as_slice(),
         "the bond"
     );
-    assert!(rt; line.quantity.get() == 2_000_000, "the quantity");
-    assert!(rt; line.price.get() == 25_345, "the price");
-    Ok(())
 }
 
 /// A quote is lifted where that is known, whatever the notice says; and where the notice is of its
