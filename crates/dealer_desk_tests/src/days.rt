@@ -6,6 +6,7 @@ use venue_text::alone_text;
 
 mod cancels;
 mod declines;
+mod drops;
 mod frames;
 mod grids;
 mod liftings;
