@@ -7,7 +7,7 @@ ghost use Rattle.dealer_desk.specs.DealerOutput.{book_at, verdict_at, with_event
 ghost use Rattle.dealer_desk.specs.declared.events.DealerEvent.{DealerEvent};
 ghost use Rattle.step_replay.specs.declared.due.Due.{Due};
 ghost use Rattle.step_replay.specs.DealerView as spec;
-ghost use Rattle.step_replay.specs.RowOfWords as row_of;
+ghost use Rattle.step_replay.specs.RowOfWords as kept;
 
 use crate::Due;
 use dealer_desk::{DealerDesk, facts_say_how_words_were_answered, words_are_asked_event_by_event};
@@ -41,7 +41,7 @@ pub fn alone(
 /// Lets an item happen at the desk of its dealer, or to the word of its quote.
 fn do_due(desk: &mut DealerDesk, words: &mut PlainWords, due: &Due) -> Result<(), Memory>
     requires { length words.old ≡ desk.old.row.quotes }
-    ensures ok { OnOk result (row_of.Happens due.now
+    ensures ok { OnOk result (kept.Happens due.now
         (record { desk = desk.old; words = words.old })
         (record { desk = desk.new; words = words.new })) }
     ensures words { OnOk result (length words.new ≡ length words.old) }
@@ -85,11 +85,11 @@ fn take_own(
     requires { length words.old ≡ desk.old.row.quotes }
     ensures ok { OnOk result (let asked = word_asked (verdict_at desk.old moment bytes.now) in
         desk.new ≡ with_event desk.old
-        (DealerEvent.Own moment bytes.now (option_map (row_of.answer_in words.old) asked))) }
+        (DealerEvent.Own moment bytes.now (option_map (kept.answer_in words.old) asked))) }
     ensures words { words.new
-        ≡ row_of.with_asked words.old (word_asked (verdict_at desk.old moment bytes.now)) }
+        ≡ kept.with_asked words.old (word_asked (verdict_at desk.old moment bytes.now)) }
     ensures asked { IfSome (word_asked (verdict_at desk.old moment bytes.now))
-        (row_of.IsOfRow desk.old.row.quotes) }
+        (kept.IsOfRow desk.old.row.quotes) }
 {
     let verdict = desk.judge(moment, bytes);
     let answer = ask(words, verdict.word_asked());
@@ -107,11 +107,11 @@ fn drop_next(
     requires { length words.old ≡ desk.old.row.quotes }
     ensures ok { OnOk result (let asked = number_to_drop (book_at desk.old) last in
         desk.new ≡ with_event desk.old
-        (DealerEvent.Drop last moment (option_map (row_of.answer_in words.old) asked))) }
+        (DealerEvent.Drop last moment (option_map (kept.answer_in words.old) asked))) }
     ensures words { words.new
-        ≡ row_of.with_asked words.old (number_to_drop (book_at desk.old) last) }
+        ≡ kept.with_asked words.old (number_to_drop (book_at desk.old) last) }
     ensures asked { IfSome (number_to_drop (book_at desk.old) last)
-        (row_of.IsOfRow desk.old.row.quotes) }
+        (kept.IsOfRow desk.old.row.quotes) }
 {
     let answer = ask(words, desk.question_drop(last));
     desk.drop_one(last, moment, answer)?;
@@ -120,9 +120,9 @@ fn drop_next(
 
 /// Withdraws the word of the quote that is asked, and answers what it is from then on.
 fn ask(words: &mut PlainWords, asked: Option<u32>) -> Option<Settled>
-    requires { IfSome asked (row_of.IsOfRow (length words.old)) }
-    ensures answer { result ≡ option_map (row_of.answer_in words.old) asked }
-    ensures words { words.new ≡ row_of.with_asked words.old asked }
+    requires { IfSome asked (kept.IsOfRow (length words.old)) }
+    ensures answer { result ≡ option_map (kept.answer_in words.old) asked }
+    ensures words { words.new ≡ kept.with_asked words.old asked }
 {
     let quote = asked?;
     let answer = words.withdraw(quote - 1);
@@ -131,7 +131,7 @@ fn ask(words: &mut PlainWords, asked: Option<u32>) -> Option<Settled>
 
 /// Lifts the word of a quote, where the dealer can have that quote and its word is open.
 fn lift(words: &mut PlainWords, quote: u32)
-    ensures lifted { words.new ≡ row_of.with_lifting words.old quote }
+    ensures lifted { words.new ≡ kept.with_lifting words.old quote }
     ensures length { length words.new ≡ length words.old }
 {
     if quote < 1 || quote > words.len() {
@@ -143,7 +143,7 @@ fn lift(words: &mut PlainWords, quote: u32)
 /// A quote is withdrawn at a desk where it was before, or where the last event asked its word and
 /// was answered so. It does nothing, and is called for what it says.
 fn quotes_are_withdrawn_event_by_event()
-    ensures { row_of.GrowsByEvents }
+    ensures { kept.GrowsByEvents }
 {
     words_are_asked_event_by_event();
     facts_say_how_words_were_answered();
