@@ -68,7 +68,8 @@ fn said_message_is_its_frame(rt: HostRuntime) -> Result<(), Fail> {
     let message = said
         .message(rt.alloc(), &date, &firm, 1)?
         .expect(&rt, "a frame");
-    let frame = b"8=FIXT.1.1\x019=109\x0135=S\x0149=DLR1\x0156=VENUE\x0134=1\x0152=20250314-09:00:10.000\x0150=T1\x01117=a1\x01131=R1\x0148=BONDA0000001\x0122=4\x01133=99.50390625\x0110=039\x01";
+    let frame =
+        b"8=FIXT.1.1\x019=109\x0135=S\x0149=DLR1\x0156=VENUE\x0134=1\x0152=20250314-09:00:10.000\x0150=T1\x01117=a1\x01131=R1\x0148=BONDA0000001\x0122=4\x01133=99.50390625\x0110=039\x01";
     assert!(&rt; message.as_bytes() == frame.as_slice());
     Ok(())
 }
