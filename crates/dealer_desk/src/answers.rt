@@ -166,7 +166,7 @@ fn cancel_answer(id: Id<'_>, answer: Option<Settled>) -> OutMessage<'_>
 }
 
 /// Notes what a message leads to. After an error the index is as before.
-#[tactic(auto, using(crate::proofs::NoteLemmas::came_behind, crate::proofs::NoteLemmas::nothing_noted))]
+#[tactic(auto, using(crate::proofs::NoteLemmas::nothing_noted))]
 pub(crate) fn take_note(index: &mut DealerIndex, note: Note) -> Result<(), Memory>
     requires lawful { IsLawfulNote index.old.book note }
     requires fits { index.old.book.used + 1 < 2 ^ 63 }
@@ -284,7 +284,8 @@ pub(crate) fn unpost_where(
 ) -> Option<Duty>
     ensures { result
         ≡ (if so
-        then option_map (λ room. Duty.Unpost room quote moment) (spec.room_of index.now.rooms request)
+        then option_map (λ room. Duty.Unpost room quote moment)
+        (spec.room_of index.now.rooms request)
         else None) }
 {
     if !so {

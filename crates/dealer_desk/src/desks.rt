@@ -106,7 +106,8 @@ impl DealerDesk {
         ensures ok { OnOk result
             (self.new ≡ with_event self.old (DealerEvent.Own moment bytes.now answer)) }
         ensures duty { IfOk result (λ duty. duty
-            ≡ verdict_duty (rooms_at self.old) moment (verdict_at self.old moment bytes.now) answer) }
+            ≡ verdict_duty (rooms_at self.old) moment
+            (verdict_at self.old moment bytes.now) answer) }
         ensures err { OnErr result (self.new ≡ self.old) }
     {
         let verdict = dealer_verdict(&self.date, &self.row, &self.index, moment, bytes);
