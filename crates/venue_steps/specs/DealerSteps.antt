@@ -49,7 +49,7 @@ abbrev pub duties_of_drop : DeskEvents → ℕ → ℕ → Bool → Option Settl
 duties_of_drop desk last moment has answer =
     if has
     then option_to_list (unpost_dropped (rooms_at desk) moment answer (quote_to_drop (book_at desk) last))
-      ++ option_to_list (further_drop (book_at (with_event desk (event.Drop last moment answer))) last moment)
+    ++ option_to_list (further_drop (book_at (with_event desk (event.Drop last moment answer))) last moment)
     else []
 
 -- A request that is shown.
