@@ -109,6 +109,7 @@ refuse_each "--help" /dev/null "$work/help" --help
 refuse_each "--version" /dev/null "$work/version" --version
 
 refuse_in_test dealer_desk_tests calls::memory::a_refused_call_leaves_the_desk always
+refuse_in_test dealer_desk_tests calls::drops::a_refused_drop_leaves_the_desk always
 for test in a_refused_call_leaves_the_room a_refused_pass_leaves_the_room a_refused_expiry_leaves_the_room \
     a_hundred_posts_are_refused_in_turn; do
     refuse_in_test request_room_tests "rooms::memory::$test" always

@@ -15,17 +15,6 @@ use market_terms::{Duty, Id};
 use quote_messages::{CancelStatus, OutMessage, QuoteRejectReason};
 use quote_word::Settled;
 
-/// The own number of the quote whose word a verdict asks.
-pub(crate) fn word_asked(verdict: &DealerVerdict) -> Option<u32>
-    ensures { result ≡ spec.word_asked verdict.now }
-{
-    match verdict {
-        DealerVerdict::QuoteAccepted { replaced, .. } => *replaced,
-        DealerVerdict::CancelAccepted { quote, .. } => Some(*quote),
-        _ => None,
-    }
-}
-
 /// Whether a word was asked and is withdrawn.
 pub(crate) fn is_withdrawn(answer: Option<Settled>) -> bool
     ensures { result ≡ spec.is_withdrawn answer }

@@ -8,7 +8,6 @@ ghost use Rattle.dealer_desk.specs.QuoteLines.{lines_of};
 
 use crate::answers::{
     cancel_status, duty_of, is_withdrawn, note_drop, outcome_of, take_note, unpost_where,
-    word_asked,
 };
 use crate::index::DealerIndex;
 use crate::rules::dealer_verdict;
@@ -65,8 +64,10 @@ impl DealerDesk {
 
     /// The verdict on bytes that come at this moment: what the session and the market make of them. It may be handed to
     /// [`DealerDesk::take_judged`] as long as nothing else comes to the desk, so that a message is read and judged once.
+    /// The quote whose word it asks has a number from 1 to the quotes of the dealer's row.
     pub fn judge<'a>(&self, moment: Moment, bytes: &'a [u8]) -> DealerVerdict<'a>
-        ensures { result ≡ verdict_at self.now moment bytes.now }
+        ensures verdict { result ≡ verdict_at self.now moment bytes.now }
+        ensures own { IfSome (word_asked result) (λ quote. (1 ≤ quote) × (quote ≤ self.now.row.quotes)) }
     {
         let verdict = dealer_verdict(&self.date, &self.row, &self.index, moment, bytes);
         verdict
@@ -80,7 +81,8 @@ impl DealerDesk {
         ensures own { IfSome result (λ quote. (1 ≤ quote) × (quote ≤ self.now.row.quotes)) }
     {
         let verdict = dealer_verdict(&self.date, &self.row, &self.index, moment, bytes);
-        word_asked(&verdict)
+        let quote = verdict.word_asked();
+        quote
     }
 
     /// Takes a message of the dealer's own, whatever its bytes are, with the answer of the word that it asks, and gives

@@ -1,4 +1,6 @@
 //! What a desk decides of a message.
+ghost use Rattle.std.specs.Prelude.{◌≡◌};
+ghost use Rattle.dealer_desk.specs.DealerOutput as spec;
 
 use crate::AcceptedQuote;
 use market_terms::Id;
@@ -50,4 +52,17 @@ pub enum DealerVerdict<'a> {
         /// Which of the requests shown to the dealer it declines, from 1.
         number: u64,
     },
+}
+
+impl<'a> DealerVerdict<'a> {
+    /// The own number of the quote whose word this verdict asks, if it asks one.
+    pub fn word_asked(&self) -> Option<u32>
+        ensures { result ≡ spec.word_asked self.now }
+    {
+        match self {
+            DealerVerdict::QuoteAccepted { replaced, .. } => *replaced,
+            DealerVerdict::CancelAccepted { quote, .. } => Some(*quote),
+            _ => None,
+        }
+    }
 }

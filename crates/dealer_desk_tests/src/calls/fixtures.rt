@@ -168,7 +168,8 @@ pub(crate) fn left_text(alloc: Global, left: &Option<Duty>) -> Result<String, Me
             },
         ) => unpost_text(alloc, *room, *quote, moment.get()),
         Some(Duty::Decline { room, moment }) => decline_text(alloc, *room, moment.get()),
-        Some(_) => String::from_str(alloc, "another duty"),
+        Some(Duty::Drop { last, moment }) => drop_text(alloc, *last, moment.get()),
+        Some(_) => String::from_str(alloc, "no duty of a dealer's desk"),
     }
 }
 
@@ -197,5 +198,11 @@ fn unpost_text(alloc: Global, room: RoomRef, quote: u32, moment: u32) -> Result<
 fn decline_text(alloc: Global, room: RoomRef, moment: u32) -> Result<String, Memory> {
     let (investor, n) = (room.investor, room.n);
     let text = format!(in alloc; "decline {investor}.{n} {moment}")?;
+    Ok(text)
+}
+
+/// The text of a drop.
+fn drop_text(alloc: Global, last: u32, moment: u32) -> Result<String, Memory> {
+    let text = format!(in alloc; "drop {last} {moment}")?;
     Ok(text)
 }
