@@ -95,10 +95,10 @@ pub book_push : (facts : List DealerFact) (fact : DealerFact) → book_of (facts
 unfolding book_after
 book_push facts fact =
     book_by (count_by used_number (facts ++ fact ∷ [])) (counted (used_number fact) (count_by used_number facts))
-      (count_by is_notice (facts ++ fact ∷ [])) (counted (is_notice fact) (count_by is_notice facts))
-      (requests_from 1 (facts ++ fact ∷ [])) (map (request_after fact) (requests_from 1 facts) ++ request_added (length (requests_from 1 facts) + 1) fact)
-      (standings (facts ++ fact ∷ [])) (map (quote_after fact) (standings facts) ++ quote_added fact)
-      (count_push used_number facts fact) (count_push is_notice facts fact) (requests_push 1 facts fact) (quotes_push facts fact)
+    (count_by is_notice (facts ++ fact ∷ [])) (counted (is_notice fact) (count_by is_notice facts))
+    (requests_from 1 (facts ++ fact ∷ [])) (map (request_after fact) (requests_from 1 facts) ++ request_added (length (requests_from 1 facts) + 1) fact)
+    (standings (facts ++ fact ∷ [])) (map (quote_after fact) (standings facts) ++ quote_added fact)
+    (count_push used_number facts fact) (count_push is_notice facts fact) (requests_push 1 facts fact) (quotes_push facts fact)
 
 -- a book after some facts more, one by one
 pub books_push : (facts added : List DealerFact) → book_of (facts ++ added) ≡ fold book_after (book_of facts) added

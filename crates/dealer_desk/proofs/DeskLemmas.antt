@@ -50,7 +50,7 @@ verdict_stands row book (verdict.DeclineAccepted request number) answer stands h
 verdict_stands row book other answer stands holds = stands
 
 -- a verdict holds of a book whatever the number of messages that came
-holds_used : (row : DealerRow) (book : DealerBook) (used : ℕ) (given : DealerVerdict) → Holds row book given → Holds row (record book { used = used }) given
+pub holds_used : (row : DealerRow) (book : DealerBook) (used : ℕ) (given : DealerVerdict) → Holds row book given → Holds row (record book { used = used }) given
 holds_used row book used (verdict.QuoteAccepted request id quote replaced) holds = holds
 holds_used row book used (verdict.CancelAccepted id quote request) holds = holds
 holds_used row book used (verdict.DeclineAccepted request number) holds = holds
@@ -60,7 +60,7 @@ own_stands : (row : DealerRow) (book : DealerBook) (moment : ℕ) (bytes : List 
     → StandsIn row (fold book_after (book_after book (Came moment bytes used)) (verdict_facts given answer))
 own_stands row book moment bytes used given answer stands holds =
     subst (λ (b : DealerBook). StandsIn row (fold book_after b (verdict_facts given answer))) (sym (came_book book moment bytes used))
-      (verdict_stands row (record book { used = cond used (book.used + 1) book.used }) given answer stands (holds_used row book (cond used (book.used + 1) book.used) given holds))
+    (verdict_stands row (record book { used = cond used (book.used + 1) book.used }) given answer stands (holds_used row book (cond used (book.used + 1) book.used) given holds))
 
 told_if : (row : DealerRow) (book : DealerBook) (b : Bool) (request : ℕ) (close : Close) (moment : ℕ) → StandsIn row book → StandsIn row (fold book_after book (cond b (Told request close moment ∷ []) []))
 told_if row book true request close moment stands = told_stands row book request close moment stands
@@ -229,8 +229,8 @@ stood_events date row desk (came ∷ events) before rooms after shown many as_ma
     let next : before + 1 + length events ≡ after = omega arith in
     let next_rooms : rooms + length (rooms_of (came ∷ [])) + length (rooms_of events) ≡ shown = omega arith in
     stood_events date row (after_event date row desk came) events (before + 1) (rooms + length (rooms_of (came ∷ []))) after shown next next_rooms
-      (subst (λ (b : DealerBook). Stood row b (before + 1) (rooms + length (rooms_of (came ∷ [])))) (sym (books_push desk.facts (event_facts date row (book_of desk.facts) came)))
-        (stood_event date row (book_of desk.facts) came before rooms stood))
+    (subst (λ (b : DealerBook). Stood row b (before + 1) (rooms + length (rooms_of (came ∷ [])))) (sym (books_push desk.facts (event_facts date row (book_of desk.facts) came)))
+    (stood_event date row (book_of desk.facts) came before rooms stood))
 
 pub desk_sound : (date : List ℕ) (row : DealerRow) (events : List DealerEvent) → Stood row (book_of (desk_after date row events).facts) (length events) (length (rooms_of events))
 unfolding desk_after
@@ -238,7 +238,7 @@ desk_sound date row events =
     let many : 0 + length events ≡ length events = omega arith in
     let as_many : 0 + length (rooms_of events) ≡ length (rooms_of events) = omega arith in
     stood_events date row no_facts events 0 0 (length events) (length (rooms_of events)) many as_many
-      (record { stands = stands_empty row; counts = omega arith; as_many = omega arith })
+    (record { stands = stands_empty row; counts = omega arith; as_many = omega arith })
 
 -- so the exposure is within the limit of the row
 pub within_limit : (date : List ℕ) (row : DealerRow) (events : List DealerEvent) → exposure_of (book_of (desk_after date row events).facts) ≤ row.exposure

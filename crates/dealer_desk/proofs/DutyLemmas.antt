@@ -34,11 +34,11 @@ duty_of_day : (row : DealerRow) (book : DealerBook) (rooms : List RoomRef) (mome
     → IfSome (verdict_duty rooms moment given answer) (IsOfDay row)
 duty_of_day row book rooms moment (verdict.QuoteAccepted request id quote replaced) answer stands holds =
     of_day_if row (goes_through replaced answer) (room_of rooms quote.request) (post_of quote) (λ r.
-      let is : quote.number ≡ length book.quotes + 1 = holds.number_is in
-      let room : length book.quotes < row.quotes = holds.room in
-      let first : 1 ≤ quote.number = omega arith in
-      let last : quote.number ≤ row.quotes = omega arith in
-      (first, last))
+    let is : quote.number ≡ length book.quotes + 1 = holds.number_is in
+    let room : length book.quotes < row.quotes = holds.room in
+    let first : 1 ≤ quote.number = omega arith in
+    let last : quote.number ≤ row.quotes = omega arith in
+    (first, last))
 duty_of_day row book rooms moment (verdict.CancelAccepted id quote request) answer stands holds =
     of_day_if row (is_withdrawn answer) (room_of rooms request) (λ room. duty.Unpost room quote moment) (λ r. live_within row book.requests book.quotes quote stands holds.0)
 duty_of_day row book rooms moment (verdict.DropsFollow last) answer stands holds = tt
@@ -77,7 +77,7 @@ drop_of_day : (row : DealerRow) (book : DealerBook) (rooms : List RoomRef) (last
 drop_of_day row book rooms last moment answer None stands is = tt
 drop_of_day row book rooms last moment answer (Some own) stands is =
     of_day_if row (is_withdrawn answer) (room_of rooms own.quote.request) (λ room. duty.Unpost room own.quote.number moment)
-      (λ r. live_within row book.requests book.quotes own.quote.number stands (dropped_live book last own stands.sound.quotes_numbered is))
+    (λ r. live_within row book.requests book.quotes own.quote.number stands (dropped_live book last own stands.sound.quotes_numbered is))
 
 drop_has_room : (row : DealerRow) (book : DealerBook) (rooms : List RoomRef) (last : ℕ) (found : Option StandingQuote) → StandsIn row book → length book.requests ≡ length rooms → quote_to_drop book last ≡ found
     → IfSome found (λ own. is_some (room_of rooms own.quote.request) ≡ true)

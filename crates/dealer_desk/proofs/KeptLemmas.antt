@@ -10,10 +10,10 @@ use Rattle.market_terms.specs.declared.rooms.RoomRef.{RoomRef}
 use Rattle.quote_messages.specs.declared.out_messages.OutMessage.{OutMessage}
 use Rattle.quote_word.specs.declared.settled.Settled.{Settled}
 use Rattle.quote_word.specs.declared.settled.Settled.TheVariants as settled
-use Rattle.dealer_desk.specs.DealerFacts.{DealerFact, Came, Shown, Told, Dropped, DealerBook, book_of, number_to_drop, quote_to_drop}
+use Rattle.dealer_desk.specs.DealerFacts.{DealerFact, Came, Shown, Told, Dropped, DealerBook, book_of, exposure_of, number_to_drop, quote_to_drop}
 use Rattle.dealer_desk.specs.DealerRules.{dealer_verdict}
-use Rattle.dealer_desk.specs.DealerOutput.{DeskState, desk_after, event_facts, event_message, verdict_facts, verdict_message, settled_facts, uses_number, closable, rooms_of, shown_room, sent_with, moment_of, next_message, next_request, notice_of, drop_message, word_asked}
-use Rattle.dealer_desk.specs.BookChanges.{book_after}
+use Rattle.dealer_desk.specs.DealerOutput.{DeskEvents, DeskState, book_at, rooms_at, verdict_at, desk_after, event_facts, event_message, verdict_facts, verdict_message, settled_facts, uses_number, closable, rooms_of, shown_room, sent_with, moment_of, next_message, next_request, notice_of, drop_message, word_asked}
+use Rattle.dealer_desk.specs.BookChanges.{book_after, IsSound}
 use Rattle.dealer_desk.specs.DealerTable.{IndexView, with_fact, with_request}
 use Rattle.dealer_desk.specs.RuleCuts.{IsDesk, IsLawfulNote, note_of, note_uses, note_facts, with_facts}
 use Rattle.dealer_desk.specs.declared.outcomes.Note.{Note}
@@ -34,7 +34,36 @@ use Rattle.dealer_desk.proofs.DutyLemmas.{drop_asks}
 pub index_stands : (date : List ℕ) (row : DealerRow) (events : List DealerEvent) (sent : List (List ℕ)) (index : IndexView) → IsDesk date row events sent index → Stood row index.book (length events) (length index.rooms)
 index_stands date row events sent index kept =
     subst (λ (b : DealerBook). Stood row b (length events) (length index.rooms)) (sym kept.book_is)
-      (subst (λ (rs : List RoomRef). Stood row (book_of (desk_after date row events).facts) (length events) (length rs)) (sym kept.rooms_are) (desk_sound date row events))
+    (subst (λ (rs : List RoomRef). Stood row (book_of (desk_after date row events).facts) (length events) (length rs)) (sym kept.rooms_are) (desk_sound date row events))
+
+-- so the book is sound, and the exposure within the limit
+pub index_sound : (date : List ℕ) (row : DealerRow) (events : List DealerEvent) (sent : List (List ℕ)) (index : IndexView)
+    → IsDesk date row events sent index → IsSound index.book.requests index.book.quotes
+index_sound date row events sent index kept = (index_stands date row events sent index kept).stands.sound
+
+pub exposure_within : (date : List ℕ) (row : DealerRow) (events : List DealerEvent) (sent : List (List ℕ)) (index : IndexView)
+    → IsDesk date row events sent index → exposure_of index.book ≤ row.exposure
+unfolding exposure_of
+exposure_within date row events sent index kept = (index_stands date row events sent index kept).stands.within
+
+-- What a contract sees of a desk, and of the book and the rooms of its index.
+
+abbrev pub seen : List ℕ → DealerRow → List DealerEvent → DeskEvents
+seen date row events = record { date = date; row = row; events = events }
+
+pub book_seen : (date : List ℕ) (row : DealerRow) (events : List DealerEvent) (sent : List (List ℕ)) (index : IndexView) (self : DeskEvents)
+    → IsDesk date row events sent index → seen date row events ≡ self → index.book ≡ book_at self
+book_seen date row events sent index self kept is = kept.book_is ∙ ap (λ (d : DeskEvents). book_at d) is
+
+pub rooms_seen : (date : List ℕ) (row : DealerRow) (events : List DealerEvent) (sent : List (List ℕ)) (index : IndexView) (self : DeskEvents)
+    → IsDesk date row events sent index → seen date row events ≡ self → index.rooms ≡ rooms_at self
+rooms_seen date row events sent index self kept is = kept.rooms_are ∙ ap (λ (d : DeskEvents). rooms_at d) is
+
+pub verdict_seen : (date : List ℕ) (row : DealerRow) (events : List DealerEvent) (sent : List (List ℕ)) (index : IndexView) (self : DeskEvents) (moment : ℕ) (bytes : List ℕ)
+    → IsDesk date row events sent index → seen date row events ≡ self
+    → dealer_verdict date row index.book moment bytes ≡ verdict_at self moment bytes
+verdict_seen date row events sent index self moment bytes kept is =
+    ap (λ (b : DealerBook). dealer_verdict date row b moment bytes) kept.book_is ∙ ap (λ (d : DeskEvents). verdict_at d moment bytes) is
 
 -- any event
 pub kept_event : (date : List ℕ) (row : DealerRow) (events : List DealerEvent) (sent sent2 : List (List ℕ)) (index index2 : IndexView) (more : DealerEvent)
@@ -48,13 +77,13 @@ kept_event date row events sent sent2 index index2 more kept sends books rooms =
     let push = desk_after_push date row events more in
     record {
       sent_are = sends
-        ∙ ap (λ (b : DealerBook). sent_with date row sent (moment_of more) (event_message date row b more)) kept.book_is
-        ∙ ap (λ (s : List (List ℕ)). sent_with date row s (moment_of more) (event_message date row (book_of d.facts) more)) kept.sent_are
-        ∙ ap (λ (s : DeskState). s.sent) (sym push);
+          ∙ ap (λ (b : DealerBook). sent_with date row sent (moment_of more) (event_message date row b more)) kept.book_is
+          ∙ ap (λ (s : List (List ℕ)). sent_with date row s (moment_of more) (event_message date row (book_of d.facts) more)) kept.sent_are
+          ∙ ap (λ (s : DeskState). s.sent) (sym push);
       book_is = books
-        ∙ ap (λ (b : DealerBook). fold book_after b (event_facts date row b more)) kept.book_is
-        ∙ sym (books_push d.facts (event_facts date row (book_of d.facts) more))
-        ∙ ap (λ (s : DeskState). book_of s.facts) (sym push);
+          ∙ ap (λ (b : DealerBook). fold book_after b (event_facts date row b more)) kept.book_is
+          ∙ sym (books_push d.facts (event_facts date row (book_of d.facts) more))
+          ∙ ap (λ (s : DeskState). book_of s.facts) (sym push);
       rooms_are = rooms ∙ ap (λ (rs : List RoomRef). rs ++ rooms_of (more ∷ [])) kept.rooms_are ∙ sym (filter_map-append shown_room events (more ∷ []));
     }
 
@@ -65,6 +94,11 @@ books_of index (fact ∷ facts) = books_of (with_fact index fact) facts
 rooms_stay : (index : IndexView) (facts : List DealerFact) → (with_facts index facts).rooms ≡ index.rooms
 rooms_stay index [] = refl
 rooms_stay index (fact ∷ facts) = rooms_stay (with_fact index fact) facts
+
+-- a desk at the start of the day
+pub kept_empty : (date : List ℕ) (row : DealerRow) → IsDesk date row [] [] (record { book = book_of []; rooms = [] })
+unfolding desk_after
+kept_empty date row = record { sent_are = refl; book_is = refl; rooms_are = refl }
 
 -- A message of the dealer's own.
 
@@ -107,14 +141,14 @@ unfolding event_facts event_message
 kept_own date row events sent index index2 moment bytes answer given note reply message kept is notes replies written changed =
     let facts : List DealerFact = Came moment bytes (note_uses note) ∷ note_facts note in
     let same : facts ≡ event_facts date row index.book (event.Own moment bytes answer) =
-      ap (λ (n : Note). Came moment bytes (note_uses n) ∷ note_facts n) notes
-      ∙ ap (λ (b : Bool). Came moment bytes b ∷ note_facts (note_of given answer)) (used_up given answer)
-      ∙ ap (λ (fs : List DealerFact). Came moment bytes (uses_number given) ∷ fs) (noted given answer)
-      ∙ ap (λ (v : DealerVerdict). Came moment bytes (uses_number v) ∷ verdict_facts v answer) is in
+    ap (λ (n : Note). Came moment bytes (note_uses n) ∷ note_facts n) notes
+    ∙ ap (λ (b : Bool). Came moment bytes b ∷ note_facts (note_of given answer)) (used_up given answer)
+    ∙ ap (λ (fs : List DealerFact). Came moment bytes (uses_number given) ∷ fs) (noted given answer)
+    ∙ ap (λ (v : DealerVerdict). Came moment bytes (uses_number v) ∷ verdict_facts v answer) is in
     kept_event date row events sent (sent ++ option_to_list message) index index2 (event.Own moment bytes answer) kept
-      (sym written ∙ ap (sent_with date row sent moment) (replies ∙ ap (λ (v : DealerVerdict). verdict_message v answer) is))
-      (ap (λ (i : IndexView). i.book) changed ∙ books_of index facts ∙ ap (fold book_after index.book) same)
-      (ap (λ (i : IndexView). i.rooms) changed ∙ rooms_stay index facts ∙ sym (append-nil index.rooms))
+    (sym written ∙ ap (sent_with date row sent moment) (replies ∙ ap (λ (v : DealerVerdict). verdict_message v answer) is))
+    (ap (λ (i : IndexView). i.book) changed ∙ books_of index facts ∙ ap (fold book_after index.book) same)
+    (ap (λ (i : IndexView). i.rooms) changed ∙ rooms_stay index facts ∙ sym (append-nil index.rooms))
 
 -- what the index takes note of is lawful
 pub own_lawful : (date : List ℕ) (row : DealerRow) (events : List DealerEvent) (sent : List (List ℕ)) (index : IndexView) (moment : ℕ) (bytes : List ℕ) (answer : Option Settled) (given : DealerVerdict) (note : Note)
@@ -122,7 +156,7 @@ pub own_lawful : (date : List ℕ) (row : DealerRow) (events : List DealerEvent)
 own_lawful date row events sent index moment bytes answer given note kept is notes =
     let s = index_stands date row events sent index kept in
     subst (λ (n : Note). IsLawfulNote index.book n) (sym (notes ∙ ap (λ (v : DealerVerdict). note_of v answer) is))
-      (lawful_note row index.book (dealer_verdict date row index.book moment bytes) answer s.stands (verdict_holds date row index.book moment bytes s.stands))
+    (lawful_note row index.book (dealer_verdict date row index.book moment bytes) answer s.stands (verdict_holds date row index.book moment bytes s.stands))
 
 -- the numbers that are counted stay below the number of events
 pub used_below : (date : List ℕ) (row : DealerRow) (events : List DealerEvent) (sent : List (List ℕ)) (index : IndexView) → IsDesk date row events sent index → length events + 1 < 2 ^ 63 → index.book.used + 1 < 2 ^ 63
@@ -154,7 +188,7 @@ pub kept_shown : (date : List ℕ) (row : DealerRow) (events : List DealerEvent)
 unfolding event_facts event_message
 kept_shown date row events sent index index2 room ask moment kept changed =
     kept_event date row events sent (sent ++ next_message date row sent moment (next_request index.book ask) ∷ []) index index2 (event.Shown room ask moment) kept
-      refl (ap (λ (i : IndexView). i.book) changed) (ap (λ (i : IndexView). i.rooms) changed)
+    refl (ap (λ (i : IndexView). i.book) changed) (ap (λ (i : IndexView). i.rooms) changed)
 
 -- A notice that is due.
 
@@ -166,9 +200,9 @@ pub kept_told : (date : List ℕ) (row : DealerRow) (events : List DealerEvent) 
 unfolding event_facts event_message
 kept_told date row events sent index index2 number request close moment kept due changed =
     kept_event date row events sent (sent ++ next_message date row sent moment (notice_of index.book close request) ∷ []) index index2 (event.Told number close moment) kept
-      (ap (λ (o : Option StandingRequest). sent_with date row sent moment (option_map (notice_of index.book close) o)) (sym due))
-      (ap (λ (i : IndexView). i.book) changed ∙ ap (λ (o : Option StandingRequest). fold book_after index.book (cond (is_some o) (Told number close moment ∷ []) [])) (sym due))
-      (ap (λ (i : IndexView). i.rooms) changed ∙ sym (append-nil index.rooms))
+    (ap (λ (o : Option StandingRequest). sent_with date row sent moment (option_map (notice_of index.book close) o)) (sym due))
+    (ap (λ (i : IndexView). i.book) changed ∙ ap (λ (o : Option StandingRequest). fold book_after index.book (cond (is_some o) (Told number close moment ∷ []) [])) (sym due))
+    (ap (λ (i : IndexView). i.rooms) changed ∙ sym (append-nil index.rooms))
 
 -- A drop.
 
@@ -182,6 +216,6 @@ unfolding event_facts event_message
 kept_drop date row events sent index index2 last moment answer reply message kept replies written changed =
     let facts : List DealerFact = settled_facts (number_to_drop index.book last) by.Cancel answer in
     kept_event date row events sent (sent ++ option_to_list message) index index2 (event.Drop last moment answer) kept
-      (sym written ∙ ap (sent_with date row sent moment) replies)
-      (ap (λ (i : IndexView). i.book) changed ∙ books_of index facts ∙ ap (λ (b : DealerBook). fold book_after b facts) (sym (dropped_book index.book last moment)))
-      (ap (λ (i : IndexView). i.rooms) changed ∙ rooms_stay index facts ∙ sym (append-nil index.rooms))
+    (sym written ∙ ap (sent_with date row sent moment) replies)
+    (ap (λ (i : IndexView). i.book) changed ∙ books_of index facts ∙ ap (λ (b : DealerBook). fold book_after b facts) (sym (dropped_book index.book last moment)))
+    (ap (λ (i : IndexView). i.rooms) changed ∙ rooms_stay index facts ∙ sym (append-nil index.rooms))

@@ -23,9 +23,11 @@ use Rattle.dealer_desk.specs.declared.standing.Withdrawal.{Withdrawal}
 use Rattle.dealer_desk.specs.declared.standing.QuoteEnd.{QuoteEnd}
 use Rattle.dealer_desk.specs.declared.standing.QuoteEnd.TheVariants as end
 use Rattle.dealer_desk.proofs.BookLemmas.{came_book, dropped_book, shown_book, quoted_book, withdrawn_book, late_book, declined_book, told_book}
-use Rattle.dealer_desk.proofs.ListLemmas.{find_stands, find_none, mapped_at, lone_others, ruled_out}
+use Rattle.dealer_desk.proofs.ListLemmas.{mapped_at}
 use Rattle.dealer_desk.proofs.SoundLemmas.{sound_empty, sound_mapped, sound_requests, sound_shown, sound_quoted}
-use Rattle.dealer_desk.proofs.TableLemmas.{ended_keeps, ended_lives, late_keeps, late_lives, declined_keeps, told_keeps}
+use Rattle.dealer_desk.proofs.TableLemmas.{ended_keeps, ended_lives, late_keeps, late_lives}
+use Rattle.dealer_desk.proofs.TableReads.{declined_keeps, told_keeps}
+use Rattle.dealer_desk.proofs.TableGrowth.{replaced_none, sum_beside}
 use Rattle.dealer_desk.proofs.IndexLemmas.{closed_keeps}
 
 -- what stands at a desk
@@ -134,7 +136,7 @@ closed_if false how own h = h
 pub told_stands : (row : DealerRow) (book : DealerBook) (number : ℕ) (close : Close) (moment : ℕ) → StandsIn row book → StandsIn row (book_after book (Told number close moment))
 told_stands row book number close moment stands = subst (λ (b : DealerBook). StandsIn row b) (sym (told_book book number close moment))
     (stands_requests row book.requests (map (closed_on number close) book.quotes) (told_at number) (told_keeps number)
-      (stands_changed row book.requests book.quotes (closed_on number close) (closed_keeps number close) (λ own live. closed_if (number == own.quote.request) (end.Closed close) own live) stands))
+    (stands_changed row book.requests book.quotes (closed_on number close) (closed_keeps number close) (λ own live. closed_if (number == own.quote.request) (end.Closed close) own live) stands))
 
 -- A quote behind the others.
 
@@ -154,55 +156,6 @@ accepted_stands row book quote fits stands = subst (λ (b : DealerBook). StandsI
 
 -- A quote in the place of another.
 
-pub equal_swap : (m n : ℕ) (b : Bool) → (m == n) ≡ b → b ≡ (n == m)
-equal_swap m n true h = sym (eq-eqb n m (sym (eqb-true m n h)))
-equal_swap m n false h = sym (ruled_out (n == m) (λ so. let back : (m == n) ≡ true = eq-eqb m n (sym (eqb-true n m so)) in let never : false ≡ true = sym h ∙ back in cc))
-
-sum_same : (f : StandingQuote → StandingQuote) (g : StandingQuote → ℕ) (quotes : List StandingQuote) → ((own : StandingQuote) → live_quantity (f own) ≡ g own) → sum_by live_quantity (map f quotes) ≡ sum_by g quotes
-sum_same f g [] same = refl
-sum_same f g (own ∷ quotes) same =
-    let here = same own in
-    let rest = sum_same f g quotes same in
-    rw (sum_by-cons live_quantity (f own) (map f quotes), sum_by-cons g own quotes) (omega arith)
-
-beside_one : (b c : Bool) (how : QuoteEnd) (own : StandingQuote) → b ≡ c → live_quantity (cond b (record own { end = option_or own.end (Some how) }) own) ≡ cond c 0 (live_quantity own)
-beside_one true true how own same = ap (λ (live : Bool). cond live own.quote.quantity 0) (or_some own.end how)
-beside_one true false how own same = cc
-beside_one false true how own same = cc
-beside_one false false how own same = refl
-
--- what is left beside a quote that is replaced
-pub beside_replaced : (replaced : ℕ) (how : QuoteEnd) (quotes : List StandingQuote) → sum_by live_quantity (map (ended_at replaced how) quotes) ≡ sum_by (quantity_beside (Some replaced)) quotes
-beside_replaced replaced how quotes = sum_same (ended_at replaced how) (quantity_beside (Some replaced)) quotes
-    (λ own. beside_one (replaced == own.quote.number) (own.quote.number == replaced) how own (equal_swap replaced own.quote.number (replaced == own.quote.number) refl))
-
-gone_by : (b : Bool) (request : ℕ) (how : QuoteEnd) (own : StandingQuote) → (b ≡ false → is_live_on request own ≡ false) → is_live_on request (cond b (record own { end = option_or own.end (Some how) }) own) ≡ false
-gone_by true request how own only = ap (λ (live : Bool). live && (own.quote.request == request)) (or_some own.end how)
-gone_by false request how own only = only refl
-
-gone_found : (requests : List StandingRequest) (quotes : List StandingQuote) (request replaced : ℕ) (how : QuoteEnd) (found : Option StandingQuote) → IsSound requests quotes
-    → find (is_live_on request) quotes ≡ found → option_map (λ (q : StandingQuote). q.quote.number) found ≡ Some replaced
-    → (k : ℕ) (y : StandingQuote) → slice_get (map (ended_at replaced how) quotes) k ≡ Some y → is_live_on request y ≡ false
-gone_found requests quotes request replaced how None sound at is k y there = absurd (none-some replaced is)
-gone_found requests quotes request replaced how (Some own) sound at is k y there =
-    let here = find_stands (is_live_on request) quotes own at in
-    let was = mapped_at (ended_at replaced how) quotes k y there in
-    ap (is_live_on request) (sym was.2)
-    ∙ gone_by (replaced == was.0.quote.number) request how was.0 (λ other.
-        lone_others (is_live_on request) quotes here.0 own (sound.lone request) here.1 here.2 k was.0 was.1 (λ same.
-          let mine : own.quote.number ≡ here.0 + 1 = sound.quotes_numbered here.0 own here.1 in
-          let its : was.0.quote.number ≡ k + 1 = sound.quotes_numbered k was.0 was.1 in
-          let number : own.quote.number ≡ replaced = same_Some own.quote.number replaced is in
-          let equal : replaced ≡ was.0.quote.number = omega arith in
-          let never : false ≡ true = sym other ∙ eq-eqb replaced was.0.quote.number equal in
-          cc))
-
--- no quote on a request is live where the live one was ended
-pub gone_live : (requests : List StandingRequest) (quotes : List StandingQuote) (request replaced : ℕ) (how : QuoteEnd) → IsSound requests quotes
-    → live_number_among quotes request ≡ Some replaced → live_number_among (map (ended_at replaced how) quotes) request ≡ None
-gone_live requests quotes request replaced how sound is =
-    ap (option_map (λ (q : StandingQuote). q.quote.number)) (find_none (is_live_on request) (map (ended_at replaced how) quotes) (gone_found requests quotes request replaced how (find (is_live_on request) quotes) sound refl is))
-
 pub replaced_stands : (row : DealerRow) (book : DealerBook) (quote : AcceptedQuote) (replaced : ℕ) (how : Withdrawal) → Fits row book.requests book.quotes quote (Some replaced) → StandsIn row book
     → StandsIn row (book_after (book_after book (Withdrawn replaced how)) (Quoted quote))
 replaced_stands row book quote replaced how fits stands =
@@ -210,9 +163,9 @@ replaced_stands row book quote replaced how fits stands =
     let many : length after ≡ length book.quotes = length-map book.quotes (ended_at replaced (end.Withdrawn how)) in
     let number : quote.number ≡ length after + 1 = fits.number_is ∙ ap (λ (n : ℕ). n + 1) (sym many) in
     let room : length after < row.quotes = subst (λ (n : ℕ). n < row.quotes) (sym many) fits.room in
-    let exposure : quote.quantity + sum_by live_quantity after ≤ row.exposure = subst (λ (n : ℕ). quote.quantity + n ≤ row.exposure) (sym (beside_replaced replaced (end.Withdrawn how) book.quotes)) fits.exposure in
+    let exposure : quote.quantity + sum_by live_quantity after ≤ row.exposure = subst (λ (n : ℕ). quote.quantity + n ≤ row.exposure) (sym (sum_beside book.quotes replaced (end.Withdrawn how))) fits.exposure in
     let kept : Stands row book.requests after = stands_changed row book.requests book.quotes (ended_at replaced (end.Withdrawn how)) (ended_keeps replaced (end.Withdrawn how)) (ended_lives replaced (end.Withdrawn how)) stands in
     subst (λ (b : DealerBook). StandsIn row (book_after b (Quoted quote))) (sym (withdrawn_book book replaced how))
-      (subst (λ (b : DealerBook). StandsIn row b) (sym (quoted_book (record book { quotes = after }) quote))
-        (stands_quoted row book.requests after quote number fits.from_first fits.to_last
-          (gone_live book.requests book.quotes quote.request replaced (end.Withdrawn how) stands.sound fits.replaced_is) room exposure kept))
+    (subst (λ (b : DealerBook). StandsIn row b) (sym (quoted_book (record book { quotes = after }) quote))
+    (stands_quoted row book.requests after quote number fits.from_first fits.to_last
+    (replaced_none book.requests book.quotes quote.request replaced (end.Withdrawn how) stands.sound fits.replaced_is) room exposure kept))

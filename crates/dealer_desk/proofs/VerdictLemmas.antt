@@ -33,7 +33,7 @@ use Rattle.dealer_desk.specs.declared.standing.QuoteEnd.TheVariants as end
 use Rattle.dealer_desk.specs.declared.verdicts.DealerVerdict.{DealerVerdict}
 use Rattle.dealer_desk.specs.declared.verdicts.DealerVerdict.TheVariants as verdict
 use Rattle.dealer_desk.proofs.ListLemmas.{find_stands, within_from}
-use Rattle.dealer_desk.proofs.TableLemmas.{live_stands}
+use Rattle.dealer_desk.proofs.TableGrowth.{live_stands}
 use Rattle.dealer_desk.proofs.StandLemmas.{Stands, StandsIn, Fits, fits_book}
 
 -- a number of a request that was shown
@@ -125,14 +125,16 @@ cancel_answered : (row : DealerRow) (book : DealerBook) (id : List ℕ) (own : S
     → first_refusal (cancel_checks own) ≡ refusal → Holds row book (cancel_answer id own refusal)
 cancel_answered row book id own k (Some reason) stands at is = tt
 cancel_answered row book id own k None stands at is =
-    let h = none_holds (cancel_checks own) is in
-    (record {
-      own = own;
-      place = k;
-      number_is = stands.sound.quotes_numbered k own at;
-      stands = at;
-      live = live_end own.end own.is_known_lifted h.0 h.1.0;
-    }, (stands.sound.from_first k own at, stands.sound.to_last k own at))
+    let h = none_holds (cancel_checks own) is in (
+      record {
+        own = own;
+        place = k;
+        number_is = stands.sound.quotes_numbered k own at;
+        stands = at;
+        live = live_end own.end own.is_known_lifted h.0 h.1.0;
+      },
+      (stands.sound.from_first k own at, stands.sound.to_last k own at),
+    )
 
 cancel_holds : (row : DealerRow) (book : DealerBook) (id : List ℕ) (found : Option StandingQuote) → StandsIn row book → ((own : StandingQuote) → found ≡ Some own → (k : ℕ) × (slice_get book.quotes k ≡ Some own))
     → Holds row book (cancel_of id found)

@@ -1,4 +1,5 @@
--- How one fact more changes the book of a desk. Only private functions and the laws of the desk say this.
+-- How one fact more changes the book of a desk. Only private functions and the laws of the desk say
+-- this.
 use Rattle.std.specs.Prelude.{◌≡◌, ◌≤◌, ◌<◌, ℕ, ◌+◌, Bool, true, ◌==◌, ◌||◌, List, [], ◌∷◌, ◌++◌, length, filter, map, slice_get, Option, Some, None, if◌then◌else◌}
 use Rattle.std.specs.Option.{option_or}
 use Rattle.market_terms.specs.declared.asks.Ask.{Ask}
@@ -46,7 +47,8 @@ unfoldable pub book_after : DealerBook → DealerFact → DealerBook
 book_after book fact = record {
   used = counted (used_number fact) book.used;
   notices = counted (is_notice fact) book.notices;
-  requests = map (request_after fact) book.requests ++ request_added (length book.requests + 1) fact;
+  requests = map (request_after fact) book.requests
+      ++ request_added (length book.requests + 1) fact;
   quotes = map (quote_after fact) book.quotes ++ quote_added fact;
 }
 
@@ -57,20 +59,25 @@ ended_at number how own =
 
 -- a quote that is known to be lifted, where it is the one with this number
 abbrev pub late_at : ℕ → StandingQuote → StandingQuote
-late_at number own = if number == own.quote.number then record own { is_known_lifted = true } else own
+late_at number own =
+    if number == own.quote.number then record own { is_known_lifted = true } else own
 
 -- a quote on this request that its closing ends, where it is live
 abbrev pub closed_on : ℕ → Close → StandingQuote → StandingQuote
 closed_on number close own =
-    if number == own.quote.request then record own { end = option_or own.end (Some (end.Closed close)) } else own
+    if number == own.quote.request
+    then record own { end = option_or own.end (Some (end.Closed close)) }
+    else own
 
 -- a request that is declined, where it is the one with this number
 abbrev pub declined_at : ℕ → StandingRequest → StandingRequest
-declined_at number request = if number == request.number then record request { is_declined = true } else request
+declined_at number request =
+    if number == request.number then record request { is_declined = true } else request
 
 -- a request that is told, where it is the one with this number
 abbrev pub told_at : ℕ → StandingRequest → StandingRequest
-told_at number request = if number == request.number then record request { is_told = true } else request
+told_at number request =
+    if number == request.number then record request { is_told = true } else request
 
 -- the live quote with this number
 pub record IsLiveNumber (quotes : List StandingQuote) (number : ℕ) : Type 0 where
@@ -90,11 +97,15 @@ pub record FitsBook (book : DealerBook) (quote : AcceptedQuote) (replaced : Opti
   pub replaced_is : live_number_on book quote.request ≡ replaced
   pub exposure_fits : quote.quantity + exposure_beside book replaced ≤ 1000000000000000
 
--- What holds of every book: requests and quotes are numbered from 1, each quote answers a request of the book, and at
--- most one quote on a request is live.
+-- What holds of every book: requests and quotes are numbered from 1, each quote answers a request
+-- of the book, and at most one quote on a request is live.
 pub record IsSound (requests : List StandingRequest) (quotes : List StandingQuote) : Type 0 where
-  pub requests_numbered : (k : ℕ) (request : StandingRequest) → slice_get requests k ≡ Some request → request.number ≡ k + 1
-  pub quotes_numbered : (k : ℕ) (own : StandingQuote) → slice_get quotes k ≡ Some own → own.quote.number ≡ k + 1
-  pub from_first : (k : ℕ) (own : StandingQuote) → slice_get quotes k ≡ Some own → 1 ≤ own.quote.request
-  pub to_last : (k : ℕ) (own : StandingQuote) → slice_get quotes k ≡ Some own → own.quote.request ≤ length requests
+  pub requests_numbered : (k : ℕ) (request : StandingRequest)
+      → slice_get requests k ≡ Some request → request.number ≡ k + 1
+  pub quotes_numbered : (k : ℕ) (own : StandingQuote)
+      → slice_get quotes k ≡ Some own → own.quote.number ≡ k + 1
+  pub from_first : (k : ℕ) (own : StandingQuote)
+      → slice_get quotes k ≡ Some own → 1 ≤ own.quote.request
+  pub to_last : (k : ℕ) (own : StandingQuote)
+      → slice_get quotes k ≡ Some own → own.quote.request ≤ length requests
   pub lone : (request : ℕ) → length (filter (is_live_on request) quotes) ≤ 1

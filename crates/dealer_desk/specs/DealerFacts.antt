@@ -1,5 +1,6 @@
--- The facts of a dealer's desk, and what stands by them: its numbers, the requests that it was shown, its quotes and
--- what became of them, and its exposure. Facts are only ever added. They bear the dealer's own numbers and no room.
+-- The facts of a dealer's desk, and what stands by them: its numbers, the requests that it was
+-- shown, its quotes and what became of them, and its exposure. Facts are only ever added. They bear
+-- the dealer's own numbers and no room.
 use Rattle.std.specs.Prelude.{ℕ, ◌+◌, Bool, true, false, ◌&&◌, ◌==◌, not, nat_le, List, [], ◌∷◌, length, filter, find, count_by, Option, Some, None, is_none, if◌then◌else◌}
 use Rattle.std.specs.List.{list_any, sum_by}
 use Rattle.std.specs.Option.{option_map, option_or}
@@ -16,12 +17,12 @@ use Rattle.dealer_desk.specs.declared.standing.QuoteEnd.TheVariants as end
 
 -- What became so at a desk. Quotes and requests stand in it by the dealer's own numbers, from 1.
 pub data DealerFact : Type 0 where
-  Came : ℕ → List ℕ → Bool → DealerFact  -- at this moment these bytes came, and used up the expected number or not
+  Came : ℕ → List ℕ → Bool → DealerFact  -- then these bytes came, and used up a number or not
   Shown : Ask → ℕ → DealerFact  -- the dealer was shown a request that asks for this, at this moment
   Quoted : AcceptedQuote → DealerFact  -- a quote was accepted
-  Withdrawn : ℕ → Withdrawal → DealerFact  -- the word of this quote was asked, and the quote is withdrawn
+  Withdrawn : ℕ → Withdrawal → DealerFact  -- this quote's word was asked, and it is withdrawn
   Late : ℕ → DealerFact  -- the word of this quote was asked, and the quote was lifted before
-  Dropped : ℕ → ℕ → DealerFact  -- a drop took its turn, of the quotes up to this one, at this moment
+  Dropped : ℕ → ℕ → DealerFact  -- a drop of the quotes up to this one took its turn, at this moment
   Declined : ℕ → DealerFact  -- the dealer declined this request
   Told : ℕ → Close → ℕ → DealerFact  -- the dealer was told how this request ended, at this moment
 
@@ -55,7 +56,8 @@ finds_lifted number fact = false
 -- how a fact ends this quote: it withdraws it, or closes its request
 abbrev pub ends : AcceptedQuote → DealerFact → Option QuoteEnd
 ends own (Withdrawn quote by) = if quote == own.number then Some (end.Withdrawn by) else None
-ends own (Told request close moment) = if request == own.request then Some (end.Closed close) else None
+ends own (Told request close moment) =
+    if request == own.request then Some (end.Closed close) else None
 ends own fact = None
 
 -- Requests and quotes as they stand by the facts behind them.
@@ -72,7 +74,8 @@ standing_request number ask later = record {
 -- the requests that the dealer was shown, numbered onward from a number
 abbrev pub requests_from : ℕ → List DealerFact → List StandingRequest
 requests_from number [] = []
-requests_from number (Shown ask moment ∷ later) = standing_request number ask later ∷ requests_from (number + 1) later
+requests_from number (Shown ask moment ∷ later) =
+    standing_request number ask later ∷ requests_from (number + 1) later
 requests_from number (fact ∷ later) = requests_from number later
 
 -- what the first of some facts says that says something
@@ -94,8 +97,8 @@ standings [] = []
 standings (Quoted quote ∷ later) = standing_quote quote later ∷ standings later
 standings (fact ∷ later) = standings later
 
--- The book of a desk: what stands by its facts, which every rule asks. It is how many messages used up a number, how many
--- closing notices were sent, the requests and the quotes.
+-- The book of a desk: what stands by its facts, which every rule asks. It is how many messages used
+-- up a number, how many closing notices were sent, the requests and the quotes.
 pub record DealerBook : Type 0 where
   pub used : ℕ
   pub notices : ℕ
@@ -129,7 +132,8 @@ quotes_accepted book = length book.quotes
 
 -- the request that a QuoteReqID (131) names
 unfoldable pub request_named : DealerBook → List ℕ → Option StandingRequest
-request_named book name = find (λ request. same_text (request_name request.number) name) book.requests
+request_named book name =
+    find (λ request. same_text (request_name request.number) name) book.requests
 
 -- the request with this number
 unfoldable pub request_numbered : DealerBook → ℕ → Option StandingRequest
@@ -189,7 +193,8 @@ has_lifted_quote book request = list_any (is_lifted_on request) book.quotes
 abbrev pub is_droppable : StandingQuote → Bool
 is_droppable own = is_live own && not own.is_known_lifted
 
--- the quote that a drop of the quotes up to this one takes: of the droppable ones the one with the lowest number
+-- the quote that a drop of the quotes up to this one takes: of the droppable ones the one with the
+-- lowest number
 unfoldable pub quote_to_drop : DealerBook → ℕ → Option StandingQuote
 quote_to_drop book last = find (λ own. is_droppable own && nat_le own.quote.number last) book.quotes
 
@@ -216,6 +221,7 @@ is_number (Some replaced) number = number == replaced
 abbrev pub quantity_beside : Option ℕ → StandingQuote → ℕ
 quantity_beside replaced own = if is_number replaced own.quote.number then 0 else live_quantity own
 
--- the exposure beside a quote that is to be replaced: the sum of the quantities of the other live quotes
+-- the exposure beside a quote that is to be replaced: the sum of the quantities of the other live
+-- quotes
 unfoldable pub exposure_beside : DealerBook → Option ℕ → ℕ
 exposure_beside book replaced = sum_by (quantity_beside replaced) book.quotes

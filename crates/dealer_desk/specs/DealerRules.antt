@@ -55,7 +55,8 @@ if_on_grid grid (Some price) = if on_grid price grid then Some price else None
 
 -- the price at which a quote answers an ask, if it is a lawful answer
 unfoldable pub price_for : Ask → Quote → Option ℕ
-price_for ask quote = if_on_grid ask.grid (lone_price (asked_price ask.side quote) (other_price ask.side quote))
+price_for ask quote =
+    if_on_grid ask.grid (lone_price (asked_price ask.side quote) (other_price ask.side quote))
 
 -- The conditions of the checks.
 
@@ -66,7 +67,8 @@ differs_from wanted (Some found) = not (found == wanted)
 
 -- whether BidSize (134) or OfferSize (135) stands and is not the quantity that is asked for
 abbrev pub sizes_differ : ℕ → Quote → Bool
-sizes_differ quantity quote = differs_from quantity quote.bid_size || differs_from quantity quote.offer_size
+sizes_differ quantity quote =
+    differs_from quantity quote.bid_size || differs_from quantity quote.offer_size
 
 -- whether a request was found of which this holds
 abbrev pub of_request : Option StandingRequest → (StandingRequest → Bool) → Bool
@@ -75,14 +77,16 @@ of_request (Some request) holds = holds request
 
 -- the quantity of a quote that answers this ask, with those of the dealer's other live quotes
 abbrev pub exposure_with : DealerBook → StandingRequest → ℕ
-exposure_with book request = request.ask.quantity + exposure_beside book (live_number_on book request.number)
+exposure_with book request =
+    request.ask.quantity + exposure_beside book (live_number_on book request.number)
 
 -- Quotes.
 
--- The checks of a quote in their order, line by line of the rule book's table: a condition, and the reason that it
--- gives. The last line of that table is the word of the quote that this one would replace: the verdict names that
--- quote, and its word is asked where none of these lines refuses.
-abbrev pub quote_checks : DealerRow → DealerBook → ℕ → Quote → Option StandingRequest → List (Bool × QuoteRejectReason)
+-- The checks of a quote in their order, line by line of the rule book's table: a condition, and the
+-- reason that it gives. The last line of that table is the word of the quote that this one would
+-- replace: the verdict names that quote, and its word is asked where none of these lines refuses.
+abbrev pub quote_checks : DealerRow → DealerBook → ℕ → Quote → Option StandingRequest
+    → List (Bool × QuoteRejectReason)
 quote_checks row book moment quote request =
     (is_none request, Other)
     ∷ (of_request request (λ shown. shown.is_declined), Other)
@@ -99,8 +103,10 @@ quote_checks row book moment quote request =
     ∷ []
 
 -- why a quote is refused before any word is asked, if it is
-unfoldable pub quote_refusal : DealerRow → DealerBook → ℕ → Quote → Option StandingRequest → Option QuoteRejectReason
-quote_refusal row book moment quote request = first_refusal (quote_checks row book moment quote request)
+unfoldable pub quote_refusal : DealerRow → DealerBook → ℕ → Quote → Option StandingRequest
+    → Option QuoteRejectReason
+quote_refusal row book moment quote request =
+    first_refusal (quote_checks row book moment quote request)
 
 -- what is kept of an accepted quote
 abbrev pub quote_kept : DealerBook → ℕ → Quote → StandingRequest → AcceptedQuote
@@ -121,12 +127,15 @@ quote_kept book moment quote request = record {
 abbrev pub quote_refused : Quote → QuoteRejectReason → DealerVerdict
 quote_refused quote reason = verdict.Refused (out.QuoteAnswer quote.request quote.id (Some reason))
 
--- a quote on a request that no check refuses is accepted; it replaces the dealer's live quote there, where there is one
-abbrev pub quote_answer : DealerBook → ℕ → Quote → Option StandingRequest → Option QuoteRejectReason → DealerVerdict
+-- a quote on a request that no check refuses is accepted; it replaces the dealer's live quote
+-- there, where there is one
+abbrev pub quote_answer : DealerBook → ℕ → Quote → Option StandingRequest
+    → Option QuoteRejectReason → DealerVerdict
 quote_answer book moment quote request (Some reason) = quote_refused quote reason
 quote_answer book moment quote None None = quote_refused quote Other
 quote_answer book moment quote (Some request) None =
-    verdict.QuoteAccepted quote.request quote.id (quote_kept book moment quote request) (live_number_on book request.number)
+    verdict.QuoteAccepted quote.request quote.id (quote_kept book moment quote request)
+      (live_number_on book request.number)
 
 -- the verdict on a quote on this request
 abbrev pub quote_on : DealerRow → DealerBook → ℕ → Quote → Option StandingRequest → DealerVerdict
@@ -135,12 +144,13 @@ quote_on row book moment quote request =
 
 -- the verdict on a quote: QuoteReqID (131) names its request
 unfoldable pub quote_verdict : DealerRow → DealerBook → ℕ → Quote → DealerVerdict
-quote_verdict row book moment quote = quote_on row book moment quote (request_named book quote.request)
+quote_verdict row book moment quote =
+    quote_on row book moment quote (request_named book quote.request)
 
 -- Cancels.
 
--- the checks of a cancel of one quote that was accepted, line by line; the last line of the rule book's table is the
--- word of the quote
+-- the checks of a cancel of one quote that was accepted, line by line; the last line of the rule
+-- book's table is the word of the quote
 abbrev pub cancel_checks : StandingQuote → List (Bool × QuoteRejectReason)
 cancel_checks own =
     (is_withdrawal own.end, Other)
@@ -149,7 +159,8 @@ cancel_checks own =
 
 -- a refusal, or else the word of the quote is asked
 abbrev pub cancel_answer : List ℕ → StandingQuote → Option QuoteRejectReason → DealerVerdict
-cancel_answer id own (Some reason) = verdict.Refused (out.CancelAnswer (Some id) (status.Refused reason))
+cancel_answer id own (Some reason) =
+    verdict.Refused (out.CancelAnswer (Some id) (status.Refused reason))
 cancel_answer id own None = verdict.CancelAccepted id own.quote.number own.quote.request
 
 -- a cancel of a QuoteID that no accepted quote has is told so
@@ -157,20 +168,21 @@ abbrev pub cancel_of : List ℕ → Option StandingQuote → DealerVerdict
 cancel_of id None = verdict.Refused (out.CancelAnswer (Some id) status.Unknown)
 cancel_of id (Some own) = cancel_answer id own (first_refusal (cancel_checks own))
 
--- a cancel of all quotes: the droppable ones of those that were accepted so far are dropped one by one, and where none
--- is droppable that is told at once
+-- a cancel of all quotes: the droppable ones of those that were accepted so far are dropped one by
+-- one, and where none is droppable that is told at once
 abbrev pub cancel_all : DealerBook → Option (List ℕ) → DealerVerdict
 cancel_all book id =
     if is_none (quote_to_drop book (quotes_accepted book))
     then verdict.Refused (out.CancelAnswer id status.Unknown)
     else verdict.DropsFollow (quotes_accepted book)
 
--- the verdict on a cancel: QuoteCancelType (298) 5 cancels the quote that QuoteID (117) names, 4 cancels all quotes,
--- and every other type is refused
+-- the verdict on a cancel: QuoteCancelType (298) 5 cancels the quote that QuoteID (117) names, 4
+-- cancels all quotes, and every other type is refused
 unfoldable pub cancel_verdict : DealerBook → CancelScope → DealerVerdict
 cancel_verdict book (cancels.One id) = cancel_of id (quote_with_id book id)
 cancel_verdict book (cancels.All id) = cancel_all book id
-cancel_verdict book (cancels.Other cancel_type id) = verdict.Refused (out.CancelAnswer id (status.Refused Other))
+cancel_verdict book (cancels.Other cancel_type id) =
+    verdict.Refused (out.CancelAnswer id (status.Refused Other))
 
 -- Declines.
 
@@ -184,14 +196,16 @@ decline_checks book request =
     ∷ []
 
 -- a refusal, or else the decline is accepted
-abbrev pub decline_answer : List ℕ → Option StandingRequest → Option QuoteRejectReason → DealerVerdict
+abbrev pub decline_answer : List ℕ → Option StandingRequest → Option QuoteRejectReason
+    → DealerVerdict
 decline_answer name request (Some reason) = verdict.Refused (out.DeclineAnswer name (Some reason))
 decline_answer name None None = verdict.Refused (out.DeclineAnswer name (Some Other))
 decline_answer name (Some request) None = verdict.DeclineAccepted name request.number
 
 -- the verdict on a decline of this request
 abbrev pub decline_on : DealerBook → List ℕ → Option StandingRequest → DealerVerdict
-decline_on book name request = decline_answer name request (first_refusal (decline_checks book request))
+decline_on book name request =
+    decline_answer name request (first_refusal (decline_checks book request))
 
 -- the verdict on a decline: QuoteReqID (131) names its request
 unfoldable pub decline_verdict : DealerBook → List ℕ → DealerVerdict

@@ -1,5 +1,5 @@
--- What the index of a desk keeps beside the requests and the quotes of its book. Only private functions and invariants say
--- this.
+-- What the index of a desk keeps beside the requests and the quotes of its book. Only private
+-- functions and invariants say this.
 use Rattle.std.specs.Prelude.{◌≡◌, ◌≤◌, ◌<◌, ℕ, ◌+◌, ◌^◌, List, [], ◌∷◌, ◌++◌, length, map, find, slice_get, Option, Some}
 use Rattle.std.specs.List.{list_any, sum_by, position_or_len}
 use Rattle.std.specs.Option.{option_map}
@@ -15,21 +15,30 @@ use Rattle.dealer_desk.specs.DealerOutput.{number_in}
 use Rattle.dealer_desk.specs.QuoteLines.{line_of}
 use Rattle.dealer_desk.specs.BookChanges.{IsSound, book_after}
 use Rattle.dealer_desk.specs.declared.standing.StandingQuote.{StandingQuote}
+use Rattle.dealer_desk.specs.declared.standing.StandingRequest.{StandingRequest}
 use Rattle.dealer_desk.specs.declared.table.RequestRow.{RequestRow}
+use Rattle.dealer_desk.specs.declared.table.Table.{Table}
+
+-- the requests of rows
+abbrev pub requests_in : List RequestRow → List StandingRequest
+requests_in rows = map (λ row. row.request) rows
 
 -- the own number of the live quote on a request, among these
 abbrev pub live_number_among : List StandingQuote → ℕ → Option ℕ
-live_number_among quotes request = option_map (λ own. own.quote.number) (find (is_live_on request) quotes)
+live_number_among quotes request =
+    option_map (λ own. own.quote.number) (find (is_live_on request) quotes)
 
--- a row of a request with this number: it has the number of the live quote on the request, and whether one on it is known
--- to be lifted
+-- a row of a request with this number: it has the number of the live quote on the request, and
+-- whether one on it is known to be lifted
 pub record IsRow (quotes : List StandingQuote) (number : ℕ) (row : RequestRow) : Type 0 where
   pub live_is : row.live ≡ live_number_among quotes number
   pub lifted_is : row.has_lifted ≡ list_any (is_lifted_on number) quotes
 
--- the rows of requests, the quotes with their lines, the exposure, and the place of the first droppable quote
-pub record IsTable (rows : List RequestRow) (quotes : List StandingQuote) (lines : List QuoteLine) (exposure first_droppable : ℕ) : Type 0 where
-  pub sound : IsSound (map (λ row. row.request) rows) quotes
+-- the rows of requests, the quotes with their lines, the exposure, and the place of the first
+-- droppable quote
+pub record IsTable (rows : List RequestRow) (quotes : List StandingQuote) (lines : List QuoteLine)
+    (exposure first_droppable : ℕ) : Type 0 where
+  pub sound : IsSound (requests_in rows) quotes
   pub rows_are : (k : ℕ) (row : RequestRow) → slice_get rows k ≡ Some row → IsRow quotes (k + 1) row
   pub lines_are : lines ≡ map line_of quotes
   pub exposure_is : exposure ≡ sum_by live_quantity quotes
@@ -37,13 +46,20 @@ pub record IsTable (rows : List RequestRow) (quotes : List StandingQuote) (lines
   pub first_is : first_droppable ≡ position_or_len is_droppable quotes
   pub few : length quotes ≤ 4294967295
 
+-- the same of a table
+abbrev pub IsSoundTable : Table → Type 0
+IsSoundTable table =
+    IsTable table.rows.items table.quotes.items table.lines.items table.exposure
+      table.first_droppable
+
 -- how rooms are ordered
 abbrev pub room_cmp : RoomRef → RoomRef → Ordering
 room_cmp one other = ordering_then (nat_cmp one.investor other.investor) (nat_cmp one.n other.n)
 
 -- the map from QuoteIDs has the own numbers of these quotes
 pub record IsIdMap (quotes : List StandingQuote) (by_id : BTreeMap (List ℕ) ℕ) : Type 0 where
-  pub ids_are : (id : List ℕ) → get (slice_cmp nat_cmp) by_id id ≡ option_map (λ own. own.quote.number) (find (λ own. same_text own.quote.id id) quotes)
+  pub ids_are : (id : List ℕ) → get (slice_cmp nat_cmp) by_id id
+      ≡ option_map (λ own. own.quote.number) (find (λ own. same_text own.quote.id id) quotes)
 
 -- the map from rooms has the numbers of the requests that were first shown there
 pub record IsRoomMap (rooms : List RoomRef) (by_room : BTreeMap RoomRef ℕ) : Type 0 where
@@ -60,11 +76,13 @@ with_fact index fact = record index { book = book_after index.book fact }
 
 -- an index after a request more, which was shown in this room
 abbrev pub with_request : IndexView → RoomRef → DealerFact → IndexView
-with_request index room fact = record { book = book_after index.book fact; rooms = index.rooms ++ room ∷ [] }
+with_request index room fact =
+    record { book = book_after index.book fact; rooms = index.rooms ++ room ∷ [] }
 
 -- what an index keeps beside its book
-pub record IsIndex (used notices : ℕ) (rows : List RequestRow) (quotes : List StandingQuote) (lines : List QuoteLine) (exposure first_droppable : ℕ)
-    (rooms : List RoomRef) (by_id : BTreeMap (List ℕ) ℕ) (by_room : BTreeMap RoomRef ℕ) : Type 0 where
+pub record IsIndex (used notices : ℕ) (rows : List RequestRow) (quotes : List StandingQuote)
+    (lines : List QuoteLine) (exposure first_droppable : ℕ) (rooms : List RoomRef)
+    (by_id : BTreeMap (List ℕ) ℕ) (by_room : BTreeMap RoomRef ℕ) : Type 0 where
   pub used_fits : used < 2 ^ 63
   pub notices_fit : notices < 2 ^ 63
   pub table : IsTable rows quotes lines exposure first_droppable

@@ -1,4 +1,5 @@
--- What the laws of a desk say of the words that were asked, and of what its messages leave to be done.
+-- What the laws of a desk say of the words that were asked, and of what its messages leave to be
+-- done.
 use Rattle.std.specs.Prelude.{ℕ, ◌≤◌, Bool, true, false, ◌&&◌, ◌==◌, Option, Some, None}
 use Rattle.venue_config.specs.declared.dealer_rows.DealerRow.{DealerRow}
 use Rattle.market_terms.specs.declared.duties.Duty.{Duty}

@@ -1,4 +1,5 @@
--- How the code cuts the checks of a quote and what it makes of a verdict. Only private functions say this.
+-- How the code cuts the checks of a quote and what it makes of a verdict. Only private functions
+-- say this.
 use Rattle.std.specs.Prelude.{◌≡◌, ◌≤◌, ℕ, Bool, true, false, ◌||◌, not, nat_lt, nat_le, List, [], ◌∷◌, ◌++◌, Option, Some, None, is_none, is_some, fold}
 use Rattle.venue_config.specs.Texts.{same_text}
 use Rattle.venue_config.specs.declared.dealer_rows.DealerRow.{DealerRow}
@@ -41,7 +42,8 @@ terms_checks moment quote ask =
     ∷ []
 
 -- what the dealer's day leaves room for
-abbrev pub day_checks : DealerRow → DealerBook → ℕ → Quote → StandingRequest → List (Bool × QuoteRejectReason)
+abbrev pub day_checks : DealerRow → DealerBook → ℕ → Quote → StandingRequest
+    → List (Bool × QuoteRejectReason)
 day_checks row book moment quote shown =
     (is_some (quote_with_id book quote.id), DuplicateQuote)
     ∷ (is_not_after moment quote.valid_until, Other)
@@ -68,7 +70,8 @@ note_of verdict.Dropped answer = note.Nothing
 note_of (verdict.OutOfSequence reject) answer = note.Nothing
 note_of (verdict.Rejected reject) answer = note.Number
 note_of (verdict.Refused message) answer = note.Number
-note_of (verdict.QuoteAccepted request id quote replaced) answer = note_of_quote quote replaced answer
+note_of (verdict.QuoteAccepted request id quote replaced) answer =
+    note_of_quote quote replaced answer
 note_of (verdict.CancelAccepted id quote request) answer = note_of_cancel quote answer
 note_of (verdict.DropsFollow last) answer = note.Number
 note_of (verdict.DeclineAccepted request number) answer = note.Declined number
@@ -92,7 +95,8 @@ note_facts (note.Declined request) = Declined request ∷ []
 abbrev pub IsLawful : DealerBook → DealerVerdict → Type 0
 IsLawful book (verdict.QuoteAccepted request id quote replaced) = FitsBook book quote replaced
 IsLawful book (verdict.CancelAccepted id quote request) = IsLiveNumber book.quotes quote
-IsLawful book (verdict.DeclineAccepted request number) = (1 ≤ number) × (number ≤ requests_shown book)
+IsLawful book (verdict.DeclineAccepted request number) =
+    (1 ≤ number) × (number ≤ requests_shown book)
 IsLawful book other = Unit {0}
 
 -- and so of what is noted of it
@@ -109,7 +113,8 @@ abbrev pub with_facts : IndexView → List DealerFact → IndexView
 with_facts index facts = fold with_fact index facts
 
 -- What a desk keeps beside its events: their messages, and the index of their facts and rooms.
-pub record IsDesk (date : List ℕ) (row : DealerRow) (events : List DealerEvent) (sent : List (List ℕ)) (index : IndexView) : Type 0 where
+pub record IsDesk (date : List ℕ) (row : DealerRow) (events : List DealerEvent)
+    (sent : List (List ℕ)) (index : IndexView) : Type 0 where
   pub sent_are : sent ≡ (desk_after date row events).sent
   pub book_is : index.book ≡ book_of (desk_after date row events).facts
   pub rooms_are : index.rooms ≡ rooms_of events

@@ -1,11 +1,11 @@
 //! How a verdict is answered, noted and handed on.
-ghost use Rattle.std.specs.Prelude.{◌≡◌, ◌<◌, ◌+◌, ◌^◌, ℕ, List, [], ◌∷◌, Some, None, OnOk, OnErr, IfSome, if◌then◌else◌};
+ghost use Rattle.std.specs.Prelude.{◌≡◌, ◌<◌, ◌+◌, ◌^◌, ℕ, List, ◌∷◌, Some, None, OnOk, OnErr};
+ghost use Rattle.std.specs.Prelude.{if◌then◌else◌};
 ghost use Rattle.std.specs.Option.{option_map};
-ghost use Rattle.dealer_desk.specs.DealerFacts.{Came, number_to_drop};
-ghost use Rattle.dealer_desk.specs.BookChanges.{IsSound, IsLiveNumber};
-ghost use Rattle.dealer_desk.specs.declared.standing.Withdrawal.TheVariants as by;
+ghost use Rattle.dealer_desk.specs.DealerFacts.{Came};
 ghost use Rattle.dealer_desk.specs.DealerOutput as spec;
-ghost use Rattle.dealer_desk.specs.RuleCuts.{IsLawfulNote, note_of, note_of_quote, note_of_cancel, note_uses, note_facts, with_facts};
+ghost use Rattle.dealer_desk.specs.RuleCuts.{IsLawfulNote, note_of, note_of_quote, note_of_cancel};
+ghost use Rattle.dealer_desk.specs.RuleCuts.{note_uses, note_facts, with_facts};
 
 use crate::index::DealerIndex;
 use crate::outcomes::{Note, Outcome};
@@ -135,7 +135,8 @@ fn quote_answer<'a>(
     replaced: Option<u32>,
     answer: Option<Settled>,
 ) -> OutMessage<'a>
-    ensures { result ≡ OutMessage.QuoteAnswer request.entry id.entry (if spec.goes_through replaced answer then None else Some QuoteRejectReason.TooLate) }
+    ensures { result ≡ OutMessage.QuoteAnswer request.entry id.entry
+        (if spec.goes_through replaced answer then None else Some QuoteRejectReason.TooLate) }
 {
     OutMessage::QuoteAnswer {
         request,
@@ -169,7 +170,8 @@ fn cancel_answer(id: Id<'_>, answer: Option<Settled>) -> OutMessage<'_>
 pub(crate) fn take_note(index: &mut DealerIndex, note: Note) -> Result<(), Memory>
     requires lawful { IsLawfulNote index.old.book note }
     requires fits { index.old.book.used + 1 < 2 ^ 63 }
-    ensures ok { OnOk result ((moment : ℕ) (bytes : List ℕ) → index.new ≡ with_facts index.old (Came moment bytes (note_uses note) ∷ note_facts note)) }
+    ensures ok { OnOk result ((moment : ℕ) (bytes : List ℕ) → index.new
+        ≡ with_facts index.old (Came moment bytes (note_uses note) ∷ note_facts note)) }
     ensures err { OnErr result (index.new ≡ index.old) }
 {
     let used = uses_number(&note);
@@ -236,7 +238,9 @@ pub(crate) fn duty_of(
 {
     match verdict {
         DealerVerdict::QuoteAccepted {
-            quote, replaced, ..
+            quote,
+            replaced,
+            ..
         } => post_where(goes_through(*replaced, answer), index, quote),
         DealerVerdict::CancelAccepted { quote, request, .. } => {
             unpost_where(is_withdrawn(answer), index, *quote, *request, moment)
@@ -252,7 +256,10 @@ pub(crate) fn duty_of(
 
 /// The posting of a quote in the room of its request, where so.
 fn post_where(so: bool, index: &DealerIndex, quote: &AcceptedQuote) -> Option<Duty>
-    ensures { result ≡ (if so then option_map (spec.post_of quote.now) (spec.room_of index.now.rooms quote.now.request) else None) }
+    ensures { result
+        ≡ (if so
+        then option_map (spec.post_of quote.now) (spec.room_of index.now.rooms quote.now.request)
+        else None) }
 {
     if !so {
         return None;
@@ -275,7 +282,10 @@ pub(crate) fn unpost_where(
     request: u64,
     moment: Moment,
 ) -> Option<Duty>
-    ensures { result ≡ (if so then option_map (λ room. Duty.Unpost room quote moment) (spec.room_of index.now.rooms request) else None) }
+    ensures { result
+        ≡ (if so
+        then option_map (λ room. Duty.Unpost room quote moment) (spec.room_of index.now.rooms request)
+        else None) }
 {
     if !so {
         return None;
@@ -290,35 +300,9 @@ pub(crate) fn unpost_where(
 
 /// The decline of a request in its room.
 fn decline_of(index: &DealerIndex, number: u64, moment: Moment) -> Option<Duty>
-    ensures { result ≡ option_map (λ room. Duty.Decline room moment) (spec.room_of index.now.rooms number) }
+    ensures { result
+        ≡ option_map (λ room. Duty.Decline room moment) (spec.room_of index.now.rooms number) }
 {
     let room = index.room_of(number)?;
     Some(Duty::Decline { room, moment })
-}
-
-/// Notes the answer of the word of the quote that a drop takes, where it takes one.
-pub(crate) fn note_drop(index: &mut DealerIndex, last: u32, answer: Option<Settled>)
-    requires { IsSound index.old.book.requests index.old.book.quotes }
-    ensures { index.new ≡ with_facts index.old (spec.settled_facts (number_to_drop index.old.book last) by.Cancel answer) }
-{
-    let Some(quote) = number_to_drop(index, last) else {
-        return;
-    };
-    match answer {
-        Some(Settled::Withdrawn) => index.cancel(quote),
-        Some(Settled::Lifted) => index.find_lifted(quote),
-        None => {}
-    }
-}
-
-/// The own number of the quote that a drop takes: it is live.
-fn number_to_drop(index: &DealerIndex, last: u32) -> Option<u32>
-    requires { IsSound index.now.book.requests index.now.book.quotes }
-    ensures number { result ≡ number_to_drop index.now.book last }
-    ensures live { IfSome result (λ quote. IsLiveNumber index.now.book.quotes quote) }
-{
-    let Some(own) = index.quote_to_drop(last) else {
-        return None;
-    };
-    Some(own.quote.number)
 }

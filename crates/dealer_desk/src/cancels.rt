@@ -1,4 +1,5 @@
-//! The rules of the market for what a dealer takes back: cancels of quotes, and declines of requests.
+//! The rules of the market for what a dealer takes back: cancels of quotes, and declines of
+//! requests.
 ghost use Rattle.std.specs.Prelude.{◌≡◌, [], ◌∷◌, Some};
 ghost use Rattle.market_terms.specs.Checks.{first_refusal};
 ghost use Rattle.dealer_desk.specs.DealerFacts.{live_number_on};
@@ -100,7 +101,8 @@ pub(crate) fn decline_verdict<'a>(index: &DealerIndex, request: Id<'a>) -> Deale
 /// Why a request that was shown can't be declined, if it can't.
 fn decline_refusal(_index: &DealerIndex, shown: &RequestRow) -> Option<QuoteRejectReason>
     requires { shown.now.live ≡ live_number_on _index.now.book shown.now.request.number }
-    ensures { result ≡ first_refusal (spec.decline_checks _index.now.book (Some shown.now.request)) }
+    ensures { result
+        ≡ first_refusal (spec.decline_checks _index.now.book (Some shown.now.request)) }
 {
     if shown.request.is_declined {
         return Some(QuoteRejectReason::Other);
@@ -116,7 +118,8 @@ fn decline_refusal(_index: &DealerIndex, shown: &RequestRow) -> Option<QuoteReje
 
 /// The refusal of a decline.
 fn decline_refused(request: Id<'_>, reason: QuoteRejectReason) -> DealerVerdict<'_>
-    ensures { result ≡ DealerVerdict.Refused (OutMessage.DeclineAnswer request.entry (Some reason)) }
+    ensures { result
+        ≡ DealerVerdict.Refused (OutMessage.DeclineAnswer request.entry (Some reason)) }
 {
     DealerVerdict::Refused(OutMessage::DeclineAnswer {
         request,

@@ -1,22 +1,23 @@
 //! The desk of one dealer.
-ghost use Rattle.std.specs.Prelude.{◌≡◌, ◌+◌, ◌<◌, ◌≤◌, [], ◌∷◌, ◌++◌, is_some, vec_len, vec_capacity, IfOk, IfSome, OnOk, OnErr, IsOk};
-ghost use Rattle.std.specs.Option.{option_map, option_to_list};
-ghost use Rattle.dealer_desk.specs.DealerFacts.{book_of, requests_shown, exposure_of, number_to_drop, quote_to_drop};
+ghost use Rattle.std.specs.Prelude.{◌≡◌, ◌+◌, ◌≤◌, [], is_some, IfOk, IfSome, OnOk, OnErr};
+ghost use Rattle.dealer_desk.specs.DealerFacts.{requests_shown, exposure_of};
+ghost use Rattle.dealer_desk.specs.DealerFacts.{number_to_drop, quote_to_drop};
 ghost use Rattle.dealer_desk.specs.DealerOutput as spec;
-ghost use Rattle.dealer_desk.specs.DealerOutput.{DeskEvents, dealer_output, book_at, rooms_at, with_event, with_notice, with_notice_in, number_in, may_close, may_close_in, verdict_at, word_asked, verdict_duty, event_facts};
+ghost use Rattle.dealer_desk.specs.DealerOutput.{dealer_output, book_at, rooms_at, with_event};
+ghost use Rattle.dealer_desk.specs.DealerOutput.{with_notice, with_notice_in, number_in, may_close};
+ghost use Rattle.dealer_desk.specs.DealerOutput.{may_close_in, verdict_at, word_asked};
+ghost use Rattle.dealer_desk.specs.DealerOutput.{verdict_duty};
 ghost use Rattle.dealer_desk.specs.QuoteLines.{lines_of};
 
-use crate::answers::{
-    cancel_status, duty_of, is_withdrawn, note_drop, outcome_of, take_note, unpost_where,
-};
+use crate::answers::{duty_of, outcome_of, take_note};
+use crate::drops::{drop_answer, further_drop, note_drop, unpost_of};
 use crate::index::DealerIndex;
 use crate::rules::dealer_verdict;
-use crate::{DealerEvent, DealerVerdict, StandingQuote};
+use crate::sending::{answer_message, next_message, notice_of, push_some};
+use crate::{DealerEvent, DealerVerdict};
 use fix_fields::{Date, Memory, Moment};
 use market_terms::{Ask, Close, Duty, QuoteLine, RoomRef};
-use quote_messages::{
-    ClosingNotice, Head, Message, OutMessage, QuotedPrice, Request, SentMessage, write_out,
-};
+use quote_messages::{Message, OutMessage, Request, SentMessage};
 use quote_word::Settled;
 use std::alloc::Global;
 use std::marker::Model;
@@ -42,9 +43,14 @@ impl Model for DealerDesk {
 
     ghost Value = { DeskEvents };
 
-    ghost view = { λ desk. record { date = desk.date; row = desk.row; events = desk.events.items } };
+    ghost view = { λ desk. record {
+      date = desk.date;
+      row = desk.row;
+      events = desk.events.items;
+    } };
 
-    ghost invariant = { λ desk. IsDesk desk.date desk.row desk.events.items desk.sent.items desk.index };
+    ghost invariant = { λ desk.
+        IsDesk desk.date desk.row desk.events.items desk.sent.items desk.index };
 }
 
 impl DealerDesk {
@@ -62,20 +68,22 @@ impl DealerDesk {
         })
     }
 
-    /// The verdict on bytes that come at this moment: what the session and the market make of them. It may be handed to
-    /// [`DealerDesk::take_judged`] as long as nothing else comes to the desk, so that a message is read and judged once.
-    /// The quote whose word it asks has a number from 1 to the quotes of the dealer's row.
+    /// The verdict on bytes that come at this moment: what the session and the market make of them.
+    /// It may be handed to [`DealerDesk::take_judged`] as long as nothing else comes to the desk,
+    /// so that a message is read and judged once. The quote whose word it asks has a number from 1
+    /// to the quotes of the dealer's row.
     pub fn judge<'a>(&self, moment: Moment, bytes: &'a [u8]) -> DealerVerdict<'a>
         ensures verdict { result ≡ verdict_at self.now moment bytes.now }
-        ensures own { IfSome (word_asked result) (λ quote. (1 ≤ quote) × (quote ≤ self.now.row.quotes)) }
+        ensures own { IfSome (word_asked result)
+            (λ quote. (1 ≤ quote) × (quote ≤ self.now.row.quotes)) }
     {
         let verdict = dealer_verdict(&self.date, &self.row, &self.index, moment, bytes);
         verdict
     }
 
-    /// The own number of the quote whose word has to be asked before these bytes are taken at this moment: that of the
-    /// quote that a Quote (35=S) would replace, or that a QuoteCancel (35=Z) would withdraw. Numbers are from 1 to the
-    /// quotes of the dealer's row.
+    /// The own number of the quote whose word has to be asked before these bytes are taken at this
+    /// moment: that of the quote that a Quote (35=S) would replace, or that a QuoteCancel (35=Z)
+    /// would withdraw. Numbers are from 1 to the quotes of the dealer's row.
     pub fn question(&self, moment: Moment, bytes: &[u8]) -> Option<u32>
         ensures quote { result ≡ word_asked (verdict_at self.now moment bytes.now) }
         ensures own { IfSome result (λ quote. (1 ≤ quote) × (quote ≤ self.now.row.quotes)) }
@@ -85,8 +93,9 @@ impl DealerDesk {
         quote
     }
 
-    /// Takes a message of the dealer's own, whatever its bytes are, with the answer of the word that it asks, and gives
-    /// what is left to be done in the room of its request. After an error the desk is as before.
+    /// Takes a message of the dealer's own, whatever its bytes are, with the answer of the word
+    /// that it asks, and gives what is left to be done in the room of its request. After an error
+    /// the desk is as before.
     pub fn take(
         &mut self,
         moment: Moment,
@@ -94,8 +103,10 @@ impl DealerDesk {
         answer: Option<Settled>,
     ) -> Result<Option<Duty>, Memory>
         requires { is_some answer ≡ is_some (word_asked (verdict_at self.old moment bytes.now)) }
-        ensures ok { OnOk result (self.new ≡ with_event self.old (DealerEvent.Own moment bytes.now answer)) }
-        ensures duty { IfOk result (λ duty. duty ≡ verdict_duty (rooms_at self.old) moment (verdict_at self.old moment bytes.now) answer) }
+        ensures ok { OnOk result
+            (self.new ≡ with_event self.old (DealerEvent.Own moment bytes.now answer)) }
+        ensures duty { IfOk result (λ duty. duty
+            ≡ verdict_duty (rooms_at self.old) moment (verdict_at self.old moment bytes.now) answer) }
         ensures err { OnErr result (self.new ≡ self.old) }
     {
         let verdict = dealer_verdict(&self.date, &self.row, &self.index, moment, bytes);
@@ -113,8 +124,10 @@ impl DealerDesk {
     ) -> Result<Option<Duty>, Memory>
         requires judged { verdict ≡ verdict_at self.old moment bytes.now }
         requires answered { is_some answer ≡ is_some (word_asked verdict) }
-        ensures ok { OnOk result (self.new ≡ with_event self.old (DealerEvent.Own moment bytes.now answer)) }
-        ensures duty { IfOk result (λ duty. duty ≡ verdict_duty (rooms_at self.old) moment verdict answer) }
+        ensures ok { OnOk result
+            (self.new ≡ with_event self.old (DealerEvent.Own moment bytes.now answer)) }
+        ensures duty { IfOk result
+            (λ duty. duty ≡ verdict_duty (rooms_at self.old) moment verdict.entry answer) }
         ensures err { OnErr result (self.new ≡ self.old) }
     {
         let message = Message::copy_of(self.alloc, bytes)?;
@@ -140,11 +153,13 @@ impl DealerDesk {
         Ok(duty)
     }
 
-    /// Shows the dealer a request, and answers the number that it has among those shown to this dealer. A room is shown
-    /// once: where one was shown before, it goes on to mean its first request. After an error the desk is as before.
+    /// Shows the dealer a request, and answers the number that it has among those shown to this
+    /// dealer. A room is shown once: where one was shown before, it goes on to mean its first
+    /// request. After an error the desk is as before.
     pub fn show(&mut self, room: RoomRef, ask: Ask, moment: Moment) -> Result<u64, Memory>
         ensures number { IfOk result (λ number. number ≡ requests_shown (book_at self.old) + 1) }
-        ensures ok { OnOk result (self.new ≡ with_event self.old (DealerEvent.Shown room ask moment)) }
+        ensures ok { OnOk result
+            (self.new ≡ with_event self.old (DealerEvent.Shown room ask moment)) }
         ensures err { OnErr result (self.new ≡ self.old) }
     {
         let number = self.index.requests_shown() + 1;
@@ -163,11 +178,13 @@ impl DealerDesk {
         Ok(number)
     }
 
-    /// Tells the dealer how the request of a room ended. It answers false, and changes nothing, where that room was not
-    /// shown or was told already. After an error the desk is as before.
+    /// Tells the dealer how the request of a room ended. It answers false, and changes nothing,
+    /// where that room was not shown or was told already. After an error the desk is as before.
     pub fn tell(&mut self, room: RoomRef, close: Close, moment: Moment) -> Result<bool, Memory>
-        ensures told { IfOk result (λ told. told ≡ may_close_in self.old (number_in (rooms_at self.old) room)) }
-        ensures ok { OnOk result (self.new ≡ with_notice_in self.old (number_in (rooms_at self.old) room) close moment) }
+        ensures told { IfOk result
+            (λ told. told ≡ may_close_in self.old (number_in (rooms_at self.old) room)) }
+        ensures ok { OnOk result (self.new
+            ≡ with_notice_in self.old (number_in (rooms_at self.old) room) close moment) }
         ensures err { OnErr result (self.new ≡ self.old) }
     {
         let Some(number) = self.index.number_in(room) else {
@@ -206,9 +223,9 @@ impl DealerDesk {
         Ok(true)
     }
 
-    /// The own number of the quote whose word has to be asked before the next of the quotes up to `last` is dropped: of
-    /// those that are live and not known to be lifted the one with the lowest number. Numbers are from 1 to the quotes
-    /// of the dealer's row.
+    /// The own number of the quote whose word has to be asked before the next of the quotes up to
+    /// `last` is dropped: of those that are live and not known to be lifted the one with the lowest
+    /// number. Numbers are from 1 to the quotes of the dealer's row.
     pub fn question_drop(&self, last: u32) -> Option<u32>
         ensures quote { result ≡ number_to_drop (book_at self.now) last }
         ensures own { IfSome result (λ quote. (1 ≤ quote) × (quote ≤ self.now.row.quotes)) }
@@ -217,9 +234,10 @@ impl DealerDesk {
         Some(own.quote.number)
     }
 
-    /// Drops the next of the quotes up to `last`, with the answer of its word, for a cancel of all quotes that came at
-    /// this moment. It gives what is left to be done in the room of that quote, and the same drop once more where another
-    /// quote is left. After an error the desk is as before.
+    /// Drops the next of the quotes up to `last`, with the answer of its word, for a cancel of all
+    /// quotes that came at this moment. It gives what is left to be done in the room of that quote,
+    /// and the same drop once more where another quote is left. After an error the desk is as
+    /// before.
     pub fn drop_one(
         &mut self,
         last: u32,
@@ -227,9 +245,13 @@ impl DealerDesk {
         answer: Option<Settled>,
     ) -> Result<(Option<Duty>, Option<Duty>), Memory>
         requires { is_some answer ≡ is_some (number_to_drop (book_at self.old) last) }
-        ensures ok { OnOk result (self.new ≡ with_event self.old (DealerEvent.Drop last moment answer)) }
-        ensures unpost { IfOk result (λ duties. duties.0 ≡ spec.unpost_dropped (rooms_at self.old) moment answer (quote_to_drop (book_at self.old) last)) }
-        ensures further { IfOk result (λ duties. duties.1 ≡ spec.further_drop (book_at self.new) last moment) }
+        ensures ok { OnOk result
+            (self.new ≡ with_event self.old (DealerEvent.Drop last moment answer)) }
+        ensures unpost { IfOk result (λ duties. duties.0
+            ≡ spec.unpost_dropped (rooms_at self.old) moment answer
+            (quote_to_drop (book_at self.old) last)) }
+        ensures further { IfOk result
+            (λ duties. duties.1 ≡ spec.further_drop (book_at self.new) last moment) }
         ensures err { OnErr result (self.new ≡ self.old) }
     {
         let answered = drop_answer(&self.index, last, answer);
@@ -316,125 +338,4 @@ impl DealerDesk {
     {
         &self.row
     }
-}
-
-/// The closing notice of a request, where one may be sent.
-fn notice_of<'a>(index: &DealerIndex, number: u64, close: Close) -> Option<OutMessage<'a>>
-    ensures { result ≡ option_map (spec.notice_of index.now.book close) (spec.closable index.now.book number) }
-{
-    let row = index.request_numbered(number)?;
-    if row.request.is_told {
-        return None;
-    }
-    let quote = index.live_quote_on(number).map(|own| quoted_price(own));
-    Some(OutMessage::ClosingNotice(ClosingNotice {
-        number: index.notices() + 1,
-        request: Request {
-            number: row.request.number,
-            ask: row.request.ask.copy(),
-        },
-        close,
-        quote,
-    }))
-}
-
-/// What a closing notice says of a quote.
-fn quoted_price(own: &StandingQuote) -> QuotedPrice
-    ensures { result ≡ spec.quoted_price own.now }
-{
-    QuotedPrice {
-        id: own.quote.id.copy(),
-        price: own.quote.price,
-    }
-}
-
-/// What the dealer is told of the quote that a drop takes, where it takes one.
-fn drop_answer(
-    index: &DealerIndex,
-    last: u32,
-    answer: Option<Settled>,
-) -> Option<OutMessage<'_>>
-    ensures { result ≡ option_map (spec.drop_message answer) (quote_to_drop index.now.book last) }
-{
-    let own = index.quote_to_drop(last)?;
-    Some(OutMessage::CancelAnswer {
-        id: Some(own.quote.id.as_id()),
-        status: cancel_status(answer),
-    })
-}
-
-/// What is left to be done in the room of the quote that a drop takes.
-fn unpost_of(
-    index: &DealerIndex,
-    last: u32,
-    moment: Moment,
-    answer: Option<Settled>,
-) -> Option<Duty>
-    ensures { result ≡ spec.unpost_dropped index.now.rooms moment answer (quote_to_drop index.now.book last) }
-{
-    let own = index.quote_to_drop(last)?;
-    let so = is_withdrawn(answer);
-    unpost_where(so, index, own.quote.number, own.quote.request, moment)
-}
-
-/// The same drop once more, where another quote is left to be dropped.
-fn further_drop(index: &DealerIndex, last: u32, moment: Moment) -> Option<Duty>
-    ensures { result ≡ spec.further_drop index.now.book last moment }
-{
-    if index.quote_to_drop(last).is_none() {
-        return None;
-    }
-    Some(Duty::Drop { last, moment })
-}
-
-/// A message as the next one that the dealer is sent.
-fn next_message(
-    alloc: Global,
-    date: &Date,
-    row: &DealerRow,
-    sent: &[SentMessage],
-    moment: Moment,
-    message: &OutMessage,
-) -> Result<SentMessage, Memory>
-    ensures { IfOk result (λ bytes. bytes ≡ spec.next_message date.now row.now sent.now moment message.now) }
-{
-    let head = Head {
-        date: *date,
-        firm: row.name.copy(),
-        number: sent.len() as u64 + 1,
-        moment,
-    };
-    let bytes = write_out(alloc, &head, message)?;
-    Ok(bytes)
-}
-
-/// The same of an answer, where there is one.
-fn answer_message(
-    alloc: Global,
-    date: &Date,
-    row: &DealerRow,
-    sent: &[SentMessage],
-    moment: Moment,
-    answer: &Option<OutMessage>,
-) -> Result<Option<SentMessage>, Memory>
-    ensures { IfOk result (λ bytes. spec.sent_with date.now row.now sent.now moment answer.now ≡ sent.now ++ option_to_list bytes) }
-{
-    let Some(message) = answer else {
-        return Ok(None);
-    };
-    let bytes = next_message(alloc, date, row, sent, moment, message)?;
-    Ok(Some(bytes))
-}
-
-/// Puts a value behind the others, where there is one.
-fn push_some<T: Drop>(items: &mut Vec<T>, item: Option<T>) -> Result<(), Memory>
-    requires { vec_len items.old < vec_capacity items.old }
-    ensures ok { IsOk result }
-    ensures items { items.new.items ≡ items.old.items ++ option_to_list item }
-{
-    let Some(item) = item else {
-        return Ok(());
-    };
-    items.push(item)?;
-    Ok(())
 }

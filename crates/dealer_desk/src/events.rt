@@ -37,7 +37,8 @@ pub enum DealerEvent {
     },
     /// The next of the quotes that a cancel of all quotes means is dropped.
     Drop {
-        /// How many quotes of the dealer were accepted when the cancel came: no later one is dropped.
+        /// How many quotes of the dealer were accepted when the cancel came: no later one is
+        /// dropped.
         last: u32,
         /// The moment of the cancel.
         moment: Moment,

@@ -22,9 +22,10 @@ use std::collections::BTreeMap;
 use std::marker::Model;
 use std::str;
 
-/// The book of a desk and the rooms of its requests, with an ordered map from QuoteIDs to quotes and one from rooms to
-/// requests, a row for each request with the live quote on it, and the exposure, the lines of the blotter and the first
-/// droppable quote as they run. A contract sees the book and the rooms.
+/// The book of a desk and the rooms of its requests, with an ordered map from QuoteIDs to quotes
+/// and one from rooms to requests, a row for each request with the live quote on it, and the
+/// exposure, the lines of the blotter and the first droppable quote as they run. A contract sees
+/// the book and the rooms.
 #[derive(Drop)]
 pub(crate) struct DealerIndex {
     used: u64,
@@ -51,8 +52,9 @@ impl Model for DealerIndex {
       rooms = index.rooms.items;
     } };
 
-    ghost invariant = { λ index. IsIndex index.used index.notices index.table.rows.items index.table.quotes.items index.table.lines.items
-      index.table.exposure index.table.first_droppable index.rooms.items index.by_id index.by_room };
+    ghost invariant = { λ index. IsIndex index.used index.notices index.table.rows.items
+      index.table.quotes.items index.table.lines.items index.table.exposure
+      index.table.first_droppable index.rooms.items index.by_id index.by_room };
 }
 
 impl DealerIndex {
@@ -102,9 +104,12 @@ impl DealerIndex {
 
     /// The request with this number.
     pub(crate) fn request_numbered(&self, number: u64) -> Option<&RequestRow>
-        ensures request { option_map (λ row. row.now.request) result ≡ facts.request_numbered self.now.book number }
-        ensures live { IfSome result (λ row. row.now.live ≡ facts.live_number_on self.now.book row.now.request.number) }
-        ensures lifted { IfSome result (λ row. row.now.has_lifted ≡ facts.has_lifted_quote self.now.book row.now.request.number) }
+        ensures request { option_map (λ row. row.now.request) result
+            ≡ facts.request_numbered self.now.book number }
+        ensures live { IfSome result (λ row.
+            row.now.live ≡ facts.live_number_on self.now.book row.now.request.number) }
+        ensures lifted { IfSome result (λ row.
+            row.now.has_lifted ≡ facts.has_lifted_quote self.now.book row.now.request.number) }
     {
         if number < 1 || number > self.table.rows.len() as u64 {
             return None;
@@ -114,9 +119,12 @@ impl DealerIndex {
 
     /// The request that a QuoteReqID (131) names.
     pub(crate) fn request_named(&self, name: &[u8]) -> Option<&RequestRow>
-        ensures request { option_map (λ row. row.now.request) result ≡ facts.request_named self.now.book name.now }
-        ensures live { IfSome result (λ row. row.now.live ≡ facts.live_number_on self.now.book row.now.request.number) }
-        ensures lifted { IfSome result (λ row. row.now.has_lifted ≡ facts.has_lifted_quote self.now.book row.now.request.number) }
+        ensures request { option_map (λ row. row.now.request) result
+            ≡ facts.request_named self.now.book name.now }
+        ensures live { IfSome result (λ row.
+            row.now.live ≡ facts.live_number_on self.now.book row.now.request.number) }
+        ensures lifted { IfSome result (λ row.
+            row.now.has_lifted ≡ facts.has_lifted_quote self.now.book row.now.request.number) }
     {
         let shown = self.table.rows.len() as u64;
         let number = number_named(name)?;
@@ -149,10 +157,10 @@ impl DealerIndex {
     pub(crate) fn live_quote_on(&self, request: u64) -> Option<&StandingQuote>
         ensures { option_map (λ own. own.now) result ≡ facts.live_quote_on self.now.book request }
     {
+        let quotes = self.table.quotes.as_slice();
         let row = self.request_numbered(request)?;
         let number = row.live?;
-        let own = self.quote_numbered(number)?;
-        Some(own)
+        Some(&quotes[number as usize - 1])
     }
 
     /// The quote that a drop of the quotes up to this own number takes.
@@ -215,14 +223,16 @@ impl DealerIndex {
     /// Takes note of a message that used up its number.
     pub(crate) fn came(&mut self)
         requires { self.old.book.used + 1 < 2 ^ 63 }
-        ensures { (moment : ℕ) (bytes : List ℕ) → self.new ≡ with_fact self.old (facts.Came moment bytes true) }
+        ensures { (moment : ℕ) (bytes : List ℕ)
+            → self.new ≡ with_fact self.old (facts.Came moment bytes true) }
     {
         self.used += 1;
     }
 
     /// Takes note of a request that is shown in a room. After an error the index is as before.
     pub(crate) fn show(&mut self, room: RoomRef, ask: Ask) -> Result<(), Memory>
-        ensures ok { OnOk result ((moment : ℕ) → self.new ≡ with_request self.old room (facts.Shown ask moment)) }
+        ensures ok { OnOk result ((moment : ℕ)
+            → self.new ≡ with_request self.old room (facts.Shown ask moment)) }
         ensures err { OnErr result (self.new ≡ self.old) }
     {
         self.table.rows.reserve(1)?;
@@ -234,7 +244,8 @@ impl DealerIndex {
         Ok(())
     }
 
-    /// Takes note of an accepted quote on a request without a live one. After an error the index is as before.
+    /// Takes note of an accepted quote on a request without a live one. After an error the index is
+    /// as before.
     pub(crate) fn accept(&mut self, quote: AcceptedQuote) -> Result<(), Memory>
         requires { FitsBook self.old.book quote None }
         ensures ok { OnOk result (self.new ≡ with_fact self.old (facts.Quoted quote)) }
@@ -247,11 +258,12 @@ impl DealerIndex {
         Ok(())
     }
 
-    /// Takes note of an accepted quote in the place of the live one on its request. After an error the index is as
-    /// before.
+    /// Takes note of an accepted quote in the place of the live one on its request. After an error
+    /// the index is as before.
     pub(crate) fn replace(&mut self, replaced: u32, quote: AcceptedQuote) -> Result<(), Memory>
         requires { FitsBook self.old.book quote (Some replaced) }
-        ensures ok { OnOk result (self.new ≡ with_fact (with_fact self.old (facts.Withdrawn replaced by.Replacement)) (facts.Quoted quote)) }
+        ensures ok { OnOk result (self.new ≡ with_fact
+            (with_fact self.old (facts.Withdrawn replaced by.Replacement)) (facts.Quoted quote)) }
         ensures err { OnErr result (self.new ≡ self.old) }
     {
         self.table.quotes.reserve(1)?;
@@ -307,8 +319,11 @@ fn put_first(
     room: RoomRef,
     number: u64,
 ) -> Result<(), Memory>
-    ensures ok { OnOk result ((q : RoomRef) → get room_cmp by_room.new q ≡ option_or (get room_cmp by_room.old q) (if output.is_same_room room q then Some number else None)) }
-    ensures err { OnErr result ((q : RoomRef) → get room_cmp by_room.new q ≡ get room_cmp by_room.old q) }
+    ensures ok { OnOk result ((q : RoomRef) → get room_cmp by_room.new q
+        ≡ option_or (get room_cmp by_room.old q)
+            (if output.is_same_room room q then Some number else None)) }
+    ensures err { OnErr result ((q : RoomRef)
+        → get room_cmp by_room.new q ≡ get room_cmp by_room.old q) }
 {
     if by_room.get(&room).is_some() {
         return Ok(());
@@ -320,7 +335,8 @@ fn put_first(
 /// The number of which a QuoteReqID (131) is the name: `R` and its digits, without leading zeros.
 fn number_named(name: &[u8]) -> Option<u64>
     ensures known { IfSome result (λ number. same_text (request_name number) name.now ≡ true) }
-    ensures unknown { (number : ℕ) → number < 2 ^ 64 → request_name number ≡ name.now → result ≡ Some number }
+    ensures unknown { (number : ℕ) → number < 2 ^ 64 → request_name number ≡ name.now
+        → result ≡ Some number }
 {
     let number = number_behind(name)?;
     if !is_request_name(name, number) {
@@ -331,7 +347,8 @@ fn number_named(name: &[u8]) -> Option<u64>
 
 /// The number that stands behind the first character of a QuoteReqID (131), however it is spelled.
 fn number_behind(name: &[u8]) -> Option<u64>
-    ensures { (number : ℕ) → number < 2 ^ 64 → request_name number ≡ name.now → result ≡ Some number }
+    ensures { (number : ℕ) → number < 2 ^ 64 → request_name number ≡ name.now
+        → result ≡ Some number }
 {
     let (_, digits) = name.split_first()?;
     let text = str::from_utf8(digits).ok()?;

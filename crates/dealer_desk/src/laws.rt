@@ -1,69 +1,104 @@
 //! Laws over the definitions of a desk, each the contract of a function that does nothing.
-ghost use Rattle.std.specs.Prelude.{◌≡◌, ◌≤◌, ℕ, true, List, [], ◌∷◌, ◌++◌, Option, None, is_some, IfSome, length, filter};
+ghost use Rattle.std.specs.Prelude.{◌≡◌, ◌≤◌, ℕ, true, List, [], ◌∷◌, ◌++◌, Option, None, is_some};
+ghost use Rattle.std.specs.Prelude.{IfSome, length, filter, All};
 ghost use Rattle.venue_config.specs.declared.dealer_rows.DealerRow.{DealerRow};
 ghost use Rattle.quote_word.specs.declared.settled.Settled.{Settled};
 ghost use Rattle.dealer_desk.specs.declared.events.DealerEvent.{DealerEvent};
 ghost use Rattle.dealer_desk.specs.declared.events.DealerEvent.TheVariants as event;
-ghost use Rattle.dealer_desk.specs.DealerFacts.{DealerBook, DealerFact, book_of, exposure_of, finds_lifted, is_live_on, number_to_drop, quote_to_drop, quotes_accepted};
+ghost use Rattle.dealer_desk.specs.DealerFacts.{DealerBook, DealerFact, book_of, exposure_of};
+ghost use Rattle.dealer_desk.specs.DealerFacts.{finds_lifted, is_live_on, is_withdrawal};
+ghost use Rattle.dealer_desk.specs.DealerFacts.{number_to_drop, quote_to_drop, quotes_accepted};
 ghost use Rattle.dealer_desk.specs.DealerRules.{dealer_verdict};
-ghost use Rattle.dealer_desk.specs.DealerOutput.{DeskEvents, desk_after, event_facts, answered_words, asked_by, word_asked, book_at, rooms_at, verdict_at, room_of, verdict_duty, unpost_dropped};
-ghost use Rattle.dealer_desk.specs.DeskLaws.{IsOfDay, request_meant, says_lifted, says_withdrawn, withdraws};
+ghost use Rattle.dealer_desk.specs.DealerOutput.{DeskEvents, desk_after, event_facts};
+ghost use Rattle.dealer_desk.specs.DealerOutput.{answered_words, asked_by, word_asked, facts_at};
+ghost use Rattle.dealer_desk.specs.DealerOutput.{book_at, rooms_at, verdict_at, room_of};
+ghost use Rattle.dealer_desk.specs.DealerOutput.{verdict_duty, unpost_dropped};
+ghost use Rattle.dealer_desk.specs.DeskLaws.{IsOfDay, request_meant, says_lifted, says_withdrawn};
+ghost use Rattle.dealer_desk.specs.DeskLaws.{withdraws};
 ghost use Rattle.std.specs.List.{list_any};
 
-/// The facts after one event more are those before it, and behind them what this event adds: a function of the book as
-/// it stood, of the day and of the dealer's row.
+/// The facts after one event more are those before it, and behind them what this event adds: a
+/// function of the book as it stood, of the day and of the dealer's row.
 pub fn facts_after_one_event_more()
     ensures { (date : List ℕ) (row : DealerRow) (events : List DealerEvent) (more : DealerEvent)
         → (desk_after date row (events ++ more ∷ [])).facts
-            ≡ (desk_after date row events).facts ++ event_facts date row (book_of (desk_after date row events).facts) more }
+        ≡ (desk_after date row events).facts
+        ++ event_facts date row (book_of (desk_after date row events).facts) more }
 {}
 
-/// The words that were asked stand in the facts, each with its answer: one event more adds the word that it asks, if it
-/// asks one, and changes none of those before it.
+/// The words that were asked stand in the facts, each with its answer: one event more adds the word
+/// that it asks, if it asks one, and changes none of those before it.
 pub fn words_are_asked_event_by_event()
     ensures { (date : List ℕ) (row : DealerRow) (events : List DealerEvent) (more : DealerEvent)
         → answered_words (desk_after date row (events ++ more ∷ [])).facts
-            ≡ answered_words (desk_after date row events).facts ++ asked_by date row (book_of (desk_after date row events).facts) more }
+        ≡ answered_words (desk_after date row events).facts
+        ++ asked_by date row (book_of (desk_after date row events).facts) more }
 {}
 
 /// A quote is late or withdrawn in the facts exactly where its word was asked and answered so.
 pub fn facts_say_how_words_were_answered()
     ensures late { (facts : List DealerFact) (quote : ℕ)
-        → list_any (finds_lifted quote) facts ≡ list_any (says_lifted quote) (answered_words facts) }
+        → list_any (finds_lifted quote) facts
+        ≡ list_any (says_lifted quote) (answered_words facts) }
     ensures withdrawn { (facts : List DealerFact) (quote : ℕ)
-        → list_any (withdraws quote) facts ≡ list_any (says_withdrawn quote) (answered_words facts) }
+        → list_any (withdraws quote) facts
+        ≡ list_any (says_withdrawn quote) (answered_words facts) }
 {}
 
 /// An answer that comes where no word is asked changes no fact.
 pub fn an_answer_unasked_changes_nothing()
-    ensures own { (date : List ℕ) (row : DealerRow) (book : DealerBook) (moment : ℕ) (bytes : List ℕ) (answer : Option Settled)
+    ensures own { (date : List ℕ) (row : DealerRow) (book : DealerBook)
+        (moment : ℕ) (bytes : List ℕ) (answer : Option Settled)
         → word_asked (dealer_verdict date row book moment bytes) ≡ None
-        → event_facts date row book (event.Own moment bytes answer) ≡ event_facts date row book (event.Own moment bytes None) }
-    ensures drop { (date : List ℕ) (row : DealerRow) (book : DealerBook) (last : ℕ) (moment : ℕ) (answer : Option Settled)
+        → event_facts date row book (event.Own moment bytes answer)
+        ≡ event_facts date row book (event.Own moment bytes None) }
+    ensures drop { (date : List ℕ) (row : DealerRow) (book : DealerBook)
+        (last : ℕ) (moment : ℕ) (answer : Option Settled)
         → number_to_drop book last ≡ None
-        → event_facts date row book (event.Drop last moment answer) ≡ event_facts date row book (event.Drop last moment None) }
+        → event_facts date row book (event.Drop last moment answer)
+        ≡ event_facts date row book (event.Drop last moment None) }
 {}
 
-/// Of a dealer's quotes on one request at most one is live, and the limits of the dealer's row are kept: no more quotes
-/// than it may have in a day, and no more exposure.
+/// Of a dealer's quotes on one request at most one is live, and the limits of the dealer's row are
+/// kept: no more quotes than it may have in a day, and no more exposure.
 pub fn limits_are_kept()
     ensures lone { (date : List ℕ) (row : DealerRow) (events : List DealerEvent) (request : ℕ)
-        → length (filter (is_live_on request) (book_of (desk_after date row events).facts).quotes) ≤ 1 }
+        → length (filter (is_live_on request)
+        (book_of (desk_after date row events).facts).quotes) ≤ 1 }
     ensures quotes { (date : List ℕ) (row : DealerRow) (events : List DealerEvent)
         → quotes_accepted (book_of (desk_after date row events).facts) ≤ row.quotes }
     ensures exposure { (date : List ℕ) (row : DealerRow) (events : List DealerEvent)
         → exposure_of (book_of (desk_after date row events).facts) ≤ row.exposure }
 {}
 
-/// What a message or a drop leaves to be done names a quote of the day, from 1 to the quotes of the dealer's row, and the
-/// request of an accepted quote, cancel or decline and of a dropped quote has a room: so the duty is there.
+/// What a message or a drop leaves to be done names a quote of the day, from 1 to the quotes of the
+/// dealer's row, and the request of an accepted quote, cancel or decline and of a dropped quote has
+/// a room: so the duty is there.
 pub fn what_is_left_is_of_the_day()
     ensures message { (desk : DeskEvents) (moment : ℕ) (bytes : List ℕ) (answer : Option Settled)
-        → IfSome (verdict_duty (rooms_at desk) moment (verdict_at desk moment bytes) answer) (IsOfDay desk.row) }
+        → IfSome (verdict_duty (rooms_at desk) moment (verdict_at desk moment bytes) answer)
+        (IsOfDay desk.row) }
     ensures room { (desk : DeskEvents) (moment : ℕ) (bytes : List ℕ)
-        → IfSome (request_meant (verdict_at desk moment bytes)) (λ request. is_some (room_of (rooms_at desk) request) ≡ true) }
+        → IfSome (request_meant (verdict_at desk moment bytes))
+        (λ request. is_some (room_of (rooms_at desk) request) ≡ true) }
     ensures drop { (desk : DeskEvents) (last : ℕ) (moment : ℕ) (answer : Option Settled)
-        → IfSome (unpost_dropped (rooms_at desk) moment answer (quote_to_drop (book_at desk) last)) (IsOfDay desk.row) }
+        → IfSome
+        (unpost_dropped (rooms_at desk) moment answer (quote_to_drop (book_at desk) last))
+        (IsOfDay desk.row) }
     ensures drop_room { (desk : DeskEvents) (last : ℕ)
-        → IfSome (quote_to_drop (book_at desk) last) (λ own. is_some (room_of (rooms_at desk) own.quote.request) ≡ true) }
+        → IfSome (quote_to_drop (book_at desk) last)
+        (λ own. is_some (room_of (rooms_at desk) own.quote.request) ≡ true) }
+{}
+
+/// Each quote stands as its word was answered: it is withdrawn exactly where its word was asked and
+/// is withdrawn, and it is known to be lifted exactly where its word was asked and found lifted.
+pub fn quotes_stand_as_their_words_were_answered()
+    ensures withdrawn { (desk : DeskEvents)
+        → All (λ own. is_withdrawal own.end
+        ≡ list_any (says_withdrawn own.quote.number) (answered_words (facts_at desk)))
+        (book_at desk).quotes }
+    ensures lifted { (desk : DeskEvents)
+        → All (λ own. own.is_known_lifted
+        ≡ list_any (says_lifted own.quote.number) (answered_words (facts_at desk)))
+        (book_at desk).quotes }
 {}

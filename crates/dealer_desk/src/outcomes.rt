@@ -3,7 +3,8 @@
 use crate::AcceptedQuote;
 use quote_messages::OutMessage;
 
-/// What a desk does with a message: what its index notes, and the message that answers, where one does.
+/// What a desk does with a message: what its index notes, and the message that answers, where one
+/// does.
 #[derive(Drop)]
 pub(crate) struct Outcome<'a> {
     /// What the index notes.

@@ -62,7 +62,8 @@ fn quote_verdict<'a>(
     }
 }
 
-/// What the desk keeps of a quote that no check refuses, or the reason of the first check that does.
+/// What the desk keeps of a quote that no check refuses, or the reason of the first check that
+/// does.
 #[tactic(auto, unfolding(crate::specs::DealerRules::quote_refusal))]
 fn check_quote(
     row: &DealerRow,
@@ -72,11 +73,14 @@ fn check_quote(
     shown: &RequestRow,
 ) -> Result<AcceptedQuote, QuoteRejectReason>
     requires live { shown.now.live ≡ live_number_on index.now.book shown.now.request.number }
-    requires lifted { shown.now.has_lifted ≡ has_lifted_quote index.now.book shown.now.request.number }
+    requires lifted { shown.now.has_lifted
+        ≡ has_lifted_quote index.now.book shown.now.request.number }
     ensures { MatchResult result
-        (λ kept. (spec.quote_refusal row.now index.now.book moment quote.now (Some shown.now.request) ≡ None)
-            × (kept ≡ spec.quote_kept index.now.book moment quote.now shown.now.request))
-        (λ reason. spec.quote_refusal row.now index.now.book moment quote.now (Some shown.now.request) ≡ Some reason) }
+        (λ kept. (spec.quote_refusal row.now index.now.book moment quote.now
+        (Some shown.now.request) ≡ None)
+        × (kept ≡ spec.quote_kept index.now.book moment quote.now shown.now.request))
+        (λ reason. spec.quote_refusal row.now index.now.book moment quote.now
+        (Some shown.now.request) ≡ Some reason) }
 {
     if let Some(reason) = standing_refusal(index, shown) {
         return Err(reason);
@@ -105,10 +109,12 @@ fn standing_refusal(_index: &DealerIndex, shown: &RequestRow) -> Option<QuoteRej
     None
 }
 
-/// The price of a quote whose terms answer the ask, or the reason of the first of these checks that refuses it.
+/// The price of a quote whose terms answer the ask, or the reason of the first of these checks that
+/// refuses it.
 fn price_by_terms(moment: Moment, quote: &Quote, ask: &Ask) -> Result<Ticks, QuoteRejectReason>
     ensures { MatchResult result
-        (λ price. (first_refusal (terms_checks moment quote.now ask.now) ≡ None) × (spec.price_for ask.now quote.now ≡ Some price))
+        (λ price. (first_refusal (terms_checks moment quote.now ask.now) ≡ None)
+        × (spec.price_for ask.now quote.now ≡ Some price))
         (λ reason. first_refusal (terms_checks moment quote.now ask.now) ≡ Some reason) }
 {
     if ask.deadline <= moment {
@@ -129,8 +135,8 @@ fn price_by_terms(moment: Moment, quote: &Quote, ask: &Ask) -> Result<Ticks, Quo
     Ok(price)
 }
 
-/// The own number of a quote that the dealer's day leaves room for, or the reason of the first of these checks that
-/// refuses it.
+/// The own number of a quote that the dealer's day leaves room for, or the reason of the first of
+/// these checks that refuses it.
 fn number_in_day(
     row: &DealerRow,
     index: &DealerIndex,
@@ -140,9 +146,11 @@ fn number_in_day(
 ) -> Result<u32, QuoteRejectReason>
     requires { shown.now.live ≡ live_number_on index.now.book shown.now.request.number }
     ensures { MatchResult result
-        (λ number. (first_refusal (day_checks row.now index.now.book moment quote.now shown.now.request) ≡ None)
-            × (number ≡ quotes_accepted index.now.book + 1))
-        (λ reason. first_refusal (day_checks row.now index.now.book moment quote.now shown.now.request) ≡ Some reason) }
+        (λ number. (first_refusal
+        (day_checks row.now index.now.book moment quote.now shown.now.request) ≡ None)
+        × (number ≡ quotes_accepted index.now.book + 1))
+        (λ reason. first_refusal
+        (day_checks row.now index.now.book moment quote.now shown.now.request) ≡ Some reason) }
 {
     if index.quote_with_id(&quote.id).is_some() {
         return Err(QuoteRejectReason::DuplicateQuote);
@@ -204,7 +212,8 @@ fn is_not_after(moment: Moment, until: Option<Moment>) -> bool
     }
 }
 
-/// The price at which a quote answers an ask: on the asked side, on the grid of the bond, with none on the other side.
+/// The price at which a quote answers an ask: on the asked side, on the grid of the bond, with none
+/// on the other side.
 #[tactic(auto, unfolding(crate::specs::DealerRules::price_for))]
 fn price_for(ask: &Ask, quote: &Quote) -> Option<Ticks>
     ensures { result ≡ spec.price_for ask.now quote.now }

@@ -4,7 +4,7 @@ ghost use Rattle.std.specs.List.{position_or_len};
 ghost use Rattle.dealer_desk.specs.declared.standing.StandingQuote.{StandingQuote};
 ghost use Rattle.dealer_desk.specs.DealerFacts as facts;
 ghost use Rattle.dealer_desk.specs.BookChanges.{IsLiveNumber, ended_at, late_at, closed_on, declined_at, told_at};
-ghost use Rattle.dealer_desk.specs.DealerTable.{IsTable, live_number_among};
+ghost use Rattle.dealer_desk.specs.DealerTable.{IsSoundTable, live_number_among, requests_in};
 ghost use Rattle.dealer_desk.specs.QuoteLines as spec;
 
 use crate::{AcceptedQuote, QuoteEnd, StandingQuote, StandingRequest, Withdrawal};
@@ -43,7 +43,7 @@ impl Table {
     pub(crate) fn new(alloc: Global) -> Self
         ensures rows { result.rows.items ≡ [] }
         ensures quotes { result.quotes.items ≡ [] }
-        ensures table { IsTable result.rows.items result.quotes.items result.lines.items result.exposure result.first_droppable }
+        ensures table { IsSoundTable result }
     {
         Table {
             rows: Vec::new(alloc),
@@ -56,11 +56,11 @@ impl Table {
 
     /// Ends the live quote of this own number.
     pub(crate) fn end_live(&mut self, number: u32, end: QuoteEnd)
-        requires table { IsTable self.old.rows.items self.old.quotes.items self.old.lines.items self.old.exposure self.old.first_droppable }
+        requires table { IsSoundTable self.old }
         requires live { IsLiveNumber self.old.quotes.items number }
-        ensures table { IsTable self.new.rows.items self.new.quotes.items self.new.lines.items self.new.exposure self.new.first_droppable }
+        ensures table { IsSoundTable self.new }
         ensures quotes { self.new.quotes.items ≡ map (ended_at number end) self.old.quotes.items }
-        ensures requests { map (λ row. row.request) self.new.rows.items ≡ map (λ row. row.request) self.old.rows.items }
+        ensures requests { requests_in self.new.rows.items ≡ requests_in self.old.rows.items }
         ensures quote_room { vec_capacity self.new.quotes ≡ vec_capacity self.old.quotes }
         ensures line_room { vec_capacity self.new.lines ≡ vec_capacity self.old.lines }
     {
@@ -77,11 +77,11 @@ impl Table {
 
     /// Notes that the quote of this own number is known to be lifted.
     pub(crate) fn find_lifted(&mut self, number: u32)
-        requires table { IsTable self.old.rows.items self.old.quotes.items self.old.lines.items self.old.exposure self.old.first_droppable }
+        requires table { IsSoundTable self.old }
         requires live { IsLiveNumber self.old.quotes.items number }
-        ensures table { IsTable self.new.rows.items self.new.quotes.items self.new.lines.items self.new.exposure self.new.first_droppable }
+        ensures table { IsSoundTable self.new }
         ensures quotes { self.new.quotes.items ≡ map (late_at number) self.old.quotes.items }
-        ensures requests { map (λ row. row.request) self.new.rows.items ≡ map (λ row. row.request) self.old.rows.items }
+        ensures requests { requests_in self.new.rows.items ≡ requests_in self.old.rows.items }
     {
         let place = number as usize - 1;
         let own = &mut self.quotes[place];
@@ -94,12 +94,13 @@ impl Table {
 
     /// Ends the live quote on the request of this number by its closing, where there is one.
     fn close_live(&mut self, number: u64, close: Close)
-        requires table { IsTable self.old.rows.items self.old.quotes.items self.old.lines.items self.old.exposure self.old.first_droppable }
+        requires table { IsSoundTable self.old }
         requires from_first { 1 ≤ number }
         requires to_last { number ≤ length self.old.rows.items }
-        ensures table { IsTable self.new.rows.items self.new.quotes.items self.new.lines.items self.new.exposure self.new.first_droppable }
-        ensures quotes { self.new.quotes.items ≡ map (closed_on number close) self.old.quotes.items }
-        ensures requests { map (λ row. row.request) self.new.rows.items ≡ map (λ row. row.request) self.old.rows.items }
+        ensures table { IsSoundTable self.new }
+        ensures quotes { self.new.quotes.items
+            ≡ map (closed_on number close) self.old.quotes.items }
+        ensures requests { requests_in self.new.rows.items ≡ requests_in self.old.rows.items }
     {
         let Some(quote) = self.rows[number as usize - 1].live else {
             return;
@@ -109,12 +110,14 @@ impl Table {
 
     /// Closes the request of this number.
     pub(crate) fn close(&mut self, number: u64, close: Close)
-        requires table { IsTable self.old.rows.items self.old.quotes.items self.old.lines.items self.old.exposure self.old.first_droppable }
+        requires table { IsSoundTable self.old }
         requires from_first { 1 ≤ number }
         requires to_last { number ≤ length self.old.rows.items }
-        ensures table { IsTable self.new.rows.items self.new.quotes.items self.new.lines.items self.new.exposure self.new.first_droppable }
-        ensures quotes { self.new.quotes.items ≡ map (closed_on number close) self.old.quotes.items }
-        ensures requests { map (λ row. row.request) self.new.rows.items ≡ map (told_at number) (map (λ row. row.request) self.old.rows.items) }
+        ensures table { IsSoundTable self.new }
+        ensures quotes { self.new.quotes.items
+            ≡ map (closed_on number close) self.old.quotes.items }
+        ensures requests { requests_in self.new.rows.items
+            ≡ map (told_at number) (requests_in self.old.rows.items) }
     {
         self.close_live(number, close);
         self.rows[number as usize - 1].request.is_told = true;
@@ -122,25 +125,27 @@ impl Table {
 
     /// Notes that the dealer declined the request of this number.
     pub(crate) fn decline(&mut self, number: u64)
-        requires table { IsTable self.old.rows.items self.old.quotes.items self.old.lines.items self.old.exposure self.old.first_droppable }
+        requires table { IsSoundTable self.old }
         requires from_first { 1 ≤ number }
         requires to_last { number ≤ length self.old.rows.items }
-        ensures table { IsTable self.new.rows.items self.new.quotes.items self.new.lines.items self.new.exposure self.new.first_droppable }
+        ensures table { IsSoundTable self.new }
         ensures quotes { self.new.quotes.items ≡ self.old.quotes.items }
-        ensures requests { map (λ row. row.request) self.new.rows.items ≡ map (declined_at number) (map (λ row. row.request) self.old.rows.items) }
+        ensures requests { requests_in self.new.rows.items
+            ≡ map (declined_at number) (requests_in self.old.rows.items) }
     {
         self.rows[number as usize - 1].request.is_declined = true;
     }
 
     /// Puts a request behind the others; there is room for it.
     pub(crate) fn push_request(&mut self, ask: Ask) -> Result<(), Memory>
-        requires table { IsTable self.old.rows.items self.old.quotes.items self.old.lines.items self.old.exposure self.old.first_droppable }
+        requires table { IsSoundTable self.old }
         requires fits { vec_len self.old.rows < vec_capacity self.old.rows }
         ensures ok { IsOk result }
-        ensures table { IsTable self.new.rows.items self.new.quotes.items self.new.lines.items self.new.exposure self.new.first_droppable }
+        ensures table { IsSoundTable self.new }
         ensures quotes { self.new.quotes.items ≡ self.old.quotes.items }
-        ensures requests { map (λ row. row.request) self.new.rows.items
-            ≡ map (λ row. row.request) self.old.rows.items ++ facts.standing_request (length self.old.rows.items + 1) ask [] ∷ [] }
+        ensures requests { requests_in self.new.rows.items
+            ≡ requests_in self.old.rows.items
+                ++ facts.standing_request (length self.old.rows.items + 1) ask [] ∷ [] }
     {
         let request = StandingRequest {
             number: self.rows.len() as u64 + 1,
@@ -158,7 +163,7 @@ impl Table {
 
     /// Puts a quote behind the others, on a request without a live one; there is room for it.
     pub(crate) fn push_quote(&mut self, quote: AcceptedQuote) -> Result<(), Memory>
-        requires table { IsTable self.old.rows.items self.old.quotes.items self.old.lines.items self.old.exposure self.old.first_droppable }
+        requires table { IsSoundTable self.old }
         requires quote_fits { vec_len self.old.quotes < vec_capacity self.old.quotes }
         requires line_fits { vec_len self.old.lines < vec_capacity self.old.lines }
         requires number { quote.number ≡ length self.old.quotes.items + 1 }
@@ -168,9 +173,10 @@ impl Table {
         requires alone { live_number_among self.old.quotes.items quote.request ≡ None }
         requires exposure { self.old.exposure + quote.quantity ≤ 1000000000000000 }
         ensures ok { IsOk result }
-        ensures table { IsTable self.new.rows.items self.new.quotes.items self.new.lines.items self.new.exposure self.new.first_droppable }
-        ensures quotes { self.new.quotes.items ≡ self.old.quotes.items ++ facts.standing_quote quote [] ∷ [] }
-        ensures requests { map (λ row. row.request) self.new.rows.items ≡ map (λ row. row.request) self.old.rows.items }
+        ensures table { IsSoundTable self.new }
+        ensures quotes { self.new.quotes.items
+            ≡ self.old.quotes.items ++ facts.standing_quote quote [] ∷ [] }
+        ensures requests { requests_in self.new.rows.items ≡ requests_in self.old.rows.items }
     {
         let place = quote.request as usize - 1;
         self.rows[place].live = Some(quote.number);
@@ -206,7 +212,8 @@ fn line_of(quote: &AcceptedQuote) -> QuoteLine
 /// The place of the first quote that can be dropped, where none before `from` can.
 fn next_droppable(quotes: &[StandingQuote], from: usize) -> usize
     requires within { from ≤ length quotes.now }
-    requires none { (k : ℕ) (own : StandingQuote) → k < from → slice_get quotes.now k ≡ Some own → facts.is_droppable own ≡ false }
+    requires none { (k : ℕ) (own : StandingQuote) → k < from → slice_get quotes.now k ≡ Some own
+        → facts.is_droppable own ≡ false }
     ensures { result ≡ position_or_len facts.is_droppable quotes.now }
 {
     for i in from..quotes.len() {

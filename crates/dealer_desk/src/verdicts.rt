@@ -6,9 +6,9 @@ use crate::AcceptedQuote;
 use market_terms::Id;
 use quote_messages::{OutMessage, Reject};
 
-/// The verdict on a message that came to a dealer's desk. Two of them leave the last word to the word of a quote:
-/// a quote that replaces another, and a cancel, take effect where that word is withdrawn, and come too late
-/// where it is lifted.
+/// The verdict on a message that came to a dealer's desk. Two of them leave the last word to the
+/// word of a quote: a quote that replaces another, and a cancel, take effect where that word is
+/// withdrawn, and come too late where it is lifted.
 #[derive(Drop)]
 pub enum DealerVerdict<'a> {
     /// The bytes are no frame, or have no readable MsgSeqNum (34): nothing is sent.
@@ -17,7 +17,8 @@ pub enum DealerVerdict<'a> {
     OutOfSequence(Reject<'a>),
     /// The message used up its number and met a session fault.
     Rejected(Reject<'a>),
-    /// The market refuses the message, by this answer: that of the first check that it does not pass.
+    /// The market refuses the message, by this answer: that of the first check that it does not
+    /// pass.
     Refused(OutMessage<'a>),
     /// A quote is accepted, unless it would replace one that was lifted.
     QuoteAccepted {
@@ -27,8 +28,8 @@ pub enum DealerVerdict<'a> {
         id: Id<'a>,
         /// What the desk keeps of it.
         quote: AcceptedQuote,
-        /// The own number of the dealer's live quote on the same request, where there is one: it is replaced, and
-        /// its word is asked.
+        /// The own number of the dealer's live quote on the same request, where there is one: it is
+        /// replaced, and its word is asked.
         replaced: Option<u32>,
     },
     /// A cancel of one quote is confirmed, unless the quote was lifted.

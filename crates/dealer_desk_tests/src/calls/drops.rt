@@ -1,7 +1,7 @@
 //! Drops: which word each of them asks, what it leaves to be done, and drops that are refused
 //! memory.
 use super::fixtures::{
-    FIRST_ROOM, SECOND_ROOM, answer_of, ask, asked_desk, at, desk, left_text, message, sum, takes,
+    FIRST_ROOM, SECOND_ROOM, ask, asked_desk, at, desk, drops, left_text, message, sum, takes,
 };
 use dealer_desk::DealerDesk;
 use fix_fields::{Memory, Moment};
@@ -83,22 +83,6 @@ fn is_dropped(
         "the exposure behind a drop up to {last}"
     );
     Ok(())
-}
-
-/// A desk drops the next quote up to `last`, with the answer of the word that this asks, and
-/// answers the own number of the quote whose word was asked, or 0, and what is left to be done.
-fn drops(
-    desk: &mut DealerDesk,
-    moment: Moment,
-    last: u32,
-    lifted: u32,
-) -> Result<(u32, Option<Duty>, Option<Duty>), Memory> {
-    let Some(quote) = desk.question_drop(last) else {
-        let (unpost, further) = desk.drop_one(last, moment, None)?;
-        return Ok((0, unpost, further));
-    };
-    let (unpost, further) = desk.drop_one(last, moment, Some(answer_of(quote, lifted)))?;
-    Ok((quote, unpost, further))
 }
 
 /// Two quotes on two requests, and a cancel of all, as frames.

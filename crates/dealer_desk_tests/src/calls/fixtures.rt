@@ -131,8 +131,25 @@ pub(crate) fn takes(
     Ok((quote, left))
 }
 
+/// A desk drops the next quote up to `last`, with the answer of the word that this asks, and
+/// answers the own number of the quote whose word was asked, or 0, and what is left to be done. The
+/// word of the quote with the number `lifted` is lifted, and no other.
+pub(crate) fn drops(
+    desk: &mut DealerDesk,
+    moment: Moment,
+    last: u32,
+    lifted: u32,
+) -> Result<(u32, Option<Duty>, Option<Duty>), Memory> {
+    let Some(quote) = desk.question_drop(last) else {
+        let (unpost, further) = desk.drop_one(last, moment, None)?;
+        return Ok((0, unpost, further));
+    };
+    let (unpost, further) = desk.drop_one(last, moment, Some(answer_of(quote, lifted)))?;
+    Ok((quote, unpost, further))
+}
+
 /// What the word of a quote answers to a withdrawal.
-pub(crate) fn answer_of(quote: u32, lifted: u32) -> Settled {
+fn answer_of(quote: u32, lifted: u32) -> Settled {
     if quote == lifted {
         Settled::Lifted
     } else {

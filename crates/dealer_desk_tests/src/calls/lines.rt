@@ -1,8 +1,7 @@
 //! The lines of a dealer's blotter: one of each accepted quote, and what became of it.
-use super::fixtures::{FIRST_ROOM, SECOND_ROOM, asked_desk, at, message, takes};
+use super::fixtures::{FIRST_ROOM, SECOND_ROOM, asked_desk, at, drops, message, takes};
 use dealer_desk::DealerDesk;
 use quote_messages::{Close, QuoteState};
-use quote_word::Settled;
 use std::alloc::Global;
 use std::process::Abort;
 use std::test::Fail;
@@ -103,8 +102,8 @@ fn lines_behind_notices(rt: HostRuntime) -> Result<(), Fail> {
 fn lines_behind_drops(rt: HostRuntime) -> Result<(), Fail> {
     let mut desk = quoted_desk(&rt, rt.alloc())?;
     let moment = at(&rt, 32_430_000);
-    desk.drop_one(4, moment, Some(Settled::Withdrawn))?;
-    desk.drop_one(4, moment, Some(Settled::Lifted))?;
+    drops(&mut desk, moment, 4, 4)?;
+    drops(&mut desk, moment, 4, 4)?;
     let (replaced, withdrawn) = (QuoteState::Replaced, QuoteState::Withdrawn);
     are_states(
         &rt,

@@ -10,4 +10,4 @@ returns-in_default c =
     let book = c.args.index.now.book in
     c.refused.ensures
     ∙ ap (λ (found : Option StandingRequest). quote_on c.args.row.now book c.args.moment c.args.quote found)
-      (c.in_default.ensures.request ∙ ap (λ (name : List ℕ). request_named book name) c.as_bytes.ensures.value)
+    (c.in_default.ensures.request ∙ ap (λ (name : List ℕ). request_named book name) c.as_bytes.ensures.value)

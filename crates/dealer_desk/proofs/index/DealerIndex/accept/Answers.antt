@@ -1,11 +1,11 @@
 use Rattle.std.proofs.Common.{◌≡◌, ◌≤◌, ◌+◌, ℕ, List, [], ◌∷◌, ◌++◌, length, None, sym, ap, subst, ◌∙◌}
 use Rattle.dealer_desk.specs.DealerFacts.{Quoted, standing_quote, live_number_on, exposure_beside, quote_with_id}
 use Rattle.dealer_desk.specs.BookChanges.{FitsBook}
-use Rattle.dealer_desk.specs.DealerTable.{IndexView, live_number_among}
+use Rattle.dealer_desk.specs.DealerTable.{IndexView, live_number_among, requests_in}
 use Rattle.dealer_desk.specs.declared.standing.StandingQuote.{StandingQuote}
 use Rattle.dealer_desk.specs.declared.standing.StandingRequest.{StandingRequest}
 use Rattle.dealer_desk.proofs.BookLemmas.{quoted_book}
-use Rattle.dealer_desk.proofs.IndexLemmas.{requests_in, book_with, same_book, view_after, index_pushed, fits_alone, fits_exposure, fits_id}
+use Rattle.dealer_desk.proofs.IndexLemmas.{book_with, same_book, view_after, index_pushed, fits_alone, fits_exposure, fits_id}
 use Rattle.dealer_desk.proofs.index.DealerIndex.accept.Goals as goal
 
 pub push_quote-requires-clause-alone : goal.push_quote-requires-clause-alone

@@ -1,9 +1,9 @@
 use Rattle.std.proofs.Common.{◌≡◌, ◌<◌, ◌^◌, ◌+◌, ℕ, List, true, length, refl, sym, ap, subst, ◌∙◌}
 use Rattle.dealer_desk.specs.DealerFacts.{Came}
-use Rattle.dealer_desk.specs.DealerTable.{IndexView}
+use Rattle.dealer_desk.specs.DealerTable.{IndexView, requests_in}
 use Rattle.dealer_desk.specs.declared.standing.StandingQuote.{StandingQuote}
 use Rattle.dealer_desk.proofs.BookLemmas.{came_book}
-use Rattle.dealer_desk.proofs.IndexLemmas.{requests_in, book_with, view_after, index_changed, unchanged}
+use Rattle.dealer_desk.proofs.IndexLemmas.{book_with, view_after, index_changed, unchanged}
 use Rattle.dealer_desk.proofs.index.DealerIndex.came.Goals as goal
 
 pub invariant_of-self : goal.invariant_of-self

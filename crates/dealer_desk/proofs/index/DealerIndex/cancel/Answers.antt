@@ -1,14 +1,14 @@
 use Rattle.std.proofs.Common.{◌≡◌, ℕ, List, length, map, refl, sym, ap, subst, ◌∙◌}
 use Rattle.dealer_desk.specs.DealerFacts.{Withdrawn}
 use Rattle.dealer_desk.specs.BookChanges.{IsLiveNumber, ended_at}
-use Rattle.dealer_desk.specs.DealerTable.{IndexView}
+use Rattle.dealer_desk.specs.DealerTable.{IndexView, requests_in}
 use Rattle.dealer_desk.specs.declared.standing.StandingRequest.{StandingRequest}
 use Rattle.dealer_desk.specs.declared.standing.StandingQuote.{StandingQuote}
 use Rattle.dealer_desk.specs.declared.standing.QuoteEnd.TheVariants as end
 use Rattle.dealer_desk.specs.declared.standing.Withdrawal.TheVariants as by
 use Rattle.dealer_desk.proofs.BookLemmas.{withdrawn_book}
 use Rattle.dealer_desk.proofs.TableLemmas.{ended_keeps}
-use Rattle.dealer_desk.proofs.IndexLemmas.{requests_in, book_with, same_book, view_after, index_changed}
+use Rattle.dealer_desk.proofs.IndexLemmas.{book_with, same_book, view_after, index_changed}
 use Rattle.dealer_desk.proofs.index.DealerIndex.cancel.Goals as goal
 
 pub end_live-requires-clause-live : goal.end_live-requires-clause-live

@@ -2,12 +2,12 @@ use Rattle.std.proofs.Common.{◌≡◌, ◌≤◌, ℕ, List, length, map, refl
 use Rattle.std.proofs.lemmas.List.{length-map}
 use Rattle.dealer_desk.specs.DealerFacts.{Declined}
 use Rattle.dealer_desk.specs.BookChanges.{declined_at}
-use Rattle.dealer_desk.specs.DealerTable.{IndexView}
+use Rattle.dealer_desk.specs.DealerTable.{IndexView, requests_in}
 use Rattle.dealer_desk.specs.declared.standing.StandingRequest.{StandingRequest}
 use Rattle.dealer_desk.specs.declared.standing.StandingQuote.{StandingQuote}
 use Rattle.dealer_desk.specs.declared.table.RequestRow.{RequestRow}
 use Rattle.dealer_desk.proofs.BookLemmas.{declined_book}
-use Rattle.dealer_desk.proofs.IndexLemmas.{requests_in, book_with, same_book, view_after, index_changed, unchanged, most_rows}
+use Rattle.dealer_desk.proofs.IndexLemmas.{book_with, same_book, view_after, index_changed, unchanged, most_rows}
 use Rattle.dealer_desk.proofs.index.DealerIndex.decline.Goals as goal
 
 pub decline-requires-clause-to_last : goal.decline-requires-clause-to_last

@@ -1,8 +1,9 @@
 use Rattle.std.proofs.Common.{◌≡◌, ◌≤◌, ◌-◌, ℕ, Option, Some, None, option_map, Bor, sym, ap, subst, ◌∙◌, arith}
 use Rattle.dealer_desk.specs.DealerFacts.{exposure_beside, quote_numbered}
-use Rattle.dealer_desk.specs.DealerTable.{IndexView}
+use Rattle.dealer_desk.specs.DealerTable.{IndexView, requests_in}
 use Rattle.dealer_desk.specs.declared.standing.StandingQuote.{StandingQuote}
-use Rattle.dealer_desk.proofs.IndexLemmas.{requests_in, book_with, beside_none, beside_missing, beside_ended, beside_standing}
+use Rattle.dealer_desk.proofs.IndexLemmas.{book_with}
+use Rattle.dealer_desk.proofs.ReaderLemmas.{beside_none, beside_missing, beside_ended, beside_standing}
 use Rattle.dealer_desk.proofs.index.DealerIndex.exposure_beside.Goals as goal
 
 pub returns-in_default-clause-value : goal.returns-in_default-clause-value

@@ -1,11 +1,11 @@
 use Rattle.std.proofs.Common.{◌≡◌, ℕ, List, length, map, refl, sym, ap, subst, ◌∙◌}
 use Rattle.dealer_desk.specs.DealerFacts.{Late}
 use Rattle.dealer_desk.specs.BookChanges.{IsLiveNumber, late_at}
-use Rattle.dealer_desk.specs.DealerTable.{IndexView}
+use Rattle.dealer_desk.specs.DealerTable.{IndexView, requests_in}
 use Rattle.dealer_desk.specs.declared.standing.StandingRequest.{StandingRequest}
 use Rattle.dealer_desk.proofs.BookLemmas.{late_book}
 use Rattle.dealer_desk.proofs.TableLemmas.{late_keeps}
-use Rattle.dealer_desk.proofs.IndexLemmas.{requests_in, book_with, same_book, view_after, index_changed}
+use Rattle.dealer_desk.proofs.IndexLemmas.{book_with, same_book, view_after, index_changed}
 use Rattle.dealer_desk.proofs.index.DealerIndex.find_lifted.Goals as goal
 
 pub find_lifted-requires-clause-live : goal.find_lifted-requires-clause-live

@@ -1,8 +1,8 @@
-use Rattle.std.proofs.Common.{◌≡◌, ℕ, Option, Some, None, option_map, Bor, sym, ap, subst, ◌∙◌}
+use Rattle.std.proofs.Common.{◌≡◌, ◌<◌, ◌≤◌, ◌-◌, ℕ, List, length, get_or, Option, Some, None, option_map, Bor, sym, ap, subst, ◌∙◌, arith}
 use Rattle.dealer_desk.specs.DealerFacts.{live_quote_on, live_number_on, quote_numbered, request_numbered}
-use Rattle.dealer_desk.specs.DealerTable.{IndexView}
+use Rattle.dealer_desk.specs.DealerTable.{IndexView, requests_in}
 use Rattle.dealer_desk.specs.declared.standing.StandingQuote.{StandingQuote}
-use Rattle.dealer_desk.proofs.IndexLemmas.{requests_in, request_number, live_missing_request, live_missing, live_found_by}
+use Rattle.dealer_desk.proofs.ReaderLemmas.{request_number, live_missing_request, live_missing, live_within, live_found_by, quote_found}
 use Rattle.dealer_desk.proofs.index.DealerIndex.live_quote_on.Goals as goal
 
 pub returns-in_err-row : goal.returns-in_err-row
@@ -19,20 +19,38 @@ returns-in_err-number c =
     ap (option_map (λ (b : Bor StandingQuote). b.now)) c.from_residual-in_err-number.ensures
     ∙ sym (live_missing book c.args.request (ap (live_number_on book) (sym (request_number book c.args.request c.in_ok-row.row.now.request c.in_ok-row.ensures.request)) ∙ sym c.in_ok-row.ensures.live ∙ c.in_err-number.was))
 
-pub returns-in_err-own : goal.returns-in_err-own
-returns-in_err-own c =
+pub overflow_sub-result : goal.overflow_sub-result
+overflow_sub-result c =
     let i = c.self.inside in
     let book = c.args.self.now.book in
-    ap (option_map (λ (b : Bor StandingQuote). b.now)) c.from_residual-in_err-own.ensures ∙ c.in_err-own.ensures
-    ∙ subst (λ (v : IndexView). live_number_on v.book c.args.request ≡ Some c.in_ok-number.number → quote_numbered v.book c.in_ok-number.number ≡ live_quote_on v.book c.args.request) c.self.view_is
-      (live_found_by i.used i.notices (requests_in i.table.rows.items) i.table.quotes.items c.args.request c.in_ok-number.number c.self.invariant.table.sound)
-      (ap (live_number_on book) (sym (request_number book c.args.request c.in_ok-row.row.now.request c.in_ok-row.ensures.request)) ∙ sym c.in_ok-row.ensures.live ∙ c.in_ok-number.was)
+    (live_within i.used i.notices (requests_in i.table.rows.items) i.table.quotes.items c.args.request c.in_ok-number.number c.self.invariant.table.sound
+      (subst (λ (v : IndexView). live_number_on v.book c.args.request ≡ Some c.in_ok-number.number) (sym c.self.view_is)
+        (ap (live_number_on book) (sym (request_number book c.args.request c.in_ok-row.row.now.request c.in_ok-row.ensures.request)) ∙ sym c.in_ok-row.ensures.live ∙ c.in_ok-number.was))).0
+
+pub bounds-quotes-number : goal.bounds-quotes-number
+bounds-quotes-number c =
+    let i = c.self.inside in
+    let book = c.args.self.now.book in
+    let seen : length c.as_slice-quotes.result.now ≡ length i.table.quotes.items = ap (λ (qs : List StandingQuote). length qs) c.as_slice-quotes.ensures.value in
+    let both = live_within i.used i.notices (requests_in i.table.rows.items) i.table.quotes.items c.args.request c.in_ok-number.number c.self.invariant.table.sound
+      (subst (λ (v : IndexView). live_number_on v.book c.args.request ≡ Some c.in_ok-number.number) (sym c.self.view_is)
+        (ap (live_number_on book) (sym (request_number book c.args.request c.in_ok-row.row.now.request c.in_ok-row.ensures.request)) ∙ sym c.in_ok-row.ensures.live ∙ c.in_ok-number.was)) in
+    let least : 1 ≤ c.in_ok-number.number = both.0 in
+    let most : c.in_ok-number.number ≤ length i.table.quotes.items = both.1 in
+    omega arith
 
 pub returns : goal.returns
 returns c =
     let i = c.self.inside in
     let book = c.args.self.now.book in
-    c.in_ok-own.ensures
+    let quotes = i.table.quotes.items in
+    let own = c.index-quotes-number.result in
+    let is : live_number_on book c.args.request ≡ Some c.in_ok-number.number =
+      ap (live_number_on book) (sym (request_number book c.args.request c.in_ok-row.row.now.request c.in_ok-row.ensures.request)) ∙ sym c.in_ok-row.ensures.live ∙ c.in_ok-number.was in
+    let both = live_within i.used i.notices (requests_in i.table.rows.items) quotes c.args.request c.in_ok-number.number c.self.invariant.table.sound
+      (subst (λ (v : IndexView). live_number_on v.book c.args.request ≡ Some c.in_ok-number.number) (sym c.self.view_is) is) in
+    subst (λ (v : IndexView). Some own ≡ quote_numbered v.book c.in_ok-number.number) c.self.view_is
+      (sym (quote_found i.used i.notices (requests_in i.table.rows.items) quotes c.in_ok-number.number own c.self.invariant.table.sound both.0 both.1
+        (c.index-quotes-number.is ∙ ap (λ (qs : List StandingQuote). get_or qs (c.in_ok-number.number - 1) own) c.as_slice-quotes.ensures.value)))
     ∙ subst (λ (v : IndexView). live_number_on v.book c.args.request ≡ Some c.in_ok-number.number → quote_numbered v.book c.in_ok-number.number ≡ live_quote_on v.book c.args.request) c.self.view_is
-      (live_found_by i.used i.notices (requests_in i.table.rows.items) i.table.quotes.items c.args.request c.in_ok-number.number c.self.invariant.table.sound)
-      (ap (live_number_on book) (sym (request_number book c.args.request c.in_ok-row.row.now.request c.in_ok-row.ensures.request)) ∙ sym c.in_ok-row.ensures.live ∙ c.in_ok-number.was)
+      (live_found_by i.used i.notices (requests_in i.table.rows.items) quotes c.args.request c.in_ok-number.number c.self.invariant.table.sound) is

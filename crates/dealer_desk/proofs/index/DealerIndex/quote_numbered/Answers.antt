@@ -1,7 +1,7 @@
 use Rattle.std.proofs.Common.{rules, ◌≡◌, ◌<◌, ◌≤◌, ℕ, length, Some, None, inl, inr, sym, subst, ◌∙◌, arith}
 use Rattle.dealer_desk.specs.DealerFacts.{quote_numbered}
-use Rattle.dealer_desk.specs.DealerTable.{IndexView}
-use Rattle.dealer_desk.proofs.IndexLemmas.{requests_in, quote_found, quote_missing}
+use Rattle.dealer_desk.specs.DealerTable.{IndexView, requests_in}
+use Rattle.dealer_desk.proofs.ReaderLemmas.{quote_found, quote_missing}
 use Rattle.dealer_desk.proofs.index.DealerIndex.quote_numbered.Goals as goal
 use Rattle.dealer_desk.proofs.index.DealerIndex.quote_numbered.Goals.{then-number-lt1-via-then-number-lt1, then-number-lt1-via-else-number-lt1+then-number-len}
 

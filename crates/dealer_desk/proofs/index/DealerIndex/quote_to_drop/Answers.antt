@@ -1,8 +1,8 @@
 use Rattle.std.proofs.Common.{◌≡◌, ℕ, Option, Some, None, option_map, Bor, sym, ap, subst, ◌∙◌}
 use Rattle.dealer_desk.specs.DealerFacts.{quote_to_drop}
-use Rattle.dealer_desk.specs.DealerTable.{IndexView}
+use Rattle.dealer_desk.specs.DealerTable.{IndexView, requests_in}
 use Rattle.dealer_desk.specs.declared.standing.StandingQuote.{StandingQuote}
-use Rattle.dealer_desk.proofs.IndexLemmas.{requests_in, drop_missing, drop_beyond, drop_found, stands_looked, nothing_looked}
+use Rattle.dealer_desk.proofs.ReaderLemmas.{drop_missing, drop_beyond, drop_found, stands_looked, nothing_looked}
 use Rattle.dealer_desk.proofs.index.DealerIndex.quote_to_drop.Goals as goal
 
 pub returns-in_err-own : goal.returns-in_err-own

@@ -1,8 +1,8 @@
 use Rattle.std.proofs.Common.{◌≡◌, ℕ, Option, Some, None, option_map, Bor, sym, ap, subst, ◌∙◌}
 use Rattle.dealer_desk.specs.DealerFacts.{quote_with_id, quote_numbered}
-use Rattle.dealer_desk.specs.DealerTable.{IndexView}
+use Rattle.dealer_desk.specs.DealerTable.{IndexView, requests_in}
 use Rattle.dealer_desk.specs.declared.standing.StandingQuote.{StandingQuote}
-use Rattle.dealer_desk.proofs.IndexLemmas.{requests_in, id_missing, id_found}
+use Rattle.dealer_desk.proofs.ReaderLemmas.{id_missing, id_found}
 use Rattle.dealer_desk.proofs.index.DealerIndex.quote_with_id.Goals as goal
 
 pub returns-in_err-number : goal.returns-in_err-number

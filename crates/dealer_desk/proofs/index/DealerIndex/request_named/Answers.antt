@@ -1,9 +1,9 @@
 use Rattle.std.proofs.Common.{rules, ◌≡◌, ◌<◌, ◌≤◌, ◌^◌, ◌⊎◌, ℕ, length, true, Option, Some, None, option_map, inl, inr, Bor, sym, ap, subst, ◌∙◌, arith}
 use Rattle.std.proofs.lemmas.Option.{none-some}
 use Rattle.dealer_desk.specs.DealerFacts.{request_named, live_number_on, has_lifted_quote}
-use Rattle.dealer_desk.specs.DealerTable.{IndexView}
+use Rattle.dealer_desk.specs.DealerTable.{IndexView, requests_in}
 use Rattle.dealer_desk.specs.declared.table.RequestRow.{RequestRow}
-use Rattle.dealer_desk.proofs.IndexLemmas.{requests_in, named_missing, named_past, named_found, request_found, request_missing, row_live, row_lifted}
+use Rattle.dealer_desk.proofs.ReaderLemmas.{named_missing, named_past, named_found, request_found, request_missing, row_live, row_lifted}
 use Rattle.dealer_desk.proofs.index.DealerIndex.request_named.Goals as goal
 use Rattle.dealer_desk.proofs.index.DealerIndex.request_named.Goals.{then-number-lt1-via-then-number-lt1, then-number-lt1-via-else-number-lt1+then-number-shown}
 

@@ -1,7 +1,7 @@
 use Rattle.std.proofs.Common.{rules, ◌≡◌, ◌<◌, ◌≤◌, ℕ, length, Some, None, inl, inr, sym, subst, ◌∙◌, arith}
 use Rattle.dealer_desk.specs.DealerFacts.{request_numbered, live_number_on, has_lifted_quote}
-use Rattle.dealer_desk.specs.DealerTable.{IndexView}
-use Rattle.dealer_desk.proofs.IndexLemmas.{requests_in, request_found, request_missing, row_live, row_lifted}
+use Rattle.dealer_desk.specs.DealerTable.{IndexView, requests_in}
+use Rattle.dealer_desk.proofs.ReaderLemmas.{request_found, request_missing, row_live, row_lifted}
 use Rattle.dealer_desk.proofs.index.DealerIndex.request_numbered.Goals as goal
 use Rattle.dealer_desk.proofs.index.DealerIndex.request_numbered.Goals.{then-number-lt1-via-then-number-lt1, then-number-lt1-via-else-number-lt1+then-number-len}
 

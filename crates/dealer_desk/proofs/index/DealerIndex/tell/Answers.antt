@@ -2,10 +2,10 @@ use Rattle.std.proofs.Common.{◌≡◌, ◌≤◌, ◌<◌, ◌^◌, ◌+◌, �
 use Rattle.std.proofs.lemmas.List.{length-map}
 use Rattle.dealer_desk.specs.DealerFacts.{Told}
 use Rattle.dealer_desk.specs.BookChanges.{told_at, closed_on}
-use Rattle.dealer_desk.specs.DealerTable.{IndexView}
+use Rattle.dealer_desk.specs.DealerTable.{IndexView, requests_in}
 use Rattle.dealer_desk.specs.declared.standing.StandingRequest.{StandingRequest}
 use Rattle.dealer_desk.proofs.BookLemmas.{told_book}
-use Rattle.dealer_desk.proofs.IndexLemmas.{requests_in, book_with, same_book, view_after, index_changed, closed_keeps, most_rows}
+use Rattle.dealer_desk.proofs.IndexLemmas.{book_with, same_book, view_after, index_changed, closed_keeps, most_rows}
 use Rattle.dealer_desk.proofs.index.DealerIndex.tell.Goals as goal
 
 pub close-requires-clause-to_last : goal.close-requires-clause-to_last

@@ -1,7 +1,8 @@
 use Rattle.std.proofs.Common.{◌≡◌, ℕ, ◌≤◌, true, length, map, sym, ap, subst, ◌∙◌, arith}
 use Rattle.dealer_desk.specs.BookChanges.{told_at}
 use Rattle.dealer_desk.specs.declared.table.RequestRow.{RequestRow}
-use Rattle.dealer_desk.proofs.TableLemmas.{request_table, told_requests, told_keeps, as_many_rows}
+use Rattle.dealer_desk.proofs.TableReads.{request_table, told_requests, told_keeps}
+use Rattle.dealer_desk.proofs.TableGrowth.{as_many_rows}
 use Rattle.dealer_desk.proofs.table.Table.close.Goals as goal
 
 pub returns-clause-table : goal.returns-clause-table

@@ -1,6 +1,6 @@
 use Rattle.std.proofs.Common.{true}
 use Rattle.dealer_desk.specs.BookChanges.{declined_at}
-use Rattle.dealer_desk.proofs.TableLemmas.{request_table, declined_requests, declined_keeps}
+use Rattle.dealer_desk.proofs.TableReads.{request_table, declined_requests, declined_keeps}
 use Rattle.dealer_desk.proofs.table.Table.decline.Goals as goal
 
 pub returns-clause-table : goal.returns-clause-table

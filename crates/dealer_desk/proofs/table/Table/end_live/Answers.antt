@@ -2,7 +2,8 @@ use Rattle.std.proofs.Common.{◌≡◌, ℕ, ◌+◌, ◌-◌, ◌<◌, ◌≤�
 use Rattle.dealer_desk.specs.DealerFacts.{is_droppable}
 use Rattle.dealer_desk.specs.declared.standing.StandingQuote.{StandingQuote}
 use Rattle.std.specs.List.{position_or_len}
-use Rattle.dealer_desk.proofs.TableLemmas.{IsRead, is_read, end_live_table, end_live_quotes, row_kept, none_before, first_within, quantity_within}
+use Rattle.dealer_desk.proofs.TableReads.{IsRead, is_read, end_live_table, end_live_quotes, row_kept, none_before, first_within}
+use Rattle.dealer_desk.proofs.TableLemmas.{quantity_within}
 use Rattle.dealer_desk.proofs.table.Table.end_live.Goals as goal
 
 pub overflow_sub-self : goal.overflow_sub-self

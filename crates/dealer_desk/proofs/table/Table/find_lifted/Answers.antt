@@ -1,7 +1,8 @@
 use Rattle.std.proofs.Common.{◌≡◌, ℕ, ◌+◌, ◌-◌, ◌<◌, ◌≤◌, true, false, length, map, Some, None, slice_get, slice_set, get_or, refl, sym, ap, subst, ◌∙◌, arith}
 use Rattle.dealer_desk.specs.DealerFacts.{is_droppable, is_live}
 use Rattle.dealer_desk.specs.declared.standing.StandingQuote.{StandingQuote}
-use Rattle.dealer_desk.proofs.TableLemmas.{IsRead, is_read, find_lifted_table, find_lifted_quotes, row_kept, none_before, first_within, lifted_stays, closed_live}
+use Rattle.dealer_desk.proofs.TableReads.{IsRead, is_read, find_lifted_table, find_lifted_quotes, row_kept, none_before, first_within}
+use Rattle.dealer_desk.proofs.TableGrowth.{lifted_stays, closed_live}
 use Rattle.dealer_desk.proofs.table.Table.find_lifted.Goals as goal
 
 pub next_droppable-self-requires-clause-within : goal.next_droppable-self-requires-clause-within

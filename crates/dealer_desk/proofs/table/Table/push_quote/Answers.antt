@@ -5,7 +5,7 @@ use Rattle.dealer_desk.specs.DealerTable.{IsTable}
 use Rattle.dealer_desk.specs.declared.standing.StandingQuote.{StandingQuote}
 use Rattle.dealer_desk.specs.declared.table.RequestRow.{RequestRow}
 use Rattle.market_terms.specs.declared.lines.QuoteLine.{QuoteLine}
-use Rattle.dealer_desk.proofs.TableLemmas.{push_quote_table, request_row_kept}
+use Rattle.dealer_desk.proofs.TableGrowth.{push_quote_table, request_row_kept}
 use Rattle.dealer_desk.proofs.table.Table.push_quote.Goals as goal
 
 pub returns-clause-table : goal.returns-clause-table

@@ -3,7 +3,7 @@ use Rattle.dealer_desk.specs.DealerFacts.{standing_request}
 use Rattle.dealer_desk.specs.DealerTable.{IsTable}
 use Rattle.dealer_desk.specs.declared.standing.StandingRequest.{StandingRequest}
 use Rattle.dealer_desk.specs.declared.table.RequestRow.{RequestRow}
-use Rattle.dealer_desk.proofs.TableLemmas.{push_request_table}
+use Rattle.dealer_desk.proofs.TableGrowth.{push_request_table}
 use Rattle.dealer_desk.proofs.table.Table.push_request.Goals as goal
 
 pub returns-clause-table : goal.returns-clause-table
