@@ -1,6 +1,8 @@
 // Reads a frame of FIXT.1.1 and finds one of its fields, and cuts a stream into messages: by
 // fix_fields, by plain C++ written here by hand, and by QuickFIX. All three readers make the same
 // checks of the frame; fix_fields and the plain splitter make the same checks of the stream.
+#include "frames.h"
+
 #include <quickfix/Message.h>
 #include <quickfix/Parser.h>
 
@@ -142,15 +144,6 @@ static size_t quickfix_cut(const std::string& stream, size_t size) {
         count += messages.size();
     }
     return count;
-}
-
-static std::string framed(const std::string& body) {
-    std::string front = "8=FIXT.1.1\x01" "9=" + std::to_string(body.size()) + "\x01" + body;
-    unsigned sum = 0;
-    for (unsigned char byte : front) sum += byte;
-    char tail[8];
-    std::snprintf(tail, sizeof tail, "10=%03u", sum % 256);
-    return front + tail + "\x01";
 }
 
 // A Quote of 133 bytes.

@@ -1,5 +1,7 @@
 // Reads a frame of FIXT.1.1 and checks it as a dealer's message: by quote_messages, beside QuickFIX, which parses it
 // and checks its length and sum alone.
+#include "frames.h"
+
 #include <quickfix/Message.h>
 
 #include <cstdint>
@@ -8,15 +10,6 @@
 #include <string>
 
 extern "C" uint32_t quote_messages_read(const uint8_t* bytes, size_t len, uint32_t steps);
-
-static std::string framed(const std::string& body) {
-    std::string front = "8=FIXT.1.1\x01" "9=" + std::to_string(body.size()) + "\x01" + body;
-    unsigned sum = 0;
-    for (unsigned char byte : front) sum += byte;
-    char tail[8];
-    std::snprintf(tail, sizeof tail, "10=%03u", sum % 256);
-    return front + tail + "\x01";
-}
 
 // A Quote of 133 bytes, and one with every field of its type.
 static std::string quote(bool full) {

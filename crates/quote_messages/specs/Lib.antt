@@ -7,5 +7,6 @@ pub mod SessionLines
 pub mod Slots
 pub mod TagReading
 pub mod Texts
+pub mod Turns
 pub mod ValueForms
 pub mod Written

@@ -1,9 +1,10 @@
 //! What the session makes of bytes that came from a firm.
 ghost use Rattle.std.specs.Prelude.{◌≡◌, ◌+◌, ◌<◌, ◌^◌, option_and_then};
-ghost use Rattle.fix_fields.specs.Frame.{value_of};
+ghost use Rattle.fix_fields.specs.Frame.{frame_of, value_of};
 ghost use Rattle.venue_config.specs.Texts.{text_if};
 ghost use Rattle.quote_messages.specs.Texts.{is_msg_type};
 ghost use Rattle.quote_messages.specs.Arrivals as spec;
+ghost use Rattle.quote_messages.specs.Turns as turns;
 ghost use Rattle.quote_messages.specs.Arrivals.{dealer_arrival, investor_arrival, sequence_number, reject_of, out_of_sequence};
 
 use crate::dealer_checks::judge_dealer;
@@ -30,7 +31,7 @@ pub enum Arrival<'a, M: Drop> {
 }
 
 /// What becomes of bytes that came from a dealer, whose next expected MsgSeqNum (34) is this.
-#[tactic(auto, unfolding(crate::specs::Arrivals::dealer_arrival))]
+#[tactic(auto, using(crate::proofs::TurnLemmas::framed_by_turn), unfolding(crate::specs::Arrivals::dealer_arrival))]
 pub fn receive_dealer<'a>(
     date: &Date,
     row: &DealerRow,
@@ -39,24 +40,17 @@ pub fn receive_dealer<'a>(
 ) -> Arrival<'a, DealerMessage<'a>>
     ensures exact { result ≡ dealer_arrival date.now row.now expected bytes.now }
 {
-    let Ok(frame) = read_frame(bytes) else {
-        return Arrival::Dropped;
-    };
-    let message = FieldSlots::of(&frame);
-    let Some(number) = sequence_number(&message) else {
-        return Arrival::Dropped;
-    };
-    if number.get() != expected {
-        return Arrival::OutOfSequence(reject_of(&message, number, out_of_sequence()));
-    }
-    match judge_dealer(date, row, &message) {
-        Ok(read) => Arrival::Taken(read),
-        Err(fault) => Arrival::Rejected(reject_of(&message, number, fault)),
+    match turn_of(expected, bytes) {
+        Turn::Dropped => Arrival::Dropped,
+        Turn::OutOfSequence(reject) => Arrival::OutOfSequence(reject),
+        Turn::InSequence(message, number) => {
+            in_sequence(&message, number, judge_dealer(date, row, &message))
+        }
     }
 }
 
 /// What becomes of bytes that came from an investor, whose next expected MsgSeqNum (34) is this.
-#[tactic(auto, unfolding(crate::specs::Arrivals::investor_arrival))]
+#[tactic(auto, using(crate::proofs::TurnLemmas::framed_by_turn), unfolding(crate::specs::Arrivals::investor_arrival))]
 pub fn receive_investor<'a>(
     date: &Date,
     row: &InvestorRow,
@@ -65,19 +59,55 @@ pub fn receive_investor<'a>(
 ) -> Arrival<'a, InvestorMessage<'a>>
     ensures exact { result ≡ investor_arrival date.now row.now expected bytes.now }
 {
+    match turn_of(expected, bytes) {
+        Turn::Dropped => Arrival::Dropped,
+        Turn::OutOfSequence(reject) => Arrival::OutOfSequence(reject),
+        Turn::InSequence(message, number) => {
+            in_sequence(&message, number, judge_investor(date, row, &message))
+        }
+    }
+}
+
+/// Whether it is the turn of bytes that came: a frame with the expected MsgSeqNum (34).
+#[derive(Drop)]
+pub(crate) enum Turn<'a> {
+    /// The bytes are no frame, or have no readable MsgSeqNum.
+    Dropped,
+    /// MsgSeqNum is not the expected one.
+    OutOfSequence(Reject<'a>),
+    /// The message, and its MsgSeqNum.
+    InSequence(FieldSlots<'a>, SeqNum<'a>),
+}
+
+/// Whether it is the turn of bytes, where this MsgSeqNum (34) is expected.
+#[inline(always)]
+fn turn_of<'a>(expected: u64, bytes: &'a [u8]) -> Turn<'a>
+    ensures { result ≡ turns.turn_of expected (frame_of bytes.now) }
+{
     let Ok(frame) = read_frame(bytes) else {
-        return Arrival::Dropped;
+        return Turn::Dropped;
     };
     let message = FieldSlots::of(&frame);
     let Some(number) = sequence_number(&message) else {
-        return Arrival::Dropped;
+        return Turn::Dropped;
     };
     if number.get() != expected {
-        return Arrival::OutOfSequence(reject_of(&message, number, out_of_sequence()));
+        return Turn::OutOfSequence(reject_of(&message, number, out_of_sequence()));
     }
-    match judge_investor(date, row, &message) {
-        Ok(read) => Arrival::Taken(read),
-        Err(fault) => Arrival::Rejected(reject_of(&message, number, fault)),
+    Turn::InSequence(message, number)
+}
+
+/// What becomes of a message in its turn: it met a session fault, or says this.
+fn in_sequence<'a, M: Drop>(
+    message: &FieldSlots<'a>,
+    number: SeqNum<'a>,
+    read: Result<M, SessionFault>,
+) -> Arrival<'a, M>
+    ensures { result ≡ spec.in_sequence message.now number.entry read }
+{
+    match read {
+        Ok(said) => Arrival::Taken(said),
+        Err(fault) => Arrival::Rejected(reject_of(message, number, fault)),
     }
 }
 

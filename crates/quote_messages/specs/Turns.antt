@@ -1,0 +1,20 @@
+-- Whether it is a message's turn, by its MsgSeqNum (34). Only private functions say this.
+use Rattle.std.specs.Prelude.{ℕ, ◌==◌, List, Option, Some, None, if◌then◌else◌}
+use Rattle.std.specs.Str.Parse.{digits_value}
+use Rattle.fix_fields.specs.Frame.{Field}
+use Rattle.quote_messages.specs.Arrivals.{sequence_number, reject_of, out_of_sequence}
+use Rattle.quote_messages.specs.declared.arrivals.Turn.{Turn}
+use Rattle.quote_messages.specs.declared.arrivals.Turn.TheVariants.{Dropped, OutOfSequence, InSequence}
+
+-- the turn of a frame with this MsgSeqNum, or without a readable one
+abbrev pub turn_by : ℕ → List Field → Option (List ℕ) → Turn
+turn_by expected fields None = Dropped
+turn_by expected fields (Some number) =
+    if digits_value 10 number == expected
+    then InSequence fields number
+    else OutOfSequence (reject_of fields number out_of_sequence)
+
+-- the turn of bytes, by the fields of their frame
+abbrev pub turn_of : ℕ → Option (List Field) → Turn
+turn_of expected None = Dropped
+turn_of expected (Some fields) = turn_by expected fields (sequence_number fields)
