@@ -1,20 +1,16 @@
 -- One event more at a desk, and what holds of a desk after any events.
-use Rattle.std.proofs.Common.{◌≡◌, ◌<◌, ◌≤◌, ℕ, zero, suc, ◌+◌, Bool, true, false, cond, List, [], ◌∷◌, ◌++◌, length, map, filter, fold, Option, Some, None, is_some, option_map, refl, sym, ap, subst, ◌∙◌, arith}
-use Rattle.std.specs.List.{sum_by, filter_map}
-use Rattle.std.proofs.lemmas.List.{length-append, length-map, append-nil}
-use Rattle.std.proofs.lemmas.List.Sums.{sum_by-append, sum_by-cons, fold-append}
-use Rattle.std.proofs.lemmas.List.Elements.{filter_map-append}
+use Rattle.std.proofs.Common.{◌≡◌, ◌≤◌, ℕ, ◌+◌, Bool, true, false, cond, List, [], ◌∷◌, ◌++◌, length, map, fold, Option, Some, None, is_some, refl, sym, ap, subst, ◌∙◌, arith}
+use Rattle.std.specs.List.{sum_by}
+use Rattle.std.proofs.lemmas.List.{length-append, length-map}
+use Rattle.std.proofs.lemmas.List.Sums.{sum_by-cons, fold-append}
 use Rattle.venue_config.specs.declared.dealer_rows.DealerRow.{DealerRow}
-use Rattle.market_terms.specs.declared.asks.Ask.{Ask}
 use Rattle.market_terms.specs.declared.closes.Close.{Close}
-use Rattle.market_terms.specs.declared.rooms.RoomRef.{RoomRef}
 use Rattle.quote_word.specs.declared.settled.Settled.{Settled}
 use Rattle.quote_word.specs.declared.settled.Settled.TheVariants as settled
-use Rattle.dealer_desk.specs.DealerFacts.{DealerFact, Came, Shown, Quoted, Withdrawn, Late, Dropped, Declined, Told, DealerBook, book_of, used_number, is_notice, number_to_drop, is_live_on, quotes_accepted, exposure_of}
+use Rattle.dealer_desk.specs.DealerFacts.{DealerFact, Came, Shown, Dropped, Told, DealerBook, book_of, number_to_drop, exposure_of}
 use Rattle.dealer_desk.specs.BookChanges.{book_after, request_after, request_added, counted}
 use Rattle.dealer_desk.specs.DealerRules.{dealer_verdict}
-use Rattle.dealer_desk.specs.DealerOutput.{DeskState, no_facts, after_event, desk_after, event_facts, verdict_facts, settled_facts, answer_facts, uses_number, closable, rooms_of, shown_room, answered_word, answered_words, asked_word, asked_by, word_asked}
-use Rattle.dealer_desk.specs.declared.standing.StandingRequest.{StandingRequest}
+use Rattle.dealer_desk.specs.DealerOutput.{DeskState, no_facts, after_event, desk_after, event_facts, verdict_facts, settled_facts, uses_number, closable, rooms_of}
 use Rattle.dealer_desk.specs.declared.standing.Withdrawal.{Withdrawal}
 use Rattle.dealer_desk.specs.declared.standing.Withdrawal.TheVariants as by
 use Rattle.dealer_desk.specs.declared.events.DealerEvent.{DealerEvent}
@@ -23,7 +19,7 @@ use Rattle.dealer_desk.specs.declared.verdicts.DealerVerdict.{DealerVerdict}
 use Rattle.dealer_desk.specs.declared.verdicts.DealerVerdict.TheVariants as verdict
 use Rattle.dealer_desk.proofs.BookLemmas.{came_book}
 use Rattle.dealer_desk.proofs.BookPush.{books_push}
-use Rattle.dealer_desk.proofs.StandLemmas.{Stands, StandsIn, stands_empty, came_stands, dropped_stands, shown_stands, withdrawn_stands, late_stands, declined_stands, told_stands, accepted_stands, replaced_stands}
+use Rattle.dealer_desk.proofs.StandLemmas.{StandsIn, stands_empty, dropped_stands, shown_stands, withdrawn_stands, late_stands, declined_stands, told_stands, accepted_stands, replaced_stands}
 use Rattle.dealer_desk.proofs.VerdictLemmas.{Holds, verdict_holds}
 
 -- a desk after one event more is that after the others, and then after this one

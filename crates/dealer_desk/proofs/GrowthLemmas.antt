@@ -23,9 +23,9 @@ pub id_stays_new : (quotes : List StandingQuote) (f : StandingQuote → Standing
     → find (λ (q : StandingQuote). same_text q.quote.id id) quotes ≡ None → find (λ (q : StandingQuote). same_text q.quote.id id) (map f quotes) ≡ None
 id_stays_new quotes f id keeps none =
     no_number (find (λ (q : StandingQuote). same_text q.quote.id id) (map f quotes))
-      (find_mapped (λ (q : StandingQuote). q.quote.number) (λ (q : StandingQuote). same_text q.quote.id id) f quotes
-        (λ y. ap (λ (q : AcceptedQuote). q.number) (keeps y)) (λ k y at. ap (λ (q : AcceptedQuote). same_text q.id id) (keeps y))
-      ∙ ap (option_map (λ (q : StandingQuote). q.quote.number)) none)
+    (find_mapped (λ (q : StandingQuote). q.quote.number) (λ (q : StandingQuote). same_text q.quote.id id) f quotes
+    (λ y. ap (λ (q : AcceptedQuote). q.number) (keeps y)) (λ k y at. ap (λ (q : AcceptedQuote). same_text q.id id) (keeps y))
+    ∙ ap (option_map (λ (q : StandingQuote). q.quote.number)) none)
 
 -- A request more.
 

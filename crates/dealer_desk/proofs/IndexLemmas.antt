@@ -1,23 +1,17 @@
 -- What an index keeps when its table changes.
-use Rattle.std.proofs.Common.{◌≡◌, ◌<◌, ◌≤◌, ℕ, zero, suc, ◌+◌, ◌^◌, ◌==◌, Bool, cond, true, false, ◌&&◌, not, nat_le, nat_lt, is_some, List, [], ◌∷◌, ◌++◌, length, map, Option, Some, None, option_map, find, slice_get, get_or, ◌-◌, ◌⊎◌, inl, inr, refl, sym, ap, subst, ◌∙◌, arith}
-use Rattle.std.specs.List.{list_any, sum_by, position_or_len}
-use Rattle.std.proofs.lemmas.Bool.{eqb-true, eq-eqb}
-use Rattle.std.proofs.lemmas.Option.{none-some, same_Some, slice_get-map, slice_get_past, get_or_from_slice_get}
+use Rattle.std.proofs.Common.{◌≡◌, ◌<◌, ◌≤◌, ℕ, ◌+◌, ◌^◌, ◌==◌, Bool, cond, true, false, List, [], ◌∷◌, ◌++◌, length, map, Option, Some, None, find, refl, sym, ap, subst, ◌∙◌, arith}
+use Rattle.std.specs.List.{sum_by}
 use Rattle.std.specs.Option.{option_or}
 use Rattle.std.specs.BTreeMap.{BTreeMap, get, is_at}
 use Rattle.std.specs.Cmp.Lexicographic.{slice_cmp}
 use Rattle.std.specs.Ordering.{nat_cmp}
-use Rattle.std.proofs.lemmas.Bool.Decides.{nat_tests}
-use Rattle.std.proofs.lemmas.List.Sums.{passes_at_first}
 use Rattle.std.proofs.lemmas.List.{length-map}
-use Rattle.std.proofs.lemmas.Slice.Eq.{bytes_eq-Decides}
 use Rattle.venue_config.specs.Texts.{same_text}
-use Rattle.quote_messages.specs.Written.{request_name}
 use Rattle.market_terms.specs.declared.closes.Close.{Close}
 use Rattle.market_terms.specs.declared.lines.QuoteLine.{QuoteLine}
 use Rattle.market_terms.specs.declared.rooms.RoomRef.{RoomRef}
-use Rattle.dealer_desk.specs.DealerFacts.{DealerFact, DealerBook, request_named, request_numbered, quote_numbered, live_number_on, live_quote_on, has_lifted_quote, is_live, is_live_on, is_lifted_on, is_droppable, quote_with_id, quote_to_drop, exposure_beside, quantity_beside, live_quantity, standing_quote}
-use Rattle.dealer_desk.specs.BookChanges.{IsSound, FitsBook, book_after, closed_on, ended_at}
+use Rattle.dealer_desk.specs.DealerFacts.{DealerFact, DealerBook, live_quote_on, quote_with_id, exposure_beside, quantity_beside, live_quantity, standing_quote}
+use Rattle.dealer_desk.specs.BookChanges.{FitsBook, book_after, closed_on, ended_at}
 use Rattle.dealer_desk.specs.DealerTable.{IsIndex, IsIdMap, IsTable, IndexView, live_number_among, requests_in, with_fact}
 use Rattle.dealer_desk.specs.declared.accepted.AcceptedQuote.{AcceptedQuote}
 use Rattle.dealer_desk.specs.declared.standing.StandingRequest.{StandingRequest}
@@ -25,10 +19,8 @@ use Rattle.dealer_desk.specs.declared.standing.StandingQuote.{StandingQuote}
 use Rattle.dealer_desk.specs.declared.standing.QuoteEnd.{QuoteEnd}
 use Rattle.dealer_desk.specs.declared.standing.QuoteEnd.TheVariants as end
 use Rattle.dealer_desk.specs.declared.table.RequestRow.{RequestRow}
-use Rattle.dealer_desk.proofs.ListLemmas.{find_unique, find_at_place, fails_where_none, find_none, find_stands, stands_within, within_from, before_place, past_end, ruled_out}
 use Rattle.dealer_desk.proofs.MapLemmas.{ids_kept, ids_pushed}
-use Rattle.dealer_desk.proofs.TableReads.{read_at}
-use Rattle.dealer_desk.proofs.TableGrowth.{row_read, live_stands, beside_dead, beside_live, sum_beside}
+use Rattle.dealer_desk.proofs.TableGrowth.{sum_beside}
 
 -- a book by its parts
 abbrev pub book_with : ℕ → ℕ → List StandingRequest → List StandingQuote → DealerBook
@@ -130,7 +122,7 @@ index_pushed used notices rows rows2 quotes quotes2 lines lines2 exposure exposu
   notices_fit = index.notices_fit;
   table = table;
   ids = subst (λ (qs : List StandingQuote). IsIdMap qs by_id2) (sym changed)
-    (ids_pushed quotes by_id by_id2 quote index.ids unused (λ id. updates id ∙ ap (λ (k : List ℕ). cond (is_at (slice_cmp nat_cmp k) id) (Some quote.number) (get (slice_cmp nat_cmp) by_id id)) same));
+      (ids_pushed quotes by_id by_id2 quote index.ids unused (λ id. updates id ∙ ap (λ (k : List ℕ). cond (is_at (slice_cmp nat_cmp k) id) (Some quote.number) (get (slice_cmp nat_cmp) by_id id)) same));
   room_map = index.room_map;
   as_many = index.as_many ∙ sym (length-map rows (λ (r : RequestRow). r.request)) ∙ sym many ∙ length-map rows2 (λ (r : RequestRow). r.request);
 }

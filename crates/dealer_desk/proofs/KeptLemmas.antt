@@ -1,5 +1,5 @@
 -- What a desk keeps beside its events, after one event more.
-use Rattle.std.proofs.Common.{◌≡◌, ◌<◌, ◌≤◌, ℕ, ◌+◌, ◌^◌, Bool, true, false, cond, List, [], ◌∷◌, ◌++◌, length, fold, Option, Some, None, is_some, IfSome, option_map, refl, sym, ap, subst, ◌∙◌, arith}
+use Rattle.std.proofs.Common.{◌≡◌, ◌<◌, ◌≤◌, ℕ, ◌+◌, ◌^◌, Bool, cond, List, [], ◌∷◌, ◌++◌, length, fold, Option, Some, None, is_some, IfSome, option_map, refl, sym, ap, subst, ◌∙◌, arith}
 use Rattle.std.specs.Option.{option_to_list}
 use Rattle.std.proofs.lemmas.List.{append-nil}
 use Rattle.std.proofs.lemmas.List.Elements.{filter_map-append}
@@ -10,7 +10,7 @@ use Rattle.market_terms.specs.declared.rooms.RoomRef.{RoomRef}
 use Rattle.quote_messages.specs.declared.out_messages.OutMessage.{OutMessage}
 use Rattle.quote_word.specs.declared.settled.Settled.{Settled}
 use Rattle.quote_word.specs.declared.settled.Settled.TheVariants as settled
-use Rattle.dealer_desk.specs.DealerFacts.{DealerFact, Came, Shown, Told, Dropped, DealerBook, book_of, exposure_of, number_to_drop, quote_to_drop}
+use Rattle.dealer_desk.specs.DealerFacts.{DealerFact, Came, Shown, Told, DealerBook, book_of, exposure_of, number_to_drop, quote_to_drop}
 use Rattle.dealer_desk.specs.DealerRules.{dealer_verdict}
 use Rattle.dealer_desk.specs.DealerOutput.{DeskEvents, DeskState, book_at, rooms_at, verdict_at, desk_after, event_facts, event_message, verdict_facts, verdict_message, settled_facts, uses_number, closable, rooms_of, shown_room, sent_with, moment_of, next_message, next_request, notice_of, drop_message, word_asked}
 use Rattle.dealer_desk.specs.BookChanges.{book_after, IsSound}
@@ -25,7 +25,6 @@ use Rattle.dealer_desk.specs.declared.verdicts.DealerVerdict.{DealerVerdict}
 use Rattle.dealer_desk.specs.declared.verdicts.DealerVerdict.TheVariants as verdict
 use Rattle.dealer_desk.proofs.BookLemmas.{dropped_book}
 use Rattle.dealer_desk.proofs.BookPush.{books_push}
-use Rattle.dealer_desk.proofs.StandLemmas.{StandsIn}
 use Rattle.dealer_desk.proofs.VerdictLemmas.{verdict_holds, lawful_note, asked_within}
 use Rattle.dealer_desk.proofs.DeskLemmas.{Stood, desk_sound, desk_after_push}
 use Rattle.dealer_desk.proofs.DutyLemmas.{drop_asks}

@@ -88,8 +88,9 @@ module _ {A : Type 0} where
   pub find_stands : (p : A → Bool) (xs : List A) (x : A) → find p xs ≡ Some x → (k : ℕ) × (slice_get xs k ≡ Some x) × (p x ≡ true)
   find_stands p [] x h = absurd (none-some x h)
   find_stands p (z ∷ xs) x h = elim (found_first p z (find p xs) (p z) refl x h) [
-      inl q ↦ (zero, ap Some q.1, sym (ap p q.1) ∙ q.0)
-    | inr q ↦ let more = find_stands p xs x q.1 in (suc more.0, more.1, more.2) ]
+    | inl q ↦ (zero, ap Some q.1, sym (ap p q.1) ∙ q.0)
+    | inr q ↦ let more = find_stands p xs x q.1 in (suc more.0, more.1, more.2)
+  ]
 
   -- nothing is found where no element passes
   none_first : (b : Bool) (z : A) (rest : Option A) → b ≡ false → rest ≡ None → cond b (Some z) rest ≡ None
@@ -152,9 +153,9 @@ module _ {A : Type 0} where
   lone_others p (z ∷ xs) (suc place) x few at pass zero y there other =
       let one = passing p xs place x at pass in
       ruled_out (p y) (λ so.
-        let first : p z ≡ true = ap p (same_Some z y there) ∙ so in
-        let count : length (filter p (z ∷ xs)) ≡ 1 + length (filter p xs) = rw first (omega arith) in
-        omega arith)
+      let first : p z ≡ true = ap p (same_Some z y there) ∙ so in
+      let count : length (filter p (z ∷ xs)) ≡ 1 + length (filter p xs) = rw first (omega arith) in
+      omega arith)
   lone_others p (z ∷ xs) (suc place) x few at pass (suc k) y there other =
       let count : length (filter p (z ∷ xs)) ≡ cond (p z) 1 0 + length (filter p xs) = passes_more (p z) z (filter p xs) in
       let rest : length (filter p xs) ≤ 1 = omega arith in
@@ -176,7 +177,7 @@ module _ {A : Type 0} where
       let same : z ≡ x = same_Some z x at in found_here (p z) z x (find p xs) (ap p same ∙ pass) same
   find_unique p (z ∷ xs) (suc place) x at pass others =
       found_later (p z) z x (find p xs) (others zero z refl (λ e. cc))
-        (find_unique p xs place x at pass (λ k y there other. others (suc k) y there (λ e. let g : k ≡ place = cc in other g)))
+      (find_unique p xs place x at pass (λ k y there other. others (suc k) y there (λ e. let g : k ≡ place = cc in other g)))
 
   -- where one at most passes, the one that does is found
   first_found : (b : Bool) (z : A) (rest : Option A) (x : A) → b ≡ false → rest ≡ Some x → cond b (Some z) rest ≡ Some x
@@ -228,8 +229,8 @@ module _ {A : Type 0} (p : A → Bool) where
   first_place xs i d within fails pass =
       let most : i ≤ length xs = omega arith in
       sym (position_or_len_is p xs i d most
-        (λ k below. let inside : k < length xs = omega arith in fails k (get_or xs k d) below (slice_get-get_or xs k d inside))
-        (λ inside. pass))
+      (λ k below. let inside : k < length xs = omega arith in fails k (get_or xs k d) below (slice_get-get_or xs k d inside))
+      (λ inside. pass))
 
   -- no place, where no element passes
   pub no_place : (xs : List A) → ((k : ℕ) (y : A) → k < length xs → slice_get xs k ≡ Some y → p y ≡ false) → length xs ≡ position_or_len p xs
@@ -237,8 +238,8 @@ module _ {A : Type 0} (p : A → Bool) where
   no_place (x ∷ xs) fails =
       let most : length (x ∷ xs) ≤ length (x ∷ xs) = omega arith in
       sym (position_or_len_is p (x ∷ xs) (length (x ∷ xs)) x most
-        (λ k below. fails k (get_or (x ∷ xs) k x) below (slice_get-get_or (x ∷ xs) k x below))
-        (λ inside. absurd (omega arith)))
+      (λ k below. fails k (get_or (x ∷ xs) k x) below (slice_get-get_or (x ∷ xs) k x below))
+      (λ inside. absurd (omega arith)))
 
   -- none passes before the first place
   pub before_place : (xs : List A) (k : ℕ) (y : A) → k < position_or_len p xs → slice_get xs k ≡ Some y → p y ≡ false
@@ -269,7 +270,7 @@ module _ {A : Type 0} (p : A → Bool) where
   find_at_place (z ∷ xs) (suc place) x at pass before =
       let here : 0 < suc place = omega arith in
       find_first_at (p z) z x (find p xs) (before zero z here refl)
-        (find_at_place xs place x at pass (λ k y below there. let less : suc k < suc place = omega arith in before (suc k) y less there))
+      (find_at_place xs place x at pass (λ k y below there. let less : suc k < suc place = omega arith in before (suc k) y less there))
 
 -- nothing stands past the end
 pub past_end : {A : Type 0} (xs : List A) (i : ℕ) → slice_get xs i ≡ None → length xs ≤ i

@@ -1,5 +1,5 @@
 -- What the maps of an index keep.
-use Rattle.std.proofs.Common.{◌≡◌, ℕ, ◌+◌, Bool, true, false, ◌||◌, ◌==◌, cond, List, [], ◌∷◌, ◌++◌, length, map, find, Option, Some, None, option_map, refl, sym, ap, ◌∙◌, arith}
+use Rattle.std.proofs.Common.{◌≡◌, ℕ, ◌+◌, Bool, true, false, cond, List, [], ◌∷◌, ◌++◌, length, map, find, Option, Some, None, option_map, refl, sym, ap, ◌∙◌, arith}
 use Rattle.std.specs.Option.{option_or}
 use Rattle.std.specs.BTreeMap.{BTreeMap, get, is_at}
 use Rattle.std.specs.Cmp.Lexicographic.{slice_cmp}
@@ -20,9 +20,11 @@ use Rattle.dealer_desk.proofs.ListLemmas.{find_mapped}
 -- a change of quotes that keeps what was accepted keeps the map
 pub ids_kept : (quotes : List StandingQuote) (by_id : BTreeMap (List ℕ) ℕ) (f : StandingQuote → StandingQuote) → ((own : StandingQuote) → (f own).quote ≡ own.quote)
     → IsIdMap quotes by_id → IsIdMap (map f quotes) by_id
-ids_kept quotes by_id f keeps ids = record { ids_are = λ id. ids.ids_are id
-    ∙ sym (find_mapped (λ (q : StandingQuote). q.quote.number) (λ (q : StandingQuote). same_text q.quote.id id) f quotes
-      (λ y. ap (λ (q : AcceptedQuote). q.number) (keeps y)) (λ k y at. ap (λ (q : AcceptedQuote). same_text q.id id) (keeps y))) }
+ids_kept quotes by_id f keeps ids = record {
+  ids_are = λ id. ids.ids_are id
+      ∙ sym (find_mapped (λ (q : StandingQuote). q.quote.number) (λ (q : StandingQuote). same_text q.quote.id id) f quotes
+      (λ y. ap (λ (q : AcceptedQuote). q.number) (keeps y)) (λ k y at. ap (λ (q : AcceptedQuote). same_text q.id id) (keeps y)));
+}
 
 -- the keys of the maps
 
@@ -43,12 +45,14 @@ pub ids_pushed : (quotes : List StandingQuote) (old new : BTreeMap (List ℕ) �
     → IsIdMap quotes old → find (λ (q : StandingQuote). same_text q.quote.id quote.id) quotes ≡ None
     → ((id : List ℕ) → get (slice_cmp nat_cmp) new id ≡ cond (is_at (slice_cmp nat_cmp quote.id) id) (Some quote.number) (get (slice_cmp nat_cmp) old id))
     → IsIdMap (quotes ++ standing_quote quote [] ∷ []) new
-ids_pushed quotes old new quote ids unused updates = record { ids_are = λ id.
-    updates id
-    ∙ ap (λ (b : Bool). cond b (Some quote.number) (get (slice_cmp nat_cmp) old id)) (same_key quote.id id)
-    ∙ pick_new (same_text quote.id id) quotes quote (find (λ (q : StandingQuote). same_text q.quote.id id) quotes) (get (slice_cmp nat_cmp) old id) (ids.ids_are id)
+ids_pushed quotes old new quote ids unused updates = record {
+  ids_are = λ id.
+      updates id
+      ∙ ap (λ (b : Bool). cond b (Some quote.number) (get (slice_cmp nat_cmp) old id)) (same_key quote.id id)
+      ∙ pick_new (same_text quote.id id) quotes quote (find (λ (q : StandingQuote). same_text q.quote.id id) quotes) (get (slice_cmp nat_cmp) old id) (ids.ids_are id)
       (λ so. ap (λ (i : List ℕ). find (λ (q : StandingQuote). same_text q.quote.id i) quotes) (sym ((bytes_eq-Decides quote.id id).0 so)) ∙ unused)
-    ∙ ap (option_map (λ (q : StandingQuote). q.quote.number)) (sym (find-append (λ (q : StandingQuote). same_text q.quote.id id) quotes (standing_quote quote [] ∷ []))) }
+      ∙ ap (option_map (λ (q : StandingQuote). q.quote.number)) (sym (find-append (λ (q : StandingQuote). same_text q.quote.id id) quotes (standing_quote quote [] ∷ [])));
+}
 
 first_or : (b : Bool) (first : ℕ) (m n o : Option ℕ) → m ≡ option_or n o → cond b (Some first) m ≡ option_or (cond b (Some first) n) o
 first_or true first m n o h = refl
@@ -59,16 +63,18 @@ number_pushed : (rooms : List RoomRef) (room q : RoomRef) (first : ℕ) → numb
 number_pushed [] room q first = ap (λ (n : ℕ). cond (is_same_room room q) (Some n) None) (omega arith)
 number_pushed (shown ∷ rooms) room q first =
     first_or (is_same_room shown q) first (number_from (first + 1) (rooms ++ room ∷ []) q) (number_from (first + 1) rooms q) (cond (is_same_room room q) (Some (first + length (shown ∷ rooms))) None)
-      (number_pushed rooms room q (first + 1) ∙ ap (λ (n : ℕ). option_or (number_from (first + 1) rooms q) (cond (is_same_room room q) (Some n) None)) (omega arith))
+    (number_pushed rooms room q (first + 1) ∙ ap (λ (n : ℕ). option_or (number_from (first + 1) rooms q) (cond (is_same_room room q) (Some n) None)) (omega arith))
 
 pub rooms_pushed : (rooms : List RoomRef) (old new : BTreeMap RoomRef ℕ) (room : RoomRef) (number : ℕ) → IsRoomMap rooms old → number ≡ length rooms + 1
     → ((q : RoomRef) → get room_cmp new q ≡ option_or (get room_cmp old q) (cond (is_same_room room q) (Some number) None))
     → IsRoomMap (rooms ++ room ∷ []) new
-rooms_pushed rooms old new room number was is put = record { rooms_are = λ q.
-    put q
-    ∙ ap (λ (o : Option ℕ). option_or o (cond (is_same_room room q) (Some number) None)) (was.rooms_are q)
-    ∙ ap (λ (n : ℕ). option_or (number_in rooms q) (cond (is_same_room room q) (Some n) None)) (is ∙ omega arith)
-    ∙ sym (number_pushed rooms room q 1) }
+rooms_pushed rooms old new room number was is put = record {
+  rooms_are = λ q.
+      put q
+      ∙ ap (λ (o : Option ℕ). option_or o (cond (is_same_room room q) (Some number) None)) (was.rooms_are q)
+      ∙ ap (λ (n : ℕ). option_or (number_in rooms q) (cond (is_same_room room q) (Some n) None)) (is ∙ omega arith)
+      ∙ sym (number_pushed rooms room q 1);
+}
 
 -- the same rooms by another map
 pub rooms_same : (rooms : List RoomRef) (old new : BTreeMap RoomRef ℕ) → IsRoomMap rooms old → ((q : RoomRef) → get room_cmp new q ≡ get room_cmp old q) → IsRoomMap rooms new

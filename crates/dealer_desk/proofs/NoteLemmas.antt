@@ -1,6 +1,6 @@
 -- A message that came is noted behind what it led to, and stands before it: the number that it used up has no part in the
 -- rest. And the quote that a drop takes is live.
-use Rattle.std.proofs.Common.{◌≡◌, ℕ, ◌+◌, ◌&&◌, Bool, true, false, not, nat_le, cond, List, [], ◌∷◌, find, Option, Some, None, refl, sym, ap, ◌∙◌}
+use Rattle.std.proofs.Common.{◌≡◌, ℕ, ◌+◌, ◌&&◌, true, false, not, nat_le, List, ◌∷◌, Some, refl, sym, ap, ◌∙◌}
 use Rattle.std.proofs.lemmas.Bool.{and_parts}
 use Rattle.dealer_desk.specs.DealerFacts.{DealerFact, Came, Quoted, Withdrawn, Late, Declined, DealerBook, is_live, is_droppable, quote_to_drop}
 use Rattle.dealer_desk.specs.BookChanges.{book_after, IsSound, IsLiveNumber}

@@ -5,10 +5,9 @@ use Rattle.std.proofs.lemmas.Bool.{eqb-true}
 use Rattle.std.proofs.lemmas.Option.{same_Some}
 use Rattle.venue_config.specs.declared.dealer_rows.DealerRow.{DealerRow}
 use Rattle.market_terms.specs.declared.closes.Close.{Close}
-use Rattle.market_terms.specs.declared.rooms.RoomRef.{RoomRef}
 use Rattle.quote_messages.specs.declared.out_messages.OutMessage.{OutMessage}
 use Rattle.dealer_desk.specs.DealerFacts.{DealerBook, Told, request_numbered}
-use Rattle.dealer_desk.specs.DealerOutput.{DeskEvents, book_at, rooms_at, closable, untold, next_message, notice_of}
+use Rattle.dealer_desk.specs.DealerOutput.{DeskEvents, closable, untold, next_message, notice_of}
 use Rattle.dealer_desk.specs.DealerOutput.{may_close, with_notice, with_event}
 use Rattle.dealer_desk.specs.DealerTable.{IndexView, with_fact}
 use Rattle.dealer_desk.specs.RuleCuts.{IsDesk}

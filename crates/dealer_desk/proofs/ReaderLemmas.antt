@@ -1,10 +1,9 @@
 -- What the readers of an index find.
-use Rattle.std.proofs.Common.{◌≡◌, ◌<◌, ◌≤◌, ℕ, zero, suc, ◌+◌, ◌^◌, ◌==◌, Bool, cond, true, false, ◌&&◌, not, nat_le, nat_lt, is_some, List, [], ◌∷◌, ◌++◌, length, map, Option, Some, None, option_map, find, slice_get, get_or, ◌-◌, ◌⊎◌, inl, inr, refl, sym, ap, subst, ◌∙◌, arith}
-use Rattle.std.specs.List.{list_any, sum_by, position_or_len}
+use Rattle.std.proofs.Common.{◌≡◌, ◌<◌, ◌≤◌, ℕ, zero, suc, ◌+◌, ◌^◌, ◌==◌, Bool, true, false, ◌&&◌, not, nat_le, nat_lt, is_some, List, length, Option, Some, None, option_map, find, slice_get, get_or, ◌-◌, ◌⊎◌, inl, inr, refl, sym, ap, subst, ◌∙◌, arith}
+use Rattle.std.specs.List.{list_any, position_or_len}
 use Rattle.std.proofs.lemmas.Bool.{eqb-true, eq-eqb}
 use Rattle.std.proofs.lemmas.Option.{none-some, same_Some, slice_get-map, slice_get_past, get_or_from_slice_get}
-use Rattle.std.specs.Option.{option_or}
-use Rattle.std.specs.BTreeMap.{BTreeMap, get, is_at}
+use Rattle.std.specs.BTreeMap.{BTreeMap, get}
 use Rattle.std.specs.Cmp.Lexicographic.{slice_cmp}
 use Rattle.std.specs.Ordering.{nat_cmp}
 use Rattle.std.proofs.lemmas.Bool.Decides.{nat_tests}
@@ -13,22 +12,16 @@ use Rattle.std.proofs.lemmas.List.{length-map}
 use Rattle.std.proofs.lemmas.Slice.Eq.{bytes_eq-Decides}
 use Rattle.venue_config.specs.Texts.{same_text}
 use Rattle.quote_messages.specs.Written.{request_name}
-use Rattle.market_terms.specs.declared.closes.Close.{Close}
 use Rattle.market_terms.specs.declared.lines.QuoteLine.{QuoteLine}
-use Rattle.market_terms.specs.declared.rooms.RoomRef.{RoomRef}
-use Rattle.dealer_desk.specs.DealerFacts.{DealerFact, DealerBook, request_named, request_numbered, quote_numbered, live_number_on, live_quote_on, has_lifted_quote, is_live, is_live_on, is_lifted_on, is_droppable, quote_with_id, quote_to_drop, exposure_beside, quantity_beside, live_quantity, standing_quote}
-use Rattle.dealer_desk.specs.BookChanges.{IsSound, FitsBook, book_after, closed_on, ended_at}
-use Rattle.dealer_desk.specs.DealerTable.{IsIndex, IsIdMap, IsTable, IndexView, live_number_among, requests_in, with_fact}
-use Rattle.dealer_desk.specs.declared.accepted.AcceptedQuote.{AcceptedQuote}
+use Rattle.dealer_desk.specs.DealerFacts.{DealerBook, request_named, request_numbered, quote_numbered, live_number_on, live_quote_on, has_lifted_quote, is_live, is_live_on, is_lifted_on, is_droppable, quote_with_id, quote_to_drop, exposure_beside}
+use Rattle.dealer_desk.specs.BookChanges.{IsSound}
+use Rattle.dealer_desk.specs.DealerTable.{IsIdMap, IsTable, requests_in}
 use Rattle.dealer_desk.specs.declared.standing.StandingRequest.{StandingRequest}
 use Rattle.dealer_desk.specs.declared.standing.StandingQuote.{StandingQuote}
-use Rattle.dealer_desk.specs.declared.standing.QuoteEnd.{QuoteEnd}
-use Rattle.dealer_desk.specs.declared.standing.QuoteEnd.TheVariants as end
 use Rattle.dealer_desk.specs.declared.table.RequestRow.{RequestRow}
 use Rattle.dealer_desk.proofs.ListLemmas.{find_unique, find_at_place, fails_where_none, find_none, find_stands, stands_within, within_from, before_place, past_end, ruled_out}
-use Rattle.dealer_desk.proofs.MapLemmas.{ids_kept, ids_pushed}
 use Rattle.dealer_desk.proofs.TableReads.{read_at}
-use Rattle.dealer_desk.proofs.TableGrowth.{row_read, live_stands, beside_dead, beside_live, sum_beside}
+use Rattle.dealer_desk.proofs.TableGrowth.{row_read, live_stands, beside_dead, beside_live}
 use Rattle.dealer_desk.proofs.IndexLemmas.{book_with}
 
 -- the one with a number, among those that are numbered from 1
@@ -37,10 +30,10 @@ pub number_found : {A : Type 0} (num : A → ℕ) (xs : List A) (number : ℕ) (
 number_found {A} num xs number x numbered least at =
     let place : (number - 1) + 1 ≡ number = omega arith in
     find_unique (λ y. num y == number) xs (number - 1) x at (eq-eqb (num x) number (numbered (number - 1) x at ∙ place))
-      (λ k y there other. ruled_out (num y == number) (λ so.
-        let same : num y ≡ number = eqb-true (num y) number so in
-        let there2 : num y ≡ k + 1 = numbered k y there in
-        let e : k ≡ number - 1 = omega arith in other e))
+    (λ k y there other. ruled_out (num y == number) (λ so.
+    let same : num y ≡ number = eqb-true (num y) number so in
+    let there2 : num y ≡ k + 1 = numbered k y there in
+    let e : k ≡ number - 1 = omega arith in other e))
 
 -- none has a number past them
 pub number_missing : {A : Type 0} (num : A → ℕ) (xs : List A) (number : ℕ) → ((k : ℕ) (y : A) → slice_get xs k ≡ Some y → num y ≡ k + 1)
@@ -59,7 +52,7 @@ unfolding request_numbered
 request_found used notices rows quotes lines exposure first number row table least last is =
     let within : number - 1 < length rows = omega arith in
     number_found (λ (r : StandingRequest). r.number) (requests_in rows) number row.request table.sound.requests_numbered least
-      (slice_get-map (λ (r : RequestRow). r.request) rows (number - 1) ∙ ap (option_map (λ (r : RequestRow). r.request)) (read_at rows (number - 1) row within is))
+    (slice_get-map (λ (r : RequestRow). r.request) rows (number - 1) ∙ ap (option_map (λ (r : RequestRow). r.request)) (read_at rows (number - 1) row within is))
 
 pub request_missing : (used notices : ℕ) (rows : List RequestRow) (quotes : List StandingQuote) (lines : List QuoteLine) (exposure first number : ℕ)
     → IsTable rows quotes lines exposure first → (number < 1) ⊎ (length rows < number)
@@ -67,7 +60,7 @@ pub request_missing : (used notices : ℕ) (rows : List RequestRow) (quotes : Li
 unfolding request_numbered
 request_missing used notices rows quotes lines exposure first number table past =
     number_missing (λ (r : StandingRequest). r.number) (requests_in rows) number table.sound.requests_numbered
-      (elim past [ inl few ↦ inl few | inr many ↦ inr (subst (λ (n : ℕ). n < number) (sym (length-map rows (λ (r : RequestRow). r.request))) many) ])
+    (elim past [ inl few ↦ inl few | inr many ↦ inr (subst (λ (n : ℕ). n < number) (sym (length-map rows (λ (r : RequestRow). r.request))) many) ])
 
 -- the number of the request of the row that was read
 row_number : (rows : List RequestRow) (quotes : List StandingQuote) (lines : List QuoteLine) (exposure first number : ℕ) (row : RequestRow)
@@ -75,7 +68,7 @@ row_number : (rows : List RequestRow) (quotes : List StandingQuote) (lines : Lis
 row_number rows quotes lines exposure first number row table least last is =
     let within : number - 1 < length rows = omega arith in
     let here : row.request.number ≡ (number - 1) + 1 = table.sound.requests_numbered (number - 1) row.request
-      (slice_get-map (λ (r : RequestRow). r.request) rows (number - 1) ∙ ap (option_map (λ (r : RequestRow). r.request)) (read_at rows (number - 1) row within is)) in
+    (slice_get-map (λ (r : RequestRow). r.request) rows (number - 1) ∙ ap (option_map (λ (r : RequestRow). r.request)) (read_at rows (number - 1) row within is)) in
     omega arith
 
 -- what its row says of its quotes
@@ -134,12 +127,12 @@ pub named_missing : (used notices : ℕ) (rows : List RequestRow) (quotes : List
 unfolding request_named
 named_missing used notices rows quotes name sound few never =
     find_none (λ (r : StandingRequest). same_text (request_name r.number) name) (requests_in rows) (λ k y at.
-      ruled_out (same_text (request_name y.number) name) (λ so.
-        let within : k < length (requests_in rows) = within_from (requests_in rows) k y at in
-        let number : y.number ≡ k + 1 = sound.requests_numbered k y at in
-        let many : length (requests_in rows) ≡ length rows = length-map rows (λ (r : RequestRow). r.request) in
-        let fits : y.number < 2 ^ 64 = omega arith in
-        never y.number fits ((bytes_eq-Decides (request_name y.number) name).0 so)))
+    ruled_out (same_text (request_name y.number) name) (λ so.
+    let within : k < length (requests_in rows) = within_from (requests_in rows) k y at in
+    let number : y.number ≡ k + 1 = sound.requests_numbered k y at in
+    let many : length (requests_in rows) ≡ length rows = length-map rows (λ (r : RequestRow). r.request) in
+    let fits : y.number < 2 ^ 64 = omega arith in
+    never y.number fits ((bytes_eq-Decides (request_name y.number) name).0 so)))
 
 pub named_found : (used notices : ℕ) (rows : List RequestRow) (quotes : List StandingQuote) (name : List ℕ) (number : ℕ) (request : StandingRequest) → IsSound (requests_in rows) quotes → length rows < 2 ^ 64
     → same_text (request_name number) name ≡ true → ((other : ℕ) → other < 2 ^ 64 → request_name other ≡ name → Some number ≡ Some other)
@@ -151,14 +144,14 @@ named_found used notices rows quotes name number request sound few known only at
     let same : request.number ≡ number = eqb-true request.number number stands.2 in
     let here : request.number ≡ stands.0 + 1 = sound.requests_numbered stands.0 request stands.1 in
     find_unique (λ (r : StandingRequest). same_text (request_name r.number) name) (requests_in rows) stands.0 request stands.1
-      (ap (λ (n : ℕ). same_text (request_name n) name) same ∙ known)
-      (λ k y there other. ruled_out (same_text (request_name y.number) name) (λ so.
-        let within : k < length (requests_in rows) = within_from (requests_in rows) k y there in
-        let number2 : y.number ≡ k + 1 = sound.requests_numbered k y there in
-        let many : length (requests_in rows) ≡ length rows = length-map rows (λ (r : RequestRow). r.request) in
-        let fits : y.number < 2 ^ 64 = omega arith in
-        let equal : number ≡ y.number = same_Some number y.number (only y.number fits ((bytes_eq-Decides (request_name y.number) name).0 so)) in
-        let e : k ≡ stands.0 = omega arith in other e))
+    (ap (λ (n : ℕ). same_text (request_name n) name) same ∙ known)
+    (λ k y there other. ruled_out (same_text (request_name y.number) name) (λ so.
+    let within : k < length (requests_in rows) = within_from (requests_in rows) k y there in
+    let number2 : y.number ≡ k + 1 = sound.requests_numbered k y there in
+    let many : length (requests_in rows) ≡ length rows = length-map rows (λ (r : RequestRow). r.request) in
+    let fits : y.number < 2 ^ 64 = omega arith in
+    let equal : number ≡ y.number = same_Some number y.number (only y.number fits ((bytes_eq-Decides (request_name y.number) name).0 so)) in
+    let e : k ≡ stands.0 = omega arith in other e))
 
 -- a named number that no request has
 pub named_past : (used notices : ℕ) (rows : List RequestRow) (quotes : List StandingQuote) (name : List ℕ) (number : ℕ) → IsSound (requests_in rows) quotes → length rows < 2 ^ 64
@@ -168,15 +161,15 @@ pub named_past : (used notices : ℕ) (rows : List RequestRow) (quotes : List St
 unfolding request_named request_numbered
 named_past used notices rows quotes name number sound few only none =
     find_none (λ (r : StandingRequest). same_text (request_name r.number) name) (requests_in rows) (λ k y at.
-      ruled_out (same_text (request_name y.number) name) (λ so.
-        let within : k < length (requests_in rows) = within_from (requests_in rows) k y at in
-        let number2 : y.number ≡ k + 1 = sound.requests_numbered k y at in
-        let many : length (requests_in rows) ≡ length rows = length-map rows (λ (r : RequestRow). r.request) in
-        let fits : y.number < 2 ^ 64 = omega arith in
-        let equal : number ≡ y.number = same_Some number y.number (only y.number fits ((bytes_eq-Decides (request_name y.number) name).0 so)) in
-        let passes : (y.number == number) ≡ true = eq-eqb y.number number (sym equal) in
-        let fails : (y.number == number) ≡ false = fails_where_none (λ (r : StandingRequest). r.number == number) (requests_in rows) none k y at in
-        absurd_bool passes fails))
+    ruled_out (same_text (request_name y.number) name) (λ so.
+    let within : k < length (requests_in rows) = within_from (requests_in rows) k y at in
+    let number2 : y.number ≡ k + 1 = sound.requests_numbered k y at in
+    let many : length (requests_in rows) ≡ length rows = length-map rows (λ (r : RequestRow). r.request) in
+    let fits : y.number < 2 ^ 64 = omega arith in
+    let equal : number ≡ y.number = same_Some number y.number (only y.number fits ((bytes_eq-Decides (request_name y.number) name).0 so)) in
+    let passes : (y.number == number) ≡ true = eq-eqb y.number number (sym equal) in
+    let fails : (y.number == number) ≡ false = fails_where_none (λ (r : StandingRequest). r.number == number) (requests_in rows) none k y at in
+    absurd_bool passes fails))
 
 and_so_false : (b c : Bool) → c ≡ false → (b && c) ≡ false
 and_so_false true c e = e
@@ -208,7 +201,7 @@ pub id_found : (used notices : ℕ) (requests : List StandingRequest) (quotes : 
 unfolding quote_with_id
 id_found used notices requests quotes by_id key id number sound ids same some =
     found_by_number used notices requests quotes (λ (q : StandingQuote). same_text q.quote.id id) sound (find (λ (q : StandingQuote). same_text q.quote.id id) quotes) refl number
-      (sym (some ∙ ap (get (slice_cmp nat_cmp) by_id) same ∙ ids.ids_are id))
+    (sym (some ∙ ap (get (slice_cmp nat_cmp) by_id) same ∙ ids.ids_are id))
 
 -- Live quotes by their requests.
 
@@ -224,14 +217,14 @@ pub live_missing_request : (used notices : ℕ) (requests : List StandingRequest
 unfolding request_numbered live_quote_on
 live_missing_request used notices requests quotes number sound none = find_none (is_live_on number) quotes (λ k y at.
     and_so_false (is_live y) (y.quote.request == number) (ruled_out (y.quote.request == number) (λ so.
-      let same : y.quote.request ≡ number = eqb-true y.quote.request number so in
-      let least = sound.from_first k y at in
-      let last = sound.to_last k y at in
-      let within : number - 1 < length requests = omega arith in
-      let request = stands_within requests (number - 1) within in
-      let here : request.0.number ≡ (number - 1) + 1 = sound.requests_numbered (number - 1) request.0 request.1 in
-      let equal : request.0.number ≡ number = omega arith in
-      absurd_bool (eq-eqb request.0.number number equal) (fails_where_none (λ (r : StandingRequest). r.number == number) requests none (number - 1) request.0 request.1))))
+    let same : y.quote.request ≡ number = eqb-true y.quote.request number so in
+    let least = sound.from_first k y at in
+    let last = sound.to_last k y at in
+    let within : number - 1 < length requests = omega arith in
+    let request = stands_within requests (number - 1) within in
+    let here : request.0.number ≡ (number - 1) + 1 = sound.requests_numbered (number - 1) request.0 request.1 in
+    let equal : request.0.number ≡ number = omega arith in
+    absurd_bool (eq-eqb request.0.number number equal) (fails_where_none (λ (r : StandingRequest). r.number == number) requests none (number - 1) request.0 request.1))))
 
 pub live_missing : (book : DealerBook) (number : ℕ) → live_number_on book number ≡ None → live_quote_on book number ≡ None
 unfolding live_quote_on
@@ -277,9 +270,9 @@ unfolding quote_to_drop
 drop_missing used notices requests quotes first last is none =
     let past = past_end quotes first none in
     find_none (λ (q : StandingQuote). is_droppable q && nat_le q.quote.number last) quotes (λ k y at.
-      let within = within_from quotes k y at in
-      let below : k < position_or_len is_droppable quotes = subst (λ (n : ℕ). k < n) is (omega arith) in
-      so_false_and (is_droppable y) (nat_le y.quote.number last) (before_place is_droppable quotes k y below at))
+    let within = within_from quotes k y at in
+    let below : k < position_or_len is_droppable quotes = subst (λ (n : ℕ). k < n) is (omega arith) in
+    so_false_and (is_droppable y) (nat_le y.quote.number last) (before_place is_droppable quotes k y below at))
 
 pub drop_beyond : (used notices : ℕ) (requests : List StandingRequest) (quotes : List StandingQuote) (first last : ℕ) (own : StandingQuote) → IsSound requests quotes → first ≡ position_or_len is_droppable quotes
     → slice_get quotes first ≡ Some own → last < own.quote.number → quote_to_drop (book_with used notices requests quotes) last ≡ None
@@ -287,10 +280,11 @@ unfolding quote_to_drop
 drop_beyond used notices requests quotes first last own sound is stands beyond =
     let here : own.quote.number ≡ first + 1 = sound.quotes_numbered first own stands in
     find_none (λ (q : StandingQuote). is_droppable q && nat_le q.quote.number last) quotes (λ k y at.
-      let number : y.quote.number ≡ k + 1 = sound.quotes_numbered k y at in
-      elim (apart k first) [
-          inl less ↦ so_false_and (is_droppable y) (nat_le y.quote.number last) (before_place is_droppable quotes k y (subst (λ (n : ℕ). k < n) is less) at)
-        | inr more ↦ (let far : last < y.quote.number = omega arith in and_so_false (is_droppable y) (nat_le y.quote.number last) (le_false y.quote.number last far)) ])
+    let number : y.quote.number ≡ k + 1 = sound.quotes_numbered k y at in
+    elim (apart k first) [
+      | inl less ↦ so_false_and (is_droppable y) (nat_le y.quote.number last) (before_place is_droppable quotes k y (subst (λ (n : ℕ). k < n) is less) at)
+      | inr more ↦ (let far : last < y.quote.number = omega arith in and_so_false (is_droppable y) (nat_le y.quote.number last) (le_false y.quote.number last far))
+    ])
 
 pub drop_found : (used notices : ℕ) (requests : List StandingRequest) (quotes : List StandingQuote) (first last : ℕ) (own : StandingQuote) → first ≡ position_or_len is_droppable quotes
     → slice_get quotes first ≡ Some own → own.quote.number ≤ last → quote_to_drop (book_with used notices requests quotes) last ≡ Some own
@@ -298,9 +292,9 @@ unfolding quote_to_drop
 drop_found used notices requests quotes first last own is stands within =
     let inside : position_or_len is_droppable quotes < length quotes = subst (λ (n : ℕ). n < length quotes) is (within_from quotes first own stands) in
     let passes : is_droppable own ≡ true =
-      ap is_droppable (sym (get_or_from_slice_get quotes first own own stands)) ∙ ap (λ (n : ℕ). is_droppable (get_or quotes n own)) is ∙ passes_at_first is_droppable quotes own inside in
+    ap is_droppable (sym (get_or_from_slice_get quotes first own own stands)) ∙ ap (λ (n : ℕ). is_droppable (get_or quotes n own)) is ∙ passes_at_first is_droppable quotes own inside in
     find_at_place (λ (q : StandingQuote). is_droppable q && nat_le q.quote.number last) quotes first own stands (both_so (is_droppable own) (nat_le own.quote.number last) passes (le_true own.quote.number last within))
-      (λ k y below at. so_false_and (is_droppable y) (nat_le y.quote.number last) (before_place is_droppable quotes k y (subst (λ (n : ℕ). k < n) is below) at))
+    (λ k y below at. so_false_and (is_droppable y) (nat_le y.quote.number last) (before_place is_droppable quotes k y (subst (λ (n : ℕ). k < n) is below) at))
 
 -- The exposure beside a quote.
 
@@ -331,11 +325,11 @@ unfolding exposure_beside
 beside_ended used notices rows quotes lines exposure first number own table at ended =
     let place = numbered_place used notices (requests_in rows) quotes number own table.sound at in
     table.exposure_is ∙ sym (beside_dead quotes number (λ k other there same.
-      let number2 : other.quote.number ≡ k + 1 = table.sound.quotes_numbered k other there in
-      let number_is : number ≡ place.0 + 1 = place.2 in
-      let equal : k ≡ place.0 = omega arith in
-      let one : own ≡ other = same_Some own other (sym place.1 ∙ ap (slice_get quotes) (sym equal) ∙ there) in
-      ap is_live (sym one) ∙ ap not ended))
+    let number2 : other.quote.number ≡ k + 1 = table.sound.quotes_numbered k other there in
+    let number_is : number ≡ place.0 + 1 = place.2 in
+    let equal : k ≡ place.0 = omega arith in
+    let one : own ≡ other = same_Some own other (sym place.1 ∙ ap (slice_get quotes) (sym equal) ∙ there) in
+    ap is_live (sym one) ∙ ap not ended))
 
 pub beside_standing : (used notices : ℕ) (rows : List RequestRow) (quotes : List StandingQuote) (lines : List QuoteLine) (exposure first number : ℕ) (own : StandingQuote) → IsTable rows quotes lines exposure first
     → quote_numbered (book_with used notices (requests_in rows) quotes) number ≡ Some own → is_some own.end ≡ false

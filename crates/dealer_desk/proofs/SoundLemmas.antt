@@ -1,8 +1,8 @@
 -- What keeps a book sound: requests and quotes numbered from 1, each quote on a request of the book, at most one live quote
 -- on a request.
-use Rattle.std.proofs.Common.{◌≡◌, ◌<◌, ◌≤◌, ◌⊎◌, ℕ, zero, suc, ◌+◌, Bool, true, false, ◌&&◌, ◌==◌, cond, not, List, [], ◌∷◌, ◌++◌, length, map, filter, find, Option, Some, None, is_none, is_some, option_map, slice_get, inl, inr, refl, sym, ap, subst, ◌∙◌, arith}
+use Rattle.std.proofs.Common.{◌≡◌, ◌≤◌, ℕ, ◌+◌, Bool, true, false, ◌&&◌, ◌==◌, List, [], ◌∷◌, ◌++◌, length, map, filter, find, Option, Some, None, option_map, inl, inr, refl, sym, ap, subst, ◌∙◌, arith}
 use Rattle.std.proofs.lemmas.Bool.{eqb-true}
-use Rattle.std.proofs.lemmas.Option.{none-some, same_Some}
+use Rattle.std.proofs.lemmas.Option.{none-some}
 use Rattle.std.proofs.lemmas.List.Elements.{filter-append}
 use Rattle.std.proofs.lemmas.List.{length-append, length-map}
 use Rattle.market_terms.specs.declared.asks.Ask.{Ask}
@@ -42,13 +42,13 @@ pub sound_mapped : (requests : List StandingRequest) (quotes : List StandingQuot
 sound_mapped requests quotes f same only sound = record {
   requests_numbered = sound.requests_numbered;
   quotes_numbered = λ k own at. let was = mapped_at f quotes k own at in
-    ap (λ (q : StandingQuote). q.quote.number) (sym was.2) ∙ ap (λ (q : AcceptedQuote). q.number) (same was.0) ∙ sound.quotes_numbered k was.0 was.1;
+      ap (λ (q : StandingQuote). q.quote.number) (sym was.2) ∙ ap (λ (q : AcceptedQuote). q.number) (same was.0) ∙ sound.quotes_numbered k was.0 was.1;
   from_first = λ k own at. let was = mapped_at f quotes k own at in
-    subst (λ (n : ℕ). 1 ≤ n) (ap (λ (q : AcceptedQuote). q.request) (sym (same was.0)) ∙ ap (λ (q : StandingQuote). q.quote.request) was.2) (sound.from_first k was.0 was.1);
+      subst (λ (n : ℕ). 1 ≤ n) (ap (λ (q : AcceptedQuote). q.request) (sym (same was.0)) ∙ ap (λ (q : StandingQuote). q.quote.request) was.2) (sound.from_first k was.0 was.1);
   to_last = λ k own at. let was = mapped_at f quotes k own at in
-    subst (λ (n : ℕ). n ≤ length requests) (ap (λ (q : AcceptedQuote). q.request) (sym (same was.0)) ∙ ap (λ (q : StandingQuote). q.quote.request) was.2) (sound.to_last k was.0 was.1);
+      subst (λ (n : ℕ). n ≤ length requests) (ap (λ (q : AcceptedQuote). q.request) (sym (same was.0)) ∙ ap (λ (q : StandingQuote). q.quote.request) was.2) (sound.to_last k was.0 was.1);
   lone = λ request. let fewer = fewer_pass (is_live_on request) f (λ own. live_still own (f own) request (same own) (only own)) quotes in
-    let few = sound.lone request in omega arith;
+      let few = sound.lone request in omega arith;
 }
 
 -- a change of requests that keeps their numbers
@@ -57,7 +57,7 @@ pub sound_requests : (requests : List StandingRequest) (quotes : List StandingQu
     → IsSound requests quotes → IsSound (map f requests) quotes
 sound_requests requests quotes f same sound = record {
   requests_numbered = λ k request at. let was = mapped_at f requests k request at in
-    ap (λ (r : StandingRequest). r.number) (sym was.2) ∙ same was.0 ∙ sound.requests_numbered k was.0 was.1;
+      ap (λ (r : StandingRequest). r.number) (sym was.2) ∙ same was.0 ∙ sound.requests_numbered k was.0 was.1;
   quotes_numbered = sound.quotes_numbered;
   from_first = sound.from_first;
   to_last = λ k own at. let most = sound.to_last k own at in omega (arith, length-map requests f);
@@ -69,8 +69,9 @@ pub sound_shown : (requests : List StandingRequest) (quotes : List StandingQuote
     → IsSound requests quotes → IsSound (requests ++ standing_request (length requests + 1) ask [] ∷ []) quotes
 sound_shown requests quotes ask sound = record {
   requests_numbered = λ k request at. elim (pushed_at requests (standing_request (length requests + 1) ask []) k request at) [
-      inl was ↦ sound.requests_numbered k request was
-    | inr new ↦ ap (λ (r : StandingRequest). r.number) (sym new.1) ∙ ap (λ (n : ℕ). n + 1) (sym new.0) ];
+    | inl was ↦ sound.requests_numbered k request was
+    | inr new ↦ ap (λ (r : StandingRequest). r.number) (sym new.1) ∙ ap (λ (n : ℕ). n + 1) (sym new.0)
+  ];
   quotes_numbered = sound.quotes_numbered;
   from_first = sound.from_first;
   to_last = λ k own at. let most = sound.to_last k own at in omega (arith, length-append requests (standing_request (length requests + 1) ask [] ∷ []));
@@ -93,7 +94,7 @@ lone_pushed quotes quote request true is few none =
     rw (filter-append (is_live_on request) quotes (standing_quote quote [] ∷ []), is, none refl) (omega arith)
 lone_pushed quotes quote request false is few none =
     rw (filter-append (is_live_on request) quotes (standing_quote quote [] ∷ []), is)
-      (omega (arith, length-append (filter (is_live_on request) quotes) []))
+    (omega (arith, length-append (filter (is_live_on request) quotes) []))
 
 pub sound_quoted : (requests : List StandingRequest) (quotes : List StandingQuote) (quote : AcceptedQuote)
     → quote.number ≡ length quotes + 1 → 1 ≤ quote.request → quote.request ≤ length requests → live_number_among quotes quote.request ≡ None
@@ -101,15 +102,18 @@ pub sound_quoted : (requests : List StandingRequest) (quotes : List StandingQuot
 sound_quoted requests quotes quote number first last alone sound = record {
   requests_numbered = sound.requests_numbered;
   quotes_numbered = λ k own at. elim (pushed_at quotes (standing_quote quote []) k own at) [
-      inl was ↦ sound.quotes_numbered k own was
-    | inr new ↦ ap (λ (q : StandingQuote). q.quote.number) (sym new.1) ∙ number ∙ ap (λ (n : ℕ). n + 1) (sym new.0) ];
+    | inl was ↦ sound.quotes_numbered k own was
+    | inr new ↦ ap (λ (q : StandingQuote). q.quote.number) (sym new.1) ∙ number ∙ ap (λ (n : ℕ). n + 1) (sym new.0)
+  ];
   from_first = λ k own at. elim (pushed_at quotes (standing_quote quote []) k own at) [
-      inl was ↦ sound.from_first k own was
-    | inr new ↦ subst (λ (q : StandingQuote). 1 ≤ q.quote.request) new.1 first ];
+    | inl was ↦ sound.from_first k own was
+    | inr new ↦ subst (λ (q : StandingQuote). 1 ≤ q.quote.request) new.1 first
+  ];
   to_last = λ k own at. elim (pushed_at quotes (standing_quote quote []) k own at) [
-      inl was ↦ sound.to_last k own was
-    | inr new ↦ subst (λ (q : StandingQuote). q.quote.request ≤ length requests) new.1 last ];
+    | inl was ↦ sound.to_last k own was
+    | inr new ↦ subst (λ (q : StandingQuote). q.quote.request ≤ length requests) new.1 last
+  ];
   lone = λ request. lone_pushed quotes quote request (quote.request == request) refl (sound.lone request)
-    (λ so. let here : quote.request ≡ request = eqb-true quote.request request so in
+      (λ so. let here : quote.request ≡ request = eqb-true quote.request request so in
       filter_none (is_live_on request) quotes (none_live quotes request (subst (λ (r : ℕ). live_number_among quotes r ≡ None) here alone)));
 }

@@ -1,20 +1,16 @@
 -- What every fact and every event at a desk keeps: a sound book, the exposure and the number of quotes within the limits of
 -- the dealer's row.
-use Rattle.std.proofs.Common.{◌≡◌, ◌<◌, ◌≤◌, ℕ, zero, suc, ◌+◌, Bool, true, false, ◌&&◌, ◌||◌, ◌==◌, cond, not, List, [], ◌∷◌, ◌++◌, length, map, filter, find, fold, Option, Some, None, is_none, is_some, option_map, slice_get, refl, sym, ap, subst, ◌∙◌, arith}
-use Rattle.std.specs.List.{sum_by, filter_map}
+use Rattle.std.proofs.Common.{◌≡◌, ◌<◌, ◌≤◌, ℕ, ◌+◌, Bool, true, false, ◌==◌, cond, List, [], ◌∷◌, ◌++◌, length, map, find, Option, Some, None, is_none, refl, sym, ap, subst, ◌∙◌, arith}
+use Rattle.std.specs.List.{sum_by}
 use Rattle.std.specs.Option.{option_or}
-use Rattle.std.proofs.lemmas.Bool.{eqb-true, eq-eqb}
-use Rattle.std.proofs.lemmas.Option.{none-some, same_Some}
-use Rattle.std.proofs.lemmas.List.{length-append, length-map, append-nil}
-use Rattle.std.proofs.lemmas.List.Sums.{sum_by-append, sum_by-cons, fold-append}
+use Rattle.std.proofs.lemmas.List.{length-append, length-map}
+use Rattle.std.proofs.lemmas.List.Sums.{sum_by-append, sum_by-cons}
 use Rattle.venue_config.specs.Texts.{same_text}
 use Rattle.venue_config.specs.declared.dealer_rows.DealerRow.{DealerRow}
 use Rattle.market_terms.specs.declared.asks.Ask.{Ask}
 use Rattle.market_terms.specs.declared.closes.Close.{Close}
-use Rattle.quote_word.specs.declared.settled.Settled.{Settled}
-use Rattle.quote_word.specs.declared.settled.Settled.TheVariants as settled
-use Rattle.dealer_desk.specs.DealerFacts.{DealerFact, Came, Shown, Quoted, Withdrawn, Late, Dropped, Declined, Told, DealerBook, book_of, is_live, is_live_on, live_quantity, quantity_beside, standing_request, standing_quote, used_number, is_notice, quote_with_id, live_quote_on, exposure_beside}
-use Rattle.dealer_desk.specs.BookChanges.{IsSound, IsLiveNumber, FitsBook, book_after, request_after, request_added, quote_added, quote_after, ended_at, late_at, closed_on, declined_at, told_at, counted}
+use Rattle.dealer_desk.specs.DealerFacts.{Came, Shown, Quoted, Withdrawn, Late, Dropped, Declined, Told, DealerBook, is_live, live_quantity, quantity_beside, standing_quote, quote_with_id, live_quote_on, exposure_beside}
+use Rattle.dealer_desk.specs.BookChanges.{IsSound, FitsBook, book_after, ended_at, late_at, closed_on, declined_at, told_at}
 use Rattle.dealer_desk.specs.DealerTable.{live_number_among}
 use Rattle.dealer_desk.specs.declared.accepted.AcceptedQuote.{AcceptedQuote}
 use Rattle.dealer_desk.specs.declared.standing.StandingRequest.{StandingRequest}
@@ -23,7 +19,6 @@ use Rattle.dealer_desk.specs.declared.standing.Withdrawal.{Withdrawal}
 use Rattle.dealer_desk.specs.declared.standing.QuoteEnd.{QuoteEnd}
 use Rattle.dealer_desk.specs.declared.standing.QuoteEnd.TheVariants as end
 use Rattle.dealer_desk.proofs.BookLemmas.{came_book, dropped_book, shown_book, quoted_book, withdrawn_book, late_book, declined_book, told_book}
-use Rattle.dealer_desk.proofs.ListLemmas.{mapped_at}
 use Rattle.dealer_desk.proofs.SoundLemmas.{sound_empty, sound_mapped, sound_requests, sound_shown, sound_quoted}
 use Rattle.dealer_desk.proofs.TableLemmas.{ended_keeps, ended_lives, late_keeps, late_lives}
 use Rattle.dealer_desk.proofs.TableReads.{declined_keeps, told_keeps}

@@ -1,6 +1,6 @@
 -- How quotes stand, and how their words were answered.
 use Rattle.std.proofs.Common.{◌≡◌, ◌<◌, ◌≤◌, ℕ, ◌+◌, Bool, true, false, ◌||◌, ◌==◌, cond, List, [], ◌∷◌, ◌++◌, length, map, fold, All, Option, Some, None, is_none, is_some, option_map, slice_get, get_or, inl, inr, refl, sym, ap, subst, ◌∙◌, arith}
-use Rattle.std.specs.List.{list_any, filter_map}
+use Rattle.std.specs.List.{list_any}
 use Rattle.std.specs.Option.{option_or}
 use Rattle.std.proofs.lemmas.Bool.{eqb-true}
 use Rattle.std.proofs.lemmas.Option.{none-some, same_Some, slice_get-get_or}
@@ -10,8 +10,8 @@ use Rattle.venue_config.specs.declared.dealer_rows.DealerRow.{DealerRow}
 use Rattle.market_terms.specs.declared.closes.Close.{Close}
 use Rattle.quote_word.specs.declared.settled.Settled.{Settled}
 use Rattle.quote_word.specs.declared.settled.Settled.TheVariants as settled
-use Rattle.dealer_desk.specs.DealerFacts.{DealerFact, Came, Shown, Quoted, Withdrawn, Late, Dropped, Declined, Told, DealerBook, book_of, number_to_drop, quote_to_drop, is_withdrawal, standing_quote}
-use Rattle.dealer_desk.specs.BookChanges.{IsSound, IsLiveNumber, book_after, ended_at, late_at, closed_on, declined_at, told_at}
+use Rattle.dealer_desk.specs.DealerFacts.{DealerFact, Quoted, Withdrawn, Told, DealerBook, book_of, number_to_drop, quote_to_drop, is_withdrawal, standing_quote}
+use Rattle.dealer_desk.specs.BookChanges.{IsSound, IsLiveNumber, book_after, ended_at, late_at, closed_on}
 use Rattle.dealer_desk.specs.DealerRules.{dealer_verdict}
 use Rattle.dealer_desk.specs.DealerOutput.{DeskState, DeskEvents, no_facts, after_event, desk_after, facts_at, book_at, event_facts, verdict_facts, settled_facts, answer_facts, uses_number, closable, answered_word, answered_words}
 use Rattle.dealer_desk.specs.DeskLaws.{says_lifted, says_withdrawn}
@@ -117,8 +117,8 @@ withdrawn_answered requests quotes number how words sound live said = record {
   stand = λ k own at.
       let was = mapped_at (ended_at number (end.Withdrawn how)) quotes k own at in
       subst (λ (q : StandingQuote). AsAnswered (words ++ (number, settled.Withdrawn) ∷ []) q) was.2
-        (ended_one (number == was.0.quote.number) number how words was.0 refl
-          (λ so. one_live requests quotes number k was.0 sound live was.1 (sym (eqb-true number was.0.quote.number so))) (said.stand k was.0 was.1));
+      (ended_one (number == was.0.quote.number) number how words was.0 refl
+      (λ so. one_live requests quotes number k was.0 sound live was.1 (sym (eqb-true number was.0.quote.number so))) (said.stand k was.0 was.1));
   not_withdrawn = λ other past.
       let many : length (map (ended_at number (end.Withdrawn how)) quotes) ≡ length quotes = length-map quotes (ended_at number (end.Withdrawn how)) in
       let beyond : length quotes < other = omega arith in
@@ -148,7 +148,7 @@ late_answered quotes number words live said = record {
   stand = λ k own at.
       let was = mapped_at (late_at number) quotes k own at in
       subst (λ (q : StandingQuote). AsAnswered (words ++ (number, settled.Lifted) ∷ []) q) was.2
-        (late_one (number == was.0.quote.number) number words was.0 refl (said.stand k was.0 was.1));
+      (late_one (number == was.0.quote.number) number words was.0 refl (said.stand k was.0 was.1));
   not_withdrawn = λ other past.
       let many : length (map (late_at number) quotes) ≡ length quotes = length-map quotes (late_at number) in
       let beyond : length quotes < other = omega arith in
@@ -191,9 +191,10 @@ quoted_answered quotes quote words number said =
     let new : length quotes < quote.number = omega arith in
     record {
       stand = λ k own at. elim (pushed_at quotes (standing_quote quote []) k own at) [
-          inl was ↦ said.stand k own was
+        | inl was ↦ said.stand k own was
         | inr here ↦ subst (λ (q : StandingQuote). AsAnswered words q) here.1
-            (record { withdrawn = sym (said.not_withdrawn quote.number new); lifted = sym (said.not_lifted quote.number new) }) ];
+            (record { withdrawn = sym (said.not_withdrawn quote.number new); lifted = sym (said.not_lifted quote.number new) })
+      ];
       not_withdrawn = λ other past. let beyond : length quotes < other = omega arith in said.not_withdrawn other beyond;
       not_lifted = λ other past. let beyond : length quotes < other = omega arith in said.not_lifted other beyond;
     }
@@ -220,9 +221,9 @@ replaced_answered : (book : DealerBook) (quote : AcceptedQuote) (replaced : ℕ)
 replaced_answered book quote replaced words number sound live said =
     let after : List StandingQuote = map (ended_at replaced (end.Withdrawn by.Replacement)) book.quotes in
     subst (λ (b : DealerBook). Answered (words ++ (replaced, settled.Withdrawn) ∷ []) (book_after b (Quoted quote)).quotes) (sym (withdrawn_book book replaced by.Replacement))
-      (quote_answered (record book { quotes = after }) quote (words ++ (replaced, settled.Withdrawn) ∷ [])
-        (number ∙ ap (λ (n : ℕ). n + 1) (sym (length-map book.quotes (ended_at replaced (end.Withdrawn by.Replacement)))))
-        (withdrawn_answered book.requests book.quotes replaced by.Replacement words sound live said))
+    (quote_answered (record book { quotes = after }) quote (words ++ (replaced, settled.Withdrawn) ∷ [])
+    (number ∙ ap (λ (n : ℕ). n + 1) (sym (length-map book.quotes (ended_at replaced (end.Withdrawn by.Replacement)))))
+    (withdrawn_answered book.requests book.quotes replaced by.Replacement words sound live said))
 
 verdict_answered : (row : DealerRow) (book : DealerBook) (given : DealerVerdict) (answer : Option Settled) (words : List (ℕ × Settled)) → StandsIn row book → Holds row book given
     → Answered words book.quotes → AfterFacts words book (verdict_facts given answer)
@@ -255,14 +256,14 @@ event_answered date row book (event.Own moment bytes answer) words stands said =
     let given = dealer_verdict date row book moment bytes in
     let used = uses_number given in
     subst (λ (b : DealerBook). AfterFacts words b (verdict_facts given answer)) (sym (came_book book moment bytes used))
-      (verdict_answered row (record book { used = cond used (book.used + 1) book.used }) given answer words stands
-        (holds_used row book (cond used (book.used + 1) book.used) given (verdict_holds date row book moment bytes stands)) said)
+    (verdict_answered row (record book { used = cond used (book.used + 1) book.used }) given answer words stands
+    (holds_used row book (cond used (book.used + 1) book.used) given (verdict_holds date row book moment bytes stands)) said)
 event_answered date row book (event.Shown room ask moment) words stands said =
     subst (λ (b : DealerBook). Answered (words ++ []) b.quotes) (sym (shown_book book ask moment)) (no_word_more words book.quotes said)
 event_answered date row book (event.Told request close moment) words stands said = told_answered book (is_some (closable book request)) request close moment words said
 event_answered date row book (event.Drop last moment answer) words stands said =
     subst (λ (b : DealerBook). AfterFacts words b (settled_facts (number_to_drop book last) by.Cancel answer)) (sym (dropped_book book last moment))
-      (drop_answered book last answer (quote_to_drop book last) words stands.sound refl said)
+    (drop_answered book last answer (quote_to_drop book last) words stands.sound refl said)
 
 -- All events.
 
@@ -273,10 +274,10 @@ answered_events date row desk (came ∷ events) stands said =
     let book = book_of desk.facts in
     let more = event_facts date row book came in
     answered_events date row (after_event date row desk came) events
-      (subst (λ (b : DealerBook). StandsIn row b) (sym (books_push desk.facts more)) (event_stands date row book came stands))
-      (subst (λ (b : DealerBook). Answered (answered_words (desk.facts ++ more)) b.quotes) (sym (books_push desk.facts more))
-        (subst (λ (ws : List (ℕ × Settled)). Answered ws (fold book_after book more).quotes) (sym (filter_map-append answered_word desk.facts more))
-          (event_answered date row book came (answered_words desk.facts) stands said)))
+    (subst (λ (b : DealerBook). StandsIn row b) (sym (books_push desk.facts more)) (event_stands date row book came stands))
+    (subst (λ (b : DealerBook). Answered (answered_words (desk.facts ++ more)) b.quotes) (sym (books_push desk.facts more))
+    (subst (λ (ws : List (ℕ × Settled)). Answered ws (fold book_after book more).quotes) (sym (filter_map-append answered_word desk.facts more))
+    (event_answered date row book came (answered_words desk.facts) stands said)))
 
 none_stands : (k : ℕ) (own : StandingQuote) → slice_get [] k ≡ Some own → ⊥
 none_stands k own at = absurd (none-some own at)

@@ -1,19 +1,18 @@
 -- What a table keeps when a request is closed, and when a request or a quote more comes.
-use Rattle.std.proofs.Common.{◌≡◌, ◌<◌, ◌≤◌, ◌⊎◌, ℕ, zero, suc, ◌+◌, ◌-◌, Bool, true, false, ◌&&◌, ◌||◌, ◌==◌, cond, not, List, [], ◌∷◌, ◌++◌, length, map, set, filter, find, Option, Some, None, is_none, option_map, slice_get, slice_set, slice_index_or, get_or, inl, inr, refl, sym, ap, subst, ◌∙◌, arith, length-set, get_or-set_same}
+use Rattle.std.proofs.Common.{◌≡◌, ◌<◌, ◌≤◌, ℕ, zero, suc, ◌+◌, ◌-◌, Bool, true, false, ◌&&◌, ◌||◌, ◌==◌, cond, not, List, [], ◌∷◌, ◌++◌, length, map, set, find, Option, Some, None, is_none, option_map, slice_get, get_or, inl, inr, refl, sym, ap, subst, ◌∙◌, arith}
 use Rattle.std.specs.List.{list_any, sum_by, position_or_len}
 use Rattle.std.specs.Option.{option_or}
 use Rattle.std.proofs.Math.Dec.{eqb}
 use Rattle.std.proofs.lemmas.Bool.{eqb-true, eq-eqb}
 use Rattle.std.proofs.lemmas.Bool.Decides.{eqb_tells}
-use Rattle.std.proofs.lemmas.Option.{none-some, same_Some, get_or_from_slice_get, slice_get-get_or, slice_get-map}
-use Rattle.std.proofs.lemmas.List.{map-set, map-append, length-map, length-append, get_or-map}
-use Rattle.std.proofs.lemmas.List.Sums.{sum_by-cons, sum_by-set, sum_by_push, prefix_len-le-length}
-use Rattle.std.proofs.lemmas.List.Folds.{list_any_at, list_any-append, find-append, position_or_len_push}
+use Rattle.std.proofs.lemmas.Option.{none-some, same_Some}
+use Rattle.std.proofs.lemmas.List.{map-append, length-map, length-append}
+use Rattle.std.proofs.lemmas.List.Sums.{sum_by-cons, sum_by_push}
+use Rattle.std.proofs.lemmas.List.Folds.{list_any-append, find-append, position_or_len_push}
 use Rattle.market_terms.specs.declared.lines.QuoteLine.{QuoteLine}
-use Rattle.market_terms.specs.declared.lines.QuoteState.{QuoteState}
 use Rattle.dealer_desk.specs.DealerFacts.{standing_request, standing_quote, is_live, is_live_on, is_lifted_on, is_droppable, live_quantity, quantity_beside}
-use Rattle.dealer_desk.specs.QuoteLines.{state_of, line_of}
-use Rattle.dealer_desk.specs.BookChanges.{IsSound, IsLiveNumber, ended_at, late_at, closed_on, declined_at, told_at}
+use Rattle.dealer_desk.specs.QuoteLines.{line_of}
+use Rattle.dealer_desk.specs.BookChanges.{IsSound, IsLiveNumber, ended_at, closed_on}
 use Rattle.dealer_desk.specs.DealerTable.{IsTable, IsRow, live_number_among}
 use Rattle.dealer_desk.specs.declared.accepted.AcceptedQuote.{AcceptedQuote}
 use Rattle.dealer_desk.specs.declared.standing.StandingRequest.{StandingRequest}
@@ -24,8 +23,8 @@ use Rattle.market_terms.specs.declared.asks.Ask.{Ask}
 use Rattle.market_terms.specs.declared.closes.Close.{Close}
 use Rattle.market_terms.specs.declared.closes.Close.TheVariants as closes
 use Rattle.dealer_desk.specs.declared.table.RequestRow.{RequestRow}
-use Rattle.dealer_desk.proofs.ListLemmas.{set_at, set_map, pushed_at, any_none, set_same, all_fixed, find_stands, fails_where_none, mapped_at, find_none, find_mapped, any_mapped, lone_others, within_from, stands_within, ruled_out, before_place}
-use Rattle.dealer_desk.proofs.SoundLemmas.{sound_mapped, sound_requests, sound_shown, sound_quoted, none_live}
+use Rattle.dealer_desk.proofs.ListLemmas.{set_at, set_map, pushed_at, any_none, all_fixed, find_stands, fails_where_none, mapped_at, find_none, lone_others, ruled_out}
+use Rattle.dealer_desk.proofs.SoundLemmas.{sound_shown, sound_quoted, none_live}
 use Rattle.dealer_desk.proofs.TableLemmas.{and_false, chosen, chosen_first, ended_own, left_false, nothing, or_some, other_number, quantity_live, requests_kept, sum_changed}
 use Rattle.dealer_desk.proofs.TableReads.{read_at}
 
@@ -95,11 +94,11 @@ closed_found requests quotes request number close sound (Some own) at is =
     let number_is : number ≡ own.quote.number = sym (same_Some own.quote.number number is) in
     let place_is : number ≡ stands.0 + 1 = number_is ∙ sound.quotes_numbered stands.0 own stands.1 in
     sym (ap (set quotes stands.0) (sym (ended_own number (end.Closed close) own number_is live))
-      ∙ set_map (ended_at number (end.Closed close)) quotes stands.0 own stands.1
-        (λ k y there other. chosen (number == y.quote.number) (record y { end = option_or y.end (Some (end.Closed close)) }) y (other_number requests quotes number stands.0 k y sound place_is there other)))
+    ∙ set_map (ended_at number (end.Closed close)) quotes stands.0 own stands.1
+    (λ k y there other. chosen (number == y.quote.number) (record y { end = option_or y.end (Some (end.Closed close)) }) y (other_number requests quotes number stands.0 k y sound place_is there other)))
     ∙ (ap (set quotes stands.0) (sym (closed_own request close own on_it live))
-      ∙ set_map (closed_on request close) quotes stands.0 own stands.1
-        (λ k y there other. closed_others request close y (lone_others (is_live_on request) quotes stands.0 own (sound.lone request) stands.1 stands.2 k y there other)))
+    ∙ set_map (closed_on request close) quotes stands.0 own stands.1
+    (λ k y there other. closed_others request close y (lone_others (is_live_on request) quotes stands.0 own (sound.lone request) stands.1 stands.2 k y there other)))
 
 -- where one is
 pub live_stands : (requests : List StandingRequest) (quotes : List StandingQuote) (request number : ℕ) → IsSound requests quotes → live_number_among quotes request ≡ Some number → IsLiveNumber quotes number
@@ -134,22 +133,23 @@ pub push_request_table : (rows : List RequestRow) (quotes : List StandingQuote) 
 push_request_table rows quotes lines exposure first ask table =
     let many : length (map (λ (r : RequestRow). r.request) rows) ≡ length rows = length-map rows (λ (r : RequestRow). r.request) in
     let after : (k : ℕ) (y : StandingQuote) → slice_get quotes k ≡ Some y → (y.quote.request == (length rows + 1)) ≡ false = λ k y at.
-      ruled_out (y.quote.request == (length rows + 1)) (λ so.
-        let same : y.quote.request ≡ length rows + 1 = eqb-true y.quote.request (length rows + 1) so in
-        let last = table.sound.to_last k y at in
-        let never : ⊥ = omega arith in never) in
+    ruled_out (y.quote.request == (length rows + 1)) (λ so.
+    let same : y.quote.request ≡ length rows + 1 = eqb-true y.quote.request (length rows + 1) so in
+    let last = table.sound.to_last k y at in
+    let never : ⊥ = omega arith in never) in
     record {
       sound = subst (λ (rs : List StandingRequest). IsSound rs quotes)
-        (ap (λ (n : ℕ). map (λ (r : RequestRow). r.request) rows ++ standing_request (n + 1) ask [] ∷ []) many
+          (ap (λ (n : ℕ). map (λ (r : RequestRow). r.request) rows ++ standing_request (n + 1) ask [] ∷ []) many
           ∙ sym (map-append (λ (r : RequestRow). r.request) rows (record { request = standing_request (length rows + 1) ask []; live = None; has_lifted = false } ∷ [])))
-        (sound_shown (map (λ (r : RequestRow). r.request) rows) quotes ask table.sound);
+          (sound_shown (map (λ (r : RequestRow). r.request) rows) quotes ask table.sound);
       rows_are = λ k row at. elim (pushed_at rows (record { request = standing_request (length rows + 1) ask []; live = None; has_lifted = false }) k row at) [
-          inl was ↦ table.rows_are k row was
+        | inl was ↦ table.rows_are k row was
         | inr new ↦ subst (λ (w : RequestRow). IsRow quotes (k + 1) w) new.1 (subst (λ (n : ℕ). IsRow quotes (n + 1) (record { request = standing_request (length rows + 1) ask []; live = None; has_lifted = false })) (sym new.0)
             (record {
               live_is = sym (ap (option_map (λ (q : StandingQuote). q.quote.number)) (find_none (is_live_on (length rows + 1)) quotes (λ j y there. and_false (is_live y) (y.quote.request == (length rows + 1)) (after j y there))));
               lifted_is = sym (any_none (is_lifted_on (length rows + 1)) quotes (λ j y there. and_false y.is_known_lifted (y.quote.request == (length rows + 1)) (after j y there)));
-            })) ];
+            }))
+      ];
       lines_are = table.lines_are;
       exposure_is = table.exposure_is;
       exposure_fits = table.exposure_fits;
@@ -174,7 +174,7 @@ row_pushed quotes quote row none was =
     let here : (quote.request == quote.request) ≡ true = eq-eqb quote.request quote.request refl in
     record {
       live_is = sym (ap (option_map (λ (q : StandingQuote). q.quote.number)) (find-append (is_live_on quote.request) quotes (standing_quote quote [] ∷ []) ∙ ap (λ (o : Option StandingQuote). option_or o (find (is_live_on quote.request) (standing_quote quote [] ∷ []))) none
-        ∙ ap (λ (b : Bool). cond b (Some (standing_quote quote [])) None) here));
+          ∙ ap (λ (b : Bool). cond b (Some (standing_quote quote [])) None) here));
       lifted_is = was.lifted_is ∙ sym (list_any-append (is_lifted_on quote.request) quotes (standing_quote quote [] ∷ []) ∙ or_false (list_any (is_lifted_on quote.request) quotes));
     }
 
@@ -183,7 +183,7 @@ row_beside : (quotes : List StandingQuote) (quote : AcceptedQuote) (number : ℕ
     → IsRow quotes number row → IsRow (quotes ++ standing_quote quote [] ∷ []) number row
 row_beside quotes quote number row other was = record {
   live_is = was.live_is ∙ sym (ap (option_map (λ (q : StandingQuote). q.quote.number)) (find-append (is_live_on number) quotes (standing_quote quote [] ∷ [])
-    ∙ ap (λ (b : Bool). option_or (find (is_live_on number) quotes) (cond b (Some (standing_quote quote [])) None)) other ∙ or_none (find (is_live_on number) quotes)));
+      ∙ ap (λ (b : Bool). option_or (find (is_live_on number) quotes) (cond b (Some (standing_quote quote [])) None)) other ∙ or_none (find (is_live_on number) quotes)));
   lifted_is = was.lifted_is ∙ sym (list_any-append (is_lifted_on number) quotes (standing_quote quote [] ∷ []) ∙ or_false (list_any (is_lifted_on number) quotes));
 }
 
@@ -205,12 +205,13 @@ push_quote_table rows quotes lines exposure first quote row line table number fe
     let was : IsRow quotes quote.request row = subst (λ (n : ℕ). IsRow quotes n row) place (table.rows_are (quote.request - 1) row at_row) in
     record {
       sound = subst (λ (rs : List StandingRequest). IsSound rs (quotes ++ standing_quote quote [] ∷ [])) (sym requests)
-        (sound_quoted (map (λ (r : RequestRow). r.request) rows) quotes quote number least most alone table.sound);
+          (sound_quoted (map (λ (r : RequestRow). r.request) rows) quotes quote number least most alone table.sound);
       rows_are = λ k r at. elim (set_at rows (quote.request - 1) (record row { live = Some quote.number }) k r within at) [
-          inl here ↦ subst (λ (n : ℕ). IsRow (quotes ++ standing_quote quote [] ∷ []) n r) (sym place ∙ ap (λ (n : ℕ). n + 1) (sym here.0))
+        | inl here ↦ subst (λ (n : ℕ). IsRow (quotes ++ standing_quote quote [] ∷ []) n r) (sym place ∙ ap (λ (n : ℕ). n + 1) (sym here.0))
             (subst (λ (w : RequestRow). IsRow (quotes ++ standing_quote quote [] ∷ []) quote.request w) here.1 (row_pushed quotes quote row (none_live quotes quote.request alone) was))
         | inr there ↦ row_beside quotes quote (k + 1) r (ruled_out (quote.request == (k + 1)) (λ so.
-            let same : quote.request ≡ k + 1 = eqb-true quote.request (k + 1) so in let e : k ≡ quote.request - 1 = omega arith in there.0 e)) (table.rows_are k r there.1) ];
+            let same : quote.request ≡ k + 1 = eqb-true quote.request (k + 1) so in let e : k ≡ quote.request - 1 = omega arith in there.0 e)) (table.rows_are k r there.1)
+      ];
       lines_are = ap (λ (l : List QuoteLine). l ++ line ∷ []) table.lines_are ∙ ap (λ (l : QuoteLine). map line_of quotes ++ l ∷ []) line_is ∙ sym (map-append line_of quotes (standing_quote quote [] ∷ []));
       exposure_is = ap (λ (n : ℕ). n + quote.quantity) table.exposure_is ∙ sym (sum_by_push live_quantity quotes (standing_quote quote []));
       exposure_fits = fits;
@@ -236,15 +237,16 @@ replaced_found requests quotes request number how sound (Some own) at is =
     let number_is : number ≡ own.quote.number = sym (same_Some own.quote.number number is) in
     let place_is : number ≡ stands.0 + 1 = number_is ∙ sound.quotes_numbered stands.0 own stands.1 in
     ap (option_map (λ (q : StandingQuote). q.quote.number)) (find_none (is_live_on request) (map (ended_at number how) quotes) (λ k y there.
-      let from = mapped_at (ended_at number how) quotes k y there in
-      elim (eqb_tells k stands.0) [
-          inl here ↦
-            let same : own ≡ from.0 = same_Some own from.0 (sym stands.1 ∙ ap (slice_get quotes) (sym here.1) ∙ from.1) in
-            let ended : ended_at number how from.0 ≡ record own { end = Some how } = ap (ended_at number how) (sym same) ∙ ended_own number how own number_is live in
-            left_false (is_live y) (y.quote.request == request) (ap is_live (sym from.2 ∙ ended))
-        | inr apart ↦
-            ap (is_live_on request) (sym from.2 ∙ chosen (number == from.0.quote.number) (record from.0 { end = option_or from.0.end (Some how) }) from.0 (other_number requests quotes number stands.0 k from.0 sound place_is from.1 apart.1))
-            ∙ lone_others (is_live_on request) quotes stands.0 own (sound.lone request) stands.1 stands.2 k from.0 from.1 apart.1 ]))
+    let from = mapped_at (ended_at number how) quotes k y there in
+    elim (eqb_tells k stands.0) [
+      | inl here ↦
+          let same : own ≡ from.0 = same_Some own from.0 (sym stands.1 ∙ ap (slice_get quotes) (sym here.1) ∙ from.1) in
+          let ended : ended_at number how from.0 ≡ record own { end = Some how } = ap (ended_at number how) (sym same) ∙ ended_own number how own number_is live in
+          left_false (is_live y) (y.quote.request == request) (ap is_live (sym from.2 ∙ ended))
+      | inr apart ↦
+          ap (is_live_on request) (sym from.2 ∙ chosen (number == from.0.quote.number) (record from.0 { end = option_or from.0.end (Some how) }) from.0 (other_number requests quotes number stands.0 k from.0 sound place_is from.1 apart.1))
+          ∙ lone_others (is_live_on request) quotes stands.0 own (sound.lone request) stands.1 stands.2 k from.0 from.1 apart.1
+    ]))
 
 -- no quote on its request is live any more
 pub replaced_none : (requests : List StandingRequest) (quotes : List StandingQuote) (request number : ℕ) (how : QuoteEnd) → IsSound requests quotes → live_number_among quotes request ≡ Some number
@@ -260,8 +262,9 @@ sum_mapped f g change same (own ∷ quotes) =
 
 turned : (a b : ℕ) → (a == b) ≡ (b == a)
 turned a b = elim (eqb_tells a b) [
-    inl same ↦ same.0 ∙ sym (eq-eqb b a (sym same.1))
-  | inr apart ↦ apart.0 ∙ sym (ruled_out (b == a) (λ so. apart.1 (sym (eqb-true b a so)))) ]
+  | inl same ↦ same.0 ∙ sym (eq-eqb b a (sym same.1))
+  | inr apart ↦ apart.0 ∙ sym (ruled_out (b == a) (λ so. apart.1 (sym (eqb-true b a so))))
+]
 
 dead_or_live : (b : Bool) (how : QuoteEnd) (own : StandingQuote) → live_quantity (cond b (record own { end = option_or own.end (Some how) }) own) ≡ cond b 0 (live_quantity own)
 dead_or_live true how own = ap (λ (live : Bool). cond live own.quote.quantity 0) (or_some own.end how)
@@ -294,11 +297,11 @@ pub beside_live : (requests : List StandingRequest) (quotes : List StandingQuote
 beside_live requests quotes number place own sound number_is stands live =
     let same : number ≡ own.quote.number = number_is ∙ sym (sound.quotes_numbered place own stands) in
     let after : set quotes place (record own { end = Some (end.Closed closes.Pass) }) ≡ map (ended_at number (end.Closed closes.Pass)) quotes =
-      ap (set quotes place) (sym (ended_own number (end.Closed closes.Pass) own same live))
-      ∙ set_map (ended_at number (end.Closed closes.Pass)) quotes place own stands
-        (λ k y there other. chosen (number == y.quote.number) (record y { end = option_or y.end (Some (end.Closed closes.Pass)) }) y (other_number requests quotes number place k y sound number_is there other)) in
+    ap (set quotes place) (sym (ended_own number (end.Closed closes.Pass) own same live))
+    ∙ set_map (ended_at number (end.Closed closes.Pass)) quotes place own stands
+    (λ k y there other. chosen (number == y.quote.number) (record y { end = option_or y.end (Some (end.Closed closes.Pass)) }) y (other_number requests quotes number place k y sound number_is there other)) in
     let sum = sum_changed quotes place own (record own { end = Some (end.Closed closes.Pass) }) stands in
     let beside : sum_by live_quantity (set quotes place (record own { end = Some (end.Closed closes.Pass) })) ≡ sum_by (quantity_beside (Some number)) quotes =
-      ap (sum_by live_quantity) after ∙ sum_beside quotes number (end.Closed closes.Pass) in
+    ap (sum_by live_quantity) after ∙ sum_beside quotes number (end.Closed closes.Pass) in
     let adds = quantity_live own live in
     omega arith

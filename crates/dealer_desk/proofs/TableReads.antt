@@ -1,31 +1,22 @@
 -- What the code reads and writes of a table, and what a table keeps when a request of its own changes.
-use Rattle.std.proofs.Common.{◌≡◌, ◌<◌, ◌≤◌, ◌⊎◌, ℕ, zero, suc, ◌+◌, ◌-◌, Bool, true, false, ◌&&◌, ◌||◌, ◌==◌, cond, not, List, [], ◌∷◌, ◌++◌, length, map, set, filter, find, Option, Some, None, is_none, option_map, slice_get, slice_set, slice_index_or, get_or, inl, inr, refl, sym, ap, subst, ◌∙◌, arith, length-set, get_or-set_same}
-use Rattle.std.specs.List.{list_any, sum_by, position_or_len}
-use Rattle.std.specs.Option.{option_or}
-use Rattle.std.proofs.Math.Dec.{eqb}
+use Rattle.std.proofs.Common.{◌≡◌, ◌<◌, ◌≤◌, ℕ, ◌+◌, ◌-◌, Bool, true, false, ◌&&◌, ◌==◌, cond, not, List, length, map, set, Some, None, option_map, slice_get, get_or, inl, inr, refl, sym, ap, subst, ◌∙◌, arith, length-set, get_or-set_same}
+use Rattle.std.specs.List.{position_or_len}
 use Rattle.std.proofs.lemmas.Bool.{eqb-true, eq-eqb}
-use Rattle.std.proofs.lemmas.Bool.Decides.{eqb_tells}
-use Rattle.std.proofs.lemmas.Option.{none-some, same_Some, get_or_from_slice_get, slice_get-get_or, slice_get-map}
-use Rattle.std.proofs.lemmas.List.{map-set, map-append, length-map, length-append, get_or-map}
-use Rattle.std.proofs.lemmas.List.Sums.{sum_by-cons, sum_by-set, sum_by_push, prefix_len-le-length}
-use Rattle.std.proofs.lemmas.List.Folds.{list_any_at, list_any-append, find-append, position_or_len_push}
+use Rattle.std.proofs.lemmas.Option.{same_Some, slice_get-get_or, slice_get-map}
+use Rattle.std.proofs.lemmas.List.{map-set, length-map}
+use Rattle.std.proofs.lemmas.List.Sums.{prefix_len-le-length}
 use Rattle.market_terms.specs.declared.lines.QuoteLine.{QuoteLine}
 use Rattle.market_terms.specs.declared.lines.QuoteState.{QuoteState}
-use Rattle.dealer_desk.specs.DealerFacts.{standing_request, standing_quote, is_live, is_live_on, is_lifted_on, is_droppable, live_quantity, quantity_beside}
+use Rattle.dealer_desk.specs.DealerFacts.{is_live, is_droppable}
 use Rattle.dealer_desk.specs.QuoteLines.{state_of, line_of}
-use Rattle.dealer_desk.specs.BookChanges.{IsSound, IsLiveNumber, ended_at, late_at, closed_on, declined_at, told_at}
-use Rattle.dealer_desk.specs.DealerTable.{IsTable, IsRow, live_number_among}
-use Rattle.dealer_desk.specs.declared.accepted.AcceptedQuote.{AcceptedQuote}
+use Rattle.dealer_desk.specs.BookChanges.{IsSound, IsLiveNumber, ended_at, late_at, declined_at, told_at}
+use Rattle.dealer_desk.specs.DealerTable.{IsTable, IsRow}
 use Rattle.dealer_desk.specs.declared.standing.StandingRequest.{StandingRequest}
 use Rattle.dealer_desk.specs.declared.standing.StandingQuote.{StandingQuote}
 use Rattle.dealer_desk.specs.declared.standing.QuoteEnd.{QuoteEnd}
-use Rattle.dealer_desk.specs.declared.standing.QuoteEnd.TheVariants as end
-use Rattle.market_terms.specs.declared.asks.Ask.{Ask}
-use Rattle.market_terms.specs.declared.closes.Close.{Close}
-use Rattle.market_terms.specs.declared.closes.Close.TheVariants as closes
 use Rattle.dealer_desk.specs.declared.table.RequestRow.{RequestRow}
-use Rattle.dealer_desk.proofs.ListLemmas.{set_at, set_map, pushed_at, any_none, set_same, all_fixed, find_stands, fails_where_none, mapped_at, find_none, find_mapped, any_mapped, lone_others, within_from, stands_within, ruled_out, before_place}
-use Rattle.dealer_desk.proofs.SoundLemmas.{sound_mapped, sound_requests, sound_shown, sound_quoted, none_live}
+use Rattle.dealer_desk.proofs.ListLemmas.{set_at, set_map, within_from, ruled_out, before_place}
+use Rattle.dealer_desk.proofs.SoundLemmas.{sound_requests}
 use Rattle.dealer_desk.proofs.TableLemmas.{ended_quotes, ended_table, late_quotes, late_table, left_false, requests_kept}
 
 -- What the code reads and writes.
@@ -77,16 +68,16 @@ pub end_live_table : (rows : List RequestRow) (quotes : List StandingQuote) (lin
     → read ≡ get_or (set quotes (number - 1) (record own { end = Some how })) (number - 1) read → state ≡ state_of read
     → quantity ≡ own.quote.quantity → seen ≡ set quotes (number - 1) (record own { end = Some how }) → next ≡ position_or_len is_droppable seen
     → IsTable (set rows (own.quote.request - 1) (record row { live = None })) (set quotes (number - 1) (record own { end = Some how }))
-      (set lines (number - 1) (record line { state = state })) (exposure - quantity) next
+    (set lines (number - 1) (record line { state = state })) (exposure - quantity) next
 end_live_table rows quotes lines exposure first number how own row line read state quantity seen next table lives is row_is line_is read_is state_is quantity_is seen_is next_is =
     let r = is_read rows quotes lines exposure first number own table lives is in
     let after = ended_table rows quotes lines exposure first (number - 1) (own.quote.request - 1) how own row line table r.stands r.live r.request_is
-      (read_at rows (own.quote.request - 1) row r.row_within row_is) (read_at lines (number - 1) line r.line_within line_is) in
+    (read_at rows (own.quote.request - 1) row r.row_within row_is) (read_at lines (number - 1) line r.line_within line_is) in
     let state_same : state ≡ state_of (record own { end = Some how }) = state_is ∙ ap state_of (read_again quotes (number - 1) (record own { end = Some how }) read r.within read_is) in
     subst (λ (s : QuoteState). IsTable (set rows (own.quote.request - 1) (record row { live = None })) (set quotes (number - 1) (record own { end = Some how })) (set lines (number - 1) (record line { state = s })) (exposure - quantity) next) (sym state_same)
-      (subst (λ (q : ℕ). IsTable (set rows (own.quote.request - 1) (record row { live = None })) (set quotes (number - 1) (record own { end = Some how })) (set lines (number - 1) (record line { state = state_of (record own { end = Some how }) })) (exposure - q) next) (sym quantity_is)
-        (subst (λ (n : ℕ). IsTable (set rows (own.quote.request - 1) (record row { live = None })) (set quotes (number - 1) (record own { end = Some how })) (set lines (number - 1) (record line { state = state_of (record own { end = Some how }) })) (exposure - own.quote.quantity) n)
-          (sym (next_is ∙ ap (position_or_len is_droppable) seen_is)) after))
+    (subst (λ (q : ℕ). IsTable (set rows (own.quote.request - 1) (record row { live = None })) (set quotes (number - 1) (record own { end = Some how })) (set lines (number - 1) (record line { state = state_of (record own { end = Some how }) })) (exposure - q) next) (sym quantity_is)
+    (subst (λ (n : ℕ). IsTable (set rows (own.quote.request - 1) (record row { live = None })) (set quotes (number - 1) (record own { end = Some how })) (set lines (number - 1) (record line { state = state_of (record own { end = Some how }) })) (exposure - own.quote.quantity) n)
+    (sym (next_is ∙ ap (position_or_len is_droppable) seen_is)) after))
 
 pub end_live_quotes : (rows : List RequestRow) (quotes : List StandingQuote) (lines : List QuoteLine) (exposure first number : ℕ) (how : QuoteEnd) (own : StandingQuote)
     → IsTable rows quotes lines exposure first → IsLiveNumber quotes number → own ≡ get_or quotes (number - 1) own
@@ -111,8 +102,9 @@ dead_end b c e = left_false b c e
 pub none_before : (quotes : List StandingQuote) (place first : ℕ) (after : StandingQuote) → place < length quotes → first ≡ position_or_len is_droppable quotes → is_droppable after ≡ false
     → (k : ℕ) (y : StandingQuote) → k < first → slice_get (set quotes place after) k ≡ Some y → is_droppable y ≡ false
 none_before quotes place first after within is gone k y below at = elim (set_at quotes place after k y within at) [
-    inl here ↦ ap is_droppable (sym here.1) ∙ gone
-  | inr there ↦ before_place is_droppable quotes k y (subst (λ (n : ℕ). k < n) is below) there.1 ]
+  | inl here ↦ ap is_droppable (sym here.1) ∙ gone
+  | inr there ↦ before_place is_droppable quotes k y (subst (λ (n : ℕ). k < n) is below) there.1
+]
 
 pub first_within : (rows : List RequestRow) (quotes : List StandingQuote) (lines : List QuoteLine) (exposure first place : ℕ) (after : StandingQuote)
     → IsTable rows quotes lines exposure first → first ≤ length (set quotes place after)
@@ -128,15 +120,15 @@ pub find_lifted_table : (rows : List RequestRow) (quotes : List StandingQuote) (
     → read ≡ get_or (set quotes (number - 1) (record own { is_known_lifted = true })) (number - 1) read → state ≡ state_of read
     → seen ≡ set quotes (number - 1) (record own { is_known_lifted = true }) → next ≡ position_or_len is_droppable seen
     → IsTable (set rows (own.quote.request - 1) (record row { has_lifted = true })) (set quotes (number - 1) (record own { is_known_lifted = true }))
-      (set lines (number - 1) (record line { state = state })) exposure next
+    (set lines (number - 1) (record line { state = state })) exposure next
 find_lifted_table rows quotes lines exposure first number own row line read state seen next table lives is row_is line_is read_is state_is seen_is next_is =
     let r = is_read rows quotes lines exposure first number own table lives is in
     let after = late_table rows quotes lines exposure first (number - 1) (own.quote.request - 1) own row line table r.stands r.request_is
-      (read_at rows (own.quote.request - 1) row r.row_within row_is) (read_at lines (number - 1) line r.line_within line_is) in
+    (read_at rows (own.quote.request - 1) row r.row_within row_is) (read_at lines (number - 1) line r.line_within line_is) in
     let state_same : state ≡ state_of (record own { is_known_lifted = true }) = state_is ∙ ap state_of (read_again quotes (number - 1) (record own { is_known_lifted = true }) read r.within read_is) in
     subst (λ (s : QuoteState). IsTable (set rows (own.quote.request - 1) (record row { has_lifted = true })) (set quotes (number - 1) (record own { is_known_lifted = true })) (set lines (number - 1) (record line { state = s })) exposure next) (sym state_same)
-      (subst (λ (n : ℕ). IsTable (set rows (own.quote.request - 1) (record row { has_lifted = true })) (set quotes (number - 1) (record own { is_known_lifted = true })) (set lines (number - 1) (record line { state = state_of (record own { is_known_lifted = true }) })) exposure n)
-        (sym (next_is ∙ ap (position_or_len is_droppable) seen_is)) after)
+    (subst (λ (n : ℕ). IsTable (set rows (own.quote.request - 1) (record row { has_lifted = true })) (set quotes (number - 1) (record own { is_known_lifted = true })) (set lines (number - 1) (record line { state = state_of (record own { is_known_lifted = true }) })) exposure n)
+    (sym (next_is ∙ ap (position_or_len is_droppable) seen_is)) after)
 
 pub find_lifted_quotes : (rows : List RequestRow) (quotes : List StandingQuote) (lines : List QuoteLine) (exposure first number : ℕ) (own : StandingQuote)
     → IsTable rows quotes lines exposure first → IsLiveNumber quotes number → own ≡ get_or quotes (number - 1) own
@@ -175,9 +167,9 @@ requests_changed rows quotes number row after g sound first last is here others 
     map-set (λ (r : RequestRow). r.request) rows (number - 1) (record row { request = after })
     ∙ ap (set requests (number - 1)) (sym (here row.request same refl))
     ∙ set_map g requests (number - 1) row.request request_stands (λ k y at other. others y (ruled_out (number == y.number) (λ so.
-        let equal : number ≡ y.number = eqb-true number y.number so in
-        let there : y.number ≡ k + 1 = sound.requests_numbered k y at in
-        let e : k ≡ number - 1 = omega arith in other e)))
+    let equal : number ≡ y.number = eqb-true number y.number so in
+    let there : y.number ≡ k + 1 = sound.requests_numbered k y at in
+    let e : k ≡ number - 1 = omega arith in other e)))
 
 pub request_table : (rows : List RequestRow) (quotes : List StandingQuote) (lines : List QuoteLine) (exposure first number : ℕ) (row : RequestRow) (after : StandingRequest) (g : StandingRequest → StandingRequest)
     → IsTable rows quotes lines exposure first → 1 ≤ number → number ≤ length rows → row ≡ get_or rows (number - 1) row
@@ -190,9 +182,10 @@ request_table rows quotes lines exposure first number row after g table least la
     record {
       sound = subst (λ (rs : List StandingRequest). IsSound rs quotes) (sym changed) (sound_requests (map (λ (r : RequestRow). r.request) rows) quotes g keeps table.sound);
       rows_are = λ k r at. elim (set_at rows (number - 1) (record row { request = after }) k r within at) [
-          inl here ↦ subst (λ (n : ℕ). IsRow quotes (n + 1) r) (sym here.0)
+        | inl here ↦ subst (λ (n : ℕ). IsRow quotes (n + 1) r) (sym here.0)
             (subst (λ (w : RequestRow). IsRow quotes ((number - 1) + 1) w) here.1 (row_same quotes ((number - 1) + 1) row (record row { request = after }) refl refl (table.rows_are (number - 1) row stands)))
-        | inr there ↦ table.rows_are k r there.1 ];
+        | inr there ↦ table.rows_are k r there.1
+      ];
       lines_are = table.lines_are;
       exposure_is = table.exposure_is;
       exposure_fits = table.exposure_fits;
@@ -215,13 +208,13 @@ pub declined_requests : (rows : List RequestRow) (quotes : List StandingQuote) (
     → map (λ (r : RequestRow). r.request) (set rows (number - 1) (record row { request = record row.request { is_declined = true } })) ≡ map (declined_at number) (map (λ (r : RequestRow). r.request) rows)
 declined_requests rows quotes number row sound first last is =
     requests_changed rows quotes number row (record row.request { is_declined = true }) (declined_at number) sound first last is
-      (λ request same here. first_request (number == request.number) (record request { is_declined = true }) request (eq-eqb number request.number same) ∙ ap (λ (r : StandingRequest). record r { is_declined = true }) here)
-      (λ request other. chosen_request (number == request.number) (record request { is_declined = true }) request other)
+    (λ request same here. first_request (number == request.number) (record request { is_declined = true }) request (eq-eqb number request.number same) ∙ ap (λ (r : StandingRequest). record r { is_declined = true }) here)
+    (λ request other. chosen_request (number == request.number) (record request { is_declined = true }) request other)
 
 pub told_requests : (rows : List RequestRow) (quotes : List StandingQuote) (number : ℕ) (row : RequestRow)
     → IsSound (map (λ (r : RequestRow). r.request) rows) quotes → 1 ≤ number → number ≤ length rows → row ≡ get_or rows (number - 1) row
     → map (λ (r : RequestRow). r.request) (set rows (number - 1) (record row { request = record row.request { is_told = true } })) ≡ map (told_at number) (map (λ (r : RequestRow). r.request) rows)
 told_requests rows quotes number row sound first last is =
     requests_changed rows quotes number row (record row.request { is_told = true }) (told_at number) sound first last is
-      (λ request same here. first_request (number == request.number) (record request { is_told = true }) request (eq-eqb number request.number same) ∙ ap (λ (r : StandingRequest). record r { is_told = true }) here)
-      (λ request other. chosen_request (number == request.number) (record request { is_told = true }) request other)
+    (λ request same here. first_request (number == request.number) (record request { is_told = true }) request (eq-eqb number request.number same) ∙ ap (λ (r : StandingRequest). record r { is_told = true }) here)
+    (λ request other. chosen_request (number == request.number) (record request { is_told = true }) request other)

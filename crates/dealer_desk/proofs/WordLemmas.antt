@@ -1,6 +1,6 @@
 -- The words that were asked, event by event.
-use Rattle.std.proofs.Common.{◌≡◌, ℕ, Bool, true, false, ◌||◌, ◌==◌, cond, List, [], ◌∷◌, ◌++◌, Option, Some, None, is_some, refl, sym, ap, ◌∙◌}
-use Rattle.std.specs.List.{filter_map, list_any}
+use Rattle.std.proofs.Common.{◌≡◌, ℕ, Bool, true, false, ◌||◌, ◌==◌, cond, List, [], ◌∷◌, ◌++◌, Option, Some, None, is_some, refl, ap, ◌∙◌}
+use Rattle.std.specs.List.{list_any}
 use Rattle.std.proofs.lemmas.List.Elements.{filter_map-append}
 use Rattle.venue_config.specs.declared.dealer_rows.DealerRow.{DealerRow}
 use Rattle.market_terms.specs.declared.closes.Close.{Close}
@@ -9,7 +9,7 @@ use Rattle.quote_word.specs.declared.settled.Settled.TheVariants as settled
 use Rattle.dealer_desk.specs.DealerFacts.{DealerFact, Came, Withdrawn, Late, Told, Dropped, DealerBook, book_of, number_to_drop, finds_lifted}
 use Rattle.dealer_desk.specs.DeskLaws.{withdraws, says_lifted, says_withdrawn}
 use Rattle.dealer_desk.specs.DealerRules.{dealer_verdict}
-use Rattle.dealer_desk.specs.DealerOutput.{desk_after, event_facts, verdict_facts, settled_facts, uses_number, came, closable, answered_word, answered_words, asked_word, asked_by, word_asked}
+use Rattle.dealer_desk.specs.DealerOutput.{desk_after, event_facts, verdict_facts, settled_facts, uses_number, closable, answered_word, answered_words, asked_word, asked_by, word_asked}
 use Rattle.dealer_desk.specs.declared.standing.Withdrawal.{Withdrawal}
 use Rattle.dealer_desk.specs.declared.standing.Withdrawal.TheVariants as by
 use Rattle.dealer_desk.specs.declared.events.DealerEvent.{DealerEvent}

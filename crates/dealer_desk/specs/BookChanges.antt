@@ -2,8 +2,7 @@
 -- this.
 use Rattle.std.specs.Prelude.{◌≡◌, ◌≤◌, ◌<◌, ℕ, ◌+◌, Bool, true, ◌==◌, ◌||◌, List, [], ◌∷◌, ◌++◌, length, filter, map, slice_get, Option, Some, None, if◌then◌else◌}
 use Rattle.std.specs.Option.{option_or}
-use Rattle.market_terms.specs.declared.asks.Ask.{Ask}
-use Rattle.dealer_desk.specs.DealerFacts.{DealerFact, Came, Shown, Quoted, Withdrawn, Late, Dropped, Declined, Told, DealerBook, used_number, is_notice, tells, declines, finds_lifted, ends, standing_request, standing_quote, is_live, is_live_on, quotes_accepted, requests_shown, quote_with_id, live_number_on, exposure_beside}
+use Rattle.dealer_desk.specs.DealerFacts.{DealerFact, Shown, Quoted, DealerBook, used_number, is_notice, tells, declines, finds_lifted, ends, standing_request, standing_quote, is_live, is_live_on, quotes_accepted, requests_shown, quote_with_id, live_number_on, exposure_beside}
 use Rattle.dealer_desk.specs.declared.accepted.AcceptedQuote.{AcceptedQuote}
 use Rattle.dealer_desk.specs.declared.standing.StandingRequest.{StandingRequest}
 use Rattle.dealer_desk.specs.declared.standing.StandingQuote.{StandingQuote}

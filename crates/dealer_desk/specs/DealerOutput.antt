@@ -2,13 +2,12 @@
 -- messages leave to be done in the rooms of its requests.
 use Rattle.std.specs.Prelude.{ℕ, ◌+◌, ◌-◌, Bool, true, false, ◌&&◌, ◌==◌, List, [], ◌∷◌, ◌++◌, length, slice_get, Option, Some, None, is_some, fold, if◌then◌else◌}
 use Rattle.std.specs.List.{filter_map}
-use Rattle.std.specs.Option.{option_map, option_to_list}
+use Rattle.std.specs.Option.{option_map}
 use Rattle.quote_messages.specs.Written.{written}
 use Rattle.market_terms.specs.declared.asks.Ask.{Ask}
 use Rattle.market_terms.specs.declared.closes.Close.{Close}
 use Rattle.market_terms.specs.declared.rooms.RoomRef.{RoomRef}
 use Rattle.quote_messages.specs.declared.reject_reasons.QuoteRejectReason.TheVariants.{TooLate}
-use Rattle.quote_messages.specs.declared.out_messages.Request.{Request}
 use Rattle.quote_messages.specs.declared.out_messages.QuotedPrice.{QuotedPrice}
 use Rattle.quote_messages.specs.declared.out_messages.OutMessage.{OutMessage}
 use Rattle.quote_messages.specs.declared.out_messages.OutMessage.TheVariants as out
@@ -176,7 +175,7 @@ no_facts = record { facts = []; sent = [] }
 abbrev pub next_message : List ℕ → DealerRow → List (List ℕ) → ℕ → OutMessage → List ℕ
 next_message date row sent moment message =
     written (record { date = date; firm = row.name; number = length sent + 1; moment = moment })
-      message
+    message
 
 -- what is sent with the message of an event, if it sends one
 abbrev pub sent_with : List ℕ → DealerRow → List (List ℕ) → ℕ → Option OutMessage → List (List ℕ)
@@ -285,7 +284,7 @@ unpost_dropped rooms moment answer None = None
 unpost_dropped rooms moment answer (Some own) =
     if is_withdrawn answer
     then option_map (λ room. duty.Unpost room own.quote.number moment)
-      (room_of rooms own.quote.request)
+    (room_of rooms own.quote.request)
     else None
 
 -- the same drop once more, where another quote is left to be dropped

@@ -15,7 +15,6 @@ use Rattle.quote_messages.specs.declared.arrivals.Arrival.TheVariants.{Dropped, 
 use Rattle.quote_messages.specs.declared.quotes.Quote.{Quote}
 use Rattle.quote_messages.specs.declared.quotes.CancelScope.{CancelScope}
 use Rattle.quote_messages.specs.declared.quotes.CancelScope.TheVariants as cancels
-use Rattle.quote_messages.specs.declared.quotes.Decline.{Decline}
 use Rattle.quote_messages.specs.declared.quotes.DealerMessage.{DealerMessage}
 use Rattle.quote_messages.specs.declared.quotes.DealerMessage.TheVariants as message
 use Rattle.quote_messages.specs.declared.out_messages.OutMessage.TheVariants as out
@@ -135,7 +134,7 @@ quote_answer book moment quote request (Some reason) = quote_refused quote reaso
 quote_answer book moment quote None None = quote_refused quote Other
 quote_answer book moment quote (Some request) None =
     verdict.QuoteAccepted quote.request quote.id (quote_kept book moment quote request)
-      (live_number_on book request.number)
+    (live_number_on book request.number)
 
 -- the verdict on a quote on this request
 abbrev pub quote_on : DealerRow → DealerBook → ℕ → Quote → Option StandingRequest → DealerVerdict

@@ -50,7 +50,7 @@ pub record IsTable (rows : List RequestRow) (quotes : List StandingQuote) (lines
 abbrev pub IsSoundTable : Table → Type 0
 IsSoundTable table =
     IsTable table.rows.items table.quotes.items table.lines.items table.exposure
-      table.first_droppable
+    table.first_droppable
 
 -- how rooms are ordered
 abbrev pub room_cmp : RoomRef → RoomRef → Ordering

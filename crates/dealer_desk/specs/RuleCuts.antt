@@ -1,6 +1,6 @@
 -- How the code cuts the checks of a quote and what it makes of a verdict. Only private functions
 -- say this.
-use Rattle.std.specs.Prelude.{◌≡◌, ◌≤◌, ℕ, Bool, true, false, ◌||◌, not, nat_lt, nat_le, List, [], ◌∷◌, ◌++◌, Option, Some, None, is_none, is_some, fold}
+use Rattle.std.specs.Prelude.{◌≡◌, ◌≤◌, ℕ, Bool, true, false, ◌||◌, not, nat_lt, nat_le, List, [], ◌∷◌, Option, Some, None, is_none, is_some, fold}
 use Rattle.venue_config.specs.Texts.{same_text}
 use Rattle.venue_config.specs.declared.dealer_rows.DealerRow.{DealerRow}
 use Rattle.market_terms.specs.Checks.{is_not_after}

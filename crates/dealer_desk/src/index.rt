@@ -53,8 +53,8 @@ impl Model for DealerIndex {
     } };
 
     ghost invariant = { λ index. IsIndex index.used index.notices index.table.rows.items
-      index.table.quotes.items index.table.lines.items index.table.exposure
-      index.table.first_droppable index.rooms.items index.by_id index.by_room };
+        index.table.quotes.items index.table.lines.items index.table.exposure
+        index.table.first_droppable index.rooms.items index.by_id index.by_room };
 }
 
 impl DealerIndex {
@@ -314,14 +314,10 @@ impl DealerIndex {
 }
 
 /// Gives a room this number, unless it has one already. After an error the map is as before.
-fn put_first(
-    by_room: &mut BTreeMap<RoomRef, u64>,
-    room: RoomRef,
-    number: u64,
-) -> Result<(), Memory>
+fn put_first(by_room: &mut BTreeMap<RoomRef, u64>, room: RoomRef, number: u64) -> Result<(), Memory>
     ensures ok { OnOk result ((q : RoomRef) → get room_cmp by_room.new q
         ≡ option_or (get room_cmp by_room.old q)
-            (if output.is_same_room room q then Some number else None)) }
+        (if output.is_same_room room q then Some number else None)) }
     ensures err { OnErr result ((q : RoomRef)
         → get room_cmp by_room.new q ≡ get room_cmp by_room.old q) }
 {

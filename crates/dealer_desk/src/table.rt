@@ -145,7 +145,7 @@ impl Table {
         ensures quotes { self.new.quotes.items ≡ self.old.quotes.items }
         ensures requests { requests_in self.new.rows.items
             ≡ requests_in self.old.rows.items
-                ++ facts.standing_request (length self.old.rows.items + 1) ask [] ∷ [] }
+            ++ facts.standing_request (length self.old.rows.items + 1) ask [] ∷ [] }
     {
         let request = StandingRequest {
             number: self.rows.len() as u64 + 1,

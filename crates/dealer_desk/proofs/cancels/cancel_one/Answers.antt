@@ -1,4 +1,4 @@
-use Rattle.std.proofs.Common.{◌≡◌, ◌∙◌, Option, Some, None, ap}
+use Rattle.std.proofs.Common.{◌∙◌, Option, ap}
 use Rattle.quote_messages.specs.declared.reject_reasons.QuoteRejectReason.{QuoteRejectReason}
 use Rattle.dealer_desk.specs.DealerRules.{cancel_verdict, cancel_of, cancel_answer}
 use Rattle.dealer_desk.specs.declared.standing.StandingQuote.{StandingQuote}

@@ -1,4 +1,4 @@
-use Rattle.std.proofs.Common.{◌≡◌, sym}
+use Rattle.std.proofs.Common.{sym}
 use Rattle.dealer_desk.proofs.NoteLemmas.{drop_lives}
 use Rattle.dealer_desk.proofs.drops.number_to_drop.Goals as goal
 

@@ -1,4 +1,4 @@
-use Rattle.std.proofs.Common.{◌≡◌, ℕ, List, Option, ◌∙◌, ap}
+use Rattle.std.proofs.Common.{ℕ, List, Option, ◌∙◌, ap}
 use Rattle.dealer_desk.specs.DealerFacts.{request_named}
 use Rattle.dealer_desk.specs.DealerRules.{quote_verdict, quote_refusal, quote_on}
 use Rattle.dealer_desk.specs.declared.standing.StandingRequest.{StandingRequest}

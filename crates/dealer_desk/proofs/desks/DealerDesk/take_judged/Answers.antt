@@ -1,5 +1,4 @@
 use Rattle.std.proofs.Common.{◌≡◌, ◌<◌, ◌+◌, ◌^◌, List, length, sym, ap, ◌∙◌, arith}
-use Rattle.dealer_desk.specs.DealerRules.{dealer_verdict}
 use Rattle.dealer_desk.specs.declared.events.DealerEvent.{DealerEvent}
 use Rattle.dealer_desk.proofs.KeptLemmas.{kept_own, own_lawful, used_below, verdict_seen}
 use Rattle.dealer_desk.proofs.desks.DealerDesk.take_judged.Goals as goal

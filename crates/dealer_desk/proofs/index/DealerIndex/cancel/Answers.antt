@@ -1,9 +1,8 @@
-use Rattle.std.proofs.Common.{◌≡◌, ℕ, List, length, map, refl, sym, ap, subst, ◌∙◌}
+use Rattle.std.proofs.Common.{List, length, map, sym, ap, subst, ◌∙◌}
 use Rattle.dealer_desk.specs.DealerFacts.{Withdrawn}
 use Rattle.dealer_desk.specs.BookChanges.{IsLiveNumber, ended_at}
 use Rattle.dealer_desk.specs.DealerTable.{IndexView, requests_in}
 use Rattle.dealer_desk.specs.declared.standing.StandingRequest.{StandingRequest}
-use Rattle.dealer_desk.specs.declared.standing.StandingQuote.{StandingQuote}
 use Rattle.dealer_desk.specs.declared.standing.QuoteEnd.TheVariants as end
 use Rattle.dealer_desk.specs.declared.standing.Withdrawal.TheVariants as by
 use Rattle.dealer_desk.proofs.BookLemmas.{withdrawn_book}
@@ -20,8 +19,8 @@ invariant_of-self c =
     let t = i.table in
     let n = c.end_live.new.self in
     index_changed i.used i.notices i.used i.notices t.rows.items n.rows.items t.quotes.items n.quotes.items t.lines.items n.lines.items t.exposure n.exposure t.first_droppable n.first_droppable
-      i.rooms.items i.by_id i.by_room (ended_at c.args.quote (end.Withdrawn by.Cancel)) c.self.invariant c.self.invariant.used_fits c.self.invariant.notices_fit
-      c.end_live.ensures.table c.end_live.ensures.quotes (ended_keeps c.args.quote (end.Withdrawn by.Cancel)) (ap (λ (rs : List StandingRequest). length rs) c.end_live.ensures.requests)
+    i.rooms.items i.by_id i.by_room (ended_at c.args.quote (end.Withdrawn by.Cancel)) c.self.invariant c.self.invariant.used_fits c.self.invariant.notices_fit
+    c.end_live.ensures.table c.end_live.ensures.quotes (ended_keeps c.args.quote (end.Withdrawn by.Cancel)) (ap (λ (rs : List StandingRequest). length rs) c.end_live.ensures.requests)
 
 pub returns : goal.returns
 returns c =
@@ -30,5 +29,5 @@ returns c =
     let n = c.end_live.new.self in
     let book = book_with i.used i.notices (requests_in t.rows.items) t.quotes.items in
     view_after c.args.self.now book (book_with i.used i.notices (requests_in n.rows.items) n.quotes.items) i.rooms.items (Withdrawn c.args.quote by.Cancel) c.self.view_is
-      (same_book i.used i.notices (requests_in n.rows.items) (requests_in t.rows.items) n.quotes.items (map (ended_at c.args.quote (end.Withdrawn by.Cancel)) t.quotes.items) c.end_live.ensures.requests c.end_live.ensures.quotes
-        ∙ sym (withdrawn_book book c.args.quote by.Cancel))
+    (same_book i.used i.notices (requests_in n.rows.items) (requests_in t.rows.items) n.quotes.items (map (ended_at c.args.quote (end.Withdrawn by.Cancel)) t.quotes.items) c.end_live.ensures.requests c.end_live.ensures.quotes
+    ∙ sym (withdrawn_book book c.args.quote by.Cancel))

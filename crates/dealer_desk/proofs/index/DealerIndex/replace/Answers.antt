@@ -1,8 +1,7 @@
-use Rattle.std.proofs.Common.{◌≡◌, ◌≤◌, ◌<◌, ◌+◌, ℕ, List, [], ◌∷◌, ◌++◌, length, map, find, Some, None, sym, ap, subst, ◌∙◌, arith}
-use Rattle.std.proofs.lemmas.List.{length-map}
+use Rattle.std.proofs.Common.{◌≡◌, List, [], ◌∷◌, ◌++◌, length, map, find, Some, None, sym, ap, subst, ◌∙◌}
 use Rattle.venue_config.specs.Texts.{same_text}
-use Rattle.dealer_desk.specs.DealerFacts.{Quoted, Withdrawn, standing_quote, DealerBook}
-use Rattle.dealer_desk.specs.BookChanges.{FitsBook, IsLiveNumber, book_after, ended_at}
+use Rattle.dealer_desk.specs.DealerFacts.{Quoted, Withdrawn, standing_quote}
+use Rattle.dealer_desk.specs.BookChanges.{FitsBook, IsLiveNumber, ended_at}
 use Rattle.dealer_desk.specs.DealerTable.{IndexView, live_number_among, with_fact, requests_in}
 use Rattle.dealer_desk.specs.declared.standing.StandingQuote.{StandingQuote}
 use Rattle.dealer_desk.specs.declared.standing.StandingRequest.{StandingRequest}
@@ -21,8 +20,8 @@ end_live-requires-clause-live c =
     let i = c.self.inside in
     let t = i.table in
     subst (λ (qs : List StandingQuote). IsLiveNumber qs c.args.replaced) (sym c.in_ok-reserve.ensures.items)
-      (live_stands (requests_in t.rows.items) t.quotes.items c.args.quote.request c.args.replaced c.self.invariant.table.sound
-        (fits_live i.used i.notices (requests_in t.rows.items) t.quotes.items c.args.quote c.args.replaced (subst (λ (v : IndexView). FitsBook v.book c.args.quote (Some c.args.replaced)) (sym c.self.view_is) c.requires)))
+    (live_stands (requests_in t.rows.items) t.quotes.items c.args.quote.request c.args.replaced c.self.invariant.table.sound
+    (fits_live i.used i.notices (requests_in t.rows.items) t.quotes.items c.args.quote c.args.replaced (subst (λ (v : IndexView). FitsBook v.book c.args.quote (Some c.args.replaced)) (sym c.self.view_is) c.requires)))
 
 pub push_quote-requires-clause-alone : goal.push_quote-requires-clause-alone
 push_quote-requires-clause-alone c =
@@ -30,10 +29,10 @@ push_quote-requires-clause-alone c =
     let t = i.table in
     let how : QuoteEnd = end.Withdrawn by.Replacement in
     let ended : c.end_live.new.self.quotes.items ≡ map (ended_at c.args.replaced how) t.quotes.items =
-      c.end_live.ensures.quotes ∙ ap (λ (qs : List StandingQuote). map (ended_at c.args.replaced how) qs) c.in_ok-reserve.ensures.items in
+    c.end_live.ensures.quotes ∙ ap (λ (qs : List StandingQuote). map (ended_at c.args.replaced how) qs) c.in_ok-reserve.ensures.items in
     subst (λ (qs : List StandingQuote). live_number_among qs c.args.quote.request ≡ None) (sym ended)
-      (replaced_none (requests_in t.rows.items) t.quotes.items c.args.quote.request c.args.replaced how c.self.invariant.table.sound
-        (fits_live i.used i.notices (requests_in t.rows.items) t.quotes.items c.args.quote c.args.replaced (subst (λ (v : IndexView). FitsBook v.book c.args.quote (Some c.args.replaced)) (sym c.self.view_is) c.requires)))
+    (replaced_none (requests_in t.rows.items) t.quotes.items c.args.quote.request c.args.replaced how c.self.invariant.table.sound
+    (fits_live i.used i.notices (requests_in t.rows.items) t.quotes.items c.args.quote c.args.replaced (subst (λ (v : IndexView). FitsBook v.book c.args.quote (Some c.args.replaced)) (sym c.self.view_is) c.requires)))
 
 pub push_quote-requires-clause-exposure : goal.push_quote-requires-clause-exposure
 push_quote-requires-clause-exposure c =
@@ -42,9 +41,9 @@ push_quote-requires-clause-exposure c =
     let e = c.end_live.new.self in
     let how : QuoteEnd = end.Withdrawn by.Replacement in
     let ended : e.quotes.items ≡ map (ended_at c.args.replaced how) t.quotes.items =
-      c.end_live.ensures.quotes ∙ ap (λ (qs : List StandingQuote). map (ended_at c.args.replaced how) qs) c.in_ok-reserve.ensures.items in
+    c.end_live.ensures.quotes ∙ ap (λ (qs : List StandingQuote). map (ended_at c.args.replaced how) qs) c.in_ok-reserve.ensures.items in
     fits_beside i.used i.notices (requests_in t.rows.items) t.quotes.items e.quotes.items e.rows.items e.lines.items e.exposure e.first_droppable c.args.quote c.args.replaced how
-      c.end_live.ensures.table ended (subst (λ (v : IndexView). FitsBook v.book c.args.quote (Some c.args.replaced)) (sym c.self.view_is) c.requires)
+    c.end_live.ensures.table ended (subst (λ (v : IndexView). FitsBook v.book c.args.quote (Some c.args.replaced)) (sym c.self.view_is) c.requires)
 
 pub invariant_of-self-2 : goal.invariant_of-self-2
 invariant_of-self-2 c =
@@ -54,18 +53,18 @@ invariant_of-self-2 c =
     let n = c.push_quote.new.self in
     let how : QuoteEnd = end.Withdrawn by.Replacement in
     let ended : e.quotes.items ≡ map (ended_at c.args.replaced how) t.quotes.items =
-      c.end_live.ensures.quotes ∙ ap (λ (qs : List StandingQuote). map (ended_at c.args.replaced how) qs) c.in_ok-reserve.ensures.items in
+    c.end_live.ensures.quotes ∙ ap (λ (qs : List StandingQuote). map (ended_at c.args.replaced how) qs) c.in_ok-reserve.ensures.items in
     index_pushed i.used i.notices e.rows.items n.rows.items e.quotes.items n.quotes.items e.lines.items n.lines.items e.exposure n.exposure e.first_droppable n.first_droppable
-      i.rooms.items i.by_id c.insert.new.self i.by_room c.args.quote c.copy.result
-      (index_changed i.used i.notices i.used i.notices t.rows.items e.rows.items t.quotes.items e.quotes.items t.lines.items e.lines.items t.exposure e.exposure t.first_droppable e.first_droppable
-        i.rooms.items i.by_id i.by_room (ended_at c.args.replaced how) c.self.invariant c.self.invariant.used_fits c.self.invariant.notices_fit
-        c.end_live.ensures.table ended (ended_keeps c.args.replaced how) (ap (λ (rs : List StandingRequest). length rs) c.end_live.ensures.requests))
-      c.in_ok-push_quote.ensures.table c.in_ok-push_quote.ensures.quotes c.copy.ensures
-      (subst (λ (qs : List StandingQuote). find (λ (q : StandingQuote). same_text q.quote.id c.args.quote.id) qs ≡ None) (sym ended)
-        (id_stays_new t.quotes.items (ended_at c.args.replaced how) c.args.quote.id (ended_keeps c.args.replaced how)
-          (fits_id i.used i.notices (requests_in t.rows.items) t.quotes.items c.args.quote (Some c.args.replaced) (subst (λ (v : IndexView). FitsBook v.book c.args.quote (Some c.args.replaced)) (sym c.self.view_is) c.requires))))
-      c.in_ok-insert.ensures.updates.0
-      (ap (λ (rs : List StandingRequest). length rs) c.in_ok-push_quote.ensures.requests)
+    i.rooms.items i.by_id c.insert.new.self i.by_room c.args.quote c.copy.result
+    (index_changed i.used i.notices i.used i.notices t.rows.items e.rows.items t.quotes.items e.quotes.items t.lines.items e.lines.items t.exposure e.exposure t.first_droppable e.first_droppable
+    i.rooms.items i.by_id i.by_room (ended_at c.args.replaced how) c.self.invariant c.self.invariant.used_fits c.self.invariant.notices_fit
+    c.end_live.ensures.table ended (ended_keeps c.args.replaced how) (ap (λ (rs : List StandingRequest). length rs) c.end_live.ensures.requests))
+    c.in_ok-push_quote.ensures.table c.in_ok-push_quote.ensures.quotes c.copy.ensures
+    (subst (λ (qs : List StandingQuote). find (λ (q : StandingQuote). same_text q.quote.id c.args.quote.id) qs ≡ None) (sym ended)
+    (id_stays_new t.quotes.items (ended_at c.args.replaced how) c.args.quote.id (ended_keeps c.args.replaced how)
+    (fits_id i.used i.notices (requests_in t.rows.items) t.quotes.items c.args.quote (Some c.args.replaced) (subst (λ (v : IndexView). FitsBook v.book c.args.quote (Some c.args.replaced)) (sym c.self.view_is) c.requires))))
+    c.in_ok-insert.ensures.updates.0
+    (ap (λ (rs : List StandingRequest). length rs) c.in_ok-push_quote.ensures.requests)
 
 pub returns-clause-ok : goal.returns-clause-ok
 returns-clause-ok c =
@@ -75,12 +74,12 @@ returns-clause-ok c =
     let n = c.push_quote.new.self in
     let how : QuoteEnd = end.Withdrawn by.Replacement in
     let ended : e.quotes.items ≡ map (ended_at c.args.replaced how) t.quotes.items =
-      c.end_live.ensures.quotes ∙ ap (λ (qs : List StandingQuote). map (ended_at c.args.replaced how) qs) c.in_ok-reserve.ensures.items in
+    c.end_live.ensures.quotes ∙ ap (λ (qs : List StandingQuote). map (ended_at c.args.replaced how) qs) c.in_ok-reserve.ensures.items in
     let book = book_with i.used i.notices (requests_in t.rows.items) t.quotes.items in
     let between = book_with i.used i.notices (requests_in e.rows.items) e.quotes.items in
     view_after (with_fact c.args.self.now (Withdrawn c.args.replaced by.Replacement)) between (book_with i.used i.notices (requests_in n.rows.items) n.quotes.items) i.rooms.items (Quoted c.args.quote)
-      (view_after c.args.self.now book between i.rooms.items (Withdrawn c.args.replaced by.Replacement) c.self.view_is
-        (same_book i.used i.notices (requests_in e.rows.items) (requests_in t.rows.items) e.quotes.items (map (ended_at c.args.replaced how) t.quotes.items) c.end_live.ensures.requests ended
-          ∙ sym (withdrawn_book book c.args.replaced by.Replacement)))
-      (same_book i.used i.notices (requests_in n.rows.items) (requests_in e.rows.items) n.quotes.items (e.quotes.items ++ standing_quote c.args.quote [] ∷ []) c.in_ok-push_quote.ensures.requests c.in_ok-push_quote.ensures.quotes
-        ∙ sym (quoted_book between c.args.quote))
+    (view_after c.args.self.now book between i.rooms.items (Withdrawn c.args.replaced by.Replacement) c.self.view_is
+    (same_book i.used i.notices (requests_in e.rows.items) (requests_in t.rows.items) e.quotes.items (map (ended_at c.args.replaced how) t.quotes.items) c.end_live.ensures.requests ended
+    ∙ sym (withdrawn_book book c.args.replaced by.Replacement)))
+    (same_book i.used i.notices (requests_in n.rows.items) (requests_in e.rows.items) n.quotes.items (e.quotes.items ++ standing_quote c.args.quote [] ∷ []) c.in_ok-push_quote.ensures.requests c.in_ok-push_quote.ensures.quotes
+    ∙ sym (quoted_book between c.args.quote))

@@ -1,5 +1,4 @@
-use Rattle.std.proofs.Common.{◌≡◌, ℕ, ◌+◌, ◌-◌, ◌<◌, length, map, Some, None, slice_get, get_or, sym, ap, subst, ◌∙◌, arith}
-use Rattle.dealer_desk.specs.DealerTable.{IsRow, live_number_among}
+use Rattle.std.proofs.Common.{map, sym, ◌∙◌}
 use Rattle.dealer_desk.specs.declared.table.RequestRow.{RequestRow}
 use Rattle.dealer_desk.proofs.TableGrowth.{row_read, live_stands, closed_none, closed_live}
 use Rattle.dealer_desk.proofs.table.Table.close_live.Goals as goal

@@ -9,8 +9,8 @@ returns-clause-table c =
     let row = c.index_mut.result.now in
     let table = c.requires.table in
     request_table t.rows.items t.quotes.items t.lines.items t.exposure t.first_droppable c.args.number row (record row.request { is_declined = true }) (declined_at c.args.number) table
-      c.requires.from_first c.requires.to_last c.index_mut.ensures.value (declined_keeps c.args.number)
-      (declined_requests t.rows.items t.quotes.items c.args.number row table.sound c.requires.from_first c.requires.to_last c.index_mut.ensures.value)
+    c.requires.from_first c.requires.to_last c.index_mut.ensures.value (declined_keeps c.args.number)
+    (declined_requests t.rows.items t.quotes.items c.args.number row table.sound c.requires.from_first c.requires.to_last c.index_mut.ensures.value)
 
 pub returns-clause-requests : goal.returns-clause-requests
 returns-clause-requests c =

@@ -1,8 +1,5 @@
-use Rattle.std.proofs.Common.{◌≡◌, ℕ, ◌+◌, ◌-◌, ◌<◌, ◌≤◌, false, length, map, Some, None, slice_get, slice_set, get_or, refl, sym, ap, subst, ◌∙◌, arith}
-use Rattle.dealer_desk.specs.DealerFacts.{is_droppable}
-use Rattle.dealer_desk.specs.declared.standing.StandingQuote.{StandingQuote}
-use Rattle.std.specs.List.{position_or_len}
-use Rattle.dealer_desk.proofs.TableReads.{IsRead, is_read, end_live_table, end_live_quotes, row_kept, none_before, first_within}
+use Rattle.std.proofs.Common.{◌≡◌, ℕ, ◌-◌, ◌≤◌, length, Some, None, slice_get, refl, sym, ap, subst, ◌∙◌, arith}
+use Rattle.dealer_desk.proofs.TableReads.{is_read, end_live_table, end_live_quotes, row_kept, none_before, first_within}
 use Rattle.dealer_desk.proofs.TableLemmas.{quantity_within}
 use Rattle.dealer_desk.proofs.table.Table.end_live.Goals as goal
 
@@ -21,7 +18,7 @@ next_droppable-self-requires-clause-within c =
     let own = c.index_mut-own.result.now in
     let seen = c.deref.ensures.value in
     subst (λ (l : ℕ). t.first_droppable ≤ l) (ap length (sym seen))
-      (first_within t.rows.items t.quotes.items t.lines.items t.exposure t.first_droppable (c.args.number - 1) (record own { end = Some c.args.end }) c.requires.table)
+    (first_within t.rows.items t.quotes.items t.lines.items t.exposure t.first_droppable (c.args.number - 1) (record own { end = Some c.args.end }) c.requires.table)
 
 pub next_droppable-self-requires-clause-none : goal.next_droppable-self-requires-clause-none
 next_droppable-self-requires-clause-none c =
@@ -29,16 +26,16 @@ next_droppable-self-requires-clause-none c =
     let own = c.index_mut-own.result.now in
     let r = is_read t.rows.items t.quotes.items t.lines.items t.exposure t.first_droppable c.args.number own c.requires.table c.requires.live c.index_mut-own.ensures.value in
     λ k y below at. none_before t.quotes.items (c.args.number - 1) t.first_droppable (record own { end = Some c.args.end }) r.within c.requires.table.first_is refl k y below
-      (ap (λ l. slice_get l k) (sym c.deref.ensures.value) ∙ at)
+    (ap (λ l. slice_get l k) (sym c.deref.ensures.value) ∙ at)
 
 pub returns-clause-table : goal.returns-clause-table
 returns-clause-table c =
     let t = c.args.self.now in
     let own = c.index_mut-own.result.now in
     end_live_table t.rows.items t.quotes.items t.lines.items t.exposure t.first_droppable c.args.number c.args.end own c.index_mut-2.result.now c.index_mut.result.now c.index.result.now
-      c.state_of.result c.get-quantity.result c.deref.result.now c.next_droppable-self.result
-      c.requires.table c.requires.live c.index_mut-own.ensures.value c.index_mut-2.ensures.value c.index_mut.ensures.value c.index.ensures c.state_of.ensures c.get-quantity.ensures.value
-      c.deref.ensures.value c.next_droppable-self.ensures
+    c.state_of.result c.get-quantity.result c.deref.result.now c.next_droppable-self.result
+    c.requires.table c.requires.live c.index_mut-own.ensures.value c.index_mut-2.ensures.value c.index_mut.ensures.value c.index.ensures c.state_of.ensures c.get-quantity.ensures.value
+    c.deref.ensures.value c.next_droppable-self.ensures
 
 pub returns-clause-quotes : goal.returns-clause-quotes
 returns-clause-quotes c =
@@ -49,4 +46,4 @@ pub returns-clause-requests : goal.returns-clause-requests
 returns-clause-requests c =
     let t = c.args.self.now in
     row_kept t.rows.items t.quotes.items t.lines.items t.exposure t.first_droppable c.args.number c.index_mut-own.result.now c.index_mut-2.result.now
-      (record c.index_mut-2.result.now { live = None }) c.requires.table c.requires.live c.index_mut-own.ensures.value c.index_mut-2.ensures.value refl
+    (record c.index_mut-2.result.now { live = None }) c.requires.table c.requires.live c.index_mut-own.ensures.value c.index_mut-2.ensures.value refl
