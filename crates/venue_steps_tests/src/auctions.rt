@@ -1,7 +1,7 @@
 //! A whole auction, over words in a list and over a board.
 use crate::fixtures::{
     Floor, QUOTES, ROOM, asks_both, assert_left, assert_sent, at, first_cancels, first_quotes,
-    floor, response, second_quotes, shown_to, tells,
+    new_floor, response, second_quotes, shown_to, tells,
 };
 use market_terms::Close;
 use quote_word::{Board, BoardPass, PlainWords, Words};
