@@ -154,3 +154,13 @@ pub enum Duty {
         moment: Moment,
     },
 }
+
+/// A blank, for the unused places of an array of duties. It means nothing.
+impl Default for Duty {
+    fn default() -> Self {
+        Duty::Ready {
+            room: RoomRef { investor: 0, n: 0 },
+            moment: Moment::new(0).unwrap(),
+        }
+    }
+}

@@ -1,0 +1,3 @@
+pub mod DealerSteps
+pub mod RoomSteps
+pub mod Words

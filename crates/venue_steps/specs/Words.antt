@@ -1,0 +1,40 @@
+-- The word that a step asks, if it asks one, and its answer.
+use Rattle.std.specs.Prelude.{◌≡◌, ℕ, ◌+◌, ◌-◌, Bool, true, nat_lt, Option, Some, None}
+use Rattle.std.specs.Prelude.{if◌then◌else◌}
+use Rattle.std.specs.Option.{option_map}
+use Rattle.quote_word.specs.declared.settled.Settled.{Settled}
+
+-- the word of a dealer's quote with this own number, from 1: a dealer's words stand one behind the
+-- other in the row, from its first word on
+abbrev pub word_of : ℕ → ℕ → ℕ
+word_of first quote = first + (quote - 1)
+
+-- whether a row of so many words has the word that is asked, where one is
+abbrev pub has_word : ℕ → Option ℕ → Bool
+has_word count None = true
+has_word count (Some word) = nat_lt word count
+
+-- what the word that is asked is in a row, where one is
+abbrev pub answer_in : (ℕ → Option Settled) → Option ℕ → Option Settled
+answer_in entry None = None
+answer_in entry (Some word) = entry word
+
+-- the word that a step may ask of a row of so many words: one that the row does not have is left
+-- alone
+abbrev pub word_to_ask : ℕ → Option ℕ → Option ℕ
+word_to_ask count None = None
+word_to_ask count (Some word) = if nat_lt word count then Some word else None
+
+-- one exchange that gives this answer
+abbrev pub SettlesSo : {W : Type 0} → (W → ℕ → Settled → Settled → W → Type 0) → W → ℕ → Settled
+    → Option Settled → W → Type 0
+SettlesSo settles before word wish (Some answer) after = settles before word wish answer after
+SettlesSo settles before word wish None after = ⊥
+
+-- The words before and after a step that asks at most one: as they were where it asks none, and
+-- else after one exchange on that word, whose answer is the word's entry.
+abbrev pub AsksAtMost : {W : Type 0} → (W → ℕ → Settled → Settled → W → Type 0)
+    → (W → ℕ → Option Settled) → W → Option ℕ → Settled → W → Type 0
+AsksAtMost settles entry before None wish after = after ≡ before
+AsksAtMost settles entry before (Some word) wish after =
+    SettlesSo settles before word wish (entry after word) after

@@ -1,0 +1,195 @@
+//! The steps that may end a room.
+ghost use Rattle.std.specs.Prelude.{◌≡◌, ◌≤◌, ◌∷◌, [], ◌++◌, length, IfOk, OnOk, OnErr, if◌then◌else◌};
+ghost use Rattle.request_room.specs.Book.{room_after};
+ghost use Rattle.request_room.specs.declared.events.RoomEvent.TheVariants as event;
+ghost use Rattle.venue_steps.specs.RoomSteps as spec;
+ghost use Rattle.venue_steps.specs.Words.{AsksAtMost, answer_in, has_word, word_to_ask};
+
+use crate::Duties;
+use crate::words::ask;
+use fix_fields::{Memory, Moment};
+use market_terms::{Close, Duty, HitRefusal, Reply, ResponseRef, RoomRef};
+use quote_word::{Settled, Words};
+use request_room::{End, EndKind, Room};
+
+/// The investor hits the quote with this word. Where no check of the room refuses it, the word is
+/// lifted where it is open, and a lifted word awards the request. What follows is the answer to the
+/// investor and then, where the hit awards, each named dealer is told how it ended for it.
+///
+/// Where the row has no such word nothing changes. It fails for memory alone: then the room is as
+/// before, and the word was asked.
+pub fn do_hit<W: Words>(
+    room: &mut Room,
+    words: &mut W,
+    at: RoomRef,
+    response: ResponseRef,
+    word: u32,
+    moment: Moment,
+) -> Result<Duties, Memory>
+    ensures words { AsksAtMost W.settles W.entry words.old
+        (word_to_ask (W.count words.old) (spec.hit_word (room_after room.old) word moment))
+        Settled.Lifted words.new }
+    ensures ok { OnOk result (room.new ≡ spec.where_done
+        (has_word (W.count words.old) (spec.hit_word (room_after room.old) word moment)) room.old
+        (event.Hit word moment
+        (answer_in (W.entry words.new) (spec.hit_word (room_after room.old) word moment)))) }
+    ensures duties { IfOk result (λ duties. duties.items ≡
+        spec.duties_of_hit (room_after room.old) at response word moment
+        (has_word (W.count words.old) (spec.hit_word (room_after room.old) word moment))
+        (answer_in (W.entry words.new) (spec.hit_word (room_after room.old) word moment))) }
+    ensures err { OnErr result (room.new ≡ room.old) }
+{
+    let asked = word_of_hit(room, word, moment);
+    let Some(answer) = ask(words, asked, Settled::Lifted) else {
+        return Ok(Duties::new());
+    };
+    let reply = room.hit(word, moment, answer)?;
+    let answered = Duty::Answer {
+        room: at,
+        response,
+        reply,
+        moment,
+    };
+    Ok(with_told(answered, is_award(reply), room, at, moment))
+}
+
+/// The word that a hit asks, where no check of the room refuses it before.
+fn word_of_hit(room: &Room, word: u32, moment: Moment) -> Option<u64>
+    ensures { result ≡ spec.hit_word (room_after room.now) word moment }
+{
+    let asked = room.question_hit(word, moment).ok()?;
+    Some(u64::from(asked))
+}
+
+/// Whether a reply says that the request is awarded.
+fn is_award(reply: Reply) -> bool
+    ensures { result ≡ spec.is_award reply }
+{
+    match reply {
+        Reply::Awarded => true,
+        Reply::Passed => false,
+        Reply::Refused(_) => false,
+    }
+}
+
+/// The investor passes its request, which ends an open room. What follows is the answer to the
+/// investor and then, where the room ended, each named dealer is told so. It fails for memory
+/// alone, and then the room is as before.
+pub fn do_pass(
+    room: &mut Room,
+    at: RoomRef,
+    response: ResponseRef,
+    moment: Moment,
+) -> Result<Duties, Memory>
+    ensures ok { OnOk result (room.new ≡ room.old ++ event.Pass moment ∷ []) }
+    ensures duties { IfOk result (λ duties. duties.items ≡
+        spec.duties_of_pass (room_after room.old) at response moment) }
+    ensures err { OnErr result (room.new ≡ room.old) }
+{
+    let passed = room.pass(moment)?;
+    let answered = Duty::Answer {
+        room: at,
+        response,
+        reply: reply_to_pass(passed),
+        moment,
+    };
+    Ok(with_told(answered, passed, room, at, moment))
+}
+
+/// What the investor is answered to a pass.
+fn reply_to_pass(passed: bool) -> Reply
+    ensures { result ≡ spec.reply_to_pass passed }
+{
+    if !passed {
+        return Reply::Refused(HitRefusal::NotOpen);
+    }
+    Reply::Passed
+}
+
+/// A sweep of a room, which ends it where it is open and its deadline has come. What follows then
+/// is that the investor is told, and each named dealer; they are duties of the clock. It fails for
+/// memory alone, and then the room is as before.
+pub fn do_expire(room: &mut Room, at: RoomRef, moment: Moment) -> Result<Duties, Memory>
+    ensures ok { OnOk result (room.new ≡ room.old ++ event.Expire moment ∷ []) }
+    ensures duties { IfOk result (λ duties. duties.items ≡
+        spec.duties_of_expire (room_after room.old) at moment) }
+    ensures err { OnErr result (room.new ≡ room.old) }
+{
+    let ended = room.expire(moment)?;
+    if !ended {
+        return Ok(Duties::new());
+    }
+    let closed = Duty::Close { room: at, moment };
+    Ok(with_told(closed, true, room, at, moment))
+}
+
+/// A duty and, where the room has just ended, those that tell each named dealer so.
+fn with_told(first: Duty, ended: bool, room: &Room, at: RoomRef, moment: Moment) -> Duties
+    ensures { result.items ≡ first ∷ (if ended
+        then spec.told_of_end (room_after room.now) at moment else []) }
+{
+    let mut duties = Duties::new();
+    duties.push(first);
+    if !ended {
+        return duties;
+    }
+    let Some(end) = room.end() else {
+        return duties;
+    };
+    let Some(request) = room.request() else {
+        return duties;
+    };
+    tell_each(&mut duties, at, &end, request.dealers.as_slice(), moment);
+    duties
+}
+
+/// Puts behind a duty, for each of at most 8 dealers, that it is told how a request ended for it.
+fn tell_each(duties: &mut Duties, at: RoomRef, end: &End, dealers: &[u16], moment: Moment)
+    requires one { length duties.old.items ≤ 1 }
+    requires few { length dealers.now ≤ 8 }
+    ensures { duties.new.items
+        ≡ duties.old.items ++ spec.told_to_each at end.now dealers.now moment }
+{
+    for dealer in dealers {
+        duties.push(Duty::Tell {
+            dealer: *dealer,
+            room: at,
+            close: close_for(end, *dealer),
+            moment,
+        });
+    }
+}
+
+/// How a request ended for a dealer.
+fn close_for(end: &End, dealer: u16) -> Close
+    ensures { result ≡ spec.close_for end.now dealer }
+{
+    match end.kind {
+        EndKind::Awarded => close_at_award(end, dealer),
+        EndKind::Passed => Close::Pass,
+        EndKind::Expired => Close::Expired,
+    }
+}
+
+/// How an award ended for a dealer.
+fn close_at_award(end: &End, dealer: u16) -> Close
+    ensures { result ≡ spec.close_at_award end.now dealer }
+{
+    if is_winner(end, dealer) {
+        return Close::Hit;
+    }
+    if end.cover == Some(dealer) {
+        return Close::Cover;
+    }
+    Close::DoneAway
+}
+
+/// Whether a dealer won.
+fn is_winner(end: &End, dealer: u16) -> bool
+    ensures { result ≡ spec.is_winner end.now.winner dealer }
+{
+    let Some((winner, _)) = end.winner else {
+        return false;
+    };
+    winner == dealer
+}

@@ -1,0 +1,42 @@
+//! The steps of the venue, one function each: what a message, a duty or a sweep does at the one
+//! desk or in the one room that it is lent, and which duties follow.
+//!
+//! A step of the market happens in one place. A quote is accepted at its dealer's desk, and posted
+//! in the room of its request by a step of its own later; between the two stands a *duty*, which
+//! the first leaves and the second does. So no step needs two places, and whoever runs them (one
+//! after the other, or on threads under a lock for each place) does the same market.
+//!
+//! A step asks one word at most, that of the quote that it would withdraw or lift, and hands the
+//! answer on to the place. It runs over any row of words that is [`quote_word::Words`].
+//!
+//! ```text
+//! let duties = own_dealer(&mut desk, &mut words, 0, moment, bytes)?;   // a quote: Post follows
+//! let duties = do_post(&mut room, at, 0, offer, moment)?;              // Relay follows
+//! let duties = do_hit(&mut room, &mut words, at, response, 0, moment)?; // Answer, then each Tell
+//! ```
+//!
+//! # What is promised
+//!
+//! - Each step adds the one event of its name at the place that it is lent, or none where its
+//!   condition does not hold: a room that was shown before is not shown again, one that is not
+//!   vacant not opened, a dealer that is not named not heard, a word beyond the row not asked. Then
+//!   nothing changes and no duty follows.
+//! - It asks one word at most, and what it does is by the answer of that word.
+//! - The duties that follow, in their order, are those of `specs/DealerSteps` and
+//!   `specs/RoomSteps`, which say them for each step from the place as it was.
+//! - After [`Memory`](fix_fields::Memory) the place is as before. A step that asks a word has then
+//!   asked it: [`own_dealer`], [`do_drop`] and [`do_hit`] say so.
+#![tactic(auto)]
+
+mod dealers;
+mod ends;
+mod rooms;
+mod words;
+
+pub use dealers::{do_drop, do_show, do_tell, own_dealer};
+pub use ends::{do_expire, do_hit, do_pass};
+pub use rooms::{do_decline, do_open, do_post, do_ready, do_unpost};
+
+/// The duties that follow from a step, in their order: at most 9, those of a hit that awards a
+/// request of eight dealers.
+pub type Duties = arrayvec::ArrayVec<market_terms::Duty, 9>;
