@@ -1,4 +1,5 @@
 //! The session checks of an investor's message: each fault of each tag, and what is no fault. `parties` has the group.
+use crate::parties::are_named;
 use crate::support::{Change, changed, day};
 use fix_fields::read_frame;
 use message_fixtures::{frame, investor_row};
@@ -151,22 +152,15 @@ fn finds_each_fault_of_a_response(rt: HostRuntime) -> Result<(), Fail> {
     finds_each(&rt, rt.alloc(), PASS, &PASS_FAULTS)
 }
 
-/// Asserts that a body is a request with these values, and that it names so many dealers.
-fn is_request(
-    rt: &impl Abort,
-    request: &QuoteRequest,
-    side: Side,
-    units: u64,
-    dealers: usize,
-) -> Result<(), Fail> {
+/// Asserts that a body is a request with these values, and that it names DLR1 and DLR2.
+fn is_request(rt: &impl Abort, request: &QuoteRequest, side: Side, units: u64) -> Result<(), Fail> {
     assert!(rt; request.trader.as_bytes() == b"T8".as_slice());
     assert!(rt; request.id.as_bytes() == b"A".as_slice());
     assert!(rt; request.bond.as_bytes() == b"BONDA0000001".as_slice());
     assert!(rt; request.side == side);
     assert_eq!(rt; request.quantity.get(), units);
     assert_eq!(rt; request.deadline.get(), 32_700_000);
-    assert_eq!(rt; request.dealers.again().count(), dealers);
-    Ok(())
+    are_named(rt, request, &[b"DLR1", b"DLR2"])
 }
 
 const REQUESTS: [(&str, &str, u64); 4] = [
@@ -190,7 +184,7 @@ fn reads_each_request(rt: HostRuntime) -> Result<(), Fail> {
         let Ok(InvestorMessage::Request(request)) = message else {
             return Err(Fail::from("no request"));
         };
-        is_request(&rt, &request, Side::Buy, units, 2)?;
+        is_request(&rt, &request, Side::Buy, units)?;
     }
     let body = changed(rt.alloc(), REQUEST, "54=1|", "54=2|")?;
     let bytes = frame(rt.alloc(), body.as_str())?;
@@ -198,7 +192,7 @@ fn reads_each_request(rt: HostRuntime) -> Result<(), Fail> {
     let Ok(InvestorMessage::Request(request)) = read_investor(&day()?, &row()?, &frame) else {
         return Err(Fail::from("no request"));
     };
-    is_request(&rt, &request, Side::Sell, 2_000_000, 2)
+    is_request(&rt, &request, Side::Sell, 2_000_000)
 }
 
 #[test]

@@ -99,13 +99,17 @@ const WHOLE: [(&str, &[&[u8]]); 10] = [
 ];
 
 /// Asserts that a request names these dealers, in this order.
-fn are_named(rt: &impl Abort, request: &QuoteRequest, dealers: &[&[u8]]) -> Result<(), Fail> {
-    assert_eq!(rt; request.dealers.again().count(), dealers.len());
+pub(crate) fn are_named(
+    rt: &impl Abort,
+    request: &QuoteRequest,
+    dealers: &[&[u8]],
+) -> Result<(), Fail> {
     let mut left = request.dealers.again();
     for dealer in dealers {
         let named = left.next().ok_or("too few")?;
         assert!(rt; named.as_bytes() == *dealer);
     }
+    assert!(rt; left.next().is_none(), "too many");
     Ok(())
 }
 
