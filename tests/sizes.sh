@@ -1,6 +1,6 @@
 #!/bin/sh
 # Writes docs/SIZES.md: for each crate its lines that are not blank, and its must-fail edits; and, from
-# a log of the gate, how it ended and how long it took. Sizes and times stand nowhere else.
+# a log of the gate that ended, how it ended and how long it took. Sizes and times stand nowhere else.
 # usage: tests/sizes.sh [LOG]     LOG as written by: { time rt ci; } >LOG 2>&1
 set -eu
 root=$(cd "$(dirname "$0")/.." && pwd)
@@ -49,7 +49,7 @@ crates=$(sed -n 's/^\([a-z0-9_]*\)[ a-z_=+0-9A-Z]*:.*/\1/p' "$root/crates.txt")
             "$(lines "$at/proofs" '*.antt') | $tests | $((edits)) | $(functions "$crate") |"
     done
     echo
-    if [ "$log" != /dev/null ]; then
+    if grep -q '^[0-9]* passed, ' "$log"; then
         echo 'The gate, `rt ci`:'
         echo
         sed -n -e 's/^[0-9]* passed, [0-9]* failed$/- it ended `&`/p' \
