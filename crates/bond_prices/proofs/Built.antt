@@ -1,11 +1,14 @@
--- A text and its parts are one thing: cut, each text gives its parts, and lawful parts are found again in their text.
-use Rattle.std.proofs.Common.{◌≡◌, ◌≢◌, ℕ, ◌<◌, Bool, true, false, List, [], ◌∷◌, ◌++◌, length, Option, Some, None, refl, sym, ◌∙◌, ap, arith, ◌&&◌}
+-- A text and its parts are one thing: cut, each text gives its parts, and lawful parts are found
+-- again in their text.
+use Rattle.std.proofs.Common.{◌≡◌, ◌≢◌, ℕ, ◌<◌, Bool, true, false, List, [], ◌∷◌, ◌++◌, length}
+use Rattle.std.proofs.Common.{Option, Some, None, refl, sym, ◌∙◌, ap, arith, ◌&&◌}
 use Rattle.std.proofs.lemmas.Bool.{and_parts, ne_eqb, eqb-true, le-leb, leb-true}
 use Rattle.std.specs.Prelude.{◌==◌, nat_le}
 use Rattle.std.specs.Str.Parse.{AllDigits}
 use Rattle.std.specs.Char.{is_digit, digit_value}
 use Rattle.std.specs.List.{list_all}
-use Rattle.bond_prices.specs.Price.{Parts, text_of, sign_text, point_text, behind_point, digits_of, cut_at_point, parts_of, are_lawful, IsLawful}
+use Rattle.bond_prices.specs.Price.{Parts, text_of, sign_text, point_text, behind_point, digits_of}
+use Rattle.bond_prices.specs.Price.{cut_at_point, parts_of, are_lawful, IsLawful}
 use Rattle.bond_prices.proofs.PriceOf.{cut_at_point-unsigned}
 use Rattle.bond_prices.proofs.DigitTests.{digits_test, digits_from_test}
 

@@ -1,13 +1,19 @@
 -- `price_of` is what the definitions by parts say.
-use Rattle.std.proofs.Common.{◌≡◌, ◌≢◌, ℕ, ◌+◌, ◌*◌, ◌/◌, ◌%◌, ◌<◌, ◌≤◌, ◌⊎◌, inl, inr, Bool, true, false, List, length, Result, Ok, Err, refl, sym, ◌∙◌, ap, subst, arith, if◌then◌else◌, lit<, ◌↔◌}
+use Rattle.std.proofs.Common.{◌≡◌, ◌≢◌, ℕ, ◌+◌, ◌*◌, ◌/◌, ◌%◌, ◌<◌, ◌≤◌, ◌⊎◌, inl, inr, Bool, true}
+use Rattle.std.proofs.Common.{false, List, length, Result, Ok, Err, refl, sym, ◌∙◌, ap, subst}
+use Rattle.std.proofs.Common.{arith, if◌then◌else◌, lit<, ◌↔◌}
 use Rattle.std.proofs.lemmas.Bool.{ltb-true, ltb-false, eqb-true, eqb-false}
-use Rattle.std.proofs.Math.Nat.{mod-add-div, mul-le-mul_right, mul-mod_left, mul-div_cancel, one-le-pow, mul_comm, le-div_iff_mul-le, div-le_of_le-mul}
+use Rattle.std.proofs.Math.Nat.{mod-add-div, mul-le-mul_right, mul-mod_left, mul-div_cancel}
+use Rattle.std.proofs.Math.Nat.{one-le-pow, mul_comm, le-div_iff_mul-le, div-le_of_le-mul}
 use Rattle.std.specs.Prelude.{nat_lt, ◌==◌}
 use Rattle.bond_prices.specs.declared.fault.PriceFault.{PriceFault}
 use Rattle.bond_prices.specs.declared.fault.PriceFault.TheVariants.{Form, Range, Grid}
-use Rattle.bond_prices.specs.Price.{Parts, text_of, behind_point, digits_of, number_of, scale_of, parts_of, are_lawful, price_at, price_of, IsLawful, IsPriceForm, IsReadAs, IsOutOfRange, IsOffGrid}
+use Rattle.bond_prices.specs.Price.{Parts, text_of, behind_point, digits_of, number_of, scale_of}
+use Rattle.bond_prices.specs.Price.{parts_of, are_lawful, price_at, price_of, IsLawful, IsPriceForm}
+use Rattle.bond_prices.specs.Price.{IsReadAs, IsOutOfRange, IsOffGrid}
 use Rattle.bond_prices.proofs.PriceAt.{price_at-low, price_at-high, price_at-grid, price_at-ok}
-use Rattle.bond_prices.proofs.Built.{lawful_test, lawful_from_test, parts_of-text_of, text_of-parts_of}
+use Rattle.bond_prices.proofs.Built.{lawful_test, lawful_from_test, parts_of-text_of}
+use Rattle.bond_prices.proofs.Built.{text_of-parts_of}
 
 -- what holds of a / s 256ths where `price_at` answers r
 abbrev pub NumberMeans : ℕ → ℕ → Result ℕ PriceFault → Type 0

@@ -1,5 +1,6 @@
 -- What `price_of` answers, by what the unsigned text spells.
-use Rattle.std.proofs.Common.{◌≡◌, ◌≢◌, ℕ, ◌*◌, Bool, true, false, List, [], ◌∷◌, length, Some, None, Err, refl, ap, arith, if◌then◌else◌, get_or}
+use Rattle.std.proofs.Common.{◌≡◌, ◌≢◌, ℕ, ◌*◌, Bool, true, false, List, [], ◌∷◌, length, Some}
+use Rattle.std.proofs.Common.{None, Err, refl, ap, arith, if◌then◌else◌, get_or}
 use Rattle.std.proofs.lemmas.Bool.{ne_eqb}
 use Rattle.std.specs.Prelude.{◌==◌}
 use Rattle.bond_prices.specs.Price.{Parts, cut_at_point, parts_of, price_at, price_of}

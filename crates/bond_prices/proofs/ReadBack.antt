@@ -1,12 +1,17 @@
 -- A printed price is read back as its number, and has no digit to spare.
-use Rattle.std.proofs.Common.{◌≡◌, ◌≢◌, ℕ, suc, ◌+◌, ◌*◌, ◌/◌, ◌%◌, ◌^◌, ◌<◌, ◌≤◌, ◌⊎◌, inl, inr, Bool, true, false, List, [], ◌∷◌, ◌++◌, length, Option, Some, None, Ok, refl, sym, ◌∙◌, ap, arith, length-append}
+use Rattle.std.proofs.Common.{◌≡◌, ◌≢◌, ℕ, suc, ◌+◌, ◌*◌, ◌/◌, ◌%◌, ◌^◌, ◌<◌, ◌≤◌, ◌⊎◌, inl, inr}
+use Rattle.std.proofs.Common.{Bool, true, false, List, [], ◌∷◌, ◌++◌, length, Option, Some, None}
+use Rattle.std.proofs.Common.{Ok, refl, sym, ◌∙◌, ap, arith, length-append}
 use Rattle.std.proofs.lemmas.Bool.{eqb-true, eqb-false}
 use Rattle.std.proofs.lemmas.Fmt.{decimal_is_IsNumeral, length-decimal-le}
 use Rattle.std.proofs.Math.Nat.{pow-suc}
 use Rattle.std.specs.Prelude.{◌==◌, decimal}
 use Rattle.std.specs.Str.Parse.{AllDigits, digits_value, digits_value_after}
 use Rattle.std.specs.Char.{digit_value}
-use Rattle.bond_prices.specs.Price.{Parts, text_of, point_text, behind_point, number_of, scale_of, price_of, price_digits, fraction_digits, fraction_of, eight_decimals, before_nonzero, without_last_zeros, EndsInNonzero, IsLawful, IsReadAs, IsShortest}
+use Rattle.bond_prices.specs.Price.{Parts, text_of, point_text, behind_point, number_of, scale_of}
+use Rattle.bond_prices.specs.Price.{price_of, price_digits, fraction_digits, fraction_of}
+use Rattle.bond_prices.specs.Price.{eight_decimals, before_nonzero, without_last_zeros}
+use Rattle.bond_prices.specs.Price.{EndsInNonzero, IsLawful, IsReadAs, IsShortest}
 use Rattle.bond_prices.proofs.Fractions.{fraction_digits-decimals}
 use Rattle.bond_prices.proofs.Meaning.{price_of-read}
 

@@ -1,5 +1,8 @@
--- What the rest of a text spells, behind what was scanned of it: the loop of `read_decimal` keeps it.
-use Rattle.std.proofs.Common.{◌≡◌, ℕ, suc, ◌+◌, ◌-◌, ◌*◌, ◌^◌, ◌<◌, ◌≤◌, Bool, true, false, List, [], ◌∷◌, length, Option, Some, None, refl, sym, ◌∙◌, ap, arith, add-one, zero-add, if◌then◌else◌, ◌&&◌, lit<, get_or, drop, drop-cons}
+-- What the rest of a text spells, behind what was scanned of it: the loop of `read_decimal` keeps
+-- it.
+use Rattle.std.proofs.Common.{◌≡◌, ℕ, suc, ◌+◌, ◌-◌, ◌*◌, ◌^◌, ◌<◌, ◌≤◌, Bool, true, false, List}
+use Rattle.std.proofs.Common.{[], ◌∷◌, length, Option, Some, None, refl, sym, ◌∙◌, ap, arith}
+use Rattle.std.proofs.Common.{add-one, zero-add, if◌then◌else◌, ◌&&◌, lit<, get_or, drop, drop-cons}
 use Rattle.std.proofs.lemmas.Bool.{lt-ltb, le-ltb, ne_eqb}
 use Rattle.std.proofs.Math.Nat.{pow-suc, pow-le-pow_right, one-mul, mul_assoc, mul_comm}
 use Rattle.std.specs.Prelude.{nat_lt, nat_le}

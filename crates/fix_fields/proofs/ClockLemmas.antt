@@ -1,5 +1,8 @@
 -- Dates and times of day as texts.
-use Rattle.std.proofs.Common.{◌≡◌, ◌≢◌, ℕ, ◌+◌, ◌-◌, ◌*◌, ◌/◌, ◌%◌, ◌<◌, ◌≤◌, ◌⊎◌, true, false, cond, List, [], ◌∷◌, ◌++◌, length, take, drop, get_or, sym, ap, ◌∙◌, subst, refl, arith, inl, inr, append_assoc, Result, Ok, Err, Option, Some, None}
+use Rattle.std.proofs.Common.{◌≡◌, ◌≢◌, ℕ, ◌+◌, ◌-◌, ◌*◌, ◌/◌, ◌%◌, ◌<◌, ◌≤◌, ◌⊎◌, true, false}
+use Rattle.std.proofs.Common.{cond, List, [], ◌∷◌, ◌++◌, length, take, drop, get_or, sym, ap, ◌∙◌}
+use Rattle.std.proofs.Common.{subst, refl, arith, inl, inr, append_assoc, Result, Ok, Err, Option}
+use Rattle.std.proofs.Common.{Some, None}
 use Rattle.std.specs.Bool.{Decides}
 use Rattle.std.specs.Option.{SomeIff}
 use Rattle.std.specs.Char.{is_ascii_digit, digit_value}
@@ -18,7 +21,9 @@ use Rattle.std.proofs.lemmas.Str.{IsUtf8-from_ascii}
 use Rattle.std.proofs.lemmas.Str.Parse.{digit_from_value}
 use Rattle.std.proofs.Math.Seq.{take-append_seam, drop-append_seam}
 use Rattle.fix_fields.specs.Frame.{three_digits}
-use Rattle.fix_fields.specs.UtcTimestamp.{IsDate, date_text, two_digits, four_digits, clock_text, seconds_text, timestamp_text, IsSpelling, UtcTimestamp, number_at, is_date, milliseconds_of, spells, moment_of}
+use Rattle.fix_fields.specs.UtcTimestamp.{IsDate, date_text, two_digits, four_digits, clock_text}
+use Rattle.fix_fields.specs.UtcTimestamp.{seconds_text, timestamp_text, IsSpelling, UtcTimestamp}
+use Rattle.fix_fields.specs.UtcTimestamp.{number_at, is_date, milliseconds_of, spells, moment_of}
 use Rattle.fix_fields.specs.Clock.{IsClock, IsTwoDigits}
 use Rattle.fix_fields.specs.declared.fault.MomentFault.{MomentFault}
 use Rattle.fix_fields.specs.declared.fault.MomentFault.TheVariants.{Form, OtherDay}

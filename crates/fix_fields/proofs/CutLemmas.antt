@@ -1,5 +1,7 @@
 -- Bytes cut by BodyLength: where the parts stand, and that they stand nowhere else.
-use Rattle.std.proofs.Common.{◌≡◌, ℕ, ◌+◌, ◌-◌, ◌<◌, ◌≤◌, Bool, true, eqb, List, [], ◌∷◌, ◌++◌, length, take, drop, get_or, sym, ap, ◌∙◌, subst, refl, arith, inl, inr, add-one, append_assoc, length-append}
+use Rattle.std.proofs.Common.{◌≡◌, ℕ, ◌+◌, ◌-◌, ◌<◌, ◌≤◌, Bool, true, eqb, List, [], ◌∷◌, ◌++◌}
+use Rattle.std.proofs.Common.{length, take, drop, get_or, sym, ap, ◌∙◌, subst, refl, arith, inl}
+use Rattle.std.proofs.Common.{inr, add-one, append_assoc, length-append}
 use Rattle.std.specs.Char.{is_ascii_digit}
 use Rattle.std.specs.List.{prefix_len}
 use Rattle.std.specs.Str.Parse.{AllDigits, digits_value}
@@ -7,10 +9,12 @@ use Rattle.std.proofs.lemmas.Bool.{cases_lt}
 use Rattle.std.proofs.lemmas.Bool.Decides.{Decides-eqb}
 use Rattle.std.proofs.lemmas.Slice.Eq.{starts_is}
 use Rattle.std.specs.Cmp.Lexicographic.{pointwise}
-use Rattle.std.proofs.lemmas.List.{take-append-drop, length-take, length-take-le, length-drop, append_cancel_right, drop_all}
+use Rattle.std.proofs.lemmas.List.{take-append-drop, length-take, length-take-le, length-drop}
+use Rattle.std.proofs.lemmas.List.{append_cancel_right, drop_all}
 use Rattle.std.proofs.lemmas.List.Sums.{prefix_len-le-length}
 use Rattle.std.proofs.lemmas.Str.Parse.{digits_value_short}
-use Rattle.std.proofs.Math.Seq.{get_or-append_seam, take-append_seam, drop-append_seam, drop-append-add, drop-cons}
+use Rattle.std.proofs.Math.Seq.{get_or-append_seam, take-append_seam, drop-append_seam}
+use Rattle.std.proofs.Math.Seq.{drop-append-add, drop-cons}
 use Rattle.fix_fields.specs.Frame.{IsLength, start_text, front_text, end_text}
 use Rattle.fix_fields.specs.Garbled.{IsCut, Starts}
 use Rattle.fix_fields.specs.Scan.{IsEnd}

@@ -1,16 +1,22 @@
 -- Streams that are cut: byte by byte, by blocks of bytes, and by pieces.
-use Rattle.std.proofs.Common.{◌≡◌, ◌≢◌, ℕ, ◌+◌, ◌-◌, ◌<◌, ◌≤◌, List, [], ◌∷◌, ◌++◌, length, take, drop, sym, ap, ◌∙◌, subst, refl, arith, inl, inr, zero, suc, append_assoc, length-append, Result, Ok, Err}
+use Rattle.std.proofs.Common.{◌≡◌, ℕ, ◌+◌, ◌<◌, ◌≤◌, List, [], ◌∷◌, ◌++◌, length, sym, ap, ◌∙◌}
+use Rattle.std.proofs.Common.{subst, refl, arith, inl, inr, zero, suc, append_assoc, length-append}
+use Rattle.std.proofs.Common.{Result, Ok, Err}
 use Rattle.std.specs.Prelude.{fold}
 use Rattle.std.specs.List.{AllByRecursion, concat}
 use Rattle.std.proofs.lemmas.List.{append-nil}
 use Rattle.std.proofs.lemmas.List.Sums.{fold-append}
-use Rattle.std.proofs.lemmas.List.Folds.{concat-append}
 use Rattle.fix_fields.specs.declared.fault.StreamFault.{StreamFault}
-use Rattle.fix_fields.specs.Frame.{Field, IsFrame, fields_text, front_text}
-use Rattle.fix_fields.specs.Envelope.{IsEnvelope, BeginsWithEnvelope, IsStreamFault, Cutting, Stands, IsCutting, Front, front_of, front_in_start, taken, with_byte, with_byte_behind, cut_behind, uncut, envelopes_of, envelopes_of_pieces}
-use Rattle.fix_fields.specs.Scan.{cutting, cut_on, WaitsFor, IsKept, rest_of}
+use Rattle.fix_fields.specs.Frame.{Field, IsFrame, fields_text}
+use Rattle.fix_fields.specs.Envelope.{IsEnvelope, BeginsWithEnvelope, IsStreamFault, Cutting}
+use Rattle.fix_fields.specs.Envelope.{Stands, IsCutting, Front, front_of, front_in_start, taken}
+use Rattle.fix_fields.specs.Envelope.{with_byte, cut_behind, uncut, envelopes_of}
+use Rattle.fix_fields.specs.Envelope.{envelopes_of_pieces}
+use Rattle.fix_fields.specs.Scan.{cutting, cut_on}
 use Rattle.fix_fields.specs.Envelope.Front.{Begun, Whole, Faulty}
-use Rattle.fix_fields.proofs.FrontLemmas.{HasWhole, cases_Front, front_fault, front_whole, front_more_faulty, front_more_whole, has_fault, has_whole, envelope_len}
+use Rattle.fix_fields.proofs.FrontLemmas.{HasWhole, cases_Front, front_fault, front_whole}
+use Rattle.fix_fields.proofs.FrontLemmas.{front_more_faulty, front_more_whole, has_fault, has_whole}
+use Rattle.fix_fields.proofs.FrontLemmas.{envelope_len}
 
 one_more : (rest : List ℕ) (byte : ℕ) (bytes : List ℕ) → rest ++ (byte ∷ bytes) ≡ (rest ++ (byte ∷ [])) ++ bytes
 one_more rest byte bytes = sym (append_assoc rest (byte ∷ []) bytes)

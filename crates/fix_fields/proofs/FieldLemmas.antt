@@ -1,5 +1,8 @@
 -- Fields at the front of a text: where their parts stand, and that they stand nowhere else.
-use Rattle.std.proofs.Common.{◌≡◌, ◌≢◌, ℕ, ◌+◌, ◌^◌, ◌<◌, ◌≤◌, ◌==◌, ◌⊎◌, Bool, true, false, cond, List, [], ◌∷◌, ◌++◌, length, take, drop, get_or, sym, ap, ◌∙◌, subst, refl, arith, inl, inr, zero, suc, add-one, append_assoc, zero-add, length-append, lit<, Some}
+use Rattle.std.proofs.Common.{◌≡◌, ◌≢◌, ℕ, ◌+◌, ◌^◌, ◌<◌, ◌≤◌, ◌==◌, ◌⊎◌, Bool, true, false, cond}
+use Rattle.std.proofs.Common.{List, [], ◌∷◌, ◌++◌, length, take, drop, get_or, sym, ap, ◌∙◌, subst}
+use Rattle.std.proofs.Common.{refl, arith, inl, inr, zero, suc, add-one, append_assoc, zero-add}
+use Rattle.std.proofs.Common.{length-append, lit<, Some}
 use Rattle.std.specs.Prelude.{decimal}
 use Rattle.std.specs.Fmt.{digits}
 use Rattle.std.specs.Char.{is_ascii_digit}
@@ -8,12 +11,16 @@ use Rattle.std.specs.Str.Parse.{AllDigits, digits_value}
 use Rattle.std.proofs.lemmas.Bool.Decides.{nat_tests}
 use Rattle.std.proofs.lemmas.Bool.{cases_Bool, cases_lt}
 use Rattle.std.proofs.Math.Nat.{add_comm}
-use Rattle.std.proofs.lemmas.List.{take-append-drop, length-take, append_cancel_left, length-take-le, get_or-take, get_or_append_left}
+use Rattle.std.proofs.lemmas.List.{take-append-drop, length-take, append_cancel_left}
+use Rattle.std.proofs.lemmas.List.{length-take-le, get_or-take, get_or_append_left}
 use Rattle.std.proofs.lemmas.List.Sums.{prefix_len-le-length, split_at_first, passes_at_first}
 use Rattle.std.proofs.lemmas.Str.Parse.{digit_from_value, digits_value_short}
-use Rattle.std.proofs.lemmas.Fmt.{decimal-digits_value, decimal_digit, digits_decimal, digits_value-decimal, first_decimal, decimal_nonempty, length-decimal-le}
+use Rattle.std.proofs.lemmas.Fmt.{decimal-digits_value, decimal_digit, digits_decimal}
+use Rattle.std.proofs.lemmas.Fmt.{digits_value-decimal, first_decimal, decimal_nonempty}
+use Rattle.std.proofs.lemmas.Fmt.{length-decimal-le}
 use Rattle.std.proofs.Math.Seq.{get_or-append_seam, take-append_seam, drop-append-add, drop-cons}
-use Rattle.fix_fields.specs.Frame.{Field, IsValue, IsField, is_value, AreBody, value_of, field_text, fields_text, pieces_of, field_of, fields_of}
+use Rattle.fix_fields.specs.Frame.{Field, IsValue, IsField, is_value, AreBody, value_of, field_text}
+use Rattle.fix_fields.specs.Frame.{fields_text, pieces_of, field_of, fields_of}
 use Rattle.fix_fields.specs.Scan.{BeginsWithField, HoldsFields, HoldsBody, IsFieldsText, IsBodyText}
 use Rattle.fix_fields.proofs.Digits.{plain, count_of, counted_digits}
 

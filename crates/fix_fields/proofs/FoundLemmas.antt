@@ -1,5 +1,8 @@
 -- What is found at the front of bytes, from what the code sees of them.
-use Rattle.std.proofs.Common.{◌≡◌, ◌≢◌, ℕ, ◌+◌, ◌-◌, ◌<◌, ◌≤◌, ◌==◌, ◌⊎◌, Bool, true, false, eqb, List, [], ◌∷◌, ◌++◌, length, take, drop, get_or, sym, ap, ◌∙◌, subst, refl, arith, inl, inr, zero, suc, add-one, append_assoc, length-append}
+use Rattle.std.proofs.Common.{◌≡◌, ◌≢◌, ℕ, ◌+◌, ◌-◌, ◌<◌, ◌≤◌, ◌==◌, ◌⊎◌, Bool, true, false, eqb}
+use Rattle.std.proofs.Common.{List, [], ◌∷◌, ◌++◌, length, take, drop, get_or, sym, ap, ◌∙◌, subst}
+use Rattle.std.proofs.Common.{refl, arith, inl, inr, zero, suc, add-one, append_assoc}
+use Rattle.std.proofs.Common.{length-append}
 use Rattle.std.specs.Prelude.{nat_lt}
 use Rattle.std.specs.Char.{is_ascii_digit}
 use Rattle.std.specs.List.{prefix_len}
@@ -7,18 +10,21 @@ use Rattle.std.specs.Str.Parse.{AllDigits, digits_value}
 use Rattle.std.proofs.lemmas.Bool.{cases_Bool, cases_lt, false≢true, eqb-true}
 use Rattle.std.proofs.lemmas.Bool.Decides.{nat_tests}
 use Rattle.std.specs.Cmp.Lexicographic.{pointwise}
-use Rattle.std.proofs.lemmas.List.{append-nil, take_rest, take-append-drop, length-take, length-take-le, length-drop}
+use Rattle.std.proofs.lemmas.List.{append-nil, take_rest, take-append-drop, length-take}
+use Rattle.std.proofs.lemmas.List.{length-take-le, length-drop}
 use Rattle.std.proofs.lemmas.List.Sums.{prefix_len-le-length}
-use Rattle.std.proofs.Math.Seq.{take-append_seam, drop-append_seam, drop-append-add, drop-cons}
+use Rattle.std.proofs.Math.Seq.{take-append_seam, drop-append-add, drop-cons}
 use Rattle.fix_fields.specs.declared.limits.TheConstants.{MOST_FRAME}
 use Rattle.fix_fields.specs.declared.fault.StreamFault.TheVariants.{Start, Length, TooLong, End}
-use Rattle.fix_fields.specs.Frame.{IsLength, AreSumDigits, start_text, front_text, end_text}
+use Rattle.fix_fields.specs.Frame.{IsLength, start_text, front_text}
 use Rattle.fix_fields.specs.Scan.{IsEnd, WaitsFor, IsWhole}
-use Rattle.fix_fields.specs.Envelope.{message_len, is_end, Front, front_of, front_in_start, front_in_length, front_behind_length}
+use Rattle.fix_fields.specs.Envelope.{message_len, front_of, front_in_start, front_in_length}
+use Rattle.fix_fields.specs.Envelope.{front_behind_length}
 use Rattle.fix_fields.specs.Envelope.Front.{Begun, Whole, Faulty}
 use Rattle.fix_fields.proofs.Digits.{counted_digits}
 use Rattle.fix_fields.proofs.CutLemmas.{begins_of}
-use Rattle.fix_fields.proofs.FrontLemmas.{front_digits, front_measured, front_fault, front_whole, begun_short}
+use Rattle.fix_fields.proofs.FrontLemmas.{front_digits, front_measured, front_fault, front_whole}
+use Rattle.fix_fields.proofs.FrontLemmas.{begun_short}
 
 -- BeginString and the tag of BodyLength
 

@@ -1,5 +1,8 @@
 -- A frame is one of one list of fields, a fault is one, and `frame_of` gives the fields.
-use Rattle.std.proofs.Common.{◌≡◌, ◌≢◌, ℕ, ◌+◌, ◌-◌, ◌%◌, ◌<◌, ◌≤◌, ◌==◌, Bool, true, not, cond, leb, List, [], ◌∷◌, ◌++◌, length, take, drop, sum, sym, ap, ◌∙◌, subst, refl, arith, inl, inr, suc, zero, append_assoc, length-append, zero-add, Option, Some, None, Result, Ok, Err}
+use Rattle.std.proofs.Common.{◌≡◌, ◌≢◌, ℕ, ◌+◌, ◌-◌, ◌%◌, ◌<◌, ◌≤◌, ◌==◌, Bool, true, not, cond}
+use Rattle.std.proofs.Common.{leb, List, [], ◌∷◌, ◌++◌, length, take, drop, sum, sym, ap, ◌∙◌}
+use Rattle.std.proofs.Common.{subst, refl, arith, inl, inr, suc, zero, append_assoc, length-append}
+use Rattle.std.proofs.Common.{zero-add, Option, Some, None, Result, Ok, Err}
 use Rattle.std.specs.Prelude.{codes, MatchResult}
 use Rattle.std.specs.Bool.{Decides}
 use Rattle.std.specs.Result.{result_ok}
@@ -7,17 +10,24 @@ use Rattle.std.specs.List.{AllByRecursion, list_all}
 use Rattle.std.specs.Str.{all_ascii_digits}
 use Rattle.std.specs.Str.Parse.{AllDigits, digits_value}
 use Rattle.std.proofs.lemmas.Bool.{cases_lt, cases_Bool, false≢true}
-use Rattle.std.proofs.lemmas.Bool.Decides.{Decides-eqb, Decides-and, Decides-ltb, Decides-not, nat_tests}
+use Rattle.std.proofs.lemmas.Bool.Decides.{Decides-eqb, Decides-and, Decides-ltb, Decides-not}
+use Rattle.std.proofs.lemmas.Bool.Decides.{nat_tests}
 use Rattle.std.proofs.lemmas.List.Prefix.{end_rest}
 use Rattle.std.proofs.lemmas.Slice.Eq.{bytes_eq-Decides}
 use Rattle.std.proofs.Math.Seq.{take-append_seam, drop-append-add}
-use Rattle.fix_fields.specs.Frame.{Field, IsTag, IsValue, IsField, AreBody, IsLength, AreSumDigits, IsFrame, start_text, front_text, end_text, fields_text, fields_of, is_tag, is_value, is_field, are_body, are_length_digits, are_sum_digits, builds, length_digits_of, body_of, sum_digits_of, frame_of}
+use Rattle.fix_fields.specs.Frame.{Field, IsTag, IsValue, IsField, AreBody, IsLength, AreSumDigits}
+use Rattle.fix_fields.specs.Frame.{IsFrame, start_text, front_text, end_text, fields_text}
+use Rattle.fix_fields.specs.Frame.{fields_of, is_tag, is_value, is_field, are_body}
+use Rattle.fix_fields.specs.Frame.{are_length_digits, are_sum_digits, builds, length_digits_of}
+use Rattle.fix_fields.specs.Frame.{body_of, sum_digits_of, frame_of}
 use Rattle.fix_fields.specs.Scan.{IsEnd}
 use Rattle.fix_fields.specs.Garbled.{IsCut, Passes, PassesBefore, IsFault}
 use Rattle.fix_fields.specs.declared.fault.Garbled.{Garbled}
-use Rattle.fix_fields.specs.declared.fault.Garbled.TheVariants.{TooLong, Start, Length, Field as NoField, End, Sum}
+use Rattle.fix_fields.specs.declared.fault.Garbled.TheVariants.{TooLong, Start, Length}
+use Rattle.fix_fields.specs.declared.fault.Garbled.TheVariants.{Field as NoField, End, Sum}
 use Rattle.fix_fields.proofs.Digits.{tested}
-use Rattle.fix_fields.proofs.FieldLemmas.{place_of, place_behind, free_digits, fields_of-text, AreBody-lawful}
+use Rattle.fix_fields.proofs.FieldLemmas.{place_of, place_behind, free_digits, fields_of-text}
+use Rattle.fix_fields.proofs.FieldLemmas.{AreBody-lawful}
 use Rattle.fix_fields.proofs.CutLemmas.{rest_of_cut, cut_once, end_once}
 
 -- a frame is cut by BodyLength

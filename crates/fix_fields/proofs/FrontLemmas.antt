@@ -1,8 +1,10 @@
 -- What stands at the front of a stream: the function that reads it, and the facts that it decides.
-use Rattle.std.proofs.Common.{◌≡◌, ◌≢◌, ℕ, ◌+◌, ◌-◌, ◌<◌, ◌≤◌, ◌==◌, ◌&&◌, ◌⊎◌, Bool, true, false, List, [], ◌∷◌, ◌++◌, length, take, drop, sym, ap, ◌∙◌, subst, refl, arith, inl, inr, zero, suc, append_assoc, length-append}
+use Rattle.std.proofs.Common.{◌≡◌, ◌≢◌, ℕ, ◌+◌, ◌<◌, ◌≤◌, ◌==◌, ◌&&◌, ◌⊎◌, true, false, List, []}
+use Rattle.std.proofs.Common.{◌∷◌, ◌++◌, length, take, drop, sym, ap, ◌∙◌, subst, refl, arith, inl}
+use Rattle.std.proofs.Common.{inr, append_assoc, length-append}
 use Rattle.std.specs.Prelude.{nat_lt, codes}
 use Rattle.std.specs.Char.{is_ascii_digit}
-use Rattle.std.specs.Str.{bytes_eq, all_ascii_digits}
+use Rattle.std.specs.Str.{all_ascii_digits}
 use Rattle.std.specs.Str.Parse.{AllDigits, digits_value}
 use Rattle.std.proofs.lemmas.Bool.{and_parts, cases_Bool, false≢true, eqb-true}
 use Rattle.std.proofs.lemmas.Bool.Decides.{nat_tests, Decides-eqb}
@@ -11,9 +13,12 @@ use Rattle.std.proofs.lemmas.List.{append-nil, take-append-drop, length-take-le,
 use Rattle.std.proofs.Math.Seq.{take-append_seam, drop-append_seam}
 use Rattle.fix_fields.specs.declared.limits.TheConstants.{MOST_FRAME}
 use Rattle.fix_fields.specs.declared.fault.StreamFault.{StreamFault}
-use Rattle.fix_fields.specs.declared.fault.StreamFault.TheVariants.{Start, Length, TooLong, End, Memory}
+use Rattle.fix_fields.specs.declared.fault.StreamFault.TheVariants.{Start, Length, TooLong, End}
+use Rattle.fix_fields.specs.declared.fault.StreamFault.TheVariants.{Memory}
 use Rattle.fix_fields.specs.Frame.{IsLength, AreSumDigits, start_text, front_text, end_text}
-use Rattle.fix_fields.specs.Envelope.{IsEnvelope, BeginsWithEnvelope, DepartsFromStart, HasNoLength, IsTooLong, HasNoEnd, IsStreamFault, message_len, is_end, Front, front_of, front_in_start, front_in_length, front_behind_length}
+use Rattle.fix_fields.specs.Envelope.{IsEnvelope, DepartsFromStart, HasNoLength, IsTooLong}
+use Rattle.fix_fields.specs.Envelope.{HasNoEnd, IsStreamFault, message_len, is_end, Front, front_of}
+use Rattle.fix_fields.specs.Envelope.{front_in_start, front_in_length, front_behind_length}
 use Rattle.fix_fields.specs.Envelope.Front.{Begun, Whole, Faulty}
 use Rattle.fix_fields.proofs.Digits.{tested, is_digit, digit_is}
 

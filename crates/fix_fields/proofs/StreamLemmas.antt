@@ -1,17 +1,22 @@
 -- Pieces that are cut behind bytes that were kept.
-use Rattle.std.proofs.Common.{◌≡◌, ◌≢◌, ℕ, ◌+◌, ◌-◌, ◌<◌, ◌≤◌, List, [], ◌∷◌, ◌++◌, length, take, drop, sym, ap, ◌∙◌, subst, refl, arith, inl, inr, append_assoc, length-append, Result, Ok, Err, Option, Some, None}
+use Rattle.std.proofs.Common.{◌≡◌, ℕ, ◌+◌, ◌-◌, ◌<◌, ◌≤◌, List, [], ◌∷◌, ◌++◌, length, take, drop}
+use Rattle.std.proofs.Common.{sym, ap, ◌∙◌, subst, refl, arith, inl, inr, append_assoc}
+use Rattle.std.proofs.Common.{length-append, Result, Ok, Err, Option, Some, None}
 use Rattle.std.specs.Prelude.{fold, min}
 use Rattle.std.proofs.lemmas.Bool.{cases_lt}
-use Rattle.std.proofs.lemmas.List.{append-nil, take-append-drop, take-append-le, length-take, take_all}
+use Rattle.std.proofs.lemmas.List.{append-nil, take-append-drop, take-append-le, length-take}
+use Rattle.std.proofs.lemmas.List.{take_all}
 use Rattle.std.proofs.lemmas.List.Sums.{fold-append}
-use Rattle.std.proofs.Math.Seq.{take-append_seam, take-append-add, drop-append_seam}
+use Rattle.std.proofs.Math.Seq.{take-append_seam, take-append-add}
 use Rattle.fix_fields.specs.declared.limits.TheConstants.{MOST_FRAME}
 use Rattle.fix_fields.specs.declared.fault.StreamFault.{StreamFault}
 use Rattle.fix_fields.specs.Scan.{cutting, cut_on, rest_of, WaitsFor, IsWhole, IsKept}
-use Rattle.fix_fields.specs.Envelope.{Cutting, Front, front_of, with_byte, cut_behind}
+use Rattle.fix_fields.specs.Envelope.{front_of, with_byte, cut_behind}
 use Rattle.fix_fields.specs.Envelope.Front.{Begun, Whole, Faulty}
-use Rattle.fix_fields.proofs.FrontLemmas.{front_more_whole, front_more_faulty, has_whole, front_whole, begun_short}
-use Rattle.fix_fields.proofs.CuttingLemmas.{cut_begun, cut_faulty, cut_whole, front_none, some_message}
+use Rattle.fix_fields.proofs.FrontLemmas.{front_more_whole, front_more_faulty, has_whole}
+use Rattle.fix_fields.proofs.FrontLemmas.{front_whole, begun_short}
+use Rattle.fix_fields.proofs.CuttingLemmas.{cut_begun, cut_faulty, cut_whole, front_none}
+use Rattle.fix_fields.proofs.CuttingLemmas.{some_message}
 
 -- of no bytes nothing can be told
 pub waits_for_some : WaitsFor 0 []

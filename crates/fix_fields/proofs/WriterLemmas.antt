@@ -1,5 +1,7 @@
 -- What is written: how long it is, and that it is a frame.
-use Rattle.std.proofs.Common.{◌≡◌, ℕ, ◌+◌, ◌-◌, ◌/◌, ◌%◌, ◌^◌, ◌<◌, ◌≤◌, true, false, cond, ltb, List, [], ◌∷◌, ◌++◌, length, sum, sym, ap, ◌∙◌, subst, refl, arith, inl, inr, append_assoc, length-append, lit<}
+use Rattle.std.proofs.Common.{◌≡◌, ℕ, ◌+◌, ◌-◌, ◌/◌, ◌%◌, ◌^◌, ◌<◌, ◌≤◌, true, false, cond, ltb}
+use Rattle.std.proofs.Common.{List, [], ◌∷◌, ◌++◌, length, sum, sym, ap, ◌∙◌, subst, refl, arith}
+use Rattle.std.proofs.Common.{inl, inr, append_assoc, length-append, lit<}
 use Rattle.std.specs.Prelude.{decimal}
 use Rattle.std.specs.List.{AllByRecursion}
 use Rattle.std.specs.Str.Parse.{digits_value}
@@ -8,8 +10,12 @@ use Rattle.std.proofs.lemmas.Bool.Decides.{nat_tests}
 use Rattle.std.proofs.lemmas.List.{append-nil}
 use Rattle.std.proofs.lemmas.Str.{digit_value_digit}
 use Rattle.std.proofs.lemmas.Str.Parse.{digits_value_short}
-use Rattle.std.proofs.lemmas.Fmt.{digits_decimal, digits_value-decimal, decimal_nonempty, length-decimal-le}
-use Rattle.fix_fields.specs.Frame.{Field, IsTag, IsValue, IsField, AreBody, AreSumDigits, IsFrame, field_text, fields_text, front_text, end_text, three_digits, frame_text, decimal_len, field_len, fields_len, left_of, fields_of}
+use Rattle.std.proofs.lemmas.Fmt.{digits_decimal, digits_value-decimal, decimal_nonempty}
+use Rattle.std.proofs.lemmas.Fmt.{length-decimal-le}
+use Rattle.fix_fields.specs.Frame.{Field, IsTag, IsValue, IsField, AreBody, AreSumDigits, IsFrame}
+use Rattle.fix_fields.specs.Frame.{field_text, fields_text, front_text, end_text, three_digits}
+use Rattle.fix_fields.specs.Frame.{frame_text, decimal_len, field_len, fields_len, left_of}
+use Rattle.fix_fields.specs.Frame.{fields_of}
 use Rattle.fix_fields.specs.Scan.{IsBodyText, text_around}
 use Rattle.fix_fields.proofs.Digits.{plain}
 use Rattle.fix_fields.proofs.FieldLemmas.{fields_of-text, AreBody-lawful}

@@ -11,7 +11,6 @@ use Rattle.fix_fields.specs.Envelope.{Cutting, with_byte, front_of}
 use Rattle.fix_fields.specs.Envelope.Front.{Begun, Whole, Faulty}
 use Rattle.fix_fields.specs.declared.fault.StreamFault.{StreamFault}
 use Rattle.fix_fields.specs.declared.fronts.Found.{Found}
-use Rattle.fix_fields.specs.declared.fronts.Found.TheVariants as Found
 
 -- the text begins with a lawful field
 pub record BeginsWithField (text : List ℕ) : Type 0 where

@@ -11,7 +11,7 @@ ghost use Rattle.fix_fields.specs.Scan.{IsEnd};
 
 use crate::fault::Garbled;
 use crate::limits::{MOST_BODY, MOST_FRAME};
-use crate::scan::{SOH, is_body, leading_number, split_field};
+use crate::scan::{SOH, first_field, is_body, leading_number};
 use std::marker::Model;
 
 /// The bytes that each frame begins with: BeginString (8), and the tag of BodyLength (9).
@@ -110,7 +110,10 @@ impl<'a> Iterator for Fields<'a> {
     ghost remaining = { item_count (λ rest. rest) };
 
     fn next(&mut self) -> Option<(u32, &'a [u8])> {
-        let (tag, value, behind) = split_field(self.rest)?;
+        if self.rest.is_empty() {
+            return None;
+        }
+        let (tag, value, behind) = first_field(self.rest);
         self.rest = behind;
         Some((tag, value))
     }

@@ -21,8 +21,8 @@
 //! What is promised, and proved of every input:
 //!
 //! - [`read_frame`] reads exactly the frames, and gives the fields that a frame was built from. No
-//!   bytes are a frame of two lists of fields. Other bytes have one fault, the first in the order of
-//!   [`Garbled`]. Reading takes no memory and copies nothing.
+//!   bytes are a frame of two lists of fields. Other bytes have one fault, the first in the order
+//!   of [`Garbled`]. Reading takes no memory and copies nothing.
 //! - [`Frame::get`] is the value of the first field with a tag, [`Frame::times`] how many have it,
 //!   and [`Frame::fields`] goes over all of them in order.
 //! - What [`FrameWriter::finish`] returns is the frame of the fields that were written, with the
@@ -32,11 +32,11 @@
 //! - [`read_moment`] reads exactly the two spellings of a moment of its date, and tells what is no
 //!   spelling at all from what is one of another date. What [`moment_text`] returns is read back.
 //!
-//! Not promised: that memory is there; calendar arithmetic, since a [`Date`] is any month from 01 to
-//! 12 with any day from 01 to 31.
+//! Not promised: that memory is there; calendar arithmetic, since a [`Date`] is any month from 01
+//! to 12 with any day from 01 to 31.
 //!
-//! A contract sees a [`Frame`] and a [`FrameWriter`] as the list of their fields, a tag and the bytes
-//! of a value each, a [`Date`] as the list of its digits, and a [`Moment`] as a number. The
+//! A contract sees a [`Frame`] and a [`FrameWriter`] as the list of their fields, a tag and the
+//! bytes of a value each, a [`Date`] as the list of its digits, and a [`Moment`] as a number. The
 //! definitions are in `specs/`: `Frame`, `Garbled` and `UtcTimestamp`.
 #![tactic(auto)]
 

@@ -1,6 +1,6 @@
 //! Moments of a day.
 ghost use Rattle.std.specs.Prelude.{◌≡◌, ◌≢◌, ◌↔◌, ℕ, ◌+◌, ◌-◌, ◌*◌, ◌<◌, ◌≤◌, List, Ok, Err};
-ghost use Rattle.std.specs.Prelude.{length, slice_index, SomeIff, MatchOption};
+ghost use Rattle.std.specs.Prelude.{length, take, drop, slice_index, SomeIff, MatchOption};
 ghost use Rattle.fix_fields.specs.Frame.{IsValue};
 ghost use Rattle.fix_fields.specs.UtcTimestamp.{UtcTimestamp, moment_of, timestamp_text};
 ghost use Rattle.fix_fields.specs.UtcTimestamp.{two_digits};
@@ -72,7 +72,8 @@ pub fn read_moment(date: &Date, text: &[u8]) -> Result<Moment, MomentFault>
     read(date, text)
 }
 
-/// The moment of a date that a text spells, or why there is none.
+/// The moment of a date that a text spells, or why there is none. Most texts begin with the date,
+/// whose digits are not tested again.
 fn read(date: &Date, text: &[u8]) -> Result<Moment, MomentFault>
     ensures { result ≡ moment_of date.now text.now }
 {
@@ -80,16 +81,27 @@ fn read(date: &Date, text: &[u8]) -> Result<Moment, MomentFault>
         return Err(MomentFault::Form);
     }
     let (day, time) = text.split_at(8);
-    let Some(own) = Date::new(day) else {
-        return Err(MomentFault::Form);
-    };
+    if date.digits().as_slice() != day {
+        return Err(other_fault(day, time));
+    }
     let Some(moment) = read_clock(time) else {
         return Err(MomentFault::Form);
     };
-    if own != *date {
-        return Err(MomentFault::OtherDay);
-    }
     Ok(moment)
+}
+
+/// Why a text that does not begin with the date spells no moment of it.
+fn other_fault(day: &[u8], time: &[u8]) -> MomentFault
+    ensures { (date text : List ℕ) → date ≢ day.now → take 8 text ≡ day.now → drop 8 text ≡ time.now
+        → moment_of date text ≡ Err result }
+{
+    let Some(_) = Date::new(day) else {
+        return MomentFault::Form;
+    };
+    let Some(_) = read_clock(time) else {
+        return MomentFault::Form;
+    };
+    MomentFault::OtherDay
 }
 
 /// Reads a dash and a time of day, with milliseconds or without.

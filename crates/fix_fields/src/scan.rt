@@ -1,5 +1,6 @@
 //! The parts of a field, found at the front of a text.
-ghost use Rattle.std.specs.Prelude.{◌≡◌, ◌++◌, ◌==◌, ◌≤◌, ◌↔◌, take, length, IsTrue, MatchOption};
+ghost use Rattle.std.specs.Prelude.{◌≡◌, ◌++◌, ◌==◌, ◌<◌, ◌≤◌, ◌↔◌, take, length, IsTrue};
+ghost use Rattle.std.specs.Prelude.{MatchOption};
 ghost use Rattle.std.specs.List.{prefix_len, position_or_len};
 ghost use Rattle.std.specs.Char.{is_ascii_digit};
 ghost use Rattle.std.specs.Str.Parse.{digits_value};
@@ -85,6 +86,56 @@ pub(crate) fn split_field(text: &[u8]) -> Option<(u32, &[u8], &[u8])>
         return None;
     }
     Some((tag, &behind[..len], &behind[len + 1..]))
+}
+
+/// The tag of the field that a text begins with, and how many digits it has. The field is lawful,
+/// so nothing but the equals sign behind the tag is looked for.
+#[inline(always)]
+fn lawful_tag(text: &[u8]) -> (u32, usize)
+    requires { BeginsWithField text.now }
+    ensures inside { result.1 < length text.now }
+    ensures count { result.1 ≡ prefix_len is_ascii_digit (take 9 text.now) }
+    ensures value { result.0 ≡ digits_value 10 (take result.1 text.now) }
+{
+    let mut value = (text[0] - b'0') as u32;
+    let mut count = 1;
+    while text[count] != b'=' {
+        value = value * 10 + (text[count] - b'0') as u32;
+        count += 1;
+    }
+    (value, count)
+}
+
+/// How many bytes stand before the first SOH of a text that has one: as [`value_len`] finds it, but
+/// no byte is compared with the end.
+#[inline(always)]
+fn len_before_soh(text: &[u8]) -> usize
+    requires { position_or_len (λ byte. byte == 1) text.now < length text.now }
+    ensures inside { result < length text.now }
+    ensures place { result ≡ position_or_len (λ byte. byte == 1) text.now }
+{
+    let mut len = 0;
+    while len < NEAR {
+        if text[len] == SOH {
+            return len;
+        }
+        len += 1;
+    }
+    len + long_value_len(&text[len..])
+}
+
+/// The tag and the value of the field that a text begins with, and what stands behind it. The field
+/// is lawful, so it is not tested again.
+#[inline(always)]
+pub(crate) fn first_field(text: &[u8]) -> (u32, &[u8], &[u8])
+    requires { BeginsWithField text.now }
+    ensures lawful { IsField (result.0, result.1.now) }
+    ensures text { text.now ≡ field_text (result.0, result.1.now) ++ result.2.now }
+{
+    let (tag, digits) = lawful_tag(text);
+    let behind = &text[digits + 1..];
+    let len = len_before_soh(behind);
+    (tag, &behind[..len], &behind[len + 1..])
 }
 
 /// Whether a text is lawful fields, one behind the other.

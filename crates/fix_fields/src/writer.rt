@@ -10,7 +10,7 @@ use crate::Memory;
 use crate::frames::{END_LEN, START, checksum};
 use crate::limits::MOST_BODY;
 use crate::scan::{SOH, value_len};
-use itoa::Buffer;
+use itoa::{Buffer, write_digits};
 use std::alloc::Global;
 use std::marker::Model;
 
@@ -133,27 +133,37 @@ pub fn fits(tag: u32, len: usize, left: usize) -> bool
     decimal_len(tag as u64) + 2 <= left - len
 }
 
-/// How many digits a number has in decimal: what [`FrameWriter::number`] takes for a value.
+/// How many digits a number has in decimal: what [`FrameWriter::number`] takes for a value. Most
+/// tags have at most three, and only a longer number is formatted.
 pub fn decimal_len(n: u64) -> usize
     ensures value { result ≡ spec.decimal_len n }
     ensures digits { result ≡ length (decimal n) }
     ensures few { result ≤ 20 }
 {
+    if n < 10 {
+        return 1;
+    }
+    if n < 100 {
+        return 2;
+    }
+    if n < 1_000 {
+        return 3;
+    }
     let mut buffer = Buffer::new();
     buffer.format(n).len()
 }
 
-/// Puts a field at the end of a body.
+/// Puts a field at the end of a body. Its tag and the equals sign have at most 11 bytes.
 fn push_field(body: &mut Vec<u8>, tag: u32, value: &[u8]) -> Result<(), Memory>
     requires { length value.now ≤ MOST_BODY }
     ensures ok { OnOk result (body.new.items ≡ body.old.items ++ field_text (tag, value.now)) }
     ensures err { OnErr result (body.new.items ≡ body.old.items) }
 {
-    let mut buffer = Buffer::new();
-    let digits = buffer.format(tag).as_bytes();
-    body.reserve(digits.len() + value.len() + 2)?;
-    body.extend_from_slice(digits)?;
-    body.push(b'=')?;
+    let mut tag_text = [b'='; 11];
+    let start = write_digits(u64::from(tag), &mut tag_text, 10);
+    let front = &tag_text[start..];
+    body.reserve(front.len() + value.len() + 1)?;
+    body.extend_from_slice(front)?;
     body.extend_from_slice(value)?;
     body.push(SOH)?;
     Ok(())

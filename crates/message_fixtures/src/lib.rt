@@ -21,7 +21,8 @@ pub fn with_soh(alloc: Global, text: &str) -> Result<Vec<u8>, Memory> {
     Ok(bytes)
 }
 
-/// The frame of a body: BeginString (8) and BodyLength (9) in front of it, and CheckSum (10) behind it.
+/// The frame of a body: BeginString (8) and BodyLength (9) in front of it, and CheckSum (10) behind
+/// it.
 pub fn frame(alloc: Global, body: &str) -> Result<Vec<u8>, Memory> {
     let front = format!(in alloc; "8=FIXT.1.1|9={}|{body}", body.len())?;
     let mut bytes = with_soh(alloc, front.as_str())?;
@@ -55,7 +56,8 @@ pub fn dealer_row() -> Option<DealerRow> {
     })
 }
 
-/// The row of INV1 with the traders T8 and T9, 3 requests a day, 2 of them open, each of 5,000,000 at most.
+/// The row of INV1 with the traders T8 and T9, 3 requests a day, 2 of them open, each of 5,000,000
+/// at most.
 pub fn investor_row() -> Option<InvestorRow> {
     let traders = traders(b"T8", b"T9")?;
     if traders.len() < 1 {

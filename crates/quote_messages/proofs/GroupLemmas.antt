@@ -1,17 +1,23 @@
 -- The party group, field by field.
-use Rattle.std.proofs.Common.{◌≡◌, ◌≢◌, ℕ, ◌+◌, ◌≤◌, ◌==◌, Bool, true, false, ◌||◌, ◌&&◌, List, [], ◌∷◌, length, take, drop, cond, Option, Some, None, Result, arith, refl, ap, ◌∙◌, sym, subst, zero-add, add-zero, suc, nat_lt, is_some, not, codes}
-use Rattle.std.specs.List.{filter, filter_map, take_while, prefix_len, position_or_len, after_first, count_by, cons_option}
+use Rattle.std.proofs.Common.{◌≡◌, ◌≢◌, ℕ, ◌+◌, ◌≤◌, ◌==◌, Bool, true, false, ◌||◌, ◌&&◌, List, []}
+use Rattle.std.proofs.Common.{◌∷◌, length, drop, cond, Option, Some, None, arith, refl, ap, ◌∙◌}
+use Rattle.std.proofs.Common.{sym, suc, is_some, not, codes}
+use Rattle.std.specs.List.{filter_map, take_while, position_or_len, after_first, cons_option}
 use Rattle.std.proofs.lemmas.List.Sums.{take_while-cons, sum_by-cons}
 use Rattle.std.proofs.lemmas.Bool.Decides.{nat_tests}
 use Rattle.fix_fields.specs.Frame.{Field, value_of, times_of}
 use Rattle.quote_messages.specs.declared.session_faults.SessionFault.{SessionFault}
-use Rattle.venue_config.specs.Texts.{same_text, text_if}
+use Rattle.venue_config.specs.Texts.{same_text}
 use Rattle.market_terms.specs.Texts.{is_id}
-use Rattle.quote_messages.specs.declared.session_faults.SessionRejectReason.TheVariants.{TagWithoutValue, IncorrectDataFormat}
+use Rattle.quote_messages.specs.declared.session_faults.SessionRejectReason.TheVariants.{TagWithoutValue}
+use Rattle.quote_messages.specs.declared.session_faults.SessionRejectReason.TheVariants.{IncorrectDataFormat}
 use Rattle.quote_messages.specs.ValueForms.{AnId, AnyText, value_fault}
-use Rattle.quote_messages.specs.SessionLines.{Occurrence, occurrence_of, or_next, first_fault, required, tag_fault, occurrence_fault, at_tag, text_at}
+use Rattle.quote_messages.specs.SessionLines.{occurrence_of, or_next, first_fault, required}
+use Rattle.quote_messages.specs.SessionLines.{tag_fault, at_tag, text_at}
 use Rattle.quote_messages.specs.Slots.{joined}
-use Rattle.quote_messages.specs.PartyGroup.{is_of_party, is_beside_parties, not_ignored, group_of, begins_with_entry, before_entry, entries_of, entry_lines, entries_fault, dealer_of_entry, named_dealers, AreWhole}
+use Rattle.quote_messages.specs.PartyGroup.{is_of_party, is_beside_parties, not_ignored, group_of}
+use Rattle.quote_messages.specs.PartyGroup.{before_entry, entries_of, entry_lines, entries_fault}
+use Rattle.quote_messages.specs.PartyGroup.{dealer_of_entry, named_dealers}
 use Rattle.quote_messages.specs.GroupReading.{run_of, IsAbsent, StandsBefore}
 use Rattle.quote_messages.proofs.SlotLemmas.{one_value, joined-same, joined-other, none-joined}
 

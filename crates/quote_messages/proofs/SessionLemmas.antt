@@ -1,7 +1,6 @@
 -- Tags that do not stand.
-use Rattle.std.proofs.Common.{◌≡◌, ℕ, Bool, true, List, Some, None}
+use Rattle.std.proofs.Common.{◌≡◌, ℕ, List, None}
 use Rattle.fix_fields.specs.Frame.{Field, value_of}
-use Rattle.quote_messages.specs.declared.session_faults.SessionRejectReason.TheVariants.{RequiredTagMissing}
 use Rattle.quote_messages.specs.ValueForms.{ValueRule}
 use Rattle.quote_messages.specs.SessionLines.{tag_fault, optional}
 

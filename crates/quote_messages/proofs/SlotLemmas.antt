@@ -1,7 +1,8 @@
 -- How a tag stands in fields, one behind the other, and where its slot is.
-use Rattle.std.proofs.Common.{◌≡◌, ◌≢◌, ℕ, ◌+◌, ◌<◌, ◌≤◌, ◌==◌, Bool, true, false, ◌&&◌, ◌||◌, not, List, [], ◌∷◌, ◌++◌, length, slice_index_or, get_or, slice_set, Option, Some, None, is_some, IsTrue, cond, nat_lt, arith, refl, ap, ◌∙◌, sym, zero-add, set, replicate}
-use Rattle.std.specs.List.{list_any, position_or_len, count_by}
-use Rattle.std.specs.Option.{option_or}
+use Rattle.std.proofs.Common.{◌≡◌, ◌≢◌, ℕ, ◌+◌, ◌<◌, ◌==◌, Bool, true, false, ◌||◌, not, List, []}
+use Rattle.std.proofs.Common.{◌∷◌, length, Option, Some, None, is_some, IsTrue, cond, nat_lt, arith}
+use Rattle.std.proofs.Common.{refl, ap, ◌∙◌, sym, zero-add, set, replicate}
+use Rattle.std.specs.List.{list_any, position_or_len}
 use Rattle.std.proofs.lemmas.Bool.Decides.{nat_tests}
 use Rattle.std.proofs.lemmas.List.Sums.{sum_by-cons, prefix_len-le-length}
 use Rattle.std.proofs.lemmas.List.{get_or-set_same, get_or-set_other, get_or-replicate, length-set}
@@ -11,7 +12,8 @@ use Rattle.quote_messages.specs.SessionLines.{Occurrence, occurrence_of}
 use Rattle.venue_config.specs.Texts.{text_if}
 use Rattle.quote_messages.specs.Texts.{is_sequence_number}
 use Rattle.quote_messages.specs.Arrivals.{sequence_number}
-use Rattle.quote_messages.specs.Slots.{checked_tags, place_of, is_checked, said_by, slot_at, joined, AreFilledBefore, AreFilled}
+use Rattle.quote_messages.specs.Slots.{checked_tags, place_of, is_checked, said_by, slot_at, joined}
+use Rattle.quote_messages.specs.Slots.{AreFilledBefore}
 
 -- one value
 abbrev pub one_value : List ℕ → Occurrence

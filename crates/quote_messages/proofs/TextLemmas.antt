@@ -1,5 +1,6 @@
 -- What the forms of texts imply: each is ASCII, so it is UTF-8, has few characters and no SOH.
-use Rattle.std.proofs.Common.{◌≡◌, ◌≢◌, ℕ, ◌<◌, ◌≤◌, Bool, true, false, List, [], length, ◌&&◌, nat_le, cond, arith, refl, take, drop, Some, None, ◌+◌, sym, nat_lt}
+use Rattle.std.proofs.Common.{◌≡◌, ◌≢◌, ℕ, ◌≤◌, Bool, true, false, List, [], length, ◌&&◌, nat_le}
+use Rattle.std.proofs.Common.{cond, arith, refl, take, drop, Some, None, ◌+◌, sym, nat_lt}
 use Rattle.std.specs.List.{list_all, position, position_or_len, before_first, after_first}
 use Rattle.std.proofs.lemmas.List.{take_all, drop_all}
 use Rattle.std.specs.Char.{is_ascii_digit, is_ascii_alphanumeric}

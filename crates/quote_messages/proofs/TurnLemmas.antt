@@ -3,7 +3,8 @@ use Rattle.std.proofs.Common.{◌≡◌, ℕ, Bool, true, false, cond, List, Opt
 use Rattle.std.specs.Prelude.{◌==◌, Result}
 use Rattle.std.specs.Str.Parse.{digits_value}
 use Rattle.fix_fields.specs.Frame.{Field}
-use Rattle.quote_messages.specs.Arrivals.{framed, numbered, in_sequence, sequence_number, reject_of, out_of_sequence}
+use Rattle.quote_messages.specs.Arrivals.{framed, numbered, in_sequence, sequence_number, reject_of}
+use Rattle.quote_messages.specs.Arrivals.{out_of_sequence}
 use Rattle.quote_messages.specs.Turns.{turn_by, turn_of}
 use Rattle.quote_messages.specs.declared.arrivals.Arrival.{Arrival}
 use Rattle.quote_messages.specs.declared.arrivals.Arrival.TheVariants as arrival

@@ -1,5 +1,6 @@
 -- What is written fits, and has no SOH.
-use Rattle.std.proofs.Common.{ℕ, ◌<◌, ◌≤◌, ◌^◌, Bool, true, false, List, [], ◌∷◌, ◌++◌, Option, Some, None, lit≤, cond, nat_lt, decimal}
+use Rattle.std.proofs.Common.{ℕ, ◌<◌, ◌≤◌, ◌^◌, Bool, true, false, List, [], ◌∷◌, ◌++◌, Option}
+use Rattle.std.proofs.Common.{Some, None, lit≤, cond, nat_lt, decimal}
 use Rattle.std.specs.Str.Parse.{AllDigits}
 use Rattle.fix_fields.specs.Frame.{decimal_len, IsValue}
 use Rattle.fix_fields.specs.TextLaws.{digits_are_value, number_is_value}

@@ -17,4 +17,7 @@ IsAbsent tag fields = occurrence_of tag fields ≡ record { first = None; is_rep
 -- a tag stands with this value, and further in the rest
 abbrev pub StandsBefore : ℕ → List Field → List ℕ → List Field → Type 0
 StandsBefore tag fields value rest =
-    occurrence_of tag fields ≡ joined (record { first = Some value; is_repeated = false }) (occurrence_of tag rest)
+    occurrence_of tag fields ≡ joined (record {
+      first = Some value;
+      is_repeated = false;
+    }) (occurrence_of tag rest)

@@ -1,11 +1,13 @@
--- The party group of a QuoteRequest: NoPartyIDs (453) and behind it, entry by entry, PartyID (448), PartyIDSource (447)
--- and PartyRole (452).
-use Rattle.std.specs.Prelude.{◌≡◌, ℕ, Bool, true, ◌==◌, ◌&&◌, ◌||◌, not, List, [], ◌∷◌, length, codes, count_by, Option, Some, None, if◌then◌else◌}
+-- The party group of a QuoteRequest: NoPartyIDs (453) and behind it, entry by entry, PartyID (448),
+-- PartyIDSource (447) and PartyRole (452).
+use Rattle.std.specs.Prelude.{◌≡◌, ℕ, Bool, true, ◌==◌, ◌&&◌, ◌||◌, not, List, [], ◌∷◌, length}
+use Rattle.std.specs.Prelude.{codes, count_by, Option, Some, None, if◌then◌else◌}
 use Rattle.std.specs.List.{list_any, filter, filter_map, after_first, take_while}
 use Rattle.fix_fields.specs.Frame.{Field, value_of, times_of}
 use Rattle.venue_config.specs.Texts.{same_text}
-use Rattle.quote_messages.specs.ValueForms.{ValueRule, AnId, AnyText}
-use Rattle.quote_messages.specs.SessionLines.{Line, required, first_fault, or_next, text_at, has_number}
+use Rattle.quote_messages.specs.ValueForms.{AnId, AnyText}
+use Rattle.quote_messages.specs.SessionLines.{Line, required, first_fault, or_next, text_at}
+use Rattle.quote_messages.specs.SessionLines.{has_number}
 use Rattle.quote_messages.specs.declared.session_faults.SessionRejectReason.TheVariants.{IncorrectNumInGroup}
 use Rattle.quote_messages.specs.declared.session_faults.SessionFault.{SessionFault}
 
@@ -26,15 +28,16 @@ not_ignored fields = filter (λ field. is_of_party field.0 || is_beside_parties 
 -- the group: the run of fields of entries that stands directly behind NoPartyIDs (453)
 abbrev pub group_of : List Field → List Field
 group_of fields =
-    take_while (λ field. is_of_party field.0) (after_first (λ field. field.0 == 453) (not_ignored fields))
+    take_while (λ field. is_of_party field.0) (after_first
+    (λ field. field.0 == 453) (not_ignored fields))
 
 -- whether the group is empty or begins with an entry
 abbrev pub begins_with_entry : List Field → Bool
 begins_with_entry [] = true
 begins_with_entry (field ∷ fields) = field.0 == 448
 
--- whether the group begins with an entry, has as many as NoPartyIDs (453) says, and no field of an entry stands
--- anywhere else
+-- whether the group begins with an entry, has as many as NoPartyIDs (453) says, and no field of an
+-- entry stands anywhere else
 abbrev pub is_one_group : List Field → List Field → Bool
 is_one_group group fields =
     (begins_with_entry group && has_number 453 (times_of 448 group) fields)
@@ -61,7 +64,8 @@ entry_lines =
 -- the first fault of the first entry that has one
 abbrev pub entries_fault : List ℕ → List (List Field) → Option SessionFault
 entries_fault date [] = None
-entries_fault date (entry ∷ entries) = or_next (first_fault entry_lines date entry) (entries_fault date entries)
+entries_fault date (entry ∷ entries) =
+    or_next (first_fault entry_lines date entry) (entries_fault date entries)
 
 -- the fault of a group that is not whole
 abbrev pub group_fault : List Field → Option SessionFault
@@ -69,12 +73,13 @@ group_fault fields =
     if is_one_group (group_of fields) fields then None
     else Some (record { tag = 453; reason = IncorrectNumInGroup })
 
--- The line of the table: the group is whole, and so is each entry. The entries are looked for in all fields, since none
--- of theirs stands outside a whole group.
+-- The line of the table: the group is whole, and so is each entry. The entries are looked for in
+-- all fields, since none of theirs stands outside a whole group.
 unfoldable pub party_group : Line
 party_group = λ date fields. or_next (group_fault fields) (entries_fault date (entries_of fields))
 
--- the dealer that an entry names: its PartyID, where PartyIDSource is D and PartyRole is 35; other entries are ignored
+-- the dealer that an entry names: its PartyID, where PartyIDSource is D and PartyRole is 35; other
+-- entries are ignored
 abbrev pub dealer_of_entry : List Field → Option (List ℕ)
 dealer_of_entry entry =
     if same_text (codes "D") (text_at 447 entry) && same_text (codes "35") (text_at 452 entry)

@@ -1,6 +1,8 @@
--- The session checks: the first fault (RefTagID 371, SessionRejectReason 373) of a message that came in sequence, or the
--- message as its fields read. What a firm of either role may send is a list of tables, one for each type.
-use Rattle.std.specs.Prelude.{ℕ, Bool, ◌==◌, List, [], ◌∷◌, map, codes, Option, Some, None, unwrap_or, Result, Ok, Err, if◌then◌else◌, option_and_then, option_map}
+-- The session checks: the first fault (RefTagID 371, SessionRejectReason 373) of a message that
+-- came in sequence, or the message as its fields read. What a firm of either role may send is a
+-- list of tables, one for each type.
+use Rattle.std.specs.Prelude.{ℕ, ◌==◌, List, [], ◌∷◌, map, codes, Option, unwrap_or, Result, Ok}
+use Rattle.std.specs.Prelude.{Err, if◌then◌else◌, option_and_then, option_map}
 use Rattle.std.specs.Result.{result_ok}
 use Rattle.bond_prices.specs.Price.{price_of}
 use Rattle.fix_fields.specs.Frame.{Field, value_of}
@@ -10,10 +12,14 @@ use Rattle.venue_config.specs.declared.dealer_rows.DealerRow.{DealerRow}
 use Rattle.venue_config.specs.declared.investor_rows.InvestorRow.{InvestorRow}
 use Rattle.market_terms.specs.declared.asks.Side.{Side}
 use Rattle.market_terms.specs.declared.asks.Side.TheVariants.{Buy, Sell}
-use Rattle.quote_messages.specs.ValueForms.{AnId, ANumber, APrice, AQuantity, AMoment, OneOf, NumberIs, quantity_of}
-use Rattle.quote_messages.specs.SessionLines.{Line, required, optional, required_where, text_at, number_at, has_number, first_fault, unless_fault}
+use Rattle.quote_messages.specs.ValueForms.{AnId, ANumber, APrice, AQuantity, AMoment, OneOf}
+use Rattle.quote_messages.specs.ValueForms.{NumberIs, quantity_of}
+use Rattle.quote_messages.specs.SessionLines.{Line, required, optional, required_where, text_at}
+use Rattle.quote_messages.specs.SessionLines.{number_at, has_number, first_fault, unless_fault}
 use Rattle.quote_messages.specs.PartyGroup.{party_group, named_dealers}
-use Rattle.quote_messages.specs.declared.session_faults.SessionRejectReason.TheVariants.{ValueIncorrect, CompIdProblem, InvalidMsgType}
+use Rattle.quote_messages.specs.declared.session_faults.SessionRejectReason.TheVariants.{ValueIncorrect}
+use Rattle.quote_messages.specs.declared.session_faults.SessionRejectReason.TheVariants.{CompIdProblem}
+use Rattle.quote_messages.specs.declared.session_faults.SessionRejectReason.TheVariants.{InvalidMsgType}
 use Rattle.quote_messages.specs.declared.session_faults.SessionFault.{SessionFault}
 use Rattle.quote_messages.specs.declared.quotes.Quote.{Quote}
 use Rattle.quote_messages.specs.declared.quotes.QuoteCancel.{QuoteCancel}
@@ -28,14 +34,15 @@ use Rattle.quote_messages.specs.declared.requests.RequestPass.{RequestPass}
 use Rattle.quote_messages.specs.declared.requests.InvestorMessage.{InvestorMessage}
 use Rattle.quote_messages.specs.declared.requests.InvestorMessage.TheVariants as investor
 
--- A type of message: its MsgType (35), its table, and what the fields say where they keep the table.
+-- A type of message: its MsgType (35), its table, and what the fields say where they keep the
+-- table.
 pub record MessageTable (Message : Type 0) : Type 0 where
   pub msg_type : List ℕ
   pub lines : List Line
   pub message : List ℕ → List Field → Message
 
--- the header of every message of a firm: who sends it to whom, when, which of the firm's traders, and what
--- it is, one of the types that the firm may send
+-- the header of every message of a firm: who sends it to whom, when, which of the firm's traders,
+-- and what it is, one of the types that the firm may send
 abbrev pub header_lines : List ℕ → List (List ℕ) → List (List ℕ) → List Line
 header_lines name traders types =
     required 49 (OneOf (name ∷ []) CompIdProblem)
@@ -46,7 +53,8 @@ header_lines name traders types =
     ∷ []
 
 -- the verdict by the table of the message's type; a type without a table is a fault
-abbrev pub verdict_by : {Message : Type 0} → List (MessageTable Message) → List ℕ → List Field → Result Message SessionFault
+abbrev pub verdict_by : {Message : Type 0} → List (MessageTable Message) → List ℕ → List Field
+    → Result Message SessionFault
 verdict_by [] date fields = Err (record { tag = 35; reason = InvalidMsgType })
 verdict_by (table ∷ tables) date fields =
     if same_text table.msg_type (text_at 35 fields)
@@ -57,9 +65,10 @@ verdict_by (table ∷ tables) date fields =
 abbrev pub types_of : {Message : Type 0} → List (MessageTable Message) → List (List ℕ)
 types_of tables = map (λ table. table.msg_type) tables
 
--- The verdict on a message of a firm with this name and these traders, which may send the types of these tables: the
--- header first, and then the table of the message's type.
-abbrev pub session_verdict : {Message : Type 0} → List (MessageTable Message) → List ℕ → List (List ℕ) → List ℕ → List Field → Result Message SessionFault
+-- The verdict on a message of a firm with this name and these traders, which may send the types of
+-- these tables: the header first, and then the table of the message's type.
+abbrev pub session_verdict : {Message : Type 0} → List (MessageTable Message) → List ℕ
+    → List (List ℕ) → List ℕ → List Field → Result Message SessionFault
 session_verdict tables name traders date fields =
     unless_fault (first_fault (header_lines name traders (types_of tables)) date fields)
     (verdict_by tables date fields)
@@ -128,14 +137,28 @@ decline_of date fields = record { trader = text_at 50 fields; request = text_at 
 -- the types that a dealer sends
 abbrev pub dealer_tables : List (MessageTable DealerMessage)
 dealer_tables =
-    record { msg_type = codes "S"; lines = quote_lines; message = λ date fields. dealer.Quote (quote_of date fields) }
-    ∷ record { msg_type = codes "Z"; lines = cancel_lines; message = λ date fields. dealer.Cancel (cancel_of date fields) }
-    ∷ record { msg_type = codes "AG"; lines = decline_lines; message = λ date fields. dealer.Decline (decline_of date fields) }
+    record {
+      msg_type = codes "S";
+      lines = quote_lines;
+      message = λ date fields. dealer.Quote (quote_of date fields);
+    }
+    ∷ record {
+      msg_type = codes "Z";
+      lines = cancel_lines;
+      message = λ date fields. dealer.Cancel (cancel_of date fields);
+    }
+    ∷ record {
+      msg_type = codes "AG";
+      lines = decline_lines;
+      message = λ date fields. dealer.Decline (decline_of date fields);
+    }
     ∷ []
 
 -- the first fault of a dealer's message, or what it says
-unfoldable pub dealer_session_verdict : List ℕ → DealerRow → List Field → Result DealerMessage SessionFault
-dealer_session_verdict date row fields = session_verdict dealer_tables row.name row.traders date fields
+unfoldable pub dealer_session_verdict : List ℕ → DealerRow → List Field
+    → Result DealerMessage SessionFault
+dealer_session_verdict date row fields =
+    session_verdict dealer_tables row.name row.traders date fields
 
 -- What an investor sends.
 
@@ -168,7 +191,8 @@ request_of date fields = record {
   dealers = named_dealers fields;
 }
 
--- QuoteResponse (35=AJ): a hit, whose QuoteRespType (694) is 1, names its quote, and a pass, whose is 6, its request
+-- QuoteResponse (35=AJ): a hit, whose QuoteRespType (694) is 1, names its quote, and a pass, whose
+-- is 6, its request
 abbrev pub response_lines : List Line
 response_lines =
     required 693 AnId
@@ -200,10 +224,16 @@ response_of date fields =
 -- the types that an investor sends
 abbrev pub investor_tables : List (MessageTable InvestorMessage)
 investor_tables =
-    record { msg_type = codes "R"; lines = request_lines; message = λ date fields. investor.Request (request_of date fields) }
+    record {
+      msg_type = codes "R";
+      lines = request_lines;
+      message = λ date fields. investor.Request (request_of date fields);
+    }
     ∷ record { msg_type = codes "AJ"; lines = response_lines; message = response_of }
     ∷ []
 
 -- the first fault of an investor's message, or what it says
-unfoldable pub investor_session_verdict : List ℕ → InvestorRow → List Field → Result InvestorMessage SessionFault
-investor_session_verdict date row fields = session_verdict investor_tables row.name row.traders date fields
+unfoldable pub investor_session_verdict : List ℕ → InvestorRow → List Field
+    → Result InvestorMessage SessionFault
+investor_session_verdict date row fields =
+    session_verdict investor_tables row.name row.traders date fields

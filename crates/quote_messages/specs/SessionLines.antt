@@ -1,10 +1,14 @@
--- The lines of the tables of session checks: what is looked at of a tag, in its order, and what a tag reads as.
-use Rattle.std.specs.Prelude.{ℕ, Bool, true, false, ◌==◌, nat_lt, List, [], ◌∷◌, length, Option, Some, None, unwrap_or, Result, Err, if◌then◌else◌, option_and_then}
+-- The lines of the tables of session checks: what is looked at of a tag, in its order, and what a
+-- tag reads as.
+use Rattle.std.specs.Prelude.{ℕ, Bool, true, false, ◌==◌, nat_lt, List, [], ◌∷◌, length, Option}
+use Rattle.std.specs.Prelude.{Some, None, unwrap_or, Result, Err, if◌then◌else◌, option_and_then}
 use Rattle.fix_fields.specs.Frame.{Field, value_of, times_of}
 use Rattle.quote_messages.specs.Texts.{number_of}
 use Rattle.quote_messages.specs.ValueForms.{ValueRule, value_fault}
 use Rattle.quote_messages.specs.declared.session_faults.SessionRejectReason.{SessionRejectReason}
-use Rattle.quote_messages.specs.declared.session_faults.SessionRejectReason.TheVariants.{RequiredTagMissing, TagWithoutValue, TagMoreThanOnce}
+use Rattle.quote_messages.specs.declared.session_faults.SessionRejectReason.TheVariants.{RequiredTagMissing}
+use Rattle.quote_messages.specs.declared.session_faults.SessionRejectReason.TheVariants.{TagWithoutValue}
+use Rattle.quote_messages.specs.declared.session_faults.SessionRejectReason.TheVariants.{TagMoreThanOnce}
 use Rattle.quote_messages.specs.declared.session_faults.SessionFault.{SessionFault}
 
 -- what a tag reads as
@@ -26,7 +30,8 @@ is_number n (Some number) = number == n
 abbrev pub has_number : ℕ → ℕ → List Field → Bool
 has_number tag n fields = is_number n (number_at tag fields)
 
--- how a tag stands in a message: its first value, where it stands, and whether it stands more than once
+-- how a tag stands in a message: its first value, where it stands, and whether it stands more than
+-- once
 pub record Occurrence : Type 0 where
   pub first : Option (List ℕ)
   pub is_repeated : Bool
@@ -45,7 +50,8 @@ pub record TagRule : Type 0 where
 
 -- what is wrong with a tag that stands so: missing, more than once, empty, or by its value
 abbrev pub occurrence_fault : List ℕ → TagRule → Option (List ℕ) → Bool → Option SessionRejectReason
-occurrence_fault date rule None is_repeated = if rule.is_required then Some RequiredTagMissing else None
+occurrence_fault date rule None is_repeated = if rule.is_required then Some RequiredTagMissing
+    else None
 occurrence_fault date rule (Some value) is_repeated =
     if is_repeated then Some TagMoreThanOnce
     else (if length value == 0 then Some TagWithoutValue else value_fault date rule.value value)
@@ -57,16 +63,22 @@ at_tag tag (Some reason) = Some (record { tag = tag; reason = reason })
 
 -- the fault of a tag that stands so, if it has one
 unfoldable pub tag_fault : List ℕ → TagRule → Occurrence → Option SessionFault
-tag_fault date rule found = at_tag rule.tag (occurrence_fault date rule found.first found.is_repeated)
+tag_fault date rule found =
+    at_tag rule.tag (occurrence_fault date rule found.first found.is_repeated)
 
--- A line of a table: the fault that it finds in the fields of a message, if it finds one. It may look at all of them.
+-- A line of a table: the fault that it finds in the fields of a message, if it finds one. It may
+-- look at all of them.
 abbrev pub Line : Type 0
 Line = List ℕ → List Field → Option SessionFault
 
 -- a tag whose value has to be this, and that has to stand where the message says so
 abbrev pub required_where : (List Field → Bool) → ℕ → ValueRule → Line
 required_where is_required tag value = λ date fields.
-    tag_fault date (record { tag = tag; is_required = is_required fields; value = value }) (occurrence_of tag fields)
+    tag_fault date (record {
+      tag = tag;
+      is_required = is_required fields;
+      value = value;
+    }) (occurrence_of tag fields)
 
 -- a tag that has to stand
 abbrev pub required : ℕ → ValueRule → Line
@@ -87,6 +99,7 @@ first_fault [] date fields = None
 first_fault (line ∷ lines) date fields = or_next (line date fields) (first_fault lines date fields)
 
 -- a fault, or the verdict where there is no fault
-abbrev pub unless_fault : {A : Type 0} → Option SessionFault → Result A SessionFault → Result A SessionFault
+abbrev pub unless_fault : {A : Type 0} → Option SessionFault → Result A SessionFault
+    → Result A SessionFault
 unless_fault None verdict = verdict
 unless_fault (Some fault) verdict = Err fault

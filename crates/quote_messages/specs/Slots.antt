@@ -1,7 +1,8 @@
 -- Where the tags of a message are kept: words by which the one walk over its fields is proved.
-use Rattle.std.specs.Prelude.{◌≡◌, ℕ, Bool, ◌==◌, ◌&&◌, ◌||◌, false, List, [], ◌∷◌, length, slice_index_or, Option, Some, None, is_some, IsTrue}
+use Rattle.std.specs.Prelude.{◌≡◌, ℕ, Bool, ◌==◌, ◌&&◌, ◌||◌, false, List, [], ◌∷◌, length}
+use Rattle.std.specs.Prelude.{slice_index_or, None, is_some, IsTrue}
 use Rattle.std.specs.List.{list_any, position_or_len}
-use Rattle.std.specs.Option.{option_map, option_or, option_copied}
+use Rattle.std.specs.Option.{option_or, option_copied}
 use Rattle.fix_fields.specs.Frame.{Field}
 use Rattle.quote_messages.specs.SessionLines.{Occurrence, occurrence_of}
 use Rattle.quote_messages.specs.declared.slots.Slot.{Slot}
@@ -28,18 +29,21 @@ said_by slot = record { first = option_copied slot.first; is_repeated = slot.is_
 abbrev pub joined : Occurrence → Occurrence → Occurrence
 joined one other = record {
   first = option_or one.first other.first;
-  is_repeated = (one.is_repeated || other.is_repeated) || (is_some one.first && is_some other.first);
+  is_repeated = (one.is_repeated || other.is_repeated)
+      || (is_some one.first && is_some other.first);
 }
 
 -- the slot at a place
 abbrev pub slot_at : List Slot → ℕ → Slot
 slot_at slots place = slice_index_or slots place (record { first = None; is_repeated = false })
 
--- the slots of the fields before the rest: with what the rest says, they say how each tag stands in all fields
+-- the slots of the fields before the rest: with what the rest says, they say how each tag stands in
+-- all fields
 pub record AreFilledBefore (slots : List Slot) (rest all : List Field) : Type 0 where
   pub count : length slots ≡ 26
   pub each : (tag : ℕ) → IsTrue (is_checked tag) →
-      joined (said_by (slot_at slots (place_of tag))) (occurrence_of tag rest) ≡ occurrence_of tag all
+      joined (said_by (slot_at slots (place_of tag))) (occurrence_of tag rest)
+      ≡ occurrence_of tag all
 
 -- the slots of all fields
 abbrev pub AreFilled : List Slot → List Field → Type 0

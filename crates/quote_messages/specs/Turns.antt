@@ -4,7 +4,8 @@ use Rattle.std.specs.Str.Parse.{digits_value}
 use Rattle.fix_fields.specs.Frame.{Field}
 use Rattle.quote_messages.specs.Arrivals.{sequence_number, reject_of, out_of_sequence}
 use Rattle.quote_messages.specs.declared.arrivals.Turn.{Turn}
-use Rattle.quote_messages.specs.declared.arrivals.Turn.TheVariants.{Dropped, OutOfSequence, InSequence}
+use Rattle.quote_messages.specs.declared.arrivals.Turn.TheVariants.{Dropped, OutOfSequence}
+use Rattle.quote_messages.specs.declared.arrivals.Turn.TheVariants.{InSequence}
 
 -- the turn of a frame with this MsgSeqNum, or without a readable one
 abbrev pub turn_by : ℕ → List Field → Option (List ℕ) → Turn

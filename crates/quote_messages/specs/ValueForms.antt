@@ -1,5 +1,6 @@
 -- The forms of values: what the value of a tag has to be, and what is wrong with one that is not.
-use Rattle.std.specs.Prelude.{ℕ, ◌==◌, List, Option, Some, None, is_some, Result, Ok, Err, if◌then◌else◌}
+use Rattle.std.specs.Prelude.{ℕ, ◌==◌, List, Option, Some, None, is_some, Result, Ok, Err}
+use Rattle.std.specs.Prelude.{if◌then◌else◌}
 use Rattle.std.specs.List.{list_all, list_any, before_first, after_first}
 use Rattle.std.specs.Str.Parse.{digits_value}
 use Rattle.bond_prices.specs.Price.{price_of}
@@ -12,7 +13,8 @@ use Rattle.venue_config.specs.Texts.{is_among}
 use Rattle.market_terms.specs.Texts.{is_id, is_quantity}
 use Rattle.quote_messages.specs.Texts.{number_of, is_point, has_quantity_form}
 use Rattle.quote_messages.specs.declared.session_faults.SessionRejectReason.{SessionRejectReason}
-use Rattle.quote_messages.specs.declared.session_faults.SessionRejectReason.TheVariants.{ValueIncorrect, IncorrectDataFormat}
+use Rattle.quote_messages.specs.declared.session_faults.SessionRejectReason.TheVariants.{ValueIncorrect}
+use Rattle.quote_messages.specs.declared.session_faults.SessionRejectReason.TheVariants.{IncorrectDataFormat}
 
 -- what the value of a tag has to be
 pub data ValueRule : Type 0 where
@@ -22,14 +24,17 @@ pub data ValueRule : Type 0 where
   APrice : ValueRule  -- the form of a price, whatever its value
   AQuantity : ValueRule  -- a whole quantity within its limits
   AMoment : ValueRule  -- a moment of the day
-  OneOf : List (List ℕ) → SessionRejectReason → ValueRule  -- one of these texts, and else this reason
-  NumberIs : List ℕ → SessionRejectReason → ValueRule  -- 1 to 9 digits that write one of these numbers, and else this reason
+  -- one of these texts, and else this reason
+  OneOf : List (List ℕ) → SessionRejectReason → ValueRule
+  -- 1 to 9 digits that write one of these numbers, and else this reason
+  NumberIs : List ℕ → SessionRejectReason → ValueRule
 
 -- a whole number within the limits, and else the reason
 abbrev pub quantity_in_limits : ℕ → Result ℕ SessionRejectReason
 quantity_in_limits units = if is_quantity units then Ok units else Err ValueIncorrect
 
--- the digits before the point and those behind it: a quantity is whole where those behind it are zeros
+-- the digits before the point and those behind it: a quantity is whole where those behind it are
+-- zeros
 abbrev pub quantity_of_digits : List ℕ → List ℕ → Result ℕ SessionRejectReason
 quantity_of_digits whole decimals =
     if has_quantity_form whole decimals
@@ -70,7 +75,8 @@ number_fault numbers reason (Some number) =
 abbrev pub value_fault : List ℕ → ValueRule → List ℕ → Option SessionRejectReason
 value_fault date AnyText value = None
 value_fault date AnId value = if is_id value then None else Some IncorrectDataFormat
-value_fault date ANumber value = if is_some (number_of value) then None else Some IncorrectDataFormat
+value_fault date ANumber value = if is_some (number_of value) then None
+    else Some IncorrectDataFormat
 value_fault date APrice value = price_fault (price_of value)
 value_fault date AQuantity value = quantity_fault (quantity_of value)
 value_fault date AMoment value = moment_fault (moment_of date value)

@@ -1,5 +1,6 @@
 -- The messages that a firm is sent, field by field.
-use Rattle.std.specs.Prelude.{ℕ, Bool, true, false, if◌then◌else◌, List, [], ◌∷◌, ◌++◌, codes, decimal, Option, Some, None}
+use Rattle.std.specs.Prelude.{ℕ, Bool, true, false, if◌then◌else◌, List, [], ◌∷◌, ◌++◌, codes}
+use Rattle.std.specs.Prelude.{decimal, Option, Some, None}
 use Rattle.bond_prices.specs.Price.{price_digits}
 use Rattle.fix_fields.specs.Frame.{Field, frame_text}
 use Rattle.fix_fields.specs.UtcTimestamp.{timestamp_text}
@@ -60,7 +61,8 @@ bond_fields bond = (55, codes "[N/A]") ∷ (48, bond) ∷ (22, codes "4") ∷ []
 abbrev pub party_fields : List ℕ → List ℕ → List Field
 party_fields firm role = (453, codes "1") ∷ (448, firm) ∷ (447, codes "D") ∷ (452, role) ∷ []
 
--- the price that an investor of this side asks for: an offer (133) where it buys, a bid (132) where it sells
+-- the price that an investor of this side asks for: an offer (133) where it buys, a bid (132) where
+-- it sells
 abbrev pub price_tag : Side → ℕ
 price_tag Buy = 133
 price_tag Sell = 132
@@ -70,10 +72,12 @@ abbrev pub size_tag : Side → ℕ
 size_tag Buy = 135
 size_tag Sell = 134
 
--- QuoteStatus (297) of an answer: accepted with this status, or refused (5) with QuoteRejectReason (300)
+-- QuoteStatus (297) of an answer: accepted with this status, or refused (5) with QuoteRejectReason
+-- (300)
 abbrev pub answer_status : List ℕ → Option QuoteRejectReason → List Field
 answer_status accepted None = (297, accepted) ∷ []
-answer_status accepted (Some reason) = (297, codes "5") ∷ (300, decimal (quote_reject_code reason)) ∷ []
+answer_status accepted (Some reason) = (297, codes "5") ∷ (300, decimal (quote_reject_code reason))
+    ∷ []
 
 -- a refusal by the room: it came too late (300=4), and Text (58) names why
 abbrev pub room_refusal : HitRefusal → List Field
@@ -124,7 +128,8 @@ is_hit close.Cover = false
 is_hit close.DoneAway = false
 is_hit close.Pass = false
 
--- the quote that a closing notice speaks of: the dealer's live quote where it was hit, and else none
+-- the quote that a closing notice speaks of: the dealer's live quote where it was hit, and else
+-- none
 abbrev pub hit_quote : Close → Option QuotedPrice → Option QuotedPrice
 hit_quote close quote = if is_hit close then quote else None
 
@@ -145,13 +150,15 @@ closing_fields notice =
     ++ hit_id (hit_quote notice.close notice.quote)
     ++ (694, decimal (close_code notice.close)) ∷ []
     ++ bond_fields notice.request.ask.bond
-    ++ (54, decimal (side_code notice.request.ask.side)) ∷ (38, decimal notice.request.ask.quantity) ∷ []
+    ++ (54, decimal (side_code notice.request.ask.side))
+    ∷ (38, decimal notice.request.ask.quantity) ∷ []
     ++ hit_price notice.request.ask.side (hit_quote notice.close notice.quote)
 
 -- a refused request
 abbrev pub refused_request_fields : List ℕ → List ℕ → RequestRejectReason → List Field
 refused_request_fields request bond reason =
-    (131, request) ∷ (658, decimal (request_reject_code reason)) ∷ (146, codes "1") ∷ [] ++ bond_fields bond
+    (131, request) ∷ (658, decimal (request_reject_code reason)) ∷ (146, codes "1") ∷ []
+    ++ bond_fields bond
 
 -- ValidUntilTime (62), where it was given
 abbrev pub valid_until_field : List ℕ → Option ℕ → List Field
@@ -161,7 +168,8 @@ valid_until_field date (Some until) = (62, timestamp_text date until) ∷ []
 -- Side (54), the price on the asked side, and beside it the quantity
 abbrev pub shown_terms : Side → ℕ → ℕ → List Field
 shown_terms side price quantity =
-    (54, decimal (side_code side)) ∷ (price_tag side, price_digits price) ∷ (size_tag side, decimal quantity) ∷ []
+    (54, decimal (side_code side)) ∷ (price_tag side, price_digits price)
+    ∷ (size_tag side, decimal quantity) ∷ []
 
 -- a quote as its investor is shown it
 abbrev pub shown_quote_fields : List ℕ → ShownQuote → List Field
@@ -191,10 +199,12 @@ body_fields date (out.Request request) = request_fields date request
 body_fields date (out.QuoteAnswer request id refusal) =
     (131, request) ∷ (117, id) ∷ [] ++ answer_status (codes "0") refusal
 body_fields date (out.CancelAnswer id status) = received_id id ++ cancel_status status
-body_fields date (out.DeclineAnswer request refusal) = (131, request) ∷ [] ++ answer_status (codes "11") refusal
+body_fields date (out.DeclineAnswer request refusal) =
+    (131, request) ∷ [] ++ answer_status (codes "11") refusal
 body_fields date (out.ClosingNotice notice) = closing_fields notice
 body_fields date (out.RequestAccepted request) = (131, request) ∷ (297, codes "0") ∷ []
-body_fields date (out.RequestRefused request bond reason) = refused_request_fields request bond reason
+body_fields date (out.RequestRefused request bond reason) =
+    refused_request_fields request bond reason
 body_fields date (out.ShownQuote quote) = shown_quote_fields date quote
 body_fields date (out.QuoteGone request quote) =
     (131, request) ∷ (117, quote_name quote) ∷ (297, codes "17") ∷ []
@@ -203,7 +213,8 @@ body_fields date (out.DealerDeclined request dealer) =
 body_fields date (out.HitAnswer id request quote refusal) =
     (693, id) ∷ (131, request) ∷ (117, quote_name quote) ∷ [] ++ hit_status refusal
 body_fields date (out.HitUnknown id quote) = (693, id) ∷ (117, quote) ∷ (297, codes "9") ∷ []
-body_fields date (out.PassAnswer id request status) = (693, id) ∷ (131, request) ∷ [] ++ pass_status status
+body_fields date (out.PassAnswer id request status) =
+    (693, id) ∷ (131, request) ∷ [] ++ pass_status status
 body_fields date (out.RequestExpired request) = (131, request) ∷ (297, codes "7") ∷ []
 
 -- the header: MsgType, SenderCompID, TargetCompID, MsgSeqNum, SendingTime
@@ -218,7 +229,8 @@ header_fields msg_type head =
 
 -- all fields of a message
 abbrev pub written_fields : Head → OutMessage → List Field
-written_fields head message = header_fields (msg_type_of message) head ++ body_fields head.date message
+written_fields head message = header_fields (msg_type_of message) head
+    ++ body_fields head.date message
 
 -- the bytes of a message: the frame of its fields
 unfoldable pub written : Head → OutMessage → List ℕ

@@ -5,7 +5,8 @@ ghost use Rattle.venue_config.specs.Texts.{text_if};
 ghost use Rattle.quote_messages.specs.Texts.{is_msg_type};
 ghost use Rattle.quote_messages.specs.Arrivals as spec;
 ghost use Rattle.quote_messages.specs.Turns as turns;
-ghost use Rattle.quote_messages.specs.Arrivals.{dealer_arrival, investor_arrival, sequence_number, reject_of, out_of_sequence};
+ghost use Rattle.quote_messages.specs.Arrivals.{dealer_arrival, investor_arrival, sequence_number};
+ghost use Rattle.quote_messages.specs.Arrivals.{reject_of, out_of_sequence};
 
 use crate::dealer_checks::judge_dealer;
 use crate::investor_checks::judge_investor;
@@ -20,7 +21,8 @@ use venue_config::{DealerRow, InvestorRow};
 /// What becomes of bytes that came from a firm, before the market looks at them.
 #[derive(Drop)]
 pub enum Arrival<'a, M: Drop> {
-    /// The bytes are no frame, or have no readable MsgSeqNum (34): nothing is sent, and no number is used up.
+    /// The bytes are no frame, or have no readable MsgSeqNum (34): nothing is sent, and no number
+    /// is used up.
     Dropped,
     /// MsgSeqNum (34) is not the expected one, which stays: the Reject (35=3) that answers.
     OutOfSequence(Reject<'a>),

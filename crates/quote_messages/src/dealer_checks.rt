@@ -2,7 +2,10 @@
 ghost use Rattle.std.specs.Prelude.{◌≡◌, ℕ, List, [], ◌∷◌, Ok};
 ghost use Rattle.quote_messages.specs.ValueForms.{OneOf};
 ghost use Rattle.quote_messages.specs.SessionLines.{required, text_at, first_fault, unless_fault};
-ghost use Rattle.quote_messages.specs.SessionChecks.{dealer_session_verdict, dealer_tables, types_of, verdict_by, quote_lines, quote_of, cancel_lines, cancel_of, decline_lines, decline_of};
+ghost use Rattle.quote_messages.specs.SessionChecks.{dealer_session_verdict, dealer_tables};
+ghost use Rattle.quote_messages.specs.SessionChecks.{types_of, verdict_by, quote_lines, quote_of};
+ghost use Rattle.quote_messages.specs.SessionChecks.{cancel_lines, cancel_of, decline_lines};
+ghost use Rattle.quote_messages.specs.SessionChecks.{decline_of};
 
 use crate::header::read_header;
 use crate::slots::FieldSlots;
@@ -16,8 +19,9 @@ use crate::{
 use fix_fields::{Date, Frame};
 use venue_config::{DealerRow, Name};
 
-/// What a dealer's message says, or its first session fault: the header in the order SenderCompID (49),
-/// TargetCompID (56), SendingTime (52), SenderSubID (50), MsgType (35), and then the fields of its type.
+/// What a dealer's message says, or its first session fault: the header in the order SenderCompID
+/// (49), TargetCompID (56), SendingTime (52), SenderSubID (50), MsgType (35), and then the fields
+/// of its type.
 pub fn read_dealer<'a>(
     date: &Date,
     row: &DealerRow,
@@ -104,8 +108,8 @@ fn read_quote<'a>(
     })
 }
 
-/// The fields of a QuoteCancel (35=Z), or its first fault: QuoteID (117) has to stand where QuoteCancelType (298)
-/// is 5, and nowhere else.
+/// The fields of a QuoteCancel (35=Z), or its first fault: QuoteID (117) has to stand where
+/// QuoteCancelType (298) is 5, and nowhere else.
 fn read_cancel<'a>(trader: Name, message: &FieldSlots<'a>) -> Result<QuoteCancel<'a>, SessionFault>
     requires { trader ≡ text_at 50 message.now }
     ensures { (date : List ℕ) → result ≡ unless_fault (first_fault cancel_lines date message.now) (Ok (cancel_of date message.now)) }

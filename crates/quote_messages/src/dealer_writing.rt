@@ -2,7 +2,9 @@
 ghost use Rattle.std.specs.Prelude.{◌≡◌, ◌+◌, ◌≤◌, [], ◌∷◌, ◌++◌, codes, OnOk};
 ghost use Rattle.fix_fields.specs.Frame.{left_of};
 ghost use Rattle.quote_messages.specs.Written as spec;
-ghost use Rattle.quote_messages.specs.Written.{answer_status, request_fields, received_id, cancel_status, closing_fields, hit_quote, hit_id, hit_price};
+ghost use Rattle.quote_messages.specs.Written.{answer_status, request_fields, received_id};
+ghost use Rattle.quote_messages.specs.Written.{cancel_status, closing_fields, hit_quote, hit_id};
+ghost use Rattle.quote_messages.specs.Written.{hit_price};
 
 use crate::field_writing::{
     notice_name, price_tag, price_value, put_answer, put_bond, put_party, request_name,
@@ -39,7 +41,8 @@ pub(crate) fn put_quote_answer(
     refusal: Option<QuoteRejectReason>,
 ) -> Result<(), Memory>
     requires { 3900 ≤ left_of writer.old }
-    ensures { OnOk result (writer.new ≡ writer.old ++ ((131, request.now) ∷ (117, id.now) ∷ [] ++ answer_status (codes "0") refusal)) }
+    ensures { OnOk result (writer.new ≡ writer.old
+        ++ ((131, request.now) ∷ (117, id.now) ∷ [] ++ answer_status (codes "0") refusal)) }
 {
     writer.text(131, request.as_bytes())?;
     writer.text(117, id.as_bytes())?;
@@ -54,7 +57,8 @@ pub(crate) fn put_cancel_answer(
     status: CancelStatus,
 ) -> Result<(), Memory>
     requires { 3900 ≤ left_of writer.old }
-    ensures { OnOk result (writer.new ≡ writer.old ++ (received_id id.now ++ cancel_status status)) }
+    ensures { OnOk result (writer.new ≡ writer.old
+        ++ (received_id id.now ++ cancel_status status)) }
 {
     put_received_id(writer, id)?;
     put_cancel_status(writer, status)?;
@@ -93,7 +97,8 @@ pub(crate) fn put_decline_answer(
     refusal: Option<QuoteRejectReason>,
 ) -> Result<(), Memory>
     requires { 3900 ≤ left_of writer.old }
-    ensures { OnOk result (writer.new ≡ writer.old ++ ((131, request.now) ∷ [] ++ answer_status (codes "11") refusal)) }
+    ensures { OnOk result (writer.new ≡ writer.old
+        ++ ((131, request.now) ∷ [] ++ answer_status (codes "11") refusal)) }
 {
     writer.text(131, request.as_bytes())?;
     put_answer(writer, b"11", refusal)?;
@@ -123,7 +128,8 @@ pub(crate) fn put_closing_notice(
 /// QuoteID (117) of the quote that was hit, where there is one.
 fn put_hit_id(writer: &mut FrameWriter, notice: &ClosingNotice) -> Result<(), Memory>
     requires { 3800 ≤ left_of writer.old }
-    ensures fields { OnOk result (writer.new ≡ writer.old ++ hit_id (hit_quote notice.now.close notice.now.quote)) }
+    ensures fields { OnOk result (writer.new ≡ writer.old
+        ++ hit_id (hit_quote notice.now.close notice.now.quote)) }
     ensures left { OnOk result (left_of writer.old ≤ left_of writer.new + 50) }
 {
     if !is_hit(notice.close) {
@@ -139,7 +145,8 @@ fn put_hit_id(writer: &mut FrameWriter, notice: &ClosingNotice) -> Result<(), Me
 /// The price of the quote that was hit, where there is one: OfferPx (133) or BidPx (132).
 fn put_hit_price(writer: &mut FrameWriter, notice: &ClosingNotice) -> Result<(), Memory>
     requires { 3600 ≤ left_of writer.old }
-    ensures { OnOk result (writer.new ≡ writer.old ++ hit_price notice.now.request.ask.side (hit_quote notice.now.close notice.now.quote)) }
+    ensures { OnOk result (writer.new ≡ writer.old
+        ++ hit_price notice.now.request.ask.side (hit_quote notice.now.close notice.now.quote)) }
 {
     if !is_hit(notice.close) {
         return Ok(());

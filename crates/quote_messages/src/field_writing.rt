@@ -3,7 +3,8 @@ ghost use Rattle.std.specs.Prelude.{◌≡◌, ◌+◌, ◌<◌, ◌≤◌, [], 
 ghost use Rattle.fix_fields.specs.Frame.{left_of, IsValue};
 ghost use Rattle.bond_prices.specs.Price.{price_digits};
 ghost use Rattle.quote_messages.specs.Written as spec;
-ghost use Rattle.quote_messages.specs.Written.{reject_fields, ref_msg_type, bond_fields, party_fields, answer_status, room_refusal};
+ghost use Rattle.quote_messages.specs.Written.{reject_fields, ref_msg_type, bond_fields};
+ghost use Rattle.quote_messages.specs.Written.{party_fields, answer_status, room_refusal};
 
 use crate::received::MsgType;
 use crate::{HitRefusal, Id, QuoteRejectReason, Reject, Side};

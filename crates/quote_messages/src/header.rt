@@ -10,8 +10,8 @@ use crate::{SessionFault, SessionRejectReason};
 use fix_fields::Date;
 use venue_config::{Name, Traders};
 
-/// The trader that sent a message, or the first fault of its header but for MsgType (35): SenderCompID (49),
-/// TargetCompID (56), SendingTime (52), SenderSubID (50).
+/// The trader that sent a message, or the first fault of its header but for MsgType (35):
+/// SenderCompID (49), TargetCompID (56), SendingTime (52), SenderSubID (50).
 pub(crate) fn read_header(
     date: &Date,
     name: &Name,
@@ -20,9 +20,11 @@ pub(crate) fn read_header(
 ) -> Result<Name, SessionFault>
     ensures { (types : List (List ℕ)) → MatchResult result
         (λ trader. (first_fault (header_lines name.now traders.now types) date.now message.now
-        ≡ first_fault (required 35 (OneOf types SessionRejectReason.InvalidMsgType) ∷ []) date.now message.now)
+        ≡ first_fault (required 35 (OneOf types SessionRejectReason.InvalidMsgType)
+        ∷ []) date.now message.now)
         × (trader ≡ text_at 50 message.now))
-        (λ fault. first_fault (header_lines name.now traders.now types) date.now message.now ≡ Some fault) }
+        (λ fault. first_fault (header_lines name.now traders.now types) date.now message.now
+        ≡ Some fault) }
 {
     check_text(
         message,

@@ -2,8 +2,12 @@
 ghost use Rattle.std.specs.Prelude.{◌≡◌, ◌==◌, ◌||◌, ℕ, List, [], ◌∷◌, codes, Ok, Some, IsTrue};
 ghost use Rattle.quote_messages.specs.ValueForms.{OneOf, NumberIs};
 ghost use Rattle.quote_messages.specs.TagReading.{Reads};
-ghost use Rattle.quote_messages.specs.SessionLines.{required, text_at, number_at, first_fault, unless_fault};
-ghost use Rattle.quote_messages.specs.SessionChecks.{investor_session_verdict, investor_tables, types_of, verdict_by, request_lines, request_of, response_lines, response_of, side_of};
+ghost use Rattle.quote_messages.specs.SessionLines.{required, text_at, number_at, first_fault};
+ghost use Rattle.quote_messages.specs.SessionLines.{unless_fault};
+ghost use Rattle.quote_messages.specs.SessionChecks.{investor_session_verdict, investor_tables};
+ghost use Rattle.quote_messages.specs.SessionChecks.{types_of, verdict_by, request_lines};
+ghost use Rattle.quote_messages.specs.SessionChecks.{request_of, response_lines, response_of};
+ghost use Rattle.quote_messages.specs.SessionChecks.{side_of};
 
 use crate::header::read_header;
 use crate::party_group::read_parties;
@@ -19,8 +23,9 @@ use crate::{
 use fix_fields::{Date, Frame};
 use venue_config::{InvestorRow, Name};
 
-/// What an investor's message says, or its first session fault: the header in the order SenderCompID (49),
-/// TargetCompID (56), SendingTime (52), SenderSubID (50), MsgType (35), and then the fields of its type.
+/// What an investor's message says, or its first session fault: the header in the order
+/// SenderCompID (49), TargetCompID (56), SendingTime (52), SenderSubID (50), MsgType (35), and then
+/// the fields of its type.
 pub fn read_investor<'a>(
     date: &Date,
     row: &InvestorRow,
@@ -101,7 +106,9 @@ fn read_request<'a>(
 
 /// Side (54), `1` or `2`.
 fn required_side(message: &FieldSlots) -> Result<Side, SessionFault>
-    ensures { (date : List ℕ) → Reads (required 54 (OneOf (codes "1" ∷ codes "2" ∷ []) SessionRejectReason.ValueIncorrect) date message.now) result (λ side. side ≡ side_of (text_at 54 message.now)) }
+    ensures { (date : List ℕ) → Reads (required 54 (OneOf (codes "1" ∷ codes "2"
+        ∷ []) SessionRejectReason.ValueIncorrect) date message.now) result
+        (λ side. side ≡ side_of (text_at 54 message.now)) }
 {
     let value = required_value(message, 54)?;
     if b"1".as_slice() == value {
@@ -113,8 +120,8 @@ fn required_side(message: &FieldSlots) -> Result<Side, SessionFault>
     Err(fault(54, SessionRejectReason::ValueIncorrect))
 }
 
-/// The fields of a QuoteResponse (35=AJ), or its first fault: QuoteID (117) has to stand where QuoteRespType (694)
-/// is 1, a hit, and QuoteReqID (131) where it is 6, a pass.
+/// The fields of a QuoteResponse (35=AJ), or its first fault: QuoteID (117) has to stand where
+/// QuoteRespType (694) is 1, a hit, and QuoteReqID (131) where it is 6, a pass.
 fn read_response<'a>(
     trader: Name,
     message: &FieldSlots<'a>,
@@ -146,8 +153,10 @@ fn read_response<'a>(
 
 /// QuoteRespType (694): 1 hits a quote, 6 passes a request.
 fn required_response_type(message: &FieldSlots) -> Result<u64, SessionFault>
-    ensures { (date : List ℕ) → Reads (required 694 (NumberIs (1 ∷ 6 ∷ []) SessionRejectReason.ValueIncorrect) date message.now) result
-        (λ number. (number_at 694 message.now ≡ Some number) × IsTrue (number == 1 || number == 6)) }
+    ensures { (date : List ℕ) → Reads (required 694 (NumberIs (1 ∷ 6
+        ∷ []) SessionRejectReason.ValueIncorrect) date message.now) result
+        (λ number. (number_at 694 message.now ≡ Some number)
+        × IsTrue (number == 1 || number == 6)) }
 {
     let value = required_value(message, 694)?;
     let Some(number) = read_number(value) else {

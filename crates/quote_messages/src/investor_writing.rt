@@ -2,7 +2,9 @@
 ghost use Rattle.std.specs.Prelude.{◌≡◌, ◌+◌, ◌≤◌, [], ◌∷◌, ◌++◌, codes, length, OnOk};
 ghost use Rattle.fix_fields.specs.Frame.{left_of, IsValue};
 ghost use Rattle.quote_messages.specs.Written as spec;
-ghost use Rattle.quote_messages.specs.Written.{refused_request_fields, bond_fields, shown_terms, valid_until_field, shown_quote_fields, party_fields, hit_status, pass_status};
+ghost use Rattle.quote_messages.specs.Written.{refused_request_fields, bond_fields, shown_terms};
+ghost use Rattle.quote_messages.specs.Written.{valid_until_field, shown_quote_fields, party_fields};
+ghost use Rattle.quote_messages.specs.Written.{hit_status, pass_status};
 
 use crate::field_writing::{
     price_tag, price_value, put_answer, put_bond, put_party, put_room_refusal, quote_name, size_tag,
@@ -21,7 +23,8 @@ pub(crate) fn put_request_status(
     requires room { 3900 ≤ left_of writer.old }
     requires short { length status.now ≤ 2 }
     requires digits { IsValue status.now }
-    ensures fields { OnOk result (writer.new ≡ writer.old ++ (131, request.now) ∷ (297, status.now) ∷ []) }
+    ensures fields { OnOk result (writer.new ≡ writer.old ++ (131, request.now) ∷ (297, status.now)
+        ∷ []) }
     ensures left { OnOk result (left_of writer.old ≤ left_of writer.new + 60) }
 {
     writer.text(131, request.as_bytes())?;
@@ -37,7 +40,8 @@ pub(crate) fn put_refused_request(
     reason: RequestRejectReason,
 ) -> Result<(), Memory>
     requires { 3900 ≤ left_of writer.old }
-    ensures { OnOk result (writer.new ≡ writer.old ++ refused_request_fields request.now bond.now reason) }
+    ensures { OnOk result (writer.new ≡ writer.old
+        ++ refused_request_fields request.now bond.now reason) }
 {
     writer.text(131, request.as_bytes())?;
     writer.number(658, reason.code())?;
@@ -109,7 +113,8 @@ pub(crate) fn put_quote_gone(
     quote: u64,
 ) -> Result<(), Memory>
     requires { 3900 ≤ left_of writer.old }
-    ensures { OnOk result (writer.new ≡ writer.old ++ (131, request.now) ∷ (117, spec.quote_name quote) ∷ (297, codes "17") ∷ []) }
+    ensures { OnOk result (writer.new ≡ writer.old ++ (131, request.now)
+        ∷ (117, spec.quote_name quote) ∷ (297, codes "17") ∷ []) }
 {
     writer.text(131, request.as_bytes())?;
     writer.text(117, quote_name(quote).as_bytes())?;
@@ -124,7 +129,8 @@ pub(crate) fn put_dealer_declined(
     dealer: &Name,
 ) -> Result<(), Memory>
     requires { 3900 ≤ left_of writer.old }
-    ensures { OnOk result (writer.new ≡ writer.old ++ ((131, request.now) ∷ (297, codes "11") ∷ [] ++ party_fields dealer.now (codes "35"))) }
+    ensures { OnOk result (writer.new ≡ writer.old
+        ++ ((131, request.now) ∷ (297, codes "11") ∷ [] ++ party_fields dealer.now (codes "35"))) }
 {
     put_request_status(writer, request, b"11")?;
     put_party(writer, dealer, b"35")?;
@@ -140,7 +146,9 @@ pub(crate) fn put_hit_answer(
     refusal: Option<HitRefusal>,
 ) -> Result<(), Memory>
     requires { 3900 ≤ left_of writer.old }
-    ensures { OnOk result (writer.new ≡ writer.old ++ ((693, id.now) ∷ (131, request.now) ∷ (117, spec.quote_name quote) ∷ [] ++ hit_status refusal)) }
+    ensures { OnOk result (writer.new ≡ writer.old
+        ++ ((693, id.now) ∷ (131, request.now) ∷ (117, spec.quote_name quote) ∷ []
+        ++ hit_status refusal)) }
 {
     writer.text(693, id.as_bytes())?;
     writer.text(131, request.as_bytes())?;
@@ -163,7 +171,8 @@ fn put_hit_status(writer: &mut FrameWriter, refusal: Option<HitRefusal>) -> Resu
 /// The fields of the answer to a hit of no quote that was shown.
 pub(crate) fn put_unknown_hit(writer: &mut FrameWriter, id: &Id, quote: &Id) -> Result<(), Memory>
     requires { 3900 ≤ left_of writer.old }
-    ensures { OnOk result (writer.new ≡ writer.old ++ (693, id.now) ∷ (117, quote.now) ∷ (297, codes "9") ∷ []) }
+    ensures { OnOk result (writer.new ≡ writer.old ++ (693, id.now) ∷ (117, quote.now)
+        ∷ (297, codes "9") ∷ []) }
 {
     writer.text(693, id.as_bytes())?;
     writer.text(117, quote.as_bytes())?;
@@ -179,7 +188,8 @@ pub(crate) fn put_pass_answer(
     status: PassStatus,
 ) -> Result<(), Memory>
     requires { 3900 ≤ left_of writer.old }
-    ensures { OnOk result (writer.new ≡ writer.old ++ ((693, id.now) ∷ (131, request.now) ∷ [] ++ pass_status status)) }
+    ensures { OnOk result (writer.new ≡ writer.old
+        ++ ((693, id.now) ∷ (131, request.now) ∷ [] ++ pass_status status)) }
 {
     writer.text(693, id.as_bytes())?;
     writer.text(131, request.as_bytes())?;

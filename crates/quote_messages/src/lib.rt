@@ -1,10 +1,11 @@
-//! The session layer of a blind multi-dealer RFQ venue, for both roles: what becomes of bytes that came from a firm,
-//! what its messages say, and the frame of each message that a firm is sent.
+//! The session layer of a blind multi-dealer RFQ venue, for both roles: what becomes of bytes that
+//! came from a firm, what its messages say, and the frame of each message that a firm is sent.
 //!
-//! A dealer sends a Quote (35=S), a QuoteCancel (35=Z) and a QuoteRequestReject (35=AG), by which it declines a
-//! request; an investor sends a QuoteRequest (35=R) and a QuoteResponse (35=AJ), which hits a quote or passes a request.
-//! What the venue answers is a decision of the market and is not made here: a desk makes it, as an [`OutMessage`],
-//! and this crate writes it. The terms of `market_terms` that a message or a desk speaks of are given out here again.
+//! A dealer sends a Quote (35=S), a QuoteCancel (35=Z) and a QuoteRequestReject (35=AG), by which
+//! it declines a request; an investor sends a QuoteRequest (35=R) and a QuoteResponse (35=AJ),
+//! which hits a quote or passes a request. What the venue answers is a decision of the market and
+//! is not made here: a desk makes it, as an [`OutMessage`], and this crate writes it. The terms of
+//! `market_terms` that a message or a desk speaks of are given out here again.
 //!
 //! # Example
 //!
@@ -21,24 +22,27 @@
 //!
 //! # What is promised
 //!
-//! - [`receive_dealer`] and [`receive_investor`] are `dealer_arrival` and `investor_arrival`: bytes that are no frame,
-//!   or have no readable MsgSeqNum (34), are dropped; another number than the expected one is out of sequence; the
-//!   rest used up its number, and is rejected for its first session fault or taken.
-//! - [`read_dealer`] and [`read_investor`] are the session verdicts of the day, the firm's row and the frame's fields:
-//!   the first fault in the order of the tables of `SessionChecks`, or the message, each field absent or as its form
-//!   reads it. Nothing else of the message matters: not the order of its fields, but for the party group, and no field
-//!   that the tables lack.
-//! - A price out of range or off the grid is no fault of the session: the [`Quote`] carries it as it is.
+//! - [`receive_dealer`] and [`receive_investor`] are `dealer_arrival` and `investor_arrival`: bytes
+//!   that are no frame, or have no readable MsgSeqNum (34), are dropped; another number than the
+//!   expected one is out of sequence; the rest used up its number, and is rejected for its first
+//!   session fault or taken.
+//! - [`read_dealer`] and [`read_investor`] are the session verdicts of the day, the firm's row and
+//!   the frame's fields: the first fault in the order of the tables of `SessionChecks`, or the
+//!   message, each field absent or as its form reads it. Nothing else of the message matters: not
+//!   the order of its fields, but for the party group, and no field that the tables lack.
+//! - A price out of range or off the grid is no fault of the session: the [`Quote`] carries it as
+//!   it is.
 //! - [`NamedDealers`] are the dealers that a request names, in their order.
-//! - [`write_out`] is `written`: the frame of the fields of that message, in their order, for the head's firm,
-//!   number and moment. It fails for nothing but memory. A [`SentMessage`] is a frame by its type.
-//! - A closing notice bears a QuoteID (117) and a price only where the dealer's own quote was hit, whatever its
-//!   [`ClosingNotice::quote`] is.
-//! - An [`Id`], an [`IdBuf`], a [`SeqNum`], a [`MsgType`] and a [`Quantity`] are never anything but what their
-//!   forms allow, so what is written of them needs no check.
+//! - [`write_out`] is `written`: the frame of the fields of that message, in their order, for the
+//!   head's firm, number and moment. It fails for nothing but memory. A [`SentMessage`] is a frame
+//!   by its type.
+//! - A closing notice bears a QuoteID (117) and a price only where the dealer's own quote was hit,
+//!   whatever its [`ClosingNotice::quote`] is.
+//! - An [`Id`], an [`IdBuf`], a [`SeqNum`], a [`MsgType`] and a [`Quantity`] are never anything but
+//!   what their forms allow, so what is written of them needs no check.
 //!
-//! Only [`expected_number`] has a condition, each call returns, and only [`write_out`] and [`Message::copy_of`] take
-//! memory.
+//! Only [`expected_number`] has a condition, each call returns, and only [`write_out`] and
+//! [`Message::copy_of`] take memory.
 #![tactic(auto)]
 
 mod arrivals;

@@ -74,10 +74,12 @@ pub enum OutMessage<'a> {
     QuoteGone {
         /// QuoteReqID (131), the investor's.
         request: Id<'a>,
-        /// Which of the quotes shown to this investor it is, from 1: QuoteID (117) is `Q` and this number.
+        /// Which of the quotes shown to this investor it is, from 1: QuoteID (117) is `Q` and this
+        /// number.
         quote: u64,
     },
-    /// QuoteStatusReport (35=AI) with 297=11: an investor is told that a dealer declined its request.
+    /// QuoteStatusReport (35=AI) with 297=11: an investor is told that a dealer declined its
+    /// request.
     DealerDeclined {
         /// QuoteReqID (131), the investor's.
         request: Id<'a>,
@@ -95,7 +97,8 @@ pub enum OutMessage<'a> {
         /// Why it is refused, where it is.
         refusal: Option<HitRefusal>,
     },
-    /// QuoteStatusReport (35=AI) with 297=9: no quote that was shown to the investor has the QuoteID of its hit.
+    /// QuoteStatusReport (35=AI) with 297=9: no quote that was shown to the investor has the
+    /// QuoteID of its hit.
     HitUnknown {
         /// QuoteRespID (693) as received.
         id: Id<'a>,
@@ -176,7 +179,8 @@ pub struct Reject<'a> {
 /// A request that a dealer was shown.
 #[derive(Drop)]
 pub struct Request {
-    /// Which of the requests shown to this dealer it is, from 1: QuoteReqID (131) is `R` and this number.
+    /// Which of the requests shown to this dealer it is, from 1: QuoteReqID (131) is `R` and this
+    /// number.
     pub number: u64,
     /// What is asked for.
     pub ask: Ask,
@@ -185,14 +189,15 @@ pub struct Request {
 /// How a request ended for a dealer.
 #[derive(Drop)]
 pub struct ClosingNotice {
-    /// Which of the dealer's closing notices it is, from 1: QuoteRespID (693) is `N` and this number.
+    /// Which of the dealer's closing notices it is, from 1: QuoteRespID (693) is `N` and this
+    /// number.
     pub number: u64,
     /// The request that ended.
     pub request: Request,
     /// How it ended, QuoteRespType (694).
     pub close: Close,
-    /// The dealer's live quote on the request, where there is one. Only a notice of a hit bears its QuoteID (117)
-    /// and its price (132 or 133).
+    /// The dealer's live quote on the request, where there is one. Only a notice of a hit bears its
+    /// QuoteID (117) and its price (132 or 133).
     pub quote: Option<QuotedPrice>,
 }
 
@@ -210,7 +215,8 @@ pub struct QuotedPrice {
 pub struct ShownQuote<'a> {
     /// QuoteReqID (131), the investor's.
     pub request: Id<'a>,
-    /// Which of the quotes shown to this investor it is, from 1: QuoteID (117) is `Q` and this number.
+    /// Which of the quotes shown to this investor it is, from 1: QuoteID (117) is `Q` and this
+    /// number.
     pub number: u64,
     /// SecurityID (48).
     pub bond: BondId,

@@ -7,8 +7,9 @@ use crate::party_group::next_dealer;
 use fix_fields::Fields;
 use std::marker::Model;
 
-/// The dealers that the party group (453) of a QuoteRequest names, in their order: the PartyID (448) of each entry with
-/// PartyIDSource 447=D and PartyRole 452=35. It is an iterator over them, and borrows the bytes of the message.
+/// The dealers that the party group (453) of a QuoteRequest names, in their order: the PartyID
+/// (448) of each entry with PartyIDSource 447=D and PartyRole 452=35. It is an iterator over them,
+/// and borrows the bytes of the message.
 #[derive(Drop)]
 pub struct NamedDealers<'a> {
     fields: Fields<'a>,

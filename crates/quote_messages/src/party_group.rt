@@ -1,13 +1,17 @@
 //! The party group of a request.
-ghost use Rattle.std.specs.Prelude.{◌≡◌, ◌≢◌, ◌==◌, if◌then◌else◌, ℕ, ◌+◌, ◌≤◌, List, [], ◌∷◌, length, Some, None, MatchOption, IsTrue};
+ghost use Rattle.std.specs.Prelude.{◌≡◌, ◌≢◌, ◌==◌, if◌then◌else◌, ℕ, ◌+◌, ◌≤◌, List, [], ◌∷◌};
+ghost use Rattle.std.specs.Prelude.{length, Some, None, MatchOption, IsTrue};
 ghost use Rattle.fix_fields.specs.Frame.{Field, times_of};
 ghost use Rattle.market_terms.specs.Texts.{is_id};
 ghost use Rattle.quote_messages.specs.TagReading.{Reads};
 ghost use Rattle.quote_messages.specs.ValueForms.{AnId, AnyText};
-ghost use Rattle.quote_messages.specs.SessionLines.{occurrence_of, required, first_fault, number_at, text_at};
+ghost use Rattle.quote_messages.specs.SessionLines.{occurrence_of, required, first_fault};
+ghost use Rattle.quote_messages.specs.SessionLines.{number_at, text_at};
 ghost use Rattle.quote_messages.specs.Slots.{said_by};
 ghost use Rattle.quote_messages.specs.PartyGroup as spec;
-ghost use Rattle.quote_messages.specs.PartyGroup.{party_group, named_dealers, group_of, before_entry, entries_of, entries_fault, entry_lines, dealer_of_entry, AreWhole};
+ghost use Rattle.quote_messages.specs.PartyGroup.{party_group, named_dealers, group_of};
+ghost use Rattle.quote_messages.specs.PartyGroup.{before_entry, entries_of, entries_fault};
+ghost use Rattle.quote_messages.specs.PartyGroup.{entry_lines, dealer_of_entry, AreWhole};
 ghost use Rattle.quote_messages.specs.GroupReading.{run_of, IsAbsent, StandsBefore};
 
 use crate::slots::{FieldSlots, Slot};
@@ -15,14 +19,16 @@ use crate::tag_reading::fault;
 use crate::{Id, NamedDealers, SessionFault, SessionRejectReason};
 use fix_fields::{Fields, MOST_BODY};
 
-/// The dealers that a message names, or the fault of its party group, whose number of entries (453) is this.
+/// The dealers that a message names, or the fault of its party group, whose number of entries (453)
+/// is this.
 #[tactic(auto, unfolding(crate::specs::PartyGroup::party_group))]
 pub(crate) fn read_parties<'a>(
     message: &FieldSlots<'a>,
     count: u64,
 ) -> Result<NamedDealers<'a>, SessionFault>
     requires { number_at 453 message.now ≡ Some count }
-    ensures { (date : List ℕ) → Reads (party_group date message.now) result (λ dealers. dealers ≡ named_dealers message.now) }
+    ensures { (date : List ℕ) → Reads (party_group date message.now) result
+        (λ dealers. dealers ≡ named_dealers message.now) }
 {
     let fields = message.fields();
     if !is_one_group(&fields, count) {
@@ -130,7 +136,8 @@ fn is_beside_parties(tag: u32) -> bool
 
 /// The first fault of the first entry that has one.
 fn check_entries(fields: Fields<'_>) -> Result<(), SessionFault>
-    ensures { (date : List ℕ) → Reads (entries_fault date (entries_of fields.entry)) result (λ _. Unit {0}) }
+    ensures { (date : List ℕ) → Reads (entries_fault date (entries_of fields.entry)) result
+        (λ _. Unit {0}) }
 {
     let mut rest = fields;
     while let Some((tag, value)) = rest.next() {
@@ -142,10 +149,11 @@ fn check_entries(fields: Fields<'_>) -> Result<(), SessionFault>
     Ok(())
 }
 
-/// The first fault of an entry: that of its PartyID (448), which is this, of its PartyIDSource (447), and of its
-/// PartyRole (452).
+/// The first fault of an entry: that of its PartyID (448), which is this, of its PartyIDSource
+/// (447), and of its PartyRole (452).
 fn check_entry(id: &[u8], behind: &Fields) -> Result<(), SessionFault>
-    ensures { (date : List ℕ) → Reads (first_fault entry_lines date ((448, id.now) ∷ before_entry behind.now)) result (λ _. Unit {0}) }
+    ensures { (date : List ℕ) → Reads (first_fault entry_lines date ((448, id.now)
+        ∷ before_entry behind.now)) result (λ _. Unit {0}) }
 {
     check_party_id(id, behind)?;
     check_in_entry(447, id, behind)?;
@@ -155,7 +163,8 @@ fn check_entry(id: &[u8], behind: &Fields) -> Result<(), SessionFault>
 
 /// The fault of the PartyID (448) with which an entry begins.
 fn check_party_id(id: &[u8], behind: &Fields) -> Result<(), SessionFault>
-    ensures { (date : List ℕ) → Reads (required 448 AnId date ((448, id.now) ∷ before_entry behind.now)) result (λ _. Unit {0}) }
+    ensures { (date : List ℕ) → Reads (required 448 AnId date ((448, id.now)
+        ∷ before_entry behind.now)) result (λ _. Unit {0}) }
 {
     if id.is_empty() {
         return Err(fault(448, SessionRejectReason::TagWithoutValue));
@@ -170,7 +179,8 @@ fn check_party_id(id: &[u8], behind: &Fields) -> Result<(), SessionFault>
 #[tactic(auto, unfolding(crate::specs::SessionLines::tag_fault))]
 fn check_in_entry(tag: u32, id: &[u8], behind: &Fields) -> Result<(), SessionFault>
     requires { tag ≢ 448 }
-    ensures { (date : List ℕ) → Reads (required tag AnyText date ((448, id.now) ∷ before_entry behind.now)) result (λ _. Unit {0}) }
+    ensures { (date : List ℕ) → Reads (required tag AnyText date ((448, id.now)
+        ∷ before_entry behind.now)) result (λ _. Unit {0}) }
 {
     let slot = slot_in_entry(tag, behind);
     let Some(value) = slot.first else {
@@ -188,7 +198,8 @@ fn check_in_entry(tag: u32, id: &[u8], behind: &Fields) -> Result<(), SessionFau
 /// How a tag other than PartyID (448) stands in an entry with these fields behind its PartyID.
 fn slot_in_entry<'a>(tag: u32, behind: &Fields<'a>) -> Slot<'a>
     requires { tag ≢ 448 }
-    ensures { (id : List ℕ) → said_by result ≡ occurrence_of tag ((448, id) ∷ before_entry behind.now) }
+    ensures { (id : List ℕ) → said_by result ≡ occurrence_of tag ((448, id)
+        ∷ before_entry behind.now) }
 {
     slot_before_entry(tag, behind.again())
 }
@@ -228,7 +239,8 @@ fn next_before_entry<'a>(wanted: u32, fields: Fields<'a>) -> Option<(&'a [u8], F
 pub(crate) fn next_dealer<'a>(fields: &mut Fields<'a>) -> Option<&'a [u8]>
     requires { AreWhole (entries_of fields.old) }
     ensures next { MatchOption result (named_dealers fields.old ≡ [])
-        (λ id. (named_dealers fields.old ≡ id.now ∷ named_dealers fields.new) × IsTrue (is_id id.now)) }
+        (λ id. (named_dealers fields.old ≡ id.now ∷ named_dealers fields.new)
+        × IsTrue (is_id id.now)) }
     ensures whole { AreWhole (entries_of fields.new) }
     ensures none { MatchOption result (named_dealers fields.new ≡ []) (λ _. Unit {0}) }
 {
@@ -243,9 +255,11 @@ pub(crate) fn next_dealer<'a>(fields: &mut Fields<'a>) -> Option<&'a [u8]>
     None
 }
 
-/// Whether an entry with these fields behind its PartyID (448) names a dealer: PartyIDSource 447=D, PartyRole 452=35.
+/// Whether an entry with these fields behind its PartyID (448) names a dealer: PartyIDSource 447=D,
+/// PartyRole 452=35.
 fn names_dealer(behind: &Fields) -> bool
-    ensures { (id : List ℕ) → dealer_of_entry ((448, id) ∷ before_entry behind.now) ≡ (if result then Some id else None) }
+    ensures { (id : List ℕ) → dealer_of_entry ((448, id) ∷ before_entry behind.now)
+        ≡ (if result then Some id else None) }
 {
     let source = value_in_entry(447, behind);
     if b"D".as_slice() != source {
@@ -255,8 +269,8 @@ fn names_dealer(behind: &Fields) -> bool
     b"35".as_slice() == role
 }
 
-/// The first value of a tag other than PartyID (448) in an entry with these fields behind its PartyID, empty where it
-/// has none.
+/// The first value of a tag other than PartyID (448) in an entry with these fields behind its
+/// PartyID, empty where it has none.
 fn value_in_entry<'a>(tag: u32, behind: &Fields<'a>) -> &'a [u8]
     requires { tag ≢ 448 }
     ensures { (id : List ℕ) → result.now ≡ text_at tag ((448, id) ∷ before_entry behind.now) }

@@ -4,11 +4,11 @@ ghost use Rattle.std.specs.List.{list_all, position, before_first, after_first};
 ghost use Rattle.quote_messages.specs.Texts.{is_point};
 ghost use Rattle.quote_messages.specs.ValueForms.{quantity_of};
 
-use crate::numbers::are_digits;
-use crate::{Quantity, SessionRejectReason, read_long_number};
+use crate::numbers::{are_digits, number_of_digits};
+use crate::{Quantity, SessionRejectReason};
 
-/// The quantity that 1 to 15 digits with at most one point write: of wrong form, not whole or out of its
-/// limits is the reason given.
+/// The quantity that 1 to 15 digits with at most one point write: of wrong form, not whole or out
+/// of its limits is the reason given.
 #[tactic(auto, unfolding(crate::specs::ValueForms::quantity_of))]
 pub fn read_quantity(text: &[u8]) -> Result<Quantity, SessionRejectReason>
     ensures { result ≡ quantity_of text.now }
@@ -21,14 +21,15 @@ pub fn read_quantity(text: &[u8]) -> Result<Quantity, SessionRejectReason>
     if !are_zeros(decimals) {
         return Err(SessionRejectReason::ValueIncorrect);
     }
-    let units = read_long_number(whole).unwrap_or(0);
+    let units = number_of_digits(whole);
     let Some(quantity) = Quantity::new(units) else {
         return Err(SessionRejectReason::ValueIncorrect);
     };
     Ok(quantity)
 }
 
-/// What stands before the first point of a text and what stands behind it, nothing where it has no point.
+/// What stands before the first point of a text and what stands behind it, nothing where it has no
+/// point.
 #[tactic(auto, using(crate::proofs::TextLemmas::cut_at, crate::proofs::TextLemmas::cut_nowhere))]
 fn cut_at_point(text: &[u8]) -> (&[u8], &[u8])
     ensures whole { result.0.now ≡ before_first is_point text.now }

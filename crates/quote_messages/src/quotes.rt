@@ -27,7 +27,8 @@ pub struct Quote<'a> {
     pub request: Id<'a>,
     /// SecurityID (48).
     pub bond: Id<'a>,
-    /// BidPx (132): the price at which the dealer buys. Out of range or off the grid of 256ths is no session fault.
+    /// BidPx (132): the price at which the dealer buys. Out of range or off the grid of 256ths is
+    /// no session fault.
     pub bid: Option<Result<Ticks, PriceFault>>,
     /// OfferPx (133): the price at which the dealer sells.
     pub offer: Option<Result<Ticks, PriceFault>>,
@@ -50,7 +51,8 @@ pub struct QuoteCancel<'a> {
     pub scope: CancelScope<'a>,
 }
 
-/// Which quotes a QuoteCancel cancels, by its QuoteCancelType (298). QuoteID (117) has to stand for one quote alone.
+/// Which quotes a QuoteCancel cancels, by its QuoteCancelType (298). QuoteID (117) has to stand for
+/// one quote alone.
 #[derive(Drop)]
 pub enum CancelScope<'a> {
     /// 5: the quote with this QuoteID (117).
@@ -66,7 +68,8 @@ pub enum CancelScope<'a> {
     },
 }
 
-/// A QuoteRequestReject (35=AG) with QuoteRequestRejectReason 658=10, the only one that a dealer gives.
+/// A QuoteRequestReject (35=AG) with QuoteRequestRejectReason 658=10, the only one that a dealer
+/// gives.
 #[derive(Drop)]
 pub struct Decline<'a> {
     /// SenderSubID (50): the trader of the dealer that sent it.

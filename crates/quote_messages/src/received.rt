@@ -9,7 +9,8 @@ use crate::characters::are_letters_or_digits;
 use crate::read_number;
 use std::marker::Model;
 
-/// MsgSeqNum (34) as it was spelled: 1 to 9 digits that write at least 1. A Reject repeats it as RefSeqNum (45).
+/// MsgSeqNum (34) as it was spelled: 1 to 9 digits that write at least 1. A Reject repeats it as
+/// RefSeqNum (45).
 #[derive(Drop)]
 pub struct SeqNum<'a> {
     digits: &'a [u8],
@@ -54,7 +55,8 @@ impl<'a> SeqNum<'a> {
     }
 }
 
-/// MsgType (35) as it was received: 1 to 4 letters or digits. A Reject repeats it as RefMsgType (372).
+/// MsgType (35) as it was received: 1 to 4 letters or digits. A Reject repeats it as RefMsgType
+/// (372).
 #[derive(Drop)]
 pub struct MsgType<'a> {
     letters: &'a [u8],
@@ -69,7 +71,8 @@ impl<'a> Model for MsgType<'a> {
 }
 
 impl<'a> MsgType<'a> {
-    /// The type that these bytes are, or none where they are longer, empty, or no letters and digits.
+    /// The type that these bytes are, or none where they are longer, empty, or no letters and
+    /// digits.
     pub fn new(text: &'a [u8]) -> Option<Self>
         ensures { result ≡ text_if is_msg_type text.now }
     {

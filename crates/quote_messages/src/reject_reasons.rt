@@ -37,7 +37,8 @@ impl QuoteRejectReason {
     }
 }
 
-/// QuoteRequestRejectReason (658) of a QuoteRequestReject (35=AG) by which the venue refuses a request.
+/// QuoteRequestRejectReason (658) of a QuoteRequestReject (35=AG) by which the venue refuses a
+/// request.
 #[derive(Clone, Copy, PartialEq, Eq)]
 pub enum RequestRejectReason {
     /// 1: the venue does not have the bond.

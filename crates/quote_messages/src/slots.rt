@@ -29,25 +29,24 @@ impl<'a> Slot<'a> {
         }
     }
 
-    /// The tag once more, with this value.
+    /// Notes the tag once more, with this value.
     #[inline(always)]
-    pub(crate) fn and(self, value: &'a [u8]) -> Self
-        ensures { said_by result ≡ joined (said_by self.entry) (record { first = Some value.now; is_repeated = false }) }
+    pub(crate) fn note(&mut self, value: &'a [u8])
+        ensures { said_by self.new ≡ joined (said_by self.old) (record {
+          first = Some value.now;
+          is_repeated = false;
+        }) }
     {
-        if self.first.is_none() {
-            return Slot {
-                first: Some(value),
-                is_repeated: self.is_repeated,
-            };
+        if self.first.is_some() {
+            self.is_repeated = true;
+            return;
         }
-        Slot {
-            first: self.first,
-            is_repeated: true,
-        }
+        self.first = Some(value);
     }
 }
 
-/// The fields of a message, with each tag of the tables in a slot. A clause sees the list of the fields.
+/// The fields of a message, with each tag of the tables in a slot. A clause sees the list of the
+/// fields.
 #[derive(Drop)]
 pub(crate) struct FieldSlots<'a> {
     fields: Fields<'a>,
@@ -102,10 +101,29 @@ fn filled(fields: Fields<'_>) -> [Slot<'_>; SLOTS]
     let mut slots = [Slot::empty(); SLOTS];
     for (tag, value) in fields {
         let place = place_of(tag);
-        slots[place] = slots[place].and(value);
+        slots[place].note(value);
     }
     slots
 }
+
+/// The places of the tags below 150: 25 where no table looks at the tag.
+static PLACES: [u8; 150] = [
+    25, 25, 25, 25, 25, 25, 25, 25, 25, 25, // 0 to 9
+    25, 25, 25, 25, 25, 25, 25, 25, 25, 25, // 10 to 19
+    25, 25, 9, 25, 25, 25, 25, 25, 25, 25, // 20 to 29
+    25, 25, 25, 25, 5, 4, 25, 25, 20, 25, // 30 to 39
+    25, 25, 25, 25, 25, 25, 25, 25, 8, 0, // 40 to 49
+    3, 25, 2, 25, 19, 25, 1, 25, 25, 25, // 50 to 59
+    25, 25, 15, 25, 25, 25, 25, 25, 25, 25, // 60 to 69
+    25, 25, 25, 25, 25, 25, 25, 25, 25, 25, // 70 to 79
+    25, 25, 25, 25, 25, 25, 25, 25, 25, 25, // 80 to 89
+    25, 25, 25, 25, 25, 25, 25, 25, 25, 25, // 90 to 99
+    25, 25, 25, 25, 25, 25, 25, 25, 25, 25, // 100 to 109
+    25, 25, 25, 25, 25, 25, 25, 6, 25, 25, // 110 to 119
+    25, 25, 25, 25, 25, 25, 21, 25, 25, 25, // 120 to 129
+    25, 7, 10, 11, 12, 13, 25, 25, 25, 25, // 130 to 139
+    25, 25, 25, 25, 25, 25, 18, 25, 25, 25, // 140 to 149
+];
 
 /// The place of a tag among the slots; those that no table looks at have the last one in common.
 #[inline(always)]
@@ -113,30 +131,14 @@ fn place_of(tag: u32) -> usize
     ensures place { result ≡ place_of tag }
     ensures within { result < SLOTS }
 {
+    if tag < 150 {
+        return PLACES[tag as usize] as usize;
+    }
     match tag {
-        49 => 0,
-        56 => 1,
-        52 => 2,
-        50 => 3,
-        35 => 4,
-        34 => 5,
-        117 => 6,
-        131 => 7,
-        48 => 8,
-        22 => 9,
-        132 => 10,
-        133 => 11,
-        134 => 12,
-        135 => 13,
-        537 => 14,
-        62 => 15,
         298 => 16,
-        658 => 17,
-        146 => 18,
-        54 => 19,
-        38 => 20,
-        126 => 21,
         453 => 22,
+        537 => 14,
+        658 => 17,
         693 => 23,
         694 => 24,
         _ => 25,

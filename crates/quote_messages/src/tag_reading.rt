@@ -1,14 +1,19 @@
 //! Reading one tag of a message: each function here is a line of a table.
-ghost use Rattle.std.specs.Prelude.{◌≡◌, ℕ, List, [], ◌∷◌, Some, None, true, MatchResult, MatchOption, IsTrue, option_map, option_and_then};
+ghost use Rattle.std.specs.Prelude.{◌≡◌, ℕ, List, [], ◌∷◌, Some, None, true, MatchResult};
+ghost use Rattle.std.specs.Prelude.{MatchOption, IsTrue, option_map, option_and_then};
 ghost use Rattle.std.specs.Result.{result_ok};
 ghost use Rattle.bond_prices.specs.Price.{price_of};
 ghost use Rattle.fix_fields.specs.Frame.{Field, value_of};
 ghost use Rattle.fix_fields.specs.UtcTimestamp.{moment_of};
 ghost use Rattle.venue_config.specs.Texts.{is_among};
 ghost use Rattle.quote_messages.specs.Slots.{is_checked};
-ghost use Rattle.quote_messages.specs.TagReading.{Reads, StandsOnce, HasFault, HasFaultWhereRequired};
-ghost use Rattle.quote_messages.specs.ValueForms.{AnyText, AnId, ANumber, APrice, AQuantity, AMoment, OneOf, NumberIs, quantity_of, moment_fault};
-ghost use Rattle.quote_messages.specs.SessionLines.{required, optional, required_where, text_at, number_at};
+ghost use Rattle.quote_messages.specs.TagReading.{Reads, StandsOnce, HasFault};
+ghost use Rattle.quote_messages.specs.TagReading.{HasFaultWhereRequired};
+ghost use Rattle.quote_messages.specs.ValueForms.{AnyText, AnId, ANumber, APrice, AQuantity};
+ghost use Rattle.quote_messages.specs.ValueForms.{AMoment, OneOf, NumberIs, quantity_of};
+ghost use Rattle.quote_messages.specs.ValueForms.{moment_fault};
+ghost use Rattle.quote_messages.specs.SessionLines.{required, optional, required_where, text_at};
+ghost use Rattle.quote_messages.specs.SessionLines.{number_at};
 
 use crate::quantities::read_quantity;
 use crate::slots::FieldSlots;
@@ -25,7 +30,8 @@ pub(crate) fn check_text(
     reason: SessionRejectReason,
 ) -> Result<(), SessionFault>
     requires { IsTrue (is_checked tag) }
-    ensures { (date : List ℕ) → Reads (required tag (OneOf (text.now ∷ []) reason) date message.now) result (λ _. Unit {0}) }
+    ensures { (date : List ℕ) → Reads (required tag (OneOf (text.now
+        ∷ []) reason) date message.now) result (λ _. Unit {0}) }
 {
     let value = required_value(message, tag)?;
     if text != value {
@@ -48,7 +54,8 @@ pub(crate) fn trader(message: &FieldSlots, traders: &Traders) -> Result<Name, Se
 /// A required identifier.
 pub(crate) fn required_id<'a>(message: &FieldSlots<'a>, tag: u32) -> Result<Id<'a>, SessionFault>
     requires { IsTrue (is_checked tag) }
-    ensures { (date : List ℕ) → Reads (required tag AnId date message.now) result (λ id. id ≡ text_at tag message.now) }
+    ensures { (date : List ℕ) → Reads (required tag AnId date message.now) result
+        (λ id. id ≡ text_at tag message.now) }
 {
     let value = required_value(message, tag)?;
     let Some(id) = Id::new(value) else {
@@ -64,7 +71,8 @@ pub(crate) fn optional_id<'a>(
     tag: u32,
 ) -> Result<Option<Id<'a>>, SessionFault>
     requires { IsTrue (is_checked tag) }
-    ensures { (date : List ℕ) → Reads (optional tag AnId date message.now) result (λ id. id ≡ value_of tag message.now) }
+    ensures { (date : List ℕ) → Reads (optional tag AnId date message.now) result
+        (λ id. id ≡ value_of tag message.now) }
 {
     let Some(value) = single(message, tag)? else {
         return Ok(None);
@@ -78,7 +86,8 @@ pub(crate) fn optional_id<'a>(
 /// A required number.
 pub(crate) fn required_number(message: &FieldSlots, tag: u32) -> Result<u64, SessionFault>
     requires { IsTrue (is_checked tag) }
-    ensures { (date : List ℕ) → Reads (required tag ANumber date message.now) result (λ number. number_at tag message.now ≡ Some number) }
+    ensures { (date : List ℕ) → Reads (required tag ANumber date message.now) result
+        (λ number. number_at tag message.now ≡ Some number) }
 {
     let value = required_value(message, tag)?;
     let Some(number) = read_number(value) else {
@@ -90,7 +99,8 @@ pub(crate) fn required_number(message: &FieldSlots, tag: u32) -> Result<u64, Ses
 /// A required number that has to be this one.
 pub(crate) fn check_number(message: &FieldSlots, tag: u32, wanted: u64) -> Result<(), SessionFault>
     requires { IsTrue (is_checked tag) }
-    ensures { (date : List ℕ) → Reads (required tag (NumberIs (wanted ∷ []) SessionRejectReason.ValueIncorrect) date message.now) result (λ _. Unit {0}) }
+    ensures { (date : List ℕ) → Reads (required tag (NumberIs (wanted
+        ∷ []) SessionRejectReason.ValueIncorrect) date message.now) result (λ _. Unit {0}) }
 {
     let value = required_value(message, tag)?;
     let Some(number) = read_number(value) else {
@@ -109,7 +119,8 @@ pub(crate) fn required_moment(
     tag: u32,
 ) -> Result<Moment, SessionFault>
     requires { IsTrue (is_checked tag) }
-    ensures { Reads (required tag AMoment date.now message.now) result (λ moment. result_ok (moment_of date.now (text_at tag message.now)) ≡ Some moment) }
+    ensures { Reads (required tag AMoment date.now message.now) result
+        (λ moment. result_ok (moment_of date.now (text_at tag message.now)) ≡ Some moment) }
 {
     let value = required_value(message, tag)?;
     let moment = moment(date, value).map_err(|reason| fault(tag, reason))?;
@@ -117,6 +128,7 @@ pub(crate) fn required_moment(
 }
 
 /// A moment of the day, where it stands.
+#[inline(always)]
 #[tactic(auto, using(crate::proofs::SessionLemmas::absent_optional))]
 pub(crate) fn optional_moment(
     date: &Date,
@@ -125,7 +137,8 @@ pub(crate) fn optional_moment(
 ) -> Result<Option<Moment>, SessionFault>
     requires { IsTrue (is_checked tag) }
     ensures { Reads (optional tag AMoment date.now message.now) result
-        (λ moment. moment ≡ option_and_then (λ text. result_ok (moment_of date.now text)) (value_of tag message.now)) }
+        (λ moment. moment ≡ option_and_then
+        (λ text. result_ok (moment_of date.now text)) (value_of tag message.now)) }
 {
     let Some(value) = single(message, tag)? else {
         return Ok(None);
@@ -135,6 +148,7 @@ pub(crate) fn optional_moment(
 }
 
 /// A price, where it stands: out of range or off the grid is left to the checks of the market.
+#[inline(always)]
 #[tactic(auto, using(crate::proofs::SessionLemmas::absent_optional))]
 pub(crate) fn optional_price(
     message: &FieldSlots,
@@ -157,7 +171,8 @@ pub(crate) fn optional_price(
 /// A required quantity.
 pub(crate) fn required_quantity(message: &FieldSlots, tag: u32) -> Result<Quantity, SessionFault>
     requires { IsTrue (is_checked tag) }
-    ensures { (date : List ℕ) → Reads (required tag AQuantity date message.now) result (λ quantity. result_ok (quantity_of (text_at tag message.now)) ≡ Some quantity) }
+    ensures { (date : List ℕ) → Reads (required tag AQuantity date message.now) result
+        (λ quantity. result_ok (quantity_of (text_at tag message.now)) ≡ Some quantity) }
 {
     let value = required_value(message, tag)?;
     let quantity = read_quantity(value).map_err(|reason| fault(tag, reason))?;
@@ -165,6 +180,7 @@ pub(crate) fn required_quantity(message: &FieldSlots, tag: u32) -> Result<Quanti
 }
 
 /// A quantity, where it stands.
+#[inline(always)]
 #[tactic(auto, using(crate::proofs::SessionLemmas::absent_optional))]
 pub(crate) fn optional_quantity(
     message: &FieldSlots,
@@ -172,7 +188,8 @@ pub(crate) fn optional_quantity(
 ) -> Result<Option<Quantity>, SessionFault>
     requires { IsTrue (is_checked tag) }
     ensures { (date : List ℕ) → Reads (optional tag AQuantity date message.now) result
-        (λ quantity. quantity ≡ option_and_then (λ text. result_ok (quantity_of text)) (value_of tag message.now)) }
+        (λ quantity. quantity ≡ option_and_then
+        (λ text. result_ok (quantity_of text)) (value_of tag message.now)) }
 {
     let Some(value) = single(message, tag)? else {
         return Ok(None);
@@ -182,6 +199,7 @@ pub(crate) fn optional_quantity(
 }
 
 /// A number, where it stands.
+#[inline(always)]
 #[tactic(auto, using(crate::proofs::SessionLemmas::absent_optional))]
 pub(crate) fn optional_number(message: &FieldSlots, tag: u32) -> Result<Option<u64>, SessionFault>
     requires { IsTrue (is_checked tag) }
@@ -204,7 +222,8 @@ pub(crate) fn required_value<'a>(
     tag: u32,
 ) -> Result<&'a [u8], SessionFault>
     requires { IsTrue (is_checked tag) }
-    ensures { MatchResult result (λ value. StandsOnce tag message.now value.now) (HasFaultWhereRequired tag message.now) }
+    ensures { MatchResult result
+        (λ value. StandsOnce tag message.now value.now) (HasFaultWhereRequired tag message.now) }
 {
     match single(message, tag) {
         Ok(Some(value)) => Ok(value),
@@ -214,11 +233,13 @@ pub(crate) fn required_value<'a>(
 }
 
 /// The value of a tag that stands at most once, and is not empty where it stands.
+#[inline(always)]
 #[tactic(auto, unfolding(crate::specs::SessionLines::tag_fault))]
 fn single<'a>(message: &FieldSlots<'a>, tag: u32) -> Result<Option<&'a [u8]>, SessionFault>
     requires { IsTrue (is_checked tag) }
     ensures { MatchResult result
-        (λ found. MatchOption found (value_of tag message.now ≡ None) (λ value. StandsOnce tag message.now value.now))
+        (λ found. MatchOption found (value_of tag message.now ≡ None)
+        (λ value. StandsOnce tag message.now value.now))
         (HasFault tag message.now) }
 {
     let slot = message.at(tag);
@@ -235,6 +256,7 @@ fn single<'a>(message: &FieldSlots<'a>, tag: u32) -> Result<Option<&'a [u8]>, Se
 }
 
 /// The moment of the day that a text is, or what is wrong with it.
+#[inline(always)]
 fn moment(date: &Date, text: &[u8]) -> Result<Moment, SessionRejectReason>
     ensures { MatchResult result
         (λ moment. moment_of date.now text.now ≡ Ok moment)

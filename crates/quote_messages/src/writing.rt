@@ -18,7 +18,8 @@ use std::alloc::Global;
 /// The message to a firm, the frame of its fields. It fails only for memory.
 pub fn write_out(alloc: Global, head: &Head, message: &OutMessage) -> Result<SentMessage, Memory>
     ensures text { IfOk result (λ sent. sent ≡ written head.now message.now) }
-    ensures frame { IfOk result (λ sent. frame_of sent ≡ Some (written_fields head.now message.now)) }
+    ensures frame { IfOk result (λ sent. frame_of sent
+        ≡ Some (written_fields head.now message.now)) }
 {
     let mut writer = header(alloc, message.msg_type(), head)?;
     put_body(&mut writer, &head.date, message)?;
@@ -71,7 +72,8 @@ fn put_body(writer: &mut FrameWriter, date: &Date, message: &OutMessage) -> Resu
     }
 }
 
-/// A writer with MsgType (35), SenderCompID (49), TargetCompID (56), MsgSeqNum (34) and SendingTime (52).
+/// A writer with MsgType (35), SenderCompID (49), TargetCompID (56), MsgSeqNum (34) and SendingTime
+/// (52).
 fn header(alloc: Global, msg_type: &[u8], head: &Head) -> Result<FrameWriter, Memory>
     requires short { length msg_type.now ≤ 4 }
     requires value { IsValue msg_type.now }

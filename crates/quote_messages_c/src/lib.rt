@@ -1,13 +1,15 @@
-//! The session checks of `quote_messages` for C and C++: a frame is read and checked as a dealer's message.
+//! The session checks of `quote_messages` for C and C++: a frame is read and checked as a dealer's
+//! message.
 #![tactic(auto)]
 
 use fix_fields::{Date, Frame, read_frame};
 use quote_messages::read_dealer;
 use venue_config::{DealerRow, Name, Traders};
 
-/// How far a message of the dealer DLR1 with the trader T1 on 14 March 2025 gets: 0 where it is not looked at, 1
-/// where it is a frame and no more is asked, 2 where it meets no session fault, 3 where it meets one, and 4 where
-/// it is no frame. With 0 `steps` the row is made alone, with 1 the frame is read, with 2 its fields are checked.
+/// How far a message of the dealer DLR1 with the trader T1 on 14 March 2025 gets: 0 where it is not
+/// looked at, 1 where it is a frame and no more is asked, 2 where it meets no session fault, 3
+/// where it meets one, and 4 where it is no frame. With 0 `steps` the row is made alone, with 1 the
+/// frame is read, with 2 its fields are checked.
 #[unsafe(no_mangle)]
 pub extern "C" fn quote_messages_read(bytes: &[u8], steps: u32) -> u32 {
     let Some(row) = row() else {

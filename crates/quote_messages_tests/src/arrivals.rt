@@ -53,7 +53,8 @@ fn numbers_of_a_dealer(rt: HostRuntime) -> Result<(), Fail> {
     Ok(())
 }
 
-/// Asserts what a Reject says: RefSeqNum (45), RefTagID (371), RefMsgType (372, empty where it is away), reason (373).
+/// Asserts what a Reject says: RefSeqNum (45), RefTagID (371), RefMsgType (372, empty where it is
+/// away), reason (373).
 fn says(
     rt: &impl Abort,
     reject: &Reject,

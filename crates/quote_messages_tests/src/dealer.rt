@@ -1,4 +1,5 @@
-//! The session checks of a dealer's message: each fault of each tag, their order, and what is no fault.
+//! The session checks of a dealer's message: each fault of each tag, their order, and what is no
+//! fault.
 use crate::support::{Change, changed, day};
 use bond_prices::{PriceFault, Ticks};
 use fix_fields::read_frame;
@@ -181,7 +182,8 @@ fn finds_each_fault_of_a_decline(rt: HostRuntime) -> Result<(), Fail> {
     finds_each(&rt, rt.alloc(), DECLINE, &DECLINE_FAULTS)
 }
 
-/// Of two faults the one whose tag is looked at first is answered, whichever stands first in the message.
+/// Of two faults the one whose tag is looked at first is answered, whichever stands first in the
+/// message.
 fn first_is_found(
     rt: &impl Abort,
     alloc: Global,
@@ -238,8 +240,8 @@ fn finds_the_first_fault(rt: HostRuntime) -> Result<(), Fail> {
     first_is_found(&rt, rt.alloc(), TURNED_DECLINE, &DECLINE_ORDER)
 }
 
-/// The number of ticks of a lawful price, 0 for a price that is out of range or off the grid, and none where
-/// none stands.
+/// The number of ticks of a lawful price, 0 for a price that is out of range or off the grid, and
+/// none where none stands.
 fn ticks(price: Option<Result<Ticks, PriceFault>>) -> Option<u32> {
     price.map(|price| price.map_or(0, |ticks| ticks.get()))
 }

@@ -1,4 +1,5 @@
-//! The session checks of an investor's message: each fault of each tag, and what is no fault. `parties` has the group.
+//! The session checks of an investor's message: each fault of each tag, and what is no fault.
+//! `parties` has the group.
 use crate::parties::are_named;
 use crate::support::{Change, changed, day};
 use fix_fields::read_frame;

@@ -1,5 +1,5 @@
-//! Tests of `quote_messages`, of what no clause says: that the tables and fields are those that a counterparty would
-//! write down, and that calls succeed where memory is left.
+//! Tests of `quote_messages`, of what no clause says: that the tables and fields are those that a
+//! counterparty would write down, and that calls succeed where memory is left.
 //!
 //! In every text of a message a vertical bar stands for SOH.
 #![tactic(auto)]

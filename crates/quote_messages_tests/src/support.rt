@@ -5,7 +5,8 @@ use quote_messages::Id;
 use std::alloc::Global;
 use std::test::Fail;
 
-/// A part of a message, another form of it, and the tag and reason (373) of the fault that it then has.
+/// A part of a message, another form of it, and the tag and reason (373) of the fault that it then
+/// has.
 pub(crate) type Change = (&'static str, &'static str, u32, u64);
 
 /// The day of the tests.

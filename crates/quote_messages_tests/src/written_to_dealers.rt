@@ -139,7 +139,8 @@ fn written_at_last(alloc: Global, head: &Head, message: &OutMessage) -> Result<S
 const NOTICE: &[u8] =
     b"8=FIXT.1.1\x019=142\x0135=AJ\x0149=VENUE\x0156=DLR1\x0134=3\x0152=20250314-09:01:00.000\x01693=N1\x01131=R1\x01117=a1\x01694=1\x0155=[N/A]\x0148=BONDA0000001\x0122=4\x0154=1\x0138=2000000\x01133=99.50390625\x0110=152\x01";
 
-/// It allocates nowhere else, so it passes whichever allocation is refused: to be run with `rt try --test
+/// It allocates nowhere else, so it passes whichever allocation is refused: to be run with `rt try
+/// --test
 /// --fail-alloc N` for each N.
 #[test]
 fn refused_memory_changes_no_answer(rt: HostRuntime) -> Result<(), Fail> {

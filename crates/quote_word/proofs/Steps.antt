@@ -1,5 +1,7 @@
 -- The steps of a board keep its rule.
-use Rattle.std.proofs.Common.{◌≡◌, ◌≢◌, ℕ, ◌<◌, ◌==◌, Bool, true, false, List, [], ◌∷◌, ◌++◌, length, slice_index_or, slice_set, Option, Some, None, refl, ap, sym, ◌∙◌, subst, arith, inl, length-set}
+use Rattle.std.proofs.Common.{◌≡◌, ◌≢◌, ℕ, ◌<◌, ◌==◌, Bool, true, false, List, [], ◌∷◌, ◌++◌}
+use Rattle.std.proofs.Common.{length, slice_index_or, slice_set, Option, Some, None, refl, ap, sym}
+use Rattle.std.proofs.Common.{◌∙◌, subst, arith, inl, length-set}
 use Rattle.std.proofs.lemmas.List.{get_or-set_same, get_or-set_other}
 use Rattle.std.proofs.lemmas.Bool.Decides.{nat_tests}
 use mathlib.Core.List.{IsPrefix}
@@ -12,7 +14,8 @@ use Rattle.quote_word.specs.PlainWords.{answer_of}
 use Rattle.quote_word.specs.SettleLog.{SettleLog, entry_of, IsLegal, added_by, log_after}
 use Rattle.quote_word.specs.SettleLogLaws.{entry_after, other_after, legal_after}
 use Rattle.quote_word.specs.Board.{BoardName, SettlesOnBoard}
-use Rattle.quote_word.specs.Rule.{code_of, entry_of_code, IsBegun, words_of, settle_log, IsKept, Exchanged, front_of, word_of, AreWords}
+use Rattle.quote_word.specs.Rule.{code_of, entry_of_code, IsBegun, words_of, settle_log, IsKept}
+use Rattle.quote_word.specs.Rule.{Exchanged, front_of, word_of, AreWords}
 
 -- what clients see of the log, which is nothing, and how an update moves it
 abbrev pub shown : List Settlement → List Settlement

@@ -1,4 +1,5 @@
-//! What the tests of a room share: rooms at some point of their day, and calls that meet their conditions.
+//! What the tests of a room share: rooms at some point of their day, and calls that meet their
+//! conditions.
 use bond_prices::{Grid, Ticks};
 use fix_fields::{Memory, Moment};
 use market_terms::{Ask, AskedDealers, HitRefusal, Quantity, Reply, Side};
@@ -26,7 +27,8 @@ fn opening(rt: &impl Abort, alloc: Global, side: Side) -> Result<Room, Fail> {
     Ok(room)
 }
 
-/// The same with three quotes: of the dealers 0 and 1 at 25,476 ticks, and of the dealer 2 at 25,472.
+/// The same with three quotes: of the dealers 0 and 1 at 25,476 ticks, and of the dealer 2 at
+/// 25,472.
 fn posted(rt: &impl Abort, alloc: Global, side: Side) -> Result<Room, Fail> {
     let mut room = opening(rt, alloc, side)?;
     assert!(rt; posts(rt, &mut room, 0, 10, 25_476, None)?);

@@ -1,5 +1,7 @@
--- A configuration as a whole: its values from those of its rows, its sums, its limits, its firms' numbers.
-use Rattle.std.proofs.Common.{◌≡◌, ◌≤◌, ◌+◌, ℕ, true, nat_le, List, [], ◌∷◌, length, map, All, Some, Ok, refl, sym, ap, ◌∙◌, arith, sum_by, String, BTreeMap, Global}
+-- A configuration as a whole: its values from those of its rows, its sums, its limits, its firms'
+-- numbers.
+use Rattle.std.proofs.Common.{◌≡◌, ◌≤◌, ◌+◌, ℕ, true, nat_le, List, [], ◌∷◌, length, map, All, Some}
+use Rattle.std.proofs.Common.{Ok, refl, sym, ap, ◌∙◌, arith, sum_by, String, BTreeMap, Global}
 use Rattle.std.proofs.lemmas.Bool.Decides.{nat_tests}
 use Rattle.std.proofs.lemmas.List.{get_or-map, length-map}
 use Rattle.std.proofs.lemmas.List.Sums.{sum_by-cons}
@@ -8,9 +10,15 @@ use Rattle.toml.specs.Parse.{parse_document}
 use Rattle.toml.specs.View.{view, table_view}
 use Rattle.toml.specs.declared.value.Value.{Value, Table}
 use Rattle.toml.proofs.Views.{view-Table}
-use Rattle.venue_config.specs.declared.config.TheConstants.VenueConfig.{MOST_BONDS, MOST_DEALERS, MOST_INVESTORS, MOST_QUOTES_IN_ALL, MOST_REQUESTS_IN_ALL}
-use Rattle.venue_config.specs.Rows.{Configuration, DealerValues, InvestorValues, dealer_values, investor_values, KeepsLimits, AreTraders}
-use Rattle.venue_config.specs.Config.{bonds_in, dealers_in, investors_in, dealer_names, investor_names, quotes_in_all, requests_in_all, sums_fit, document_of}
+use Rattle.venue_config.specs.declared.config.TheConstants.VenueConfig.{MOST_BONDS, MOST_DEALERS}
+use Rattle.venue_config.specs.declared.config.TheConstants.VenueConfig.{MOST_INVESTORS}
+use Rattle.venue_config.specs.declared.config.TheConstants.VenueConfig.{MOST_QUOTES_IN_ALL}
+use Rattle.venue_config.specs.declared.config.TheConstants.VenueConfig.{MOST_REQUESTS_IN_ALL}
+use Rattle.venue_config.specs.Rows.{Configuration, DealerValues, InvestorValues, dealer_values}
+use Rattle.venue_config.specs.Rows.{investor_values, KeepsLimits, AreTraders}
+use Rattle.venue_config.specs.Config.{bonds_in, dealers_in, investors_in, dealer_names}
+use Rattle.venue_config.specs.Config.{investor_names, quotes_in_all, requests_in_all, sums_fit}
+use Rattle.venue_config.specs.Config.{document_of}
 use Rattle.venue_config.specs.declared.dealer_rows.DealerRow.{DealerRow}
 use Rattle.venue_config.specs.declared.investor_rows.InvestorRow.{InvestorRow}
 use Rattle.std.proofs.lemmas.Bool.{and_parts}

@@ -1,6 +1,9 @@
 -- What a configuration that was read keeps: no name twice, each of its form.
 use Rattle.bond_prices.specs.Grid.{is_grid, finest_grid}
-use Rattle.std.proofs.Common.{◌≡◌, ◌≢◌, ◌≤◌, ◌+◌, ℕ, ℤ, pos, negsuc, Bool, true, false, ◌&&◌, nat_le, List, [], ◌∷◌, ◌++◌, length, All, AllPairs, IsTrue, Option, Some, None, Result, Ok, Err, cond, refl, sym, ap, subst, ◌∙◌, arith, get_or}
+use Rattle.std.proofs.Common.{◌≡◌, ◌≢◌, ◌≤◌, ◌+◌, ℕ, ℤ, pos, negsuc, Bool, true, false, ◌&&◌}
+use Rattle.std.proofs.Common.{nat_le, List, [], ◌∷◌, ◌++◌, length, All, AllPairs, IsTrue, Option}
+use Rattle.std.proofs.Common.{Some, None, Result, Ok, Err, cond, refl, sym, ap, subst, ◌∙◌, arith}
+use Rattle.std.proofs.Common.{get_or}
 use Rattle.std.specs.Cmp.Lexicographic.{bytes_decides}
 use Rattle.std.proofs.lemmas.Bool.{false≢true}
 use Rattle.std.proofs.lemmas.Bool.Decides.{nat_tests}
@@ -11,11 +14,17 @@ use Rattle.std.proofs.lemmas.List.Quantifiers.{all_pairs_push}
 use Rattle.std.specs.Option.{option_and_then}
 use Rattle.toml.specs.Data.{Data, Items, no_items, item, as_array, as_str, as_integer, get}
 use Rattle.venue_config.specs.Texts.{is_among, is_bond_id, is_firm_name, same_text}
-use Rattle.venue_config.specs.Keys.{has_grids, id_key, grid_key, name_key, traders_key, bonds_key, dealers_key, investors_key, quotes_key, exposure_key, requests_key, open_key, quantity_key}
-use Rattle.venue_config.specs.Values.{◌>>=◌, choice_in, choice_at, text_in, text_at, unnamed, item_count, elements_in, elements_at, rows_at, read_all, trader_of, traders_at, number_at}
+use Rattle.venue_config.specs.Keys.{has_grids, id_key, grid_key, name_key, traders_key, bonds_key}
+use Rattle.venue_config.specs.Keys.{dealers_key, investors_key, quotes_key, exposure_key}
+use Rattle.venue_config.specs.Keys.{requests_key, open_key, quantity_key}
+use Rattle.venue_config.specs.Values.{◌>>=◌, choice_in, choice_at, text_in, text_at, unnamed}
+use Rattle.venue_config.specs.Values.{item_count, elements_in, elements_at, rows_at, read_all}
+use Rattle.venue_config.specs.Values.{trader_of, traders_at, number_at}
 use Rattle.venue_config.specs.Rows.{DealerValues, InvestorValues, AreTraders, bond_ids}
 use Rattle.venue_config.specs.declared.bond_rows.BondRow.{BondRow}
-use Rattle.venue_config.specs.Config.{bond_of, bond_id_of, grid_of, bonds_in, dealer_names, investor_names, firm_name_of, dealer_of, investor_of, dealers_in, investors_in}
+use Rattle.venue_config.specs.Config.{bond_of, bond_id_of, grid_of, bonds_in, dealer_names}
+use Rattle.venue_config.specs.Config.{investor_names, firm_name_of, dealer_of, investor_of}
+use Rattle.venue_config.specs.Config.{dealers_in, investors_in}
 use Rattle.venue_config.specs.declared.faults.ConfigFault.{ConfigFault}
 use Rattle.venue_config.specs.declared.faults.ConfigFault.TheVariants.{Twice, Name, Limit}
 

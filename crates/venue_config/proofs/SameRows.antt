@@ -1,5 +1,6 @@
 -- A row of a dealer is its values: what it holds beside them are facts of them.
-use Rattle.std.proofs.Common.{◌≡◌, ◌≤◌, ℕ, true, List, length, refl, ap, subst, sym, ◌∙◌, false, IsTrue, ◌↔◌, ◌==◌}
+use Rattle.std.proofs.Common.{◌≡◌, ◌≤◌, ℕ, true, List, length, refl, ap, subst, sym, ◌∙◌, false}
+use Rattle.std.proofs.Common.{IsTrue, ◌↔◌, ◌==◌}
 use Rattle.std.proofs.lemmas.Bool.{false≢true, eqb-true, eq-eqb}
 use Rattle.std.proofs.Math.Bridge.{le_prop}
 use Rattle.std.specs.Bool.{Decides}
@@ -7,7 +8,8 @@ use Rattle.std.specs.Cmp.Lexicographic.{pointwise_decides, bytes_decides}
 use Rattle.venue_config.specs.Texts.{same_text, same_texts}
 use Rattle.venue_config.specs.Rows.{DealerValues, dealer_values}
 use Rattle.venue_config.specs.declared.dealer_rows.DealerRow.{DealerRow}
-use Rattle.venue_config.specs.declared.dealer_rows.TheConstants.DealerRow.{MOST_QUOTES, MOST_EXPOSURE}
+use Rattle.venue_config.specs.declared.dealer_rows.TheConstants.DealerRow.{MOST_QUOTES}
+use Rattle.venue_config.specs.declared.dealer_rows.TheConstants.DealerRow.{MOST_EXPOSURE}
 
 -- the facts that a row holds of its values
 abbrev pub Facts : DealerValues → Type 0

@@ -1,5 +1,7 @@
 -- What the forms of names imply: each is ASCII, so it is UTF-8, and has no SOH.
-use Rattle.std.proofs.Common.{◌≡◌, ◌≢◌, ◌==◌, ℕ, ◌<◌, Bool, true, false, List, [], ◌∷◌, ◌++◌, length, ◌&&◌, nat_le, arith, refl, ap, map, ◌||◌, ◌∙◌, Option, Some, None, cond, nat_eq, sym}
+use Rattle.std.proofs.Common.{◌≡◌, ◌≢◌, ◌==◌, ℕ, ◌<◌, Bool, true, false, List, [], ◌∷◌, ◌++◌}
+use Rattle.std.proofs.Common.{length, ◌&&◌, nat_le, arith, refl, ap, map, ◌||◌, ◌∙◌, Option, Some}
+use Rattle.std.proofs.Common.{None, cond, nat_eq, sym}
 use Rattle.std.specs.Cmp.Lexicographic.{bytes_decides, pointwise}
 use Rattle.std.specs.Cmp.Derive.Mapped.{pointwise-map}
 use Rattle.std.specs.List.{list_all, list_any, find}
@@ -11,7 +13,8 @@ use Rattle.fix_fields.specs.TextLaws.{utf8_if_all, value_if_all}
 use Rattle.std.specs.Str.{IsUtf8}
 use Rattle.std.proofs.lemmas.Bool.{and_parts}
 use Rattle.std.proofs.lemmas.Bool.Decides.{nat_tests}
-use Rattle.venue_config.specs.Texts.{is_name, is_among, same_text, same_texts, text_if, is_capital_or_digit, is_bond_id}
+use Rattle.venue_config.specs.Texts.{is_name, is_among, same_text, same_texts, text_if}
+use Rattle.venue_config.specs.Texts.{is_capital_or_digit, is_bond_id}
 
 pub capital_or_digit-low : (c : ℕ) → is_capital_or_digit c ≡ true → c < 128
 capital_or_digit-low c h = grind (arith, nat_tests)

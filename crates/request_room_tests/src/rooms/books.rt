@@ -4,8 +4,8 @@ use super::*;
 /// The dealers of the day, in the request's order.
 const DEALERS: &[u16] = &[5, 0, 7, 2, 6, 1, 3, 4];
 
-/// The day, row by row: a dealer, the word of its quote, and the price at which it posts it, or none
-/// where it takes it out. Many prices are equal, and the word 99 is nobody's.
+/// The day, row by row: a dealer, the word of its quote, and the price at which it posts it, or
+/// none where it takes it out. Many prices are equal, and the word 99 is nobody's.
 const DAY: &[(u16, u32, Option<u32>)] = &[
     (0, 100, Some(25_600)),
     (3, 101, Some(25_602)),
@@ -57,8 +57,8 @@ struct Listed {
     price: u32,
 }
 
-/// An open room after the first rows of the day, and the plain list after them. It asserts that each
-/// row takes effect where the list says so.
+/// An open room after the first rows of the day, and the plain list after them. It asserts that
+/// each row takes effect where the list says so.
 fn played(
     rt: &impl Abort,
     alloc: Global,
@@ -144,7 +144,8 @@ fn takes_the_place(side: Side, price: u32, best: &Option<Listed>) -> bool {
     }
 }
 
-/// After so many rows each quote of the list can be hit and has the list's cover, and no other can be.
+/// After so many rows each quote of the list can be hit and has the list's cover, and no other can
+/// be.
 fn compares(rt: &impl Abort, alloc: Global, side: Side, rows: usize) -> Result<(), Fail> {
     let early = at(rt, 1);
     let (room, list) = played(rt, alloc, side, rows)?;

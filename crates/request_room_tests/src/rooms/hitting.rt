@@ -91,7 +91,8 @@ fn only_an_open_room_is_hit(rt: HostRuntime) -> Result<(), Fail> {
     Ok(())
 }
 
-// A venue gives each quote a word of its own; a room that is told otherwise takes the earliest posted.
+// A venue gives each quote a word of its own; a room that is told otherwise takes the earliest
+// posted.
 #[test]
 fn of_two_quotes_with_one_word_the_earlier_posted_is_meant(rt: HostRuntime) -> Result<(), Fail> {
     let mut room = opening(&rt, rt.alloc(), Side::Buy)?;

@@ -1,9 +1,10 @@
 //! Memory that is refused in the middle of a room's day.
 //!
-//! The room takes its memory from `Global` alone, so a test cannot hand it an allocator that refuses.
-//! This test is to be run as `rt try --test --fail-alloc N`, for each N in turn, which refuses the N-th allocation.
-//! It allocates nothing but in the calls of a room: after a refusal the room has to be as before, and the same call
-//! made again has to answer as if the first one had not been made. So it passes whichever allocation is refused.
+//! The room takes its memory from `Global` alone, so a test cannot hand it an allocator that
+//! refuses. This test is to be run as `rt try --test --fail-alloc N`, for each N in turn, which
+//! refuses the N-th allocation. It allocates nothing but in the calls of a room: after a refusal
+//! the room has to be as before, and the same call made again has to answer as if the first one had
+//! not been made. So it passes whichever allocation is refused.
 use super::*;
 
 /// A call of a room.
@@ -116,8 +117,8 @@ fn makes(rt: &impl Abort, room: &mut Room, call: &Call) -> Result<bool, Memory> 
     Ok(effect)
 }
 
-/// What the readers of a room answer: how many events, whether it is vacant, whether it is opening, whether it ended,
-/// and the sum of the words that may be hit.
+/// What the readers of a room answer: how many events, whether it is vacant, whether it is opening,
+/// whether it ended, and the sum of the words that may be hit.
 fn seen(room: &Room, moment: Moment) -> (usize, bool, bool, bool, u32) {
     let mut words: u32 = 0;
     for w in [10, 11, 20, 30] {

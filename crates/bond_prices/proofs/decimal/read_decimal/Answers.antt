@@ -1,7 +1,10 @@
 use Rattle.std.proofs.Common.{◌≡◌, ◌<◌, ◌≤◌, ◌*◌, ◌^◌, arith, refl, ◌∙◌, if◌then◌else◌}
-use Rattle.bond_prices.proofs.Spelled.{spelled_after-start, spelled_after-step, below_power, most_power, push_below_power, scale_below_power, scale_below_more}
+use Rattle.bond_prices.proofs.Spelled.{spelled_after-start, spelled_after-step, below_power}
+use Rattle.bond_prices.proofs.Spelled.{most_power, push_below_power, scale_below_power}
+use Rattle.bond_prices.proofs.Spelled.{scale_below_more}
 use Rattle.bond_prices.proofs.decimal.read_decimal.Goals as goal
-use Rattle.bond_prices.proofs.decimal.read_decimal.Goals.{then-is_behind_point-2, else-is_behind_point-2}
+use Rattle.bond_prices.proofs.decimal.read_decimal.Goals.{then-is_behind_point-2}
+use Rattle.bond_prices.proofs.decimal.read_decimal.Goals.{else-is_behind_point-2}
 
 pub loop-byte-init : goal.loop-byte-init
 loop-byte-init c = record { spelled = spelled_after-start c.args.text.now; digits_fit = omega arith; number_fits = omega arith; scale_fits = omega arith; scale_is_positive = omega arith }

@@ -1,5 +1,6 @@
 use Rattle.std.proofs.Common.{ℕ, ◌≡◌, ◌≢◌, List, ◌∷◌, sym, ◌∙◌, get_or}
-use Rattle.bond_prices.proofs.PriceOf.{price_of-empty, price_of-negative, price_of-negative_none, price_of-unsigned, price_of-unsigned_none}
+use Rattle.bond_prices.proofs.PriceOf.{price_of-empty, price_of-negative, price_of-negative_none}
+use Rattle.bond_prices.proofs.PriceOf.{price_of-unsigned, price_of-unsigned_none}
 use Rattle.bond_prices.proofs.read.read_exactly.Goals as goal
 
 -- a text that begins with another byte than a minus sign

@@ -1,4 +1,5 @@
-use Rattle.bond_prices.proofs.Meaning.{price_of-ok_iff, price_of-form_iff, price_of-range_iff, price_of-grid_iff}
+use Rattle.bond_prices.proofs.Meaning.{price_of-ok_iff, price_of-form_iff, price_of-range_iff}
+use Rattle.bond_prices.proofs.Meaning.{price_of-grid_iff}
 use Rattle.bond_prices.proofs.read.read_price.Goals as goal
 
 pub returns-clause-read : goal.returns-clause-read

@@ -1,5 +1,6 @@
 use Rattle.std.proofs.Common.{ℕ, ◌≡◌, ◌≤◌, ◌*◌, ◌/◌, refl, sym, arith}
-use Rattle.bond_prices.proofs.PriceAt.{price_at-ok, price_at-grid, low_from_quotient, high_from_quotient}
+use Rattle.bond_prices.proofs.PriceAt.{price_at-ok, price_at-grid, low_from_quotient}
+use Rattle.bond_prices.proofs.PriceAt.{high_from_quotient}
 use Rattle.bond_prices.proofs.read.ticks_of.Goals as goal
 
 pub returns-then-remainder-gt0-2 : goal.returns-then-remainder-gt0-2

@@ -1,5 +1,6 @@
 use Rattle.std.proofs.Common.{◌∙◌}
-use Rattle.bond_prices.proofs.ReadBack.{price_digits-shortest, length-price_digits, price_of-price_digits, price_digits-injective}
+use Rattle.bond_prices.proofs.ReadBack.{price_digits-shortest, length-price_digits}
+use Rattle.bond_prices.proofs.ReadBack.{price_of-price_digits, price_digits-injective}
 use Rattle.bond_prices.proofs.text.price_text.Goals as goal
 
 pub returns-clause-shortest : goal.returns-clause-shortest

@@ -1,7 +1,8 @@
 use Rattle.std.proofs.Common.{◌+◌, ◌-◌, ◌++◌, length, take, drop, sym, ap, ◌∙◌, arith, inl, inr}
 use Rattle.std.proofs.lemmas.List.{take_rest}
 use Rattle.fix_fields.specs.Frame.{start_text}
-use Rattle.fix_fields.proofs.CutLemmas.{HasLength, length_of_cut, cut_of_length, seven_of_cut, starts_of, begins_of}
+use Rattle.fix_fields.proofs.CutLemmas.{HasLength, length_of_cut, cut_of_length, seven_of_cut}
+use Rattle.fix_fields.proofs.CutLemmas.{starts_of, begins_of}
 use Rattle.fix_fields.proofs.frames.cut.Goals as goal
 
 pub returns-then-digits-eq0-clause-err : goal.returns-then-digits-eq0-clause-err

@@ -7,7 +7,8 @@ use Rattle.std.specs.List.{prefix_len}
 use Rattle.std.specs.Str.Parse.{digits_value}
 use Rattle.fix_fields.proofs.CutLemmas.{end_parts, end_of_parts, end_begins}
 use Rattle.fix_fields.proofs.frames.sum_of_end.Goals as goal
-use Rattle.fix_fields.proofs.frames.sum_of_end.Goals.{then-digits-ne3-via-then-digits-ne3, then-digits-ne3-via-else-digits-ne3+then-tail-ne-SOH}
+use Rattle.fix_fields.proofs.frames.sum_of_end.Goals.{then-digits-ne3-via-then-digits-ne3}
+use Rattle.fix_fields.proofs.frames.sum_of_end.Goals.{then-digits-ne3-via-else-digits-ne3+then-tail-ne-SOH}
 
 pub returns-then-digits-ne3 : goal.returns-then-digits-ne3
 returns-then-digits-ne3 c = λ digits end.

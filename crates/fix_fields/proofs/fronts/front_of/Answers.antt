@@ -1,12 +1,14 @@
-use Rattle.std.proofs.Common.{◌≡◌, ◌+◌, ◌-◌, take, drop, length, sym, ap, ◌∙◌, arith, inl, inr}
+use Rattle.std.proofs.Common.{◌≡◌, ◌+◌, ◌-◌, take, drop, sym, ap, ◌∙◌, arith, inl, inr}
 use Rattle.std.proofs.lemmas.Bool.{false≢true}
-use Rattle.std.proofs.lemmas.List.{take_rest}
 use Rattle.std.proofs.lemmas.Bool.Decides.{Decides-eqb}
 use Rattle.std.proofs.lemmas.Slice.Eq.{starts_is}
 use Rattle.fix_fields.specs.Frame.{start_text}
-use Rattle.fix_fields.proofs.FoundLemmas.{counted_in, found_departs, found_digits, found_no_length, IsHead, head_at, found_too_long, found_begun, found_no_end, found_whole}
+use Rattle.fix_fields.proofs.FoundLemmas.{counted_in, found_departs, found_digits, found_no_length}
+use Rattle.fix_fields.proofs.FoundLemmas.{head_at, found_too_long, found_begun, found_no_end}
+use Rattle.fix_fields.proofs.FoundLemmas.{found_whole}
 use Rattle.fix_fields.proofs.fronts.front_of.Goals as goal
-use Rattle.fix_fields.proofs.fronts.front_of.Goals.{then-digits-eq0-via-then-digits-eq0, then-digits-eq0-via-else-digits-eq0+then-rest-digits-ne-SOH}
+use Rattle.fix_fields.proofs.fronts.front_of.Goals.{then-digits-eq0-via-then-digits-eq0}
+use Rattle.fix_fields.proofs.fronts.front_of.Goals.{then-digits-eq0-via-else-digits-eq0+then-rest-digits-ne-SOH}
 
 pub returns-then-not-starts_with : goal.returns-then-not-starts_with
 returns-then-not-starts_with c =

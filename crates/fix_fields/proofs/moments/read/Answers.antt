@@ -1,11 +1,12 @@
-use Rattle.std.proofs.Common.{◌≡◌, ◌≢◌, Bool, true, false, not, List, ℕ, length, take, drop, sym, ap, ◌∙◌, subst, refl, arith}
+use Rattle.std.proofs.Common.{◌≡◌, ◌≢◌, Bool, true, false, not, length, take, drop, sym, ap, ◌∙◌}
+use Rattle.std.proofs.Common.{subst, refl, arith}
 use Rattle.std.specs.Str.{bytes_eq}
 use Rattle.std.proofs.lemmas.Bool.{false≢true}
 use Rattle.std.proofs.lemmas.List.{length-take}
 use Rattle.std.proofs.lemmas.Slice.Eq.{bytes_eq-Decides}
 use Rattle.fix_fields.specs.UtcTimestamp.{IsDate, UtcTimestamp}
 use Rattle.fix_fields.specs.Clock.{IsClock}
-use Rattle.fix_fields.proofs.ClockLemmas.{clock_of, timestamp_of, moment_of-other, moment_of-own, moment_of-other_day}
+use Rattle.fix_fields.proofs.ClockLemmas.{clock_of, timestamp_of, moment_of-other, moment_of-own}
 use Rattle.fix_fields.proofs.moments.read.Goals as goal
 
 pub returns-then-text-lt8 : goal.returns-then-text-lt8
@@ -19,29 +20,16 @@ pub returns-in_default : goal.returns-in_default
 returns-in_default c =
     let text = c.args.text.now in
     sym (moment_of-other c.args.date.now text (λ day n spelled.
-    (let own = (clock_of day n text spelled).0 in
-    absurd (c.in_default.ensures.read (subst IsDate (sym (c.split_at.ensures.front ∙ own)) spelled.date_is)))))
-
-pub returns-in_default-read_clock : goal.returns-in_default-read_clock
-returns-in_default-read_clock c =
-    let text = c.args.text.now in
-    sym (moment_of-other c.args.date.now text (λ day n spelled.
     (let clock = (clock_of day n text spelled).1 in
-    absurd (c.in_default-read_clock.ensures n (subst (λ t. IsClock n t) (sym c.split_at.ensures.back) clock)))))
-
-spelled_is : (text own front back : List ℕ) (n : ℕ) → front ≡ take 8 text → back ≡ drop 8 text → IsDate front → own ≡ front
-    → IsClock n back → UtcTimestamp own n text
-spelled_is text own front back n front_is back_is date same clock =
-    subst (λ d. UtcTimestamp d n text) (sym (same ∙ front_is))
-    (timestamp_of text n (subst IsDate front_is date) (subst (λ t. IsClock n t) back_is clock))
+    absurd (c.in_default.ensures n (subst (λ t. IsClock n t) (sym c.split_at.ensures.back) clock)))))
 
 pub returns-then-ne : goal.returns-then-ne
 returns-then-ne c =
-    let own = c.in-Some.own in
-    let date = c.args.date.now in
-    let other : own ≢ date = λ same. false≢true (sym (ap not ((bytes_eq-Decides own date).1 same)) ∙ (sym c.ne.ensures ∙ c.if-ne.true)) in
-    sym (moment_of-other_day date own c.in-Some-read_clock.moment c.args.text.now other (spelled_is c.args.text.now own _ _ c.in-Some-read_clock.moment c.split_at.ensures.front c.split_at.ensures.back
-    c.in-Some.ensures.read.0 c.in-Some.ensures.read.1 c.in-Some-read_clock.ensures))
+    let own = c.as_slice.result.now in
+    let day = c.split_at.result.0.now in
+    let date_is : own ≡ c.args.date.now = c.as_slice.ensures ∙ c.digits.ensures.digits in
+    let other : own ≢ day = λ same. false≢true (sym (ap not ((bytes_eq-Decides own day).1 same)) ∙ (sym c.ne.ensures ∙ c.if-ne.true)) in
+    sym (c.other_fault.ensures c.args.date.now c.args.text.now (λ same. other (date_is ∙ same)) (sym c.split_at.ensures.front) (sym c.split_at.ensures.back))
 
 when_not : (b : Bool) → not b ≡ false → b ≡ true
 when_not true is = refl
@@ -49,10 +37,13 @@ when_not false is = sym is
 
 pub returns : goal.returns
 returns c =
-    let own = c.in-Some.own in
+    let own = c.as_slice.result.now in
+    let day = c.split_at.result.0.now in
     let date = c.args.date.now in
     let text = c.args.text.now in
-    let n = c.in-Some-read_clock.moment in
-    let same : own ≡ date = (bytes_eq-Decides own date).0 (when_not (bytes_eq own date) (sym c.ne.ensures ∙ c.if-ne.false)) in
-    sym (moment_of-own date n text (subst (λ d. UtcTimestamp d n text) same (spelled_is c.args.text.now own _ _ c.in-Some-read_clock.moment c.split_at.ensures.front c.split_at.ensures.back
-    c.in-Some.ensures.read.0 c.in-Some.ensures.read.1 c.in-Some-read_clock.ensures)))
+    let n = c.in-Some.moment in
+    let date_is : own ≡ date = c.as_slice.ensures ∙ c.digits.ensures.digits in
+    let same : own ≡ day = (bytes_eq-Decides own day).0 (when_not (bytes_eq own day) (sym c.ne.ensures ∙ c.if-ne.false)) in
+    let front : take 8 text ≡ date = sym c.split_at.ensures.front ∙ (sym same ∙ date_is) in
+    let clock : IsClock n (drop 8 text) = subst (λ t. IsClock n t) c.split_at.ensures.back c.in-Some.ensures in
+    sym (moment_of-own date n text (subst (λ d. UtcTimestamp d n text) front (timestamp_of text n (subst IsDate (sym front) c.digits.ensures.date) clock)))

@@ -3,7 +3,8 @@ use Rattle.fix_fields.proofs.ClockLemmas.{time_of_clock, short_clock, long_clock
 use Rattle.std.proofs.lemmas.Str.Parse.{digit_from_value}
 use Rattle.fix_fields.proofs.Digits.{digit_is}
 use Rattle.fix_fields.proofs.moments.read_clock.Goals as goal
-use Rattle.fix_fields.proofs.moments.read_clock.Goals.{else-text-ne9-via-then-text-ne9+else-text-ne13, else-text-ne9-via-else-text-ne9}
+use Rattle.fix_fields.proofs.moments.read_clock.Goals.{else-text-ne9-via-then-text-ne9+else-text-ne13}
+use Rattle.fix_fields.proofs.moments.read_clock.Goals.{else-text-ne9-via-else-text-ne9}
 
 pub returns-in_err-hours : goal.returns-in_err-hours
 returns-in_err-hours c =

@@ -1,8 +1,9 @@
-use Rattle.std.proofs.Common.{◌≡◌, ◌∷◌, ◌-◌, ◌<◌, length, take, drop, map, sym, ap, ◌∙◌, refl, arith, Ok, List, ℕ, [], ◌++◌, Vec, Global}
+use Rattle.std.proofs.Common.{◌≡◌, ◌∷◌, length, take, drop, map, sym, ap, ◌∙◌, arith, Ok, List, ℕ}
+use Rattle.std.proofs.Common.{[], ◌++◌, Vec, Global}
 use Rattle.std.proofs.lemmas.List.{take_rest, length-drop, map-append}
-use Rattle.fix_fields.specs.Scan.{cutting, cut_on}
+use Rattle.fix_fields.specs.Scan.{cut_on}
 use Rattle.fix_fields.proofs.CuttingLemmas.{cut_begun, cut_faulty, front_none}
-use Rattle.fix_fields.proofs.StreamLemmas.{cut_first, waits_for_some}
+use Rattle.fix_fields.proofs.StreamLemmas.{cut_first}
 use Rattle.fix_fields.proofs.streams.cut_messages.Goals as goal
 
 abbrev texts : List (Vec ℕ Global) → List (List ℕ)

@@ -1,10 +1,11 @@
-use Rattle.std.proofs.Common.{◌≡◌, ◌-◌, ◌++◌, ◌∷◌, [], length, take, drop, map, sym, ap, ◌∙◌, subst, arith, rules, Ok, List, ℕ, min}
+use Rattle.std.proofs.Common.{◌≡◌, ◌-◌, ◌++◌, ◌∷◌, [], length, take, drop, sym, ap, ◌∙◌, subst}
+use Rattle.std.proofs.Common.{arith, rules, Ok, min}
 use Rattle.std.proofs.lemmas.List.{take_rest}
 use Rattle.std.proofs.lemmas.Result.{IfOk-weaker}
 use Rattle.fix_fields.specs.declared.limits.TheConstants.{MOST_FRAME}
 use Rattle.fix_fields.specs.Envelope.{front_of}
 use Rattle.fix_fields.specs.Envelope.Front.{Faulty}
-use Rattle.fix_fields.specs.Scan.{cut_on, WaitsFor, IsWhole}
+use Rattle.fix_fields.specs.Scan.{cut_on, WaitsFor}
 use Rattle.fix_fields.proofs.StreamLemmas.{joins_begun, joins_fault, message_joins}
 use Rattle.fix_fields.proofs.streams.cut_piece.Goals as goal
 

@@ -1,6 +1,7 @@
 use Rattle.std.proofs.Common.{[], ◌∙◌, ap, sym}
 use Rattle.quote_messages.specs.SessionLines.{unless_fault}
-use Rattle.quote_messages.specs.SessionChecks.{dealer_session_verdict, dealer_tables, types_of, verdict_by}
+use Rattle.quote_messages.specs.SessionChecks.{dealer_session_verdict, dealer_tables, types_of}
+use Rattle.quote_messages.specs.SessionChecks.{verdict_by}
 use Rattle.quote_messages.proofs.dealer_checks.judge_dealer.Goals as goal
 
 pub read_typed-requires : goal.read_typed-requires

@@ -1,6 +1,7 @@
 use Rattle.std.proofs.Common.{[], ◌∙◌, ap, sym}
 use Rattle.quote_messages.specs.SessionLines.{unless_fault}
-use Rattle.quote_messages.specs.SessionChecks.{investor_session_verdict, investor_tables, types_of, verdict_by}
+use Rattle.quote_messages.specs.SessionChecks.{investor_session_verdict, investor_tables, types_of}
+use Rattle.quote_messages.specs.SessionChecks.{verdict_by}
 use Rattle.quote_messages.proofs.investor_checks.judge_investor.Goals as goal
 
 pub read_typed-requires : goal.read_typed-requires

@@ -1,6 +1,7 @@
-use Rattle.std.proofs.Common.{◌≡◌, ◌∙◌, ap, sym, Some, None, cond, is_some}
+use Rattle.std.proofs.Common.{◌∙◌, ap, sym, Some, None, cond, is_some}
 use Rattle.market_terms.specs.Texts.{is_id}
-use Rattle.quote_messages.specs.declared.session_faults.SessionRejectReason.TheVariants.{TagWithoutValue, IncorrectDataFormat}
+use Rattle.quote_messages.specs.declared.session_faults.SessionRejectReason.TheVariants.{TagWithoutValue}
+use Rattle.quote_messages.specs.declared.session_faults.SessionRejectReason.TheVariants.{IncorrectDataFormat}
 use Rattle.quote_messages.specs.ValueForms.{AnId, value_fault}
 use Rattle.quote_messages.specs.SessionLines.{at_tag}
 use Rattle.quote_messages.proofs.GroupLemmas.{party_id_fault, text_if-none, text_if-some}

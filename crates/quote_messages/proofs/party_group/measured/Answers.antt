@@ -1,4 +1,4 @@
-use Rattle.std.proofs.Common.{◌≡◌, ◌∙◌, ap, sym, ◌∷◌, arith, ◌+◌, ◌≤◌}
+use Rattle.std.proofs.Common.{◌≡◌, ◌∙◌, ap, sym, ◌∷◌, arith}
 use Rattle.quote_messages.specs.GroupReading.{run_of}
 use Rattle.fix_fields.specs.Frame.{Field}
 use Rattle.quote_messages.proofs.GroupLemmas.{run_of-party, length_more, length_same, times_same}

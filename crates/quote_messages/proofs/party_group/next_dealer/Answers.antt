@@ -1,7 +1,9 @@
-use Rattle.std.proofs.Common.{◌≡◌, ◌∙◌, ap, sym, ◌∷◌, [], ℕ, List}
+use Rattle.std.proofs.Common.{◌≡◌, ◌∙◌, ap, sym, ◌∷◌, []}
 use Rattle.quote_messages.specs.PartyGroup.{named_dealers, entries_of, entries_fault}
 use Rattle.fix_fields.specs.Frame.{Field}
-use Rattle.quote_messages.proofs.GroupLemmas.{differs, is_same, dealers_skip, dealers_named, dealers_other, dealers_none, whole_behind, id_of_whole}
+use Rattle.quote_messages.proofs.GroupLemmas.{differs, is_same, dealers_skip, dealers_named}
+use Rattle.quote_messages.proofs.GroupLemmas.{dealers_other, dealers_none, whole_behind}
+use Rattle.quote_messages.proofs.GroupLemmas.{id_of_whole}
 use Rattle.quote_messages.proofs.party_group.next_dealer.Goals as goal
 
 pub loop-tag-preserved-then-tag-ne448 : goal.loop-tag-preserved-then-tag-ne448

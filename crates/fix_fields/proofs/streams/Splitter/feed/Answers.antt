@@ -1,6 +1,7 @@
-use Rattle.std.proofs.Common.{◌≡◌, ◌+◌, ◌++◌, ◌<◌, [], length, length-append, map, sym, ap, ◌∙◌, subst, arith, rules, Ok}
-use Rattle.fix_fields.specs.Scan.{cutting, WaitsFor, rest_of}
-use Rattle.fix_fields.specs.Envelope.{Cutting, cut_behind}
+use Rattle.std.proofs.Common.{◌≡◌, ◌++◌, ◌<◌, [], length, length-append, map, sym, ap, ◌∙◌, arith}
+use Rattle.std.proofs.Common.{rules, Ok}
+use Rattle.fix_fields.specs.Scan.{cutting, rest_of}
+use Rattle.fix_fields.specs.Envelope.{cut_behind}
 use Rattle.fix_fields.proofs.StreamLemmas.{waits_on, none_stands, cut_waiting, cut_behind_is}
 use Rattle.fix_fields.proofs.streams.Splitter.feed.Goals as goal
 

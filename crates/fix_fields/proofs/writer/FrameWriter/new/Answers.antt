@@ -1,7 +1,8 @@
 use Rattle.std.proofs.Common.{◌≡◌, ◌++◌, arith, length, sym, ap, ◌∙◌, subst, lit<}
 use Rattle.fix_fields.specs.Frame.{field_text, fields_of}
 use Rattle.fix_fields.specs.Scan.{IsBodyText}
-use Rattle.fix_fields.proofs.WriterLemmas.{fields_of-first, is_body_first, left_of-body, length-field_text}
+use Rattle.fix_fields.proofs.WriterLemmas.{fields_of-first, is_body_first, left_of-body}
+use Rattle.fix_fields.proofs.WriterLemmas.{length-field_text}
 use Rattle.fix_fields.proofs.writer.FrameWriter.new.Goals as goal
 
 items_are : (c : goal.In_ok-push_field) → c.push_field.new.body.items ≡ field_text (35, c.args.msg_type.now)

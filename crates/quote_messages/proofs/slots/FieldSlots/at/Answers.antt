@@ -1,4 +1,4 @@
-use Rattle.std.proofs.Common.{◌≡◌, ◌∙◌, ap, sym}
+use Rattle.std.proofs.Common.{◌∙◌, ap, sym}
 use Rattle.quote_messages.specs.SessionLines.{occurrence_of}
 use Rattle.quote_messages.specs.Slots.{place_of, said_by, slot_at}
 use Rattle.quote_messages.proofs.SlotLemmas.{joined-none}
