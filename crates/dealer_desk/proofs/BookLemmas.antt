@@ -1,11 +1,15 @@
 -- How one fact more changes a book, each fact in its own words.
-use Rattle.std.proofs.Common.{◌≡◌, ℕ, ◌+◌, Bool, true, false, ◌||◌, ◌==◌, cond, List, [], ◌∷◌, ◌++◌, length, map, Option, Some, None, refl, ap, ◌∙◌}
+use Rattle.std.proofs.Common.{◌≡◌, ℕ, ◌+◌, Bool, true, false, ◌||◌, ◌==◌, cond, List, [], ◌∷◌, ◌++◌}
+use Rattle.std.proofs.Common.{length, map, Option, Some, None, refl, ap, ◌∙◌}
 use Rattle.std.specs.Option.{option_or}
 use Rattle.std.proofs.lemmas.List.{append-nil}
 use Rattle.market_terms.specs.declared.asks.Ask.{Ask}
 use Rattle.market_terms.specs.declared.closes.Close.{Close}
-use Rattle.dealer_desk.specs.DealerFacts.{DealerFact, Came, Shown, Quoted, Withdrawn, Late, Dropped, Declined, Told, DealerBook, standing_request, standing_quote}
-use Rattle.dealer_desk.specs.BookChanges.{book_after, quote_after, request_after, ended_at, late_at, closed_on, declined_at, told_at}
+use Rattle.dealer_desk.specs.DealerFacts.{DealerFact, Came, Shown, Quoted, Withdrawn, Late, Dropped}
+use Rattle.dealer_desk.specs.DealerFacts.{Declined, Told, DealerBook, standing_request}
+use Rattle.dealer_desk.specs.DealerFacts.{standing_quote}
+use Rattle.dealer_desk.specs.BookChanges.{book_after, quote_after, request_after, ended_at, late_at}
+use Rattle.dealer_desk.specs.BookChanges.{closed_on, declined_at, told_at}
 use Rattle.dealer_desk.specs.declared.accepted.AcceptedQuote.{AcceptedQuote}
 use Rattle.dealer_desk.specs.declared.standing.StandingRequest.{StandingRequest}
 use Rattle.dealer_desk.specs.declared.standing.StandingQuote.{StandingQuote}

@@ -1,12 +1,17 @@
 -- The book of facts to which one more was put is the book of the others after this fact.
-use Rattle.std.proofs.Common.{◌≡◌, ℕ, ◌+◌, Bool, true, false, ◌||◌, cond, List, [], ◌∷◌, ◌++◌, length, map, fold, Option, Some, None, refl, sym, ap, ◌∙◌, arith}
+use Rattle.std.proofs.Common.{◌≡◌, ℕ, ◌+◌, Bool, true, false, ◌||◌, cond, List, [], ◌∷◌, ◌++◌}
+use Rattle.std.proofs.Common.{length, map, fold, Option, Some, None, refl, sym, ap, ◌∙◌, arith}
 use Rattle.std.specs.List.{list_any, count_by}
 use Rattle.std.specs.Option.{option_or}
 use Rattle.std.proofs.lemmas.List.Sums.{sum_by-append}
 use Rattle.std.proofs.lemmas.List.{append-nil, append_assoc}
 use Rattle.market_terms.specs.declared.asks.Ask.{Ask}
-use Rattle.dealer_desk.specs.DealerFacts.{DealerFact, Shown, Quoted, DealerBook, book_of, standing_request, standing_quote, requests_from, standings, first_said, declines, tells, finds_lifted, ends, used_number, is_notice}
-use Rattle.dealer_desk.specs.BookChanges.{book_after, quote_after, request_after, request_added, quote_added, counted}
+use Rattle.dealer_desk.specs.DealerFacts.{DealerFact, Shown, Quoted, DealerBook, book_of}
+use Rattle.dealer_desk.specs.DealerFacts.{standing_request, standing_quote, requests_from}
+use Rattle.dealer_desk.specs.DealerFacts.{standings, first_said, declines, tells, finds_lifted}
+use Rattle.dealer_desk.specs.DealerFacts.{ends, used_number, is_notice}
+use Rattle.dealer_desk.specs.BookChanges.{book_after, quote_after, request_after, request_added}
+use Rattle.dealer_desk.specs.BookChanges.{quote_added, counted}
 use Rattle.dealer_desk.specs.declared.accepted.AcceptedQuote.{AcceptedQuote}
 use Rattle.dealer_desk.specs.declared.standing.StandingRequest.{StandingRequest}
 use Rattle.dealer_desk.specs.declared.standing.StandingQuote.{StandingQuote}

@@ -1,5 +1,7 @@
 -- One event more at a desk, and what holds of a desk after any events.
-use Rattle.std.proofs.Common.{◌≡◌, ◌≤◌, ℕ, ◌+◌, Bool, true, false, cond, List, [], ◌∷◌, ◌++◌, length, map, fold, Option, Some, None, is_some, refl, sym, ap, subst, ◌∙◌, arith}
+use Rattle.std.proofs.Common.{◌≡◌, ◌≤◌, ℕ, ◌+◌, Bool, true, false, cond, List, [], ◌∷◌, ◌++◌}
+use Rattle.std.proofs.Common.{length, map, fold, Option, Some, None, is_some, refl, sym, ap, subst}
+use Rattle.std.proofs.Common.{◌∙◌, arith}
 use Rattle.std.specs.List.{sum_by}
 use Rattle.std.proofs.lemmas.List.{length-append, length-map}
 use Rattle.std.proofs.lemmas.List.Sums.{sum_by-cons, fold-append}
@@ -7,10 +9,13 @@ use Rattle.venue_config.specs.declared.dealer_rows.DealerRow.{DealerRow}
 use Rattle.market_terms.specs.declared.closes.Close.{Close}
 use Rattle.quote_word.specs.declared.settled.Settled.{Settled}
 use Rattle.quote_word.specs.declared.settled.Settled.TheVariants as settled
-use Rattle.dealer_desk.specs.DealerFacts.{DealerFact, Came, Shown, Dropped, Told, DealerBook, book_of, number_to_drop, exposure_of}
+use Rattle.dealer_desk.specs.DealerFacts.{DealerFact, Came, Shown, Dropped, Told, DealerBook}
+use Rattle.dealer_desk.specs.DealerFacts.{book_of, number_to_drop, exposure_of}
 use Rattle.dealer_desk.specs.BookChanges.{book_after, request_after, request_added, counted}
 use Rattle.dealer_desk.specs.DealerRules.{dealer_verdict}
-use Rattle.dealer_desk.specs.DealerOutput.{DeskState, no_facts, after_event, desk_after, event_facts, verdict_facts, settled_facts, uses_number, closable, rooms_of}
+use Rattle.dealer_desk.specs.DealerOutput.{DeskState, no_facts, after_event, desk_after}
+use Rattle.dealer_desk.specs.DealerOutput.{event_facts, verdict_facts, settled_facts, uses_number}
+use Rattle.dealer_desk.specs.DealerOutput.{closable, rooms_of}
 use Rattle.dealer_desk.specs.declared.standing.Withdrawal.{Withdrawal}
 use Rattle.dealer_desk.specs.declared.standing.Withdrawal.TheVariants as by
 use Rattle.dealer_desk.specs.declared.events.DealerEvent.{DealerEvent}
@@ -19,7 +24,9 @@ use Rattle.dealer_desk.specs.declared.verdicts.DealerVerdict.{DealerVerdict}
 use Rattle.dealer_desk.specs.declared.verdicts.DealerVerdict.TheVariants as verdict
 use Rattle.dealer_desk.proofs.BookLemmas.{came_book}
 use Rattle.dealer_desk.proofs.BookPush.{books_push}
-use Rattle.dealer_desk.proofs.StandLemmas.{StandsIn, stands_empty, dropped_stands, shown_stands, withdrawn_stands, late_stands, declined_stands, told_stands, accepted_stands, replaced_stands}
+use Rattle.dealer_desk.proofs.StandLemmas.{StandsIn, stands_empty, dropped_stands, shown_stands}
+use Rattle.dealer_desk.proofs.StandLemmas.{withdrawn_stands, late_stands, declined_stands}
+use Rattle.dealer_desk.proofs.StandLemmas.{told_stands, accepted_stands, replaced_stands}
 use Rattle.dealer_desk.proofs.VerdictLemmas.{Holds, verdict_holds}
 
 -- a desk after one event more is that after the others, and then after this one

@@ -1,12 +1,17 @@
--- What a message or a drop leaves to be done: its quote is one of the day's, and its request has a room.
-use Rattle.std.proofs.Common.{◌≡◌, ◌<◌, ◌≤◌, ℕ, ◌+◌, ◌-◌, Bool, true, false, ◌&&◌, nat_le, cond, List, length, Option, Some, None, is_some, IfSome, option_map, slice_get, refl, ap, arith}
+-- What a message or a drop leaves to be done: its quote is one of the day's, and its request has a
+-- room.
+use Rattle.std.proofs.Common.{◌≡◌, ◌<◌, ◌≤◌, ℕ, ◌+◌, ◌-◌, Bool, true, false, ◌&&◌, nat_le, cond}
+use Rattle.std.proofs.Common.{List, length, Option, Some, None, is_some, IfSome, option_map}
+use Rattle.std.proofs.Common.{slice_get, refl, ap, arith}
 use Rattle.venue_config.specs.declared.dealer_rows.DealerRow.{DealerRow}
 use Rattle.market_terms.specs.declared.rooms.RoomRef.{RoomRef}
 use Rattle.market_terms.specs.declared.duties.Duty.{Duty}
 use Rattle.market_terms.specs.declared.duties.Duty.TheVariants as duty
 use Rattle.quote_word.specs.declared.settled.Settled.{Settled}
 use Rattle.dealer_desk.specs.DealerFacts.{DealerBook, quote_to_drop, is_droppable, is_live}
-use Rattle.dealer_desk.specs.DealerOutput.{DeskEvents, rooms_at, book_at, verdict_at, room_of, verdict_duty, unpost_dropped, goes_through, is_withdrawn, post_of}
+use Rattle.dealer_desk.specs.DealerOutput.{DeskEvents, rooms_at, book_at, verdict_at, room_of}
+use Rattle.dealer_desk.specs.DealerOutput.{verdict_duty, unpost_dropped, goes_through, is_withdrawn}
+use Rattle.dealer_desk.specs.DealerOutput.{post_of}
 use Rattle.dealer_desk.specs.DeskLaws.{IsOfDay, request_meant}
 use Rattle.dealer_desk.specs.BookChanges.{IsLiveNumber}
 use Rattle.dealer_desk.specs.declared.standing.StandingQuote.{StandingQuote}

@@ -1,5 +1,7 @@
--- What an index keeps when a quote takes another's place, and when a request more is shown in a room.
-use Rattle.std.proofs.Common.{◌≡◌, ℕ, ◌+◌, cond, List, [], ◌∷◌, ◌++◌, length, map, find, Some, None, option_map, sym, ap, subst, ◌∙◌, arith}
+-- What an index keeps when a quote takes another's place, and when a request more is shown in a
+-- room.
+use Rattle.std.proofs.Common.{◌≡◌, ℕ, ◌+◌, cond, List, [], ◌∷◌, ◌++◌, length, map, find, Some, None}
+use Rattle.std.proofs.Common.{option_map, sym, ap, subst, ◌∙◌, arith}
 use Rattle.std.specs.Option.{option_or}
 use Rattle.std.specs.BTreeMap.{BTreeMap, get}
 use Rattle.std.proofs.lemmas.List.{length-append, length-map}
@@ -9,7 +11,9 @@ use Rattle.market_terms.specs.declared.rooms.RoomRef.{RoomRef}
 use Rattle.dealer_desk.specs.DealerFacts.{DealerFact, DealerBook}
 use Rattle.dealer_desk.specs.BookChanges.{book_after}
 use Rattle.dealer_desk.specs.DealerOutput.{is_same_room}
-use Rattle.dealer_desk.specs.DealerTable.{IsIndex, IsIdMap, IsRoomMap, IsTable, IndexView, room_cmp, with_request, requests_in}
+use Rattle.dealer_desk.specs.declared.id_keys.IdKey.{IdKey}
+use Rattle.dealer_desk.specs.DealerTable.{IsIndex, IsIdMap, IsRoomMap, IsTable, IndexView, room_cmp}
+use Rattle.dealer_desk.specs.DealerTable.{with_request, requests_in}
 use Rattle.dealer_desk.specs.declared.accepted.AcceptedQuote.{AcceptedQuote}
 use Rattle.dealer_desk.specs.declared.standing.StandingRequest.{StandingRequest}
 use Rattle.dealer_desk.specs.declared.standing.StandingQuote.{StandingQuote}
@@ -30,7 +34,7 @@ id_stays_new quotes f id keeps none =
 -- A request more.
 
 pub index_shown : (used notices : ℕ) (rows rows2 : List RequestRow) (quotes quotes2 : List StandingQuote) (lines lines2 : List QuoteLine) (exposure exposure2 first first2 : ℕ)
-    (rooms rooms2 : List RoomRef) (by_id : BTreeMap (List ℕ) ℕ) (by_room by_room2 : BTreeMap RoomRef ℕ) (room : RoomRef) (number : ℕ) (request : StandingRequest)
+    (rooms rooms2 : List RoomRef) (by_id : BTreeMap IdKey ℕ) (by_room by_room2 : BTreeMap RoomRef ℕ) (room : RoomRef) (number : ℕ) (request : StandingRequest)
     → IsIndex used notices rows quotes lines exposure first rooms by_id by_room → IsTable rows2 quotes2 lines2 exposure2 first2 → quotes2 ≡ quotes
     → requests_in rows2 ≡ requests_in rows ++ request ∷ [] → rooms2 ≡ rooms ++ room ∷ [] → number ≡ length rows + 1
     → ((q : RoomRef) → get room_cmp by_room2 q ≡ option_or (get room_cmp by_room q) (cond (is_same_room room q) (Some number) None))

@@ -1,18 +1,23 @@
 -- What an index keeps when its table changes.
-use Rattle.std.proofs.Common.{◌≡◌, ◌<◌, ◌≤◌, ℕ, ◌+◌, ◌^◌, ◌==◌, Bool, cond, true, false, List, [], ◌∷◌, ◌++◌, length, map, Option, Some, None, find, refl, sym, ap, subst, ◌∙◌, arith}
+use Rattle.std.proofs.Common.{◌≡◌, ◌<◌, ◌≤◌, ℕ, ◌+◌, ◌^◌, ◌==◌, Bool, cond, true, false, List, []}
+use Rattle.std.proofs.Common.{◌∷◌, ◌++◌, length, map, Option, Some, None, find, refl, sym, ap}
+use Rattle.std.proofs.Common.{subst, ◌∙◌, arith}
 use Rattle.std.specs.List.{sum_by}
 use Rattle.std.specs.Option.{option_or}
 use Rattle.std.specs.BTreeMap.{BTreeMap, get, is_at}
-use Rattle.std.specs.Cmp.Lexicographic.{slice_cmp}
-use Rattle.std.specs.Ordering.{nat_cmp}
 use Rattle.std.proofs.lemmas.List.{length-map}
 use Rattle.venue_config.specs.Texts.{same_text}
+use Rattle.venue_config.specs.declared.dealer_rows.TheConstants.DealerRow.{MOST_EXPOSURE}
 use Rattle.market_terms.specs.declared.closes.Close.{Close}
 use Rattle.market_terms.specs.declared.lines.QuoteLine.{QuoteLine}
 use Rattle.market_terms.specs.declared.rooms.RoomRef.{RoomRef}
-use Rattle.dealer_desk.specs.DealerFacts.{DealerFact, DealerBook, live_quote_on, quote_with_id, exposure_beside, quantity_beside, live_quantity, standing_quote}
+use Rattle.dealer_desk.specs.DealerFacts.{DealerFact, DealerBook, live_quote_on, quote_with_id}
+use Rattle.dealer_desk.specs.DealerFacts.{exposure_beside, quantity_beside, live_quantity}
+use Rattle.dealer_desk.specs.DealerFacts.{standing_quote}
 use Rattle.dealer_desk.specs.BookChanges.{FitsBook, book_after, closed_on, ended_at}
-use Rattle.dealer_desk.specs.DealerTable.{IsIndex, IsIdMap, IsTable, IndexView, live_number_among, requests_in, with_fact}
+use Rattle.dealer_desk.specs.declared.id_keys.IdKey.{IdKey}
+use Rattle.dealer_desk.specs.DealerTable.{IsIndex, IsIdMap, key_cmp, key_of, IsTable, IndexView}
+use Rattle.dealer_desk.specs.DealerTable.{live_number_among, requests_in, with_fact}
 use Rattle.dealer_desk.specs.declared.accepted.AcceptedQuote.{AcceptedQuote}
 use Rattle.dealer_desk.specs.declared.standing.StandingRequest.{StandingRequest}
 use Rattle.dealer_desk.specs.declared.standing.StandingQuote.{StandingQuote}
@@ -40,7 +45,7 @@ view_after now book after rooms fact is changed =
 
 -- an index after a change of its quotes that keeps what was accepted, and of its requests
 pub index_changed : (used notices used2 notices2 : ℕ) (rows rows2 : List RequestRow) (quotes quotes2 : List StandingQuote) (lines lines2 : List QuoteLine) (exposure exposure2 first first2 : ℕ)
-    (rooms : List RoomRef) (by_id : BTreeMap (List ℕ) ℕ) (by_room : BTreeMap RoomRef ℕ) (f : StandingQuote → StandingQuote)
+    (rooms : List RoomRef) (by_id : BTreeMap IdKey ℕ) (by_room : BTreeMap RoomRef ℕ) (f : StandingQuote → StandingQuote)
     → IsIndex used notices rows quotes lines exposure first rooms by_id by_room
     → used2 < 2 ^ 63 → notices2 < 2 ^ 63 → IsTable rows2 quotes2 lines2 exposure2 first2
     → quotes2 ≡ map f quotes → ((own : StandingQuote) → (f own).quote ≡ own.quote)
@@ -86,22 +91,22 @@ unfolding live_quote_on
 fits_live used notices requests quotes quote replaced fits = fits.replaced_is
 
 pub fits_exposure : (used notices : ℕ) (rows : List RequestRow) (quotes : List StandingQuote) (lines : List QuoteLine) (exposure first : ℕ) (quote : AcceptedQuote) → IsTable rows quotes lines exposure first
-    → FitsBook (book_with used notices (requests_in rows) quotes) quote None → exposure + quote.quantity ≤ 1000000000000000
+    → FitsBook (book_with used notices (requests_in rows) quotes) quote None → exposure + quote.quantity ≤ MOST_EXPOSURE
 unfolding exposure_beside
 fits_exposure used notices rows quotes lines exposure first quote table fits =
     let is = table.exposure_is in
-    let within : quote.quantity + sum_by (quantity_beside None) quotes ≤ 1000000000000000 = fits.exposure_fits in
+    let within : quote.quantity + sum_by (quantity_beside None) quotes ≤ MOST_EXPOSURE = fits.exposure_fits in
     let same : sum_by (quantity_beside None) quotes ≡ sum_by live_quantity quotes = refl in
     omega arith
 
 -- the same once the live quote on its request ended
 pub fits_beside : (used notices : ℕ) (requests : List StandingRequest) (quotes quotes2 : List StandingQuote) (rows2 : List RequestRow) (lines2 : List QuoteLine) (exposure2 first2 : ℕ) (quote : AcceptedQuote) (replaced : ℕ) (how : QuoteEnd)
     → IsTable rows2 quotes2 lines2 exposure2 first2 → quotes2 ≡ map (ended_at replaced how) quotes
-    → FitsBook (book_with used notices requests quotes) quote (Some replaced) → exposure2 + quote.quantity ≤ 1000000000000000
+    → FitsBook (book_with used notices requests quotes) quote (Some replaced) → exposure2 + quote.quantity ≤ MOST_EXPOSURE
 unfolding exposure_beside
 fits_beside used notices requests quotes quotes2 rows2 lines2 exposure2 first2 quote replaced how table changed fits =
     let is : exposure2 ≡ sum_by (quantity_beside (Some replaced)) quotes = table.exposure_is ∙ ap (sum_by live_quantity) changed ∙ sum_beside quotes replaced how in
-    let within : quote.quantity + sum_by (quantity_beside (Some replaced)) quotes ≤ 1000000000000000 = fits.exposure_fits in
+    let within : quote.quantity + sum_by (quantity_beside (Some replaced)) quotes ≤ MOST_EXPOSURE = fits.exposure_fits in
     omega arith
 
 pub fits_id : (used notices : ℕ) (requests : List StandingRequest) (quotes : List StandingQuote) (quote : AcceptedQuote) (replaced : Option ℕ) → FitsBook (book_with used notices requests quotes) quote replaced
@@ -110,11 +115,11 @@ unfolding quote_with_id
 fits_id used notices requests quotes quote replaced fits = fits.id_is_new
 
 pub index_pushed : (used notices : ℕ) (rows rows2 : List RequestRow) (quotes quotes2 : List StandingQuote) (lines lines2 : List QuoteLine) (exposure exposure2 first first2 : ℕ)
-    (rooms : List RoomRef) (by_id by_id2 : BTreeMap (List ℕ) ℕ) (by_room : BTreeMap RoomRef ℕ) (quote : AcceptedQuote) (key : List ℕ)
+    (rooms : List RoomRef) (by_id by_id2 : BTreeMap IdKey ℕ) (by_room : BTreeMap RoomRef ℕ) (quote : AcceptedQuote) (key : IdKey)
     → IsIndex used notices rows quotes lines exposure first rooms by_id by_room → IsTable rows2 quotes2 lines2 exposure2 first2
-    → quotes2 ≡ quotes ++ standing_quote quote [] ∷ [] → key ≡ quote.id
+    → quotes2 ≡ quotes ++ standing_quote quote [] ∷ [] → key ≡ key_of quote.id
     → find (λ (q : StandingQuote). same_text q.quote.id quote.id) quotes ≡ None
-    → ((id : List ℕ) → get (slice_cmp nat_cmp) by_id2 id ≡ cond (is_at (slice_cmp nat_cmp key) id) (Some quote.number) (get (slice_cmp nat_cmp) by_id id))
+    → ((q : IdKey) → get key_cmp by_id2 q ≡ cond (is_at (key_cmp key) q) (Some quote.number) (get key_cmp by_id q))
     → length (requests_in rows2) ≡ length (requests_in rows)
     → IsIndex used notices rows2 quotes2 lines2 exposure2 first2 rooms by_id2 by_room
 index_pushed used notices rows rows2 quotes quotes2 lines lines2 exposure exposure2 first first2 rooms by_id by_id2 by_room quote key index table changed same unused updates many = record {
@@ -122,7 +127,7 @@ index_pushed used notices rows rows2 quotes quotes2 lines lines2 exposure exposu
   notices_fit = index.notices_fit;
   table = table;
   ids = subst (λ (qs : List StandingQuote). IsIdMap qs by_id2) (sym changed)
-      (ids_pushed quotes by_id by_id2 quote index.ids unused (λ id. updates id ∙ ap (λ (k : List ℕ). cond (is_at (slice_cmp nat_cmp k) id) (Some quote.number) (get (slice_cmp nat_cmp) by_id id)) same));
+      (ids_pushed quotes by_id by_id2 quote index.ids unused (λ q. updates q ∙ ap (λ (k : IdKey). cond (is_at (key_cmp k) q) (Some quote.number) (get key_cmp by_id q)) same));
   room_map = index.room_map;
   as_many = index.as_many ∙ sym (length-map rows (λ (r : RequestRow). r.request)) ∙ sym many ∙ length-map rows2 (λ (r : RequestRow). r.request);
 }

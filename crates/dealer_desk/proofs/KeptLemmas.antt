@@ -1,5 +1,7 @@
 -- What a desk keeps beside its events, after one event more.
-use Rattle.std.proofs.Common.{◌≡◌, ◌<◌, ◌≤◌, ℕ, ◌+◌, ◌^◌, Bool, cond, List, [], ◌∷◌, ◌++◌, length, fold, Option, Some, None, is_some, IfSome, option_map, refl, sym, ap, subst, ◌∙◌, arith}
+use Rattle.std.proofs.Common.{◌≡◌, ◌<◌, ◌≤◌, ℕ, ◌+◌, ◌^◌, Bool, cond, List, [], ◌∷◌, ◌++◌, length}
+use Rattle.std.proofs.Common.{fold, Option, Some, None, is_some, IfSome, option_map, refl, sym, ap}
+use Rattle.std.proofs.Common.{subst, ◌∙◌, arith}
 use Rattle.std.specs.Option.{option_to_list}
 use Rattle.std.proofs.lemmas.List.{append-nil}
 use Rattle.std.proofs.lemmas.List.Elements.{filter_map-append}
@@ -10,12 +12,18 @@ use Rattle.market_terms.specs.declared.rooms.RoomRef.{RoomRef}
 use Rattle.quote_messages.specs.declared.out_messages.OutMessage.{OutMessage}
 use Rattle.quote_word.specs.declared.settled.Settled.{Settled}
 use Rattle.quote_word.specs.declared.settled.Settled.TheVariants as settled
-use Rattle.dealer_desk.specs.DealerFacts.{DealerFact, Came, Shown, Told, DealerBook, book_of, exposure_of, number_to_drop, quote_to_drop}
+use Rattle.dealer_desk.specs.DealerFacts.{DealerFact, Came, Shown, Told, DealerBook, book_of}
+use Rattle.dealer_desk.specs.DealerFacts.{exposure_of, number_to_drop, quote_to_drop}
 use Rattle.dealer_desk.specs.DealerRules.{dealer_verdict}
-use Rattle.dealer_desk.specs.DealerOutput.{DeskEvents, DeskState, book_at, rooms_at, verdict_at, desk_after, event_facts, event_message, verdict_facts, verdict_message, settled_facts, uses_number, closable, rooms_of, shown_room, sent_with, moment_of, next_message, next_request, notice_of, drop_message, word_asked}
+use Rattle.dealer_desk.specs.DealerOutput.{DeskEvents, DeskState, book_at, rooms_at, verdict_at}
+use Rattle.dealer_desk.specs.DealerOutput.{desk_after, event_facts, event_message, verdict_facts}
+use Rattle.dealer_desk.specs.DealerOutput.{verdict_message, settled_facts, uses_number, closable}
+use Rattle.dealer_desk.specs.DealerOutput.{rooms_of, shown_room, sent_with, moment_of, next_message}
+use Rattle.dealer_desk.specs.DealerOutput.{next_request, notice_of, drop_message, word_asked}
 use Rattle.dealer_desk.specs.BookChanges.{book_after, IsSound}
 use Rattle.dealer_desk.specs.DealerTable.{IndexView, with_fact, with_request}
-use Rattle.dealer_desk.specs.RuleCuts.{IsDesk, IsLawfulNote, note_of, note_uses, note_facts, with_facts}
+use Rattle.dealer_desk.specs.RuleCuts.{IsDesk, IsLawfulNote, note_of, note_uses, note_facts}
+use Rattle.dealer_desk.specs.RuleCuts.{with_facts}
 use Rattle.dealer_desk.specs.declared.outcomes.Note.{Note}
 use Rattle.dealer_desk.specs.declared.standing.StandingRequest.{StandingRequest}
 use Rattle.dealer_desk.specs.declared.standing.Withdrawal.TheVariants as by

@@ -1,6 +1,9 @@
--- What stands at a place of a list, and what is found in it, after an element is put behind it, written into it or changed
--- throughout.
-use Rattle.std.proofs.Common.{◌≡◌, ◌<◌, ◌≤◌, ◌⊎◌, ℕ, zero, suc, ◌+◌, Bool, true, false, ◌||◌, cond, List, [], ◌∷◌, ◌++◌, length, map, set, filter, find, Option, Some, None, option_map, slice_get, get_or, inl, inr, refl, sym, ap, ◌∙◌, arith}
+-- What stands at a place of a list, and what is found in it, after an element is put behind it,
+-- written into it or changed throughout.
+use Rattle.std.proofs.Common.{◌≡◌, ◌<◌, ◌≤◌, ◌⊎◌, ℕ, zero, suc, ◌+◌, Bool, true, false, ◌||◌, cond}
+use Rattle.std.proofs.Common.{List, [], ◌∷◌, ◌++◌, length, map, set, filter, find, Option, Some}
+use Rattle.std.proofs.Common.{None, option_map, slice_get, get_or, inl, inr, refl, sym, ap, ◌∙◌}
+use Rattle.std.proofs.Common.{arith}
 use Rattle.std.specs.List.{list_any, position_or_len}
 use Rattle.std.proofs.lemmas.Option.{none-some, same_Some, slice_get-get_or, get_or_from_slice_get}
 use Rattle.std.proofs.lemmas.List.Sums.{position_or_len_is, fails_before_first}

@@ -1,10 +1,15 @@
 -- What the maps of an index keep.
-use Rattle.std.proofs.Common.{◌≡◌, ℕ, ◌+◌, Bool, true, false, cond, List, [], ◌∷◌, ◌++◌, length, map, find, Option, Some, None, option_map, refl, sym, ap, ◌∙◌, arith}
+use Rattle.std.proofs.Common.{◌≡◌, ℕ, ◌+◌, Bool, true, false, cond, List, [], ◌∷◌, ◌++◌, length}
+use Rattle.std.proofs.Common.{map, find, Option, Some, None, option_map, refl, sym, ap, ◌∙◌, arith}
+use Rattle.std.proofs.Common.{inl, inr}
 use Rattle.std.specs.Option.{option_or}
 use Rattle.std.specs.BTreeMap.{BTreeMap, get, is_at}
 use Rattle.std.specs.Cmp.Lexicographic.{slice_cmp}
-use Rattle.std.specs.Ordering.{nat_cmp}
-use Rattle.std.specs.Map.{lookup}
+use Rattle.std.specs.Ordering.{nat_cmp, is_eq, ordering_then}
+use Rattle.std.specs.declared.cmp.Ordering.{Ordering}
+use Rattle.std.specs.declared.cmp.Ordering.TheVariants.{Less, Equal, Greater}
+use Rattle.std.proofs.lemmas.Bool.{cases_Bool}
+use Rattle.std.proofs.lemmas.Bool.Decides.{nat_tests}
 use Rattle.std.proofs.lemmas.List.Folds.{find-append}
 use Rattle.std.proofs.lemmas.Slice.Eq.{bytes_eq-Decides}
 use Rattle.std.proofs.lemmas.Map.Text.{is_eq-slice_cmp}
@@ -12,13 +17,14 @@ use Rattle.venue_config.specs.Texts.{same_text}
 use Rattle.dealer_desk.specs.DealerFacts.{standing_quote}
 use Rattle.market_terms.specs.declared.rooms.RoomRef.{RoomRef}
 use Rattle.dealer_desk.specs.DealerOutput.{is_same_room, number_from, number_in}
-use Rattle.dealer_desk.specs.DealerTable.{IsIdMap, IsRoomMap, room_cmp}
+use Rattle.dealer_desk.specs.DealerTable.{IsIdMap, IsRoomMap, room_cmp, key_cmp, key_of, tail_of}
+use Rattle.dealer_desk.specs.declared.id_keys.IdKey.{IdKey}
 use Rattle.dealer_desk.specs.declared.accepted.AcceptedQuote.{AcceptedQuote}
 use Rattle.dealer_desk.specs.declared.standing.StandingQuote.{StandingQuote}
 use Rattle.dealer_desk.proofs.ListLemmas.{find_mapped}
 
 -- a change of quotes that keeps what was accepted keeps the map
-pub ids_kept : (quotes : List StandingQuote) (by_id : BTreeMap (List ℕ) ℕ) (f : StandingQuote → StandingQuote) → ((own : StandingQuote) → (f own).quote ≡ own.quote)
+pub ids_kept : (quotes : List StandingQuote) (by_id : BTreeMap IdKey ℕ) (f : StandingQuote → StandingQuote) → ((own : StandingQuote) → (f own).quote ≡ own.quote)
     → IsIdMap quotes by_id → IsIdMap (map f quotes) by_id
 ids_kept quotes by_id f keeps ids = record {
   ids_are = λ id. ids.ids_are id
@@ -28,8 +34,23 @@ ids_kept quotes by_id f keeps ids = record {
 
 -- the keys of the maps
 
-same_key : (key id : List ℕ) → is_at (slice_cmp nat_cmp key) id ≡ same_text key id
-same_key key id = is_eq-slice_cmp key id
+tail_same : (n : ℕ) → nat_cmp n n ≡ Equal
+tail_same n = grind (arith, nat_tests)
+
+then_apart : (first then : Ordering) → is_eq then ≡ false → is_eq (ordering_then first then) ≡ false
+then_apart Less then apart = refl
+then_apart Equal then apart = apart
+then_apart Greater then apart = refl
+
+same_key : (key id : List ℕ) → is_at (key_cmp (key_of key)) (key_of id) ≡ same_text key id
+same_key key id =
+    elim (cases_Bool (same_text key id)) [
+      | inl so ↦
+          (ap (λ (i : List ℕ). is_eq (ordering_then (nat_cmp (tail_of key) (tail_of i)) (slice_cmp nat_cmp key id))) (sym ((bytes_eq-Decides key id).0 so))
+          ∙ ap (λ (o : Ordering). is_eq (ordering_then o (slice_cmp nat_cmp key id))) (tail_same (tail_of key))
+          ∙ is_eq-slice_cmp key id)
+      | inr apart ↦ then_apart (nat_cmp (tail_of key) (tail_of id)) (slice_cmp nat_cmp key id) (is_eq-slice_cmp key id ∙ apart) ∙ sym apart
+    ]
 
 or_none : {A : Type 0} (o : Option A) → option_or o None ≡ o
 or_none None = refl
@@ -41,15 +62,15 @@ pick_new true quotes quote found was is new = ap (λ (o : Option StandingQuote).
 pick_new false quotes quote found was is new = is ∙ ap (option_map (λ (q : StandingQuote). q.quote.number)) (sym (or_none found))
 
 -- a quote behind the others, with a new QuoteID
-pub ids_pushed : (quotes : List StandingQuote) (old new : BTreeMap (List ℕ) ℕ) (quote : AcceptedQuote)
+pub ids_pushed : (quotes : List StandingQuote) (old new : BTreeMap IdKey ℕ) (quote : AcceptedQuote)
     → IsIdMap quotes old → find (λ (q : StandingQuote). same_text q.quote.id quote.id) quotes ≡ None
-    → ((id : List ℕ) → get (slice_cmp nat_cmp) new id ≡ cond (is_at (slice_cmp nat_cmp quote.id) id) (Some quote.number) (get (slice_cmp nat_cmp) old id))
+    → ((q : IdKey) → get key_cmp new q ≡ cond (is_at (key_cmp (key_of quote.id)) q) (Some quote.number) (get key_cmp old q))
     → IsIdMap (quotes ++ standing_quote quote [] ∷ []) new
 ids_pushed quotes old new quote ids unused updates = record {
   ids_are = λ id.
-      updates id
-      ∙ ap (λ (b : Bool). cond b (Some quote.number) (get (slice_cmp nat_cmp) old id)) (same_key quote.id id)
-      ∙ pick_new (same_text quote.id id) quotes quote (find (λ (q : StandingQuote). same_text q.quote.id id) quotes) (get (slice_cmp nat_cmp) old id) (ids.ids_are id)
+      updates (key_of id)
+      ∙ ap (λ (b : Bool). cond b (Some quote.number) (get key_cmp old (key_of id))) (same_key quote.id id)
+      ∙ pick_new (same_text quote.id id) quotes quote (find (λ (q : StandingQuote). same_text q.quote.id id) quotes) (get key_cmp old (key_of id)) (ids.ids_are id)
       (λ so. ap (λ (i : List ℕ). find (λ (q : StandingQuote). same_text q.quote.id i) quotes) (sym ((bytes_eq-Decides quote.id id).0 so)) ∙ unused)
       ∙ ap (option_map (λ (q : StandingQuote). q.quote.number)) (sym (find-append (λ (q : StandingQuote). same_text q.quote.id id) quotes (standing_quote quote [] ∷ [])));
 }
@@ -79,7 +100,3 @@ rooms_pushed rooms old new room number was is put = record {
 -- the same rooms by another map
 pub rooms_same : (rooms : List RoomRef) (old new : BTreeMap RoomRef ℕ) → IsRoomMap rooms old → ((q : RoomRef) → get room_cmp new q ≡ get room_cmp old q) → IsRoomMap rooms new
 rooms_same rooms old new was same = record { rooms_are = λ q. same q ∙ was.rooms_are q }
-
--- the same QuoteIDs by another map
-pub ids_same : (quotes : List StandingQuote) (old new : BTreeMap (List ℕ) ℕ) → IsIdMap quotes old → new.entries ≡ old.entries → IsIdMap quotes new
-ids_same quotes old new was same = record { ids_are = λ id. ap (λ (es : List (List ℕ × ℕ)). lookup (is_at (slice_cmp nat_cmp id)) es) same ∙ was.ids_are id }

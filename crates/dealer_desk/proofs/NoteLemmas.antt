@@ -1,8 +1,10 @@
--- A message that came is noted behind what it led to, and stands before it: the number that it used up has no part in the
--- rest. And the quote that a drop takes is live.
-use Rattle.std.proofs.Common.{◌≡◌, ℕ, ◌+◌, ◌&&◌, true, false, not, nat_le, List, ◌∷◌, Some, refl, sym, ap, ◌∙◌}
+-- A message that came is noted behind what it led to, and stands before it: the number that it used
+-- up has no part in the rest. And the quote that a drop takes is live.
+use Rattle.std.proofs.Common.{◌≡◌, ℕ, ◌+◌, ◌&&◌, true, false, not, nat_le, List, ◌∷◌, Some, refl}
+use Rattle.std.proofs.Common.{sym, ap, ◌∙◌}
 use Rattle.std.proofs.lemmas.Bool.{and_parts}
-use Rattle.dealer_desk.specs.DealerFacts.{DealerFact, Came, Quoted, Withdrawn, Late, Declined, DealerBook, is_live, is_droppable, quote_to_drop}
+use Rattle.dealer_desk.specs.DealerFacts.{DealerFact, Came, Quoted, Withdrawn, Late, Declined}
+use Rattle.dealer_desk.specs.DealerFacts.{DealerBook, is_live, is_droppable, quote_to_drop}
 use Rattle.dealer_desk.specs.BookChanges.{book_after, IsSound, IsLiveNumber}
 use Rattle.dealer_desk.specs.DealerTable.{IndexView, with_fact}
 use Rattle.dealer_desk.specs.RuleCuts.{note_uses, note_facts, with_facts}

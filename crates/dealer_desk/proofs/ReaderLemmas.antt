@@ -1,11 +1,13 @@
 -- What the readers of an index find.
-use Rattle.std.proofs.Common.{◌≡◌, ◌<◌, ◌≤◌, ℕ, zero, suc, ◌+◌, ◌^◌, ◌==◌, Bool, true, false, ◌&&◌, not, nat_le, nat_lt, is_some, List, length, Option, Some, None, option_map, find, slice_get, get_or, ◌-◌, ◌⊎◌, inl, inr, refl, sym, ap, subst, ◌∙◌, arith}
+use Rattle.std.proofs.Common.{◌≡◌, ◌<◌, ◌≤◌, ℕ, zero, suc, ◌+◌, ◌^◌, ◌==◌, Bool, true, false, ◌&&◌}
+use Rattle.std.proofs.Common.{not, nat_le, nat_lt, is_some, List, length, Option, Some, None}
+use Rattle.std.proofs.Common.{option_map, find, slice_get, get_or, ◌-◌, ◌⊎◌, inl, inr, refl, sym}
+use Rattle.std.proofs.Common.{ap, subst, ◌∙◌, arith}
 use Rattle.std.specs.List.{list_any, position_or_len}
 use Rattle.std.proofs.lemmas.Bool.{eqb-true, eq-eqb}
-use Rattle.std.proofs.lemmas.Option.{none-some, same_Some, slice_get-map, slice_get_past, get_or_from_slice_get}
+use Rattle.std.proofs.lemmas.Option.{none-some, same_Some, slice_get-map, slice_get_past}
+use Rattle.std.proofs.lemmas.Option.{get_or_from_slice_get}
 use Rattle.std.specs.BTreeMap.{BTreeMap, get}
-use Rattle.std.specs.Cmp.Lexicographic.{slice_cmp}
-use Rattle.std.specs.Ordering.{nat_cmp}
 use Rattle.std.proofs.lemmas.Bool.Decides.{nat_tests}
 use Rattle.std.proofs.lemmas.List.Sums.{passes_at_first}
 use Rattle.std.proofs.lemmas.List.{length-map}
@@ -13,13 +15,20 @@ use Rattle.std.proofs.lemmas.Slice.Eq.{bytes_eq-Decides}
 use Rattle.venue_config.specs.Texts.{same_text}
 use Rattle.quote_messages.specs.Written.{request_name}
 use Rattle.market_terms.specs.declared.lines.QuoteLine.{QuoteLine}
-use Rattle.dealer_desk.specs.DealerFacts.{DealerBook, request_named, request_numbered, quote_numbered, live_number_on, live_quote_on, has_lifted_quote, is_live, is_live_on, is_lifted_on, is_droppable, quote_with_id, quote_to_drop, exposure_beside}
+use Rattle.dealer_desk.specs.DealerFacts.{DealerBook, request_named, request_numbered}
+use Rattle.dealer_desk.specs.DealerFacts.{quote_numbered, live_number_on, live_quote_on}
+use Rattle.dealer_desk.specs.DealerFacts.{has_lifted_quote, is_live, is_live_on, is_lifted_on}
+use Rattle.dealer_desk.specs.DealerFacts.{is_droppable, quote_with_id, quote_to_drop}
+use Rattle.dealer_desk.specs.DealerFacts.{exposure_beside}
 use Rattle.dealer_desk.specs.BookChanges.{IsSound}
-use Rattle.dealer_desk.specs.DealerTable.{IsIdMap, IsTable, requests_in}
+use Rattle.dealer_desk.specs.declared.id_keys.IdKey.{IdKey}
+use Rattle.dealer_desk.specs.DealerTable.{key_cmp, key_of, IsIdMap, IsTable, requests_in}
 use Rattle.dealer_desk.specs.declared.standing.StandingRequest.{StandingRequest}
 use Rattle.dealer_desk.specs.declared.standing.StandingQuote.{StandingQuote}
 use Rattle.dealer_desk.specs.declared.table.RequestRow.{RequestRow}
-use Rattle.dealer_desk.proofs.ListLemmas.{find_unique, find_at_place, fails_where_none, find_none, find_stands, stands_within, within_from, before_place, past_end, ruled_out}
+use Rattle.dealer_desk.proofs.ListLemmas.{find_unique, find_at_place, fails_where_none, find_none}
+use Rattle.dealer_desk.proofs.ListLemmas.{find_stands, stands_within, within_from, before_place}
+use Rattle.dealer_desk.proofs.ListLemmas.{past_end, ruled_out}
 use Rattle.dealer_desk.proofs.TableReads.{read_at}
 use Rattle.dealer_desk.proofs.TableGrowth.{row_read, live_stands, beside_dead, beside_live}
 use Rattle.dealer_desk.proofs.IndexLemmas.{book_with}
@@ -189,19 +198,19 @@ pub no_number : (o : Option StandingQuote) → option_map (λ (q : StandingQuote
 no_number None h = refl
 no_number (Some own) h = absurd (none-some own.quote.number (sym h))
 
-pub id_missing : (used notices : ℕ) (requests : List StandingRequest) (quotes : List StandingQuote) (by_id : BTreeMap (List ℕ) ℕ) (key id : List ℕ)
-    → IsIdMap quotes by_id → key ≡ id → None ≡ get (slice_cmp nat_cmp) by_id key → quote_with_id (book_with used notices requests quotes) id ≡ None
+pub id_missing : (used notices : ℕ) (requests : List StandingRequest) (quotes : List StandingQuote) (by_id : BTreeMap IdKey ℕ) (key : IdKey) (id : List ℕ)
+    → IsIdMap quotes by_id → key ≡ key_of id → None ≡ get key_cmp by_id key → quote_with_id (book_with used notices requests quotes) id ≡ None
 unfolding quote_with_id
 id_missing used notices requests quotes by_id key id ids same none =
-    no_number (find (λ (q : StandingQuote). same_text q.quote.id id) quotes) (sym (none ∙ ap (get (slice_cmp nat_cmp) by_id) same ∙ ids.ids_are id))
+    no_number (find (λ (q : StandingQuote). same_text q.quote.id id) quotes) (sym (none ∙ ap (get key_cmp by_id) same ∙ ids.ids_are id))
 
-pub id_found : (used notices : ℕ) (requests : List StandingRequest) (quotes : List StandingQuote) (by_id : BTreeMap (List ℕ) ℕ) (key id : List ℕ) (number : ℕ)
-    → IsSound requests quotes → IsIdMap quotes by_id → key ≡ id → Some number ≡ get (slice_cmp nat_cmp) by_id key
+pub id_found : (used notices : ℕ) (requests : List StandingRequest) (quotes : List StandingQuote) (by_id : BTreeMap IdKey ℕ) (key : IdKey) (id : List ℕ) (number : ℕ)
+    → IsSound requests quotes → IsIdMap quotes by_id → key ≡ key_of id → Some number ≡ get key_cmp by_id key
     → quote_numbered (book_with used notices requests quotes) number ≡ quote_with_id (book_with used notices requests quotes) id
 unfolding quote_with_id
 id_found used notices requests quotes by_id key id number sound ids same some =
     found_by_number used notices requests quotes (λ (q : StandingQuote). same_text q.quote.id id) sound (find (λ (q : StandingQuote). same_text q.quote.id id) quotes) refl number
-    (sym (some ∙ ap (get (slice_cmp nat_cmp) by_id) same ∙ ids.ids_are id))
+    (sym (some ∙ ap (get key_cmp by_id) same ∙ ids.ids_are id))
 
 -- Live quotes by their requests.
 

@@ -1,6 +1,8 @@
--- What keeps a book sound: requests and quotes numbered from 1, each quote on a request of the book, at most one live quote
--- on a request.
-use Rattle.std.proofs.Common.{◌≡◌, ◌≤◌, ℕ, ◌+◌, Bool, true, false, ◌&&◌, ◌==◌, List, [], ◌∷◌, ◌++◌, length, map, filter, find, Option, Some, None, option_map, inl, inr, refl, sym, ap, subst, ◌∙◌, arith}
+-- What keeps a book sound: requests and quotes numbered from 1, each quote on a request of the
+-- book, at most one live quote on a request.
+use Rattle.std.proofs.Common.{◌≡◌, ◌≤◌, ℕ, ◌+◌, Bool, true, false, ◌&&◌, ◌==◌, List, [], ◌∷◌, ◌++◌}
+use Rattle.std.proofs.Common.{length, map, filter, find, Option, Some, None, option_map, inl, inr}
+use Rattle.std.proofs.Common.{refl, sym, ap, subst, ◌∙◌, arith}
 use Rattle.std.proofs.lemmas.Bool.{eqb-true}
 use Rattle.std.proofs.lemmas.Option.{none-some}
 use Rattle.std.proofs.lemmas.List.Elements.{filter-append}

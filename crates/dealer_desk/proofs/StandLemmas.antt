@@ -1,6 +1,8 @@
--- What every fact and every event at a desk keeps: a sound book, the exposure and the number of quotes within the limits of
--- the dealer's row.
-use Rattle.std.proofs.Common.{◌≡◌, ◌<◌, ◌≤◌, ℕ, ◌+◌, Bool, true, false, ◌==◌, cond, List, [], ◌∷◌, ◌++◌, length, map, find, Option, Some, None, is_none, refl, sym, ap, subst, ◌∙◌, arith}
+-- What every fact and every event at a desk keeps: a sound book, the exposure and the number of
+-- quotes within the limits of the dealer's row.
+use Rattle.std.proofs.Common.{◌≡◌, ◌<◌, ◌≤◌, ℕ, ◌+◌, Bool, true, false, ◌==◌, cond, List, [], ◌∷◌}
+use Rattle.std.proofs.Common.{◌++◌, length, map, find, Option, Some, None, is_none, refl, sym, ap}
+use Rattle.std.proofs.Common.{subst, ◌∙◌, arith}
 use Rattle.std.specs.List.{sum_by}
 use Rattle.std.specs.Option.{option_or}
 use Rattle.std.proofs.lemmas.List.{length-append, length-map}
@@ -9,8 +11,12 @@ use Rattle.venue_config.specs.Texts.{same_text}
 use Rattle.venue_config.specs.declared.dealer_rows.DealerRow.{DealerRow}
 use Rattle.market_terms.specs.declared.asks.Ask.{Ask}
 use Rattle.market_terms.specs.declared.closes.Close.{Close}
-use Rattle.dealer_desk.specs.DealerFacts.{Came, Shown, Quoted, Withdrawn, Late, Dropped, Declined, Told, DealerBook, is_live, live_quantity, quantity_beside, standing_quote, quote_with_id, live_quote_on, exposure_beside}
-use Rattle.dealer_desk.specs.BookChanges.{IsSound, FitsBook, book_after, ended_at, late_at, closed_on, declined_at, told_at}
+use Rattle.dealer_desk.specs.DealerFacts.{Came, Shown, Quoted, Withdrawn, Late, Dropped, Declined}
+use Rattle.dealer_desk.specs.DealerFacts.{Told, DealerBook, is_live, live_quantity, quantity_beside}
+use Rattle.dealer_desk.specs.DealerFacts.{standing_quote, quote_with_id, live_quote_on}
+use Rattle.dealer_desk.specs.DealerFacts.{exposure_beside}
+use Rattle.dealer_desk.specs.BookChanges.{IsSound, FitsBook, book_after, ended_at, late_at}
+use Rattle.dealer_desk.specs.BookChanges.{closed_on, declined_at, told_at}
 use Rattle.dealer_desk.specs.DealerTable.{live_number_among}
 use Rattle.dealer_desk.specs.declared.accepted.AcceptedQuote.{AcceptedQuote}
 use Rattle.dealer_desk.specs.declared.standing.StandingRequest.{StandingRequest}
@@ -18,8 +24,10 @@ use Rattle.dealer_desk.specs.declared.standing.StandingQuote.{StandingQuote}
 use Rattle.dealer_desk.specs.declared.standing.Withdrawal.{Withdrawal}
 use Rattle.dealer_desk.specs.declared.standing.QuoteEnd.{QuoteEnd}
 use Rattle.dealer_desk.specs.declared.standing.QuoteEnd.TheVariants as end
-use Rattle.dealer_desk.proofs.BookLemmas.{came_book, dropped_book, shown_book, quoted_book, withdrawn_book, late_book, declined_book, told_book}
-use Rattle.dealer_desk.proofs.SoundLemmas.{sound_empty, sound_mapped, sound_requests, sound_shown, sound_quoted}
+use Rattle.dealer_desk.proofs.BookLemmas.{came_book, dropped_book, shown_book, quoted_book}
+use Rattle.dealer_desk.proofs.BookLemmas.{withdrawn_book, late_book, declined_book, told_book}
+use Rattle.dealer_desk.proofs.SoundLemmas.{sound_empty, sound_mapped, sound_requests, sound_shown}
+use Rattle.dealer_desk.proofs.SoundLemmas.{sound_quoted}
 use Rattle.dealer_desk.proofs.TableLemmas.{ended_keeps, ended_lives, late_keeps, late_lives}
 use Rattle.dealer_desk.proofs.TableReads.{declined_keeps, told_keeps}
 use Rattle.dealer_desk.proofs.TableGrowth.{replaced_none, sum_beside}

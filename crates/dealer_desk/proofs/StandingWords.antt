@@ -1,5 +1,8 @@
 -- How quotes stand, and how their words were answered.
-use Rattle.std.proofs.Common.{◌≡◌, ◌<◌, ◌≤◌, ℕ, ◌+◌, Bool, true, false, ◌||◌, ◌==◌, cond, List, [], ◌∷◌, ◌++◌, length, map, fold, All, Option, Some, None, is_none, is_some, option_map, slice_get, get_or, inl, inr, refl, sym, ap, subst, ◌∙◌, arith}
+use Rattle.std.proofs.Common.{◌≡◌, ◌<◌, ◌≤◌, ℕ, ◌+◌, Bool, true, false, ◌||◌, ◌==◌, cond, List, []}
+use Rattle.std.proofs.Common.{◌∷◌, ◌++◌, length, map, fold, All, Option, Some, None, is_none}
+use Rattle.std.proofs.Common.{is_some, option_map, slice_get, get_or, inl, inr, refl, sym, ap}
+use Rattle.std.proofs.Common.{subst, ◌∙◌, arith}
 use Rattle.std.specs.List.{list_any}
 use Rattle.std.specs.Option.{option_or}
 use Rattle.std.proofs.lemmas.Bool.{eqb-true}
@@ -10,10 +13,16 @@ use Rattle.venue_config.specs.declared.dealer_rows.DealerRow.{DealerRow}
 use Rattle.market_terms.specs.declared.closes.Close.{Close}
 use Rattle.quote_word.specs.declared.settled.Settled.{Settled}
 use Rattle.quote_word.specs.declared.settled.Settled.TheVariants as settled
-use Rattle.dealer_desk.specs.DealerFacts.{DealerFact, Quoted, Withdrawn, Told, DealerBook, book_of, number_to_drop, quote_to_drop, is_withdrawal, standing_quote}
-use Rattle.dealer_desk.specs.BookChanges.{IsSound, IsLiveNumber, book_after, ended_at, late_at, closed_on}
+use Rattle.dealer_desk.specs.DealerFacts.{DealerFact, Quoted, Withdrawn, Told, DealerBook, book_of}
+use Rattle.dealer_desk.specs.DealerFacts.{number_to_drop, quote_to_drop, is_withdrawal}
+use Rattle.dealer_desk.specs.DealerFacts.{standing_quote}
+use Rattle.dealer_desk.specs.BookChanges.{IsSound, IsLiveNumber, book_after, ended_at, late_at}
+use Rattle.dealer_desk.specs.BookChanges.{closed_on}
 use Rattle.dealer_desk.specs.DealerRules.{dealer_verdict}
-use Rattle.dealer_desk.specs.DealerOutput.{DeskState, DeskEvents, no_facts, after_event, desk_after, facts_at, book_at, event_facts, verdict_facts, settled_facts, answer_facts, uses_number, closable, answered_word, answered_words}
+use Rattle.dealer_desk.specs.DealerOutput.{DeskState, DeskEvents, no_facts, after_event, desk_after}
+use Rattle.dealer_desk.specs.DealerOutput.{facts_at, book_at, event_facts, verdict_facts}
+use Rattle.dealer_desk.specs.DealerOutput.{settled_facts, answer_facts, uses_number, closable}
+use Rattle.dealer_desk.specs.DealerOutput.{answered_word, answered_words}
 use Rattle.dealer_desk.specs.DeskLaws.{says_lifted, says_withdrawn}
 use Rattle.dealer_desk.specs.declared.accepted.AcceptedQuote.{AcceptedQuote}
 use Rattle.dealer_desk.specs.declared.standing.StandingRequest.{StandingRequest}
@@ -26,7 +35,9 @@ use Rattle.dealer_desk.specs.declared.events.DealerEvent.{DealerEvent}
 use Rattle.dealer_desk.specs.declared.events.DealerEvent.TheVariants as event
 use Rattle.dealer_desk.specs.declared.verdicts.DealerVerdict.{DealerVerdict}
 use Rattle.dealer_desk.specs.declared.verdicts.DealerVerdict.TheVariants as verdict
-use Rattle.dealer_desk.proofs.BookLemmas.{came_book, dropped_book, shown_book, quoted_book, withdrawn_book, late_book, declined_book, told_book, or_false, or_true}
+use Rattle.dealer_desk.proofs.BookLemmas.{came_book, dropped_book, shown_book, quoted_book}
+use Rattle.dealer_desk.proofs.BookLemmas.{withdrawn_book, late_book, declined_book, told_book}
+use Rattle.dealer_desk.proofs.BookLemmas.{or_false, or_true}
 use Rattle.dealer_desk.proofs.BookPush.{any_push, books_push}
 use Rattle.dealer_desk.proofs.ListLemmas.{mapped_at, pushed_at, ruled_out, within_from}
 use Rattle.dealer_desk.proofs.TableGrowth.{live_stands}

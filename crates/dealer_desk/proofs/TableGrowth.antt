@@ -1,5 +1,8 @@
 -- What a table keeps when a request is closed, and when a request or a quote more comes.
-use Rattle.std.proofs.Common.{◌≡◌, ◌<◌, ◌≤◌, ℕ, zero, suc, ◌+◌, ◌-◌, Bool, true, false, ◌&&◌, ◌||◌, ◌==◌, cond, not, List, [], ◌∷◌, ◌++◌, length, map, set, find, Option, Some, None, is_none, option_map, slice_get, get_or, inl, inr, refl, sym, ap, subst, ◌∙◌, arith}
+use Rattle.std.proofs.Common.{◌≡◌, ◌<◌, ◌≤◌, ℕ, zero, suc, ◌+◌, ◌-◌, Bool, true, false, ◌&&◌, ◌||◌}
+use Rattle.std.proofs.Common.{◌==◌, cond, not, List, [], ◌∷◌, ◌++◌, length, map, set, find, Option}
+use Rattle.std.proofs.Common.{Some, None, is_none, option_map, slice_get, get_or, inl, inr, refl}
+use Rattle.std.proofs.Common.{sym, ap, subst, ◌∙◌, arith}
 use Rattle.std.specs.List.{list_any, sum_by, position_or_len}
 use Rattle.std.specs.Option.{option_or}
 use Rattle.std.proofs.Math.Dec.{eqb}
@@ -9,8 +12,12 @@ use Rattle.std.proofs.lemmas.Option.{none-some, same_Some}
 use Rattle.std.proofs.lemmas.List.{map-append, length-map, length-append}
 use Rattle.std.proofs.lemmas.List.Sums.{sum_by-cons, sum_by_push}
 use Rattle.std.proofs.lemmas.List.Folds.{list_any-append, find-append, position_or_len_push}
+use Rattle.venue_config.specs.declared.dealer_rows.TheConstants.DealerRow.{MOST_QUOTES}
+use Rattle.venue_config.specs.declared.dealer_rows.TheConstants.DealerRow.{MOST_EXPOSURE}
 use Rattle.market_terms.specs.declared.lines.QuoteLine.{QuoteLine}
-use Rattle.dealer_desk.specs.DealerFacts.{standing_request, standing_quote, is_live, is_live_on, is_lifted_on, is_droppable, live_quantity, quantity_beside}
+use Rattle.dealer_desk.specs.DealerFacts.{standing_request, standing_quote, is_live, is_live_on}
+use Rattle.dealer_desk.specs.DealerFacts.{is_lifted_on, is_droppable, live_quantity}
+use Rattle.dealer_desk.specs.DealerFacts.{quantity_beside}
 use Rattle.dealer_desk.specs.QuoteLines.{line_of}
 use Rattle.dealer_desk.specs.BookChanges.{IsSound, IsLiveNumber, ended_at, closed_on}
 use Rattle.dealer_desk.specs.DealerTable.{IsTable, IsRow, live_number_among}
@@ -23,9 +30,13 @@ use Rattle.market_terms.specs.declared.asks.Ask.{Ask}
 use Rattle.market_terms.specs.declared.closes.Close.{Close}
 use Rattle.market_terms.specs.declared.closes.Close.TheVariants as closes
 use Rattle.dealer_desk.specs.declared.table.RequestRow.{RequestRow}
-use Rattle.dealer_desk.proofs.ListLemmas.{set_at, set_map, pushed_at, any_none, all_fixed, find_stands, fails_where_none, mapped_at, find_none, lone_others, ruled_out}
+use Rattle.dealer_desk.proofs.ListLemmas.{set_at, set_map, pushed_at, any_none, all_fixed}
+use Rattle.dealer_desk.proofs.ListLemmas.{find_stands, fails_where_none, mapped_at, find_none}
+use Rattle.dealer_desk.proofs.ListLemmas.{lone_others, ruled_out}
 use Rattle.dealer_desk.proofs.SoundLemmas.{sound_shown, sound_quoted, none_live}
-use Rattle.dealer_desk.proofs.TableLemmas.{and_false, chosen, chosen_first, ended_own, left_false, nothing, or_some, other_number, quantity_live, requests_kept, sum_changed}
+use Rattle.dealer_desk.proofs.TableLemmas.{and_false, chosen, chosen_first, ended_own, left_false}
+use Rattle.dealer_desk.proofs.TableLemmas.{nothing, or_some, other_number, quantity_live}
+use Rattle.dealer_desk.proofs.TableLemmas.{requests_kept, sum_changed}
 use Rattle.dealer_desk.proofs.TableReads.{read_at}
 
 -- The closing of a request.
@@ -192,8 +203,8 @@ first_stays true at len e = let same : at ≡ len = eqb-true at len e in omega a
 first_stays false at len e = refl
 
 pub push_quote_table : (rows : List RequestRow) (quotes : List StandingQuote) (lines : List QuoteLine) (exposure first : ℕ) (quote : AcceptedQuote) (row : RequestRow) (line : QuoteLine)
-    → IsTable rows quotes lines exposure first → quote.number ≡ length quotes + 1 → length quotes < 4294967295
-    → 1 ≤ quote.request → quote.request ≤ length rows → live_number_among quotes quote.request ≡ None → exposure + quote.quantity ≤ 1000000000000000
+    → IsTable rows quotes lines exposure first → quote.number ≡ length quotes + 1 → length quotes < MOST_QUOTES
+    → 1 ≤ quote.request → quote.request ≤ length rows → live_number_among quotes quote.request ≡ None → exposure + quote.quantity ≤ MOST_EXPOSURE
     → row ≡ get_or rows (quote.request - 1) row → line ≡ line_of (standing_quote quote [])
     → IsTable (set rows (quote.request - 1) (record row { live = Some quote.number })) (quotes ++ standing_quote quote [] ∷ []) (lines ++ line ∷ []) (exposure + quote.quantity) first
 push_quote_table rows quotes lines exposure first quote row line table number few least last alone fits row_is line_is =

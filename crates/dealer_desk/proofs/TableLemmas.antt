@@ -1,5 +1,7 @@
 -- What a table keeps when one of its quotes changes.
-use Rattle.std.proofs.Common.{◌≡◌, ◌<◌, ◌≤◌, ℕ, ◌+◌, ◌-◌, Bool, true, false, ◌&&◌, ◌==◌, cond, List, length, map, set, Option, Some, None, is_none, option_map, slice_get, get_or, inl, inr, refl, sym, ap, subst, ◌∙◌, arith, length-set}
+use Rattle.std.proofs.Common.{◌≡◌, ◌<◌, ◌≤◌, ℕ, ◌+◌, ◌-◌, Bool, true, false, ◌&&◌, ◌==◌, cond, List}
+use Rattle.std.proofs.Common.{length, map, set, Option, Some, None, is_none, option_map, slice_get}
+use Rattle.std.proofs.Common.{get_or, inl, inr, refl, sym, ap, subst, ◌∙◌, arith, length-set}
 use Rattle.std.specs.List.{sum_by, position_or_len}
 use Rattle.std.specs.Option.{option_or}
 use Rattle.std.proofs.lemmas.Bool.{eqb-true, eq-eqb}
@@ -9,7 +11,8 @@ use Rattle.std.proofs.lemmas.List.{map-set, length-map, get_or-map}
 use Rattle.std.proofs.lemmas.List.Sums.{sum_by-set}
 use Rattle.std.proofs.lemmas.List.Folds.{list_any_at}
 use Rattle.market_terms.specs.declared.lines.QuoteLine.{QuoteLine}
-use Rattle.dealer_desk.specs.DealerFacts.{is_live, is_live_on, is_lifted_on, is_droppable, live_quantity}
+use Rattle.dealer_desk.specs.DealerFacts.{is_live, is_live_on, is_lifted_on, is_droppable}
+use Rattle.dealer_desk.specs.DealerFacts.{live_quantity}
 use Rattle.dealer_desk.specs.QuoteLines.{state_of, line_of}
 use Rattle.dealer_desk.specs.BookChanges.{IsSound, ended_at, late_at}
 use Rattle.dealer_desk.specs.DealerTable.{IsTable, IsRow}
@@ -20,7 +23,9 @@ use Rattle.dealer_desk.specs.declared.standing.QuoteEnd.{QuoteEnd}
 use Rattle.dealer_desk.specs.declared.standing.QuoteEnd.TheVariants as end
 use Rattle.market_terms.specs.declared.closes.Close.TheVariants as closes
 use Rattle.dealer_desk.specs.declared.table.RequestRow.{RequestRow}
-use Rattle.dealer_desk.proofs.ListLemmas.{set_at, set_map, set_same, mapped_at, find_none, find_mapped, any_mapped, lone_others, within_from, ruled_out}
+use Rattle.dealer_desk.proofs.ListLemmas.{set_at, set_map, set_same, mapped_at, find_none}
+use Rattle.dealer_desk.proofs.ListLemmas.{find_mapped, any_mapped, lone_others, within_from}
+use Rattle.dealer_desk.proofs.ListLemmas.{ruled_out}
 use Rattle.dealer_desk.proofs.SoundLemmas.{sound_mapped}
 
 -- Changes of one quote.

@@ -1,5 +1,9 @@
--- What the code reads and writes of a table, and what a table keeps when a request of its own changes.
-use Rattle.std.proofs.Common.{◌≡◌, ◌<◌, ◌≤◌, ℕ, ◌+◌, ◌-◌, Bool, true, false, ◌&&◌, ◌==◌, cond, not, List, length, map, set, Some, None, option_map, slice_get, get_or, inl, inr, refl, sym, ap, subst, ◌∙◌, arith, length-set, get_or-set_same}
+-- What the code reads and writes of a table, and what a table keeps when a request of its own
+-- changes.
+use Rattle.std.proofs.Common.{◌≡◌, ◌<◌, ◌≤◌, ℕ, ◌+◌, ◌-◌, Bool, true, false, ◌&&◌, ◌==◌, cond, not}
+use Rattle.std.proofs.Common.{List, length, map, set, Some, None, option_map, slice_get, get_or}
+use Rattle.std.proofs.Common.{inl, inr, refl, sym, ap, subst, ◌∙◌, arith, length-set}
+use Rattle.std.proofs.Common.{get_or-set_same}
 use Rattle.std.specs.List.{position_or_len}
 use Rattle.std.proofs.lemmas.Bool.{eqb-true, eq-eqb}
 use Rattle.std.proofs.lemmas.Option.{same_Some, slice_get-get_or, slice_get-map}
@@ -9,7 +13,8 @@ use Rattle.market_terms.specs.declared.lines.QuoteLine.{QuoteLine}
 use Rattle.market_terms.specs.declared.lines.QuoteState.{QuoteState}
 use Rattle.dealer_desk.specs.DealerFacts.{is_live, is_droppable}
 use Rattle.dealer_desk.specs.QuoteLines.{state_of, line_of}
-use Rattle.dealer_desk.specs.BookChanges.{IsSound, IsLiveNumber, ended_at, late_at, declined_at, told_at}
+use Rattle.dealer_desk.specs.BookChanges.{IsSound, IsLiveNumber, ended_at, late_at, declined_at}
+use Rattle.dealer_desk.specs.BookChanges.{told_at}
 use Rattle.dealer_desk.specs.DealerTable.{IsTable, IsRow}
 use Rattle.dealer_desk.specs.declared.standing.StandingRequest.{StandingRequest}
 use Rattle.dealer_desk.specs.declared.standing.StandingQuote.{StandingQuote}
@@ -17,7 +22,8 @@ use Rattle.dealer_desk.specs.declared.standing.QuoteEnd.{QuoteEnd}
 use Rattle.dealer_desk.specs.declared.table.RequestRow.{RequestRow}
 use Rattle.dealer_desk.proofs.ListLemmas.{set_at, set_map, within_from, ruled_out, before_place}
 use Rattle.dealer_desk.proofs.SoundLemmas.{sound_requests}
-use Rattle.dealer_desk.proofs.TableLemmas.{ended_quotes, ended_table, late_quotes, late_table, left_false, requests_kept}
+use Rattle.dealer_desk.proofs.TableLemmas.{ended_quotes, ended_table, late_quotes, late_table}
+use Rattle.dealer_desk.proofs.TableLemmas.{left_false, requests_kept}
 
 -- What the code reads and writes.
 

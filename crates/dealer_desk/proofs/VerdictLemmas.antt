@@ -1,6 +1,8 @@
--- What holds of every verdict on a book that stands: an accepted quote fits, a cancel names a live quote, and a decline a
--- request that was shown.
-use Rattle.std.proofs.Common.{◌≡◌, ◌<◌, ◌≤◌, ℕ, ◌+◌, Bool, true, false, ◌||◌, nat_le, nat_lt, cond, List, [], ◌∷◌, length, Option, Some, None, is_none, is_some, IfSome, slice_get, refl, arith}
+-- What holds of every verdict on a book that stands: an accepted quote fits, a cancel names a live
+-- quote, and a decline a request that was shown.
+use Rattle.std.proofs.Common.{◌≡◌, ◌<◌, ◌≤◌, ℕ, ◌+◌, Bool, true, false, ◌||◌, nat_le, nat_lt, cond}
+use Rattle.std.proofs.Common.{List, [], ◌∷◌, length, Option, Some, None, is_none, is_some, IfSome}
+use Rattle.std.proofs.Common.{slice_get, refl, arith}
 use Rattle.std.proofs.lemmas.Bool.Decides.{nat_tests}
 use Rattle.venue_config.specs.Texts.{same_text}
 use Rattle.venue_config.specs.declared.dealer_rows.DealerRow.{DealerRow}
@@ -19,8 +21,13 @@ use Rattle.quote_messages.specs.declared.out_messages.CancelStatus.TheVariants a
 use Rattle.quote_messages.specs.declared.reject_reasons.QuoteRejectReason.{QuoteRejectReason}
 use Rattle.quote_word.specs.declared.settled.Settled.{Settled}
 use Rattle.quote_word.specs.declared.settled.Settled.TheVariants as settled
-use Rattle.dealer_desk.specs.DealerFacts.{DealerBook, expected_number, request_named, quotes_accepted, quote_with_id, live_quote_on, exposure_beside, is_withdrawal, is_closing, quote_to_drop}
-use Rattle.dealer_desk.specs.DealerRules.{quote_checks, quote_refusal, quote_answer, quote_verdict, cancel_checks, cancel_answer, cancel_of, cancel_verdict, decline_checks, decline_answer, decline_verdict, message_verdict, arrival_verdict, dealer_verdict}
+use Rattle.dealer_desk.specs.DealerFacts.{DealerBook, expected_number, request_named}
+use Rattle.dealer_desk.specs.DealerFacts.{quotes_accepted, quote_with_id, live_quote_on}
+use Rattle.dealer_desk.specs.DealerFacts.{exposure_beside, is_withdrawal, is_closing, quote_to_drop}
+use Rattle.dealer_desk.specs.DealerRules.{quote_checks, quote_refusal, quote_answer, quote_verdict}
+use Rattle.dealer_desk.specs.DealerRules.{cancel_checks, cancel_answer, cancel_of, cancel_verdict}
+use Rattle.dealer_desk.specs.DealerRules.{decline_checks, decline_answer, decline_verdict}
+use Rattle.dealer_desk.specs.DealerRules.{message_verdict, arrival_verdict, dealer_verdict}
 use Rattle.dealer_desk.specs.DealerOutput.{word_asked}
 use Rattle.dealer_desk.specs.BookChanges.{IsLiveNumber}
 use Rattle.dealer_desk.specs.RuleCuts.{IsLawful, IsLawfulNote, note_of}

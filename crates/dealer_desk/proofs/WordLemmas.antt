@@ -1,15 +1,19 @@
 -- The words that were asked, event by event.
-use Rattle.std.proofs.Common.{◌≡◌, ℕ, Bool, true, false, ◌||◌, ◌==◌, cond, List, [], ◌∷◌, ◌++◌, Option, Some, None, is_some, refl, ap, ◌∙◌}
+use Rattle.std.proofs.Common.{◌≡◌, ℕ, Bool, true, false, ◌||◌, ◌==◌, cond, List, [], ◌∷◌, ◌++◌}
+use Rattle.std.proofs.Common.{Option, Some, None, is_some, refl, ap, ◌∙◌}
 use Rattle.std.specs.List.{list_any}
 use Rattle.std.proofs.lemmas.List.Elements.{filter_map-append}
 use Rattle.venue_config.specs.declared.dealer_rows.DealerRow.{DealerRow}
 use Rattle.market_terms.specs.declared.closes.Close.{Close}
 use Rattle.quote_word.specs.declared.settled.Settled.{Settled}
 use Rattle.quote_word.specs.declared.settled.Settled.TheVariants as settled
-use Rattle.dealer_desk.specs.DealerFacts.{DealerFact, Came, Withdrawn, Late, Told, Dropped, DealerBook, book_of, number_to_drop, finds_lifted}
+use Rattle.dealer_desk.specs.DealerFacts.{DealerFact, Came, Withdrawn, Late, Told, Dropped}
+use Rattle.dealer_desk.specs.DealerFacts.{DealerBook, book_of, number_to_drop, finds_lifted}
 use Rattle.dealer_desk.specs.DeskLaws.{withdraws, says_lifted, says_withdrawn}
 use Rattle.dealer_desk.specs.DealerRules.{dealer_verdict}
-use Rattle.dealer_desk.specs.DealerOutput.{desk_after, event_facts, verdict_facts, settled_facts, uses_number, closable, answered_word, answered_words, asked_word, asked_by, word_asked}
+use Rattle.dealer_desk.specs.DealerOutput.{desk_after, event_facts, verdict_facts, settled_facts}
+use Rattle.dealer_desk.specs.DealerOutput.{uses_number, closable, answered_word, answered_words}
+use Rattle.dealer_desk.specs.DealerOutput.{asked_word, asked_by, word_asked}
 use Rattle.dealer_desk.specs.declared.standing.Withdrawal.{Withdrawal}
 use Rattle.dealer_desk.specs.declared.standing.Withdrawal.TheVariants as by
 use Rattle.dealer_desk.specs.declared.events.DealerEvent.{DealerEvent}

@@ -1,14 +1,21 @@
 -- How one fact more changes the book of a desk. Only private functions and the laws of the desk say
 -- this.
-use Rattle.std.specs.Prelude.{◌≡◌, ◌≤◌, ◌<◌, ℕ, ◌+◌, Bool, true, ◌==◌, ◌||◌, List, [], ◌∷◌, ◌++◌, length, filter, map, slice_get, Option, Some, None, if◌then◌else◌}
+use Rattle.std.specs.Prelude.{◌≡◌, ◌≤◌, ◌<◌, ℕ, ◌+◌, Bool, true, ◌==◌, ◌||◌, List, [], ◌∷◌, ◌++◌}
+use Rattle.std.specs.Prelude.{length, filter, map, slice_get, Option, Some, None, if◌then◌else◌}
 use Rattle.std.specs.Option.{option_or}
-use Rattle.dealer_desk.specs.DealerFacts.{DealerFact, Shown, Quoted, DealerBook, used_number, is_notice, tells, declines, finds_lifted, ends, standing_request, standing_quote, is_live, is_live_on, quotes_accepted, requests_shown, quote_with_id, live_number_on, exposure_beside}
+use Rattle.dealer_desk.specs.DealerFacts.{DealerFact, Shown, Quoted, DealerBook, used_number}
+use Rattle.dealer_desk.specs.DealerFacts.{is_notice, tells, declines, finds_lifted, ends}
+use Rattle.dealer_desk.specs.DealerFacts.{standing_request, standing_quote, is_live, is_live_on}
+use Rattle.dealer_desk.specs.DealerFacts.{quotes_accepted, requests_shown, quote_with_id}
+use Rattle.dealer_desk.specs.DealerFacts.{live_number_on, exposure_beside}
 use Rattle.dealer_desk.specs.declared.accepted.AcceptedQuote.{AcceptedQuote}
 use Rattle.dealer_desk.specs.declared.standing.StandingRequest.{StandingRequest}
 use Rattle.dealer_desk.specs.declared.standing.StandingQuote.{StandingQuote}
 use Rattle.dealer_desk.specs.declared.standing.QuoteEnd.{QuoteEnd}
 use Rattle.dealer_desk.specs.declared.standing.QuoteEnd.TheVariants as end
 use Rattle.market_terms.specs.declared.closes.Close.{Close}
+use Rattle.venue_config.specs.declared.dealer_rows.TheConstants.DealerRow.{MOST_QUOTES}
+use Rattle.venue_config.specs.declared.dealer_rows.TheConstants.DealerRow.{MOST_EXPOSURE}
 
 -- a request after one fact more
 abbrev pub request_after : DealerFact → StandingRequest → StandingRequest
@@ -90,11 +97,11 @@ pub record IsLiveNumber (quotes : List StandingQuote) (number : ℕ) : Type 0 wh
 pub record FitsBook (book : DealerBook) (quote : AcceptedQuote) (replaced : Option ℕ) : Type 0 where
   pub number_is : quote.number ≡ quotes_accepted book + 1
   pub id_is_new : quote_with_id book quote.id ≡ None
-  pub few : quotes_accepted book < 4294967295
+  pub few : quotes_accepted book < MOST_QUOTES
   pub from_first : 1 ≤ quote.request
   pub to_last : quote.request ≤ requests_shown book
   pub replaced_is : live_number_on book quote.request ≡ replaced
-  pub exposure_fits : quote.quantity + exposure_beside book replaced ≤ 1000000000000000
+  pub exposure_fits : quote.quantity + exposure_beside book replaced ≤ MOST_EXPOSURE
 
 -- What holds of every book: requests and quotes are numbered from 1, each quote answers a request
 -- of the book, and at most one quote on a request is live.

@@ -1,7 +1,9 @@
 -- The facts of a dealer's desk, and what stands by them: its numbers, the requests that it was
 -- shown, its quotes and what became of them, and its exposure. Facts are only ever added. They bear
 -- the dealer's own numbers and no room.
-use Rattle.std.specs.Prelude.{ℕ, ◌+◌, Bool, true, false, ◌&&◌, ◌==◌, not, nat_le, List, [], ◌∷◌, length, filter, find, count_by, Option, Some, None, is_none, if◌then◌else◌}
+use Rattle.std.specs.Prelude.{ℕ, ◌+◌, Bool, true, false, ◌&&◌, ◌==◌, not, nat_le, List, [], ◌∷◌}
+use Rattle.std.specs.Prelude.{length, filter, find, count_by, Option, Some, None, is_none}
+use Rattle.std.specs.Prelude.{if◌then◌else◌}
 use Rattle.std.specs.List.{list_any, sum_by}
 use Rattle.std.specs.Option.{option_map, option_or}
 use Rattle.venue_config.specs.Texts.{same_text}

@@ -1,6 +1,7 @@
 -- The rules of the market for a dealer: what becomes of a message that came to its desk.
 use Rattle.std.specs.Prelude.{ℕ, ◌+◌, Bool, false, ◌==◌, ◌||◌, not, nat_lt, nat_le}
-use Rattle.std.specs.Prelude.{List, [], ◌∷◌, Option, Some, None, unwrap_or, is_none, is_some, Result, Ok, Err, if◌then◌else◌}
+use Rattle.std.specs.Prelude.{List, [], ◌∷◌, Option, Some, None, unwrap_or, is_none, is_some}
+use Rattle.std.specs.Prelude.{Result, Ok, Err, if◌then◌else◌}
 use Rattle.bond_prices.specs.Grid.{on_grid}
 use Rattle.bond_prices.specs.declared.fault.PriceFault.{PriceFault}
 use Rattle.venue_config.specs.Texts.{same_text}
@@ -11,7 +12,8 @@ use Rattle.market_terms.specs.declared.asks.Side.{Side}
 use Rattle.market_terms.specs.declared.asks.Side.TheVariants.{Buy, Sell}
 use Rattle.quote_messages.specs.Arrivals.{dealer_arrival}
 use Rattle.quote_messages.specs.declared.arrivals.Arrival.{Arrival}
-use Rattle.quote_messages.specs.declared.arrivals.Arrival.TheVariants.{Dropped, OutOfSequence, Rejected, Taken}
+use Rattle.quote_messages.specs.declared.arrivals.Arrival.TheVariants.{Dropped, OutOfSequence}
+use Rattle.quote_messages.specs.declared.arrivals.Arrival.TheVariants.{Rejected, Taken}
 use Rattle.quote_messages.specs.declared.quotes.Quote.{Quote}
 use Rattle.quote_messages.specs.declared.quotes.CancelScope.{CancelScope}
 use Rattle.quote_messages.specs.declared.quotes.CancelScope.TheVariants as cancels
@@ -20,8 +22,16 @@ use Rattle.quote_messages.specs.declared.quotes.DealerMessage.TheVariants as mes
 use Rattle.quote_messages.specs.declared.out_messages.OutMessage.TheVariants as out
 use Rattle.quote_messages.specs.declared.out_messages.CancelStatus.TheVariants as status
 use Rattle.quote_messages.specs.declared.reject_reasons.QuoteRejectReason.{QuoteRejectReason}
-use Rattle.quote_messages.specs.declared.reject_reasons.QuoteRejectReason.TheVariants.{UnknownSymbol, ExceedsLimit, TooLate, DuplicateQuote, InvalidPrice, Other}
-use Rattle.dealer_desk.specs.DealerFacts.{DealerBook, expected_number, request_named, quotes_accepted, quote_with_id, live_number_on, exposure_beside, is_withdrawal, is_closing, has_lifted_quote, quote_to_drop}
+use Rattle.quote_messages.specs.declared.reject_reasons.QuoteRejectReason.TheVariants.{UnknownSymbol}
+use Rattle.quote_messages.specs.declared.reject_reasons.QuoteRejectReason.TheVariants.{ExceedsLimit}
+use Rattle.quote_messages.specs.declared.reject_reasons.QuoteRejectReason.TheVariants.{TooLate}
+use Rattle.quote_messages.specs.declared.reject_reasons.QuoteRejectReason.TheVariants.{DuplicateQuote}
+use Rattle.quote_messages.specs.declared.reject_reasons.QuoteRejectReason.TheVariants.{InvalidPrice}
+use Rattle.quote_messages.specs.declared.reject_reasons.QuoteRejectReason.TheVariants.{Other}
+use Rattle.dealer_desk.specs.DealerFacts.{DealerBook, expected_number, request_named}
+use Rattle.dealer_desk.specs.DealerFacts.{quotes_accepted, quote_with_id, live_number_on}
+use Rattle.dealer_desk.specs.DealerFacts.{exposure_beside, is_withdrawal, is_closing}
+use Rattle.dealer_desk.specs.DealerFacts.{has_lifted_quote, quote_to_drop}
 use Rattle.dealer_desk.specs.declared.accepted.AcceptedQuote.{AcceptedQuote}
 use Rattle.dealer_desk.specs.declared.standing.StandingRequest.{StandingRequest}
 use Rattle.dealer_desk.specs.declared.standing.StandingQuote.{StandingQuote}

@@ -1,6 +1,7 @@
 -- What the index of a desk keeps beside the requests and the quotes of its book. Only private
 -- functions and invariants say this.
-use Rattle.std.specs.Prelude.{◌≡◌, ◌≤◌, ◌<◌, ℕ, ◌+◌, ◌^◌, List, [], ◌∷◌, ◌++◌, length, map, find, slice_get, Option, Some}
+use Rattle.std.specs.Prelude.{◌≡◌, ◌≤◌, ◌<◌, ℕ, ◌+◌, ◌*◌, ◌%◌, ◌^◌, Option, Some}
+use Rattle.std.specs.Prelude.{List, [], ◌∷◌, ◌++◌, length, map, fold, find, slice_get}
 use Rattle.std.specs.List.{list_any, sum_by, position_or_len}
 use Rattle.std.specs.Option.{option_map}
 use Rattle.std.specs.BTreeMap.{BTreeMap, get}
@@ -8,12 +9,16 @@ use Rattle.std.specs.Cmp.Lexicographic.{slice_cmp}
 use Rattle.std.specs.Ordering.{nat_cmp, ordering_then}
 use Rattle.std.specs.declared.cmp.Ordering.{Ordering}
 use Rattle.venue_config.specs.Texts.{same_text}
+use Rattle.venue_config.specs.declared.dealer_rows.TheConstants.DealerRow.{MOST_QUOTES}
+use Rattle.venue_config.specs.declared.dealer_rows.TheConstants.DealerRow.{MOST_EXPOSURE}
 use Rattle.market_terms.specs.declared.lines.QuoteLine.{QuoteLine}
 use Rattle.market_terms.specs.declared.rooms.RoomRef.{RoomRef}
-use Rattle.dealer_desk.specs.DealerFacts.{DealerFact, DealerBook, is_live_on, is_lifted_on, is_droppable, live_quantity}
+use Rattle.dealer_desk.specs.DealerFacts.{DealerFact, DealerBook, is_live_on, is_lifted_on}
+use Rattle.dealer_desk.specs.DealerFacts.{is_droppable, live_quantity}
 use Rattle.dealer_desk.specs.DealerOutput.{number_in}
 use Rattle.dealer_desk.specs.QuoteLines.{line_of}
 use Rattle.dealer_desk.specs.BookChanges.{IsSound, book_after}
+use Rattle.dealer_desk.specs.declared.id_keys.IdKey.{IdKey}
 use Rattle.dealer_desk.specs.declared.standing.StandingQuote.{StandingQuote}
 use Rattle.dealer_desk.specs.declared.standing.StandingRequest.{StandingRequest}
 use Rattle.dealer_desk.specs.declared.table.RequestRow.{RequestRow}
@@ -42,9 +47,9 @@ pub record IsTable (rows : List RequestRow) (quotes : List StandingQuote) (lines
   pub rows_are : (k : ℕ) (row : RequestRow) → slice_get rows k ≡ Some row → IsRow quotes (k + 1) row
   pub lines_are : lines ≡ map line_of quotes
   pub exposure_is : exposure ≡ sum_by live_quantity quotes
-  pub exposure_fits : exposure ≤ 1000000000000000
+  pub exposure_fits : exposure ≤ MOST_EXPOSURE
   pub first_is : first_droppable ≡ position_or_len is_droppable quotes
-  pub few : length quotes ≤ 4294967295
+  pub few : length quotes ≤ MOST_QUOTES
 
 -- the same of a table
 abbrev pub IsSoundTable : Table → Type 0
@@ -56,9 +61,25 @@ IsSoundTable table =
 abbrev pub room_cmp : RoomRef → RoomRef → Ordering
 room_cmp one other = ordering_then (nat_cmp one.investor other.investor) (nat_cmp one.n other.n)
 
+-- the number of a text's last eight characters, with a character more
+abbrev pub tail_with : ℕ → ℕ → ℕ
+tail_with tail c = (tail * 256 % 2 ^ 64 + c) % 2 ^ 64
+
+-- the last eight characters of a text as one number
+abbrev pub tail_of : List ℕ → ℕ
+tail_of text = fold tail_with 0 text
+
+-- a QuoteID as a key of the map
+abbrev pub key_of : List ℕ → IdKey
+key_of id = record { tail = tail_of id; id = id }
+
+-- how keys are ordered: by the last eight characters first
+abbrev pub key_cmp : IdKey → IdKey → Ordering
+key_cmp one other = ordering_then (nat_cmp one.tail other.tail) (slice_cmp nat_cmp one.id other.id)
+
 -- the map from QuoteIDs has the own numbers of these quotes
-pub record IsIdMap (quotes : List StandingQuote) (by_id : BTreeMap (List ℕ) ℕ) : Type 0 where
-  pub ids_are : (id : List ℕ) → get (slice_cmp nat_cmp) by_id id
+pub record IsIdMap (quotes : List StandingQuote) (by_id : BTreeMap IdKey ℕ) : Type 0 where
+  pub ids_are : (id : List ℕ) → get key_cmp by_id (key_of id)
       ≡ option_map (λ own. own.quote.number) (find (λ own. same_text own.quote.id id) quotes)
 
 -- the map from rooms has the numbers of the requests that were first shown there
@@ -82,7 +103,7 @@ with_request index room fact =
 -- what an index keeps beside its book
 pub record IsIndex (used notices : ℕ) (rows : List RequestRow) (quotes : List StandingQuote)
     (lines : List QuoteLine) (exposure first_droppable : ℕ) (rooms : List RoomRef)
-    (by_id : BTreeMap (List ℕ) ℕ) (by_room : BTreeMap RoomRef ℕ) : Type 0 where
+    (by_id : BTreeMap IdKey ℕ) (by_room : BTreeMap RoomRef ℕ) : Type 0 where
   pub used_fits : used < 2 ^ 63
   pub notices_fit : notices < 2 ^ 63
   pub table : IsTable rows quotes lines exposure first_droppable

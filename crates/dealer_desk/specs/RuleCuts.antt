@@ -1,14 +1,22 @@
 -- How the code cuts the checks of a quote and what it makes of a verdict. Only private functions
 -- say this.
-use Rattle.std.specs.Prelude.{◌≡◌, ◌≤◌, ℕ, Bool, true, false, ◌||◌, not, nat_lt, nat_le, List, [], ◌∷◌, Option, Some, None, is_none, is_some, fold}
+use Rattle.std.specs.Prelude.{◌≡◌, ◌≤◌, ℕ, Bool, true, false, ◌||◌, not, nat_lt, nat_le, List, []}
+use Rattle.std.specs.Prelude.{◌∷◌, Option, Some, None, is_none, is_some, fold}
 use Rattle.venue_config.specs.Texts.{same_text}
 use Rattle.venue_config.specs.declared.dealer_rows.DealerRow.{DealerRow}
 use Rattle.market_terms.specs.Checks.{is_not_after}
 use Rattle.market_terms.specs.declared.asks.Ask.{Ask}
 use Rattle.quote_messages.specs.declared.quotes.Quote.{Quote}
 use Rattle.quote_messages.specs.declared.reject_reasons.QuoteRejectReason.{QuoteRejectReason}
-use Rattle.quote_messages.specs.declared.reject_reasons.QuoteRejectReason.TheVariants.{UnknownSymbol, ExceedsLimit, TooLate, DuplicateQuote, InvalidPrice, Other}
-use Rattle.dealer_desk.specs.DealerFacts.{DealerFact, Quoted, Withdrawn, Late, Declined, DealerBook, book_of, quotes_accepted, requests_shown, quote_with_id, has_lifted_quote}
+use Rattle.quote_messages.specs.declared.reject_reasons.QuoteRejectReason.TheVariants.{UnknownSymbol}
+use Rattle.quote_messages.specs.declared.reject_reasons.QuoteRejectReason.TheVariants.{ExceedsLimit}
+use Rattle.quote_messages.specs.declared.reject_reasons.QuoteRejectReason.TheVariants.{TooLate}
+use Rattle.quote_messages.specs.declared.reject_reasons.QuoteRejectReason.TheVariants.{DuplicateQuote}
+use Rattle.quote_messages.specs.declared.reject_reasons.QuoteRejectReason.TheVariants.{InvalidPrice}
+use Rattle.quote_messages.specs.declared.reject_reasons.QuoteRejectReason.TheVariants.{Other}
+use Rattle.dealer_desk.specs.DealerFacts.{DealerFact, Quoted, Withdrawn, Late, Declined, DealerBook}
+use Rattle.dealer_desk.specs.DealerFacts.{book_of, quotes_accepted, requests_shown, quote_with_id}
+use Rattle.dealer_desk.specs.DealerFacts.{has_lifted_quote}
 use Rattle.dealer_desk.specs.DealerRules.{price_for, sizes_differ, differs_from, exposure_with}
 use Rattle.dealer_desk.specs.BookChanges.{FitsBook, IsLiveNumber}
 use Rattle.dealer_desk.specs.DealerTable.{IndexView, with_fact}

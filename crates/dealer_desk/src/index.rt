@@ -1,18 +1,21 @@
 //! What a desk keeps of its day: the book, found again without a walk. It holds no events.
-ghost use Rattle.std.specs.Prelude.{◌≡◌, ◌+◌, ◌≤◌, ◌<◌, ◌^◌, ◌∷◌, [], ◌++◌, ℕ, List, true, length, option_map, Some, None, IfSome, OnOk, OnErr, if◌then◌else◌};
+ghost use Rattle.std.specs.Prelude.{◌≡◌, ◌+◌, ◌≤◌, ◌<◌, ◌^◌, [], ℕ, List, true, option_map, Some};
+ghost use Rattle.std.specs.Prelude.{None, IfSome, OnOk, OnErr, if◌then◌else◌};
 ghost use Rattle.venue_config.specs.Texts.{same_text};
+ghost use Rattle.venue_config.specs.declared.dealer_rows.TheConstants.DealerRow.{MOST_EXPOSURE};
 ghost use Rattle.quote_messages.specs.Written.{request_name};
 ghost use Rattle.market_terms.specs.declared.rooms.RoomRef.{RoomRef};
 ghost use Rattle.dealer_desk.specs.DealerFacts as facts;
 ghost use Rattle.dealer_desk.specs.DealerOutput as output;
 ghost use Rattle.dealer_desk.specs.QuoteLines.{lines_of};
-ghost use Rattle.dealer_desk.specs.BookChanges.{IsLiveNumber, FitsBook, book_after};
+ghost use Rattle.dealer_desk.specs.BookChanges.{IsLiveNumber, FitsBook};
 ghost use Rattle.dealer_desk.specs.DealerTable.{with_fact, with_request, room_cmp};
 ghost use Rattle.std.specs.BTreeMap.{get};
 ghost use Rattle.std.specs.Option.{option_or};
 ghost use Rattle.dealer_desk.specs.declared.standing.Withdrawal.TheVariants as by;
 
-use crate::table::{RequestRow, Table, is_droppable};
+use crate::id_keys::IdKey;
+use crate::table::{RequestRow, Table};
 use crate::{AcceptedQuote, QuoteEnd, StandingQuote, Withdrawal};
 use fix_fields::Memory;
 use itoa::Buffer;
@@ -32,7 +35,7 @@ pub(crate) struct DealerIndex {
     notices: u64,
     table: Table,
     rooms: Vec<RoomRef>,
-    by_id: BTreeMap<IdBuf, u32>,
+    by_id: BTreeMap<IdKey, u32>,
     by_room: BTreeMap<RoomRef, u64>,
 }
 
@@ -148,7 +151,7 @@ impl DealerIndex {
     pub(crate) fn quote_with_id(&self, id: &Id) -> Option<&StandingQuote>
         ensures { option_map (λ own. own.now) result ≡ facts.quote_with_id self.now.book id.now }
     {
-        let number = *self.by_id.get(&IdBuf::of(id))?;
+        let number = *self.by_id.get(&IdKey::of_id(IdBuf::of(id)))?;
         let own = self.quote_numbered(number)?;
         Some(own)
     }
@@ -177,7 +180,7 @@ impl DealerIndex {
     /// The sum of the quantities of the live quotes.
     pub(crate) fn exposure(&self) -> u64
         ensures value { result ≡ facts.exposure_of self.now.book }
-        ensures fits { result ≤ 1000000000000000 }
+        ensures fits { result ≤ MOST_EXPOSURE }
     {
         self.table.exposure
     }
@@ -185,7 +188,7 @@ impl DealerIndex {
     /// The same beside a quote that is to be replaced, where there is one.
     pub(crate) fn exposure_beside(&self, replaced: Option<u32>) -> u64
         ensures value { result ≡ facts.exposure_beside self.now.book replaced }
-        ensures fits { result ≤ 1000000000000000 }
+        ensures fits { result ≤ MOST_EXPOSURE }
     {
         let Some(number) = replaced else {
             return self.table.exposure;
@@ -253,7 +256,8 @@ impl DealerIndex {
     {
         self.table.quotes.reserve(1)?;
         self.table.lines.reserve(1)?;
-        self.by_id.insert(quote.id.copy(), quote.number)?;
+        self.by_id
+            .insert(IdKey::of_id(quote.id.copy()), quote.number)?;
         self.table.push_quote(quote)?;
         Ok(())
     }
@@ -268,7 +272,8 @@ impl DealerIndex {
     {
         self.table.quotes.reserve(1)?;
         self.table.lines.reserve(1)?;
-        self.by_id.insert(quote.id.copy(), quote.number)?;
+        self.by_id
+            .insert(IdKey::of_id(quote.id.copy()), quote.number)?;
         self.table
             .end_live(replaced, QuoteEnd::Withdrawn(Withdrawal::Replacement));
         self.table.push_quote(quote)?;

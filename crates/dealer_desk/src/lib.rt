@@ -41,10 +41,10 @@
 //!   QuoteRespID (693) its closing notices.
 //! - [`DealerDesk::judge`] is the verdict on a message: bytes that are no frame, or have no
 //!   readable MsgSeqNum (34), are dropped; a message out of sequence and a session fault are
-//!   answered by a Reject; a Quote, a cancel or a decline is refused for the first of the market's checks that it
-//!   meets, in the order of `quote_checks`, `cancel_checks` and `decline_checks`, and is accepted
-//!   exactly where it meets none, but that a replacement and a cancel leave the last word to the
-//!   word of the quote.
+//!   answered by a Reject; a Quote, a cancel or a decline is refused for the first of the market's
+//!   checks that it meets, in the order of `quote_checks`, `cancel_checks` and `decline_checks`,
+//!   and is accepted exactly where it meets none, but that a replacement and a cancel leave the
+//!   last word to the word of the quote.
 //! - [`DealerDesk::question`] is the quote whose word a message asks, one of the dealer's own, and
 //!   the duty that [`DealerDesk::take`] gives is `verdict_duty`: that of the definitions and no
 //!   other. [`DealerDesk::question_drop`] and [`DealerDesk::drop_one`] are the same of the drops of
@@ -63,6 +63,7 @@ mod cancels;
 mod desks;
 mod drops;
 mod events;
+mod id_keys;
 mod index;
 mod laws;
 mod outcomes;

@@ -1,9 +1,13 @@
 //! The requests and quotes of a desk, with what is asked of them most.
-ghost use Rattle.std.specs.Prelude.{◌≡◌, ◌+◌, ◌≤◌, ◌<◌, ◌∷◌, [], ◌++◌, ℕ, false, length, map, slice_get, vec_len, vec_capacity, Some, None, IsOk};
+ghost use Rattle.std.specs.Prelude.{◌≡◌, ◌+◌, ◌≤◌, ◌<◌, ◌∷◌, [], ◌++◌, ℕ, false, length, map};
+ghost use Rattle.std.specs.Prelude.{slice_get, vec_len, vec_capacity, Some, None, IsOk};
 ghost use Rattle.std.specs.List.{position_or_len};
+ghost use Rattle.venue_config.specs.declared.dealer_rows.TheConstants.DealerRow.{MOST_QUOTES};
+ghost use Rattle.venue_config.specs.declared.dealer_rows.TheConstants.DealerRow.{MOST_EXPOSURE};
 ghost use Rattle.dealer_desk.specs.declared.standing.StandingQuote.{StandingQuote};
 ghost use Rattle.dealer_desk.specs.DealerFacts as facts;
-ghost use Rattle.dealer_desk.specs.BookChanges.{IsLiveNumber, ended_at, late_at, closed_on, declined_at, told_at};
+ghost use Rattle.dealer_desk.specs.BookChanges.{IsLiveNumber, ended_at, late_at, closed_on};
+ghost use Rattle.dealer_desk.specs.BookChanges.{declined_at, told_at};
 ghost use Rattle.dealer_desk.specs.DealerTable.{IsSoundTable, live_number_among, requests_in};
 ghost use Rattle.dealer_desk.specs.QuoteLines as spec;
 
@@ -167,11 +171,11 @@ impl Table {
         requires quote_fits { vec_len self.old.quotes < vec_capacity self.old.quotes }
         requires line_fits { vec_len self.old.lines < vec_capacity self.old.lines }
         requires number { quote.number ≡ length self.old.quotes.items + 1 }
-        requires few { length self.old.quotes.items < 4294967295 }
+        requires few { length self.old.quotes.items < MOST_QUOTES }
         requires from_first { 1 ≤ quote.request }
         requires to_last { quote.request ≤ length self.old.rows.items }
         requires alone { live_number_among self.old.quotes.items quote.request ≡ None }
-        requires exposure { self.old.exposure + quote.quantity ≤ 1000000000000000 }
+        requires exposure { self.old.exposure + quote.quantity ≤ MOST_EXPOSURE }
         ensures ok { IsOk result }
         ensures table { IsSoundTable self.new }
         ensures quotes { self.new.quotes.items
@@ -225,7 +229,7 @@ fn next_droppable(quotes: &[StandingQuote], from: usize) -> usize
 }
 
 /// Whether a quote is live and not known to be lifted.
-pub(crate) fn is_droppable(own: &StandingQuote) -> bool
+fn is_droppable(own: &StandingQuote) -> bool
     ensures { result ≡ facts.is_droppable own.now }
 {
     if own.is_known_lifted {

@@ -1,5 +1,6 @@
 -- How a run ends by its arguments.
-use Rattle.std.proofs.Common.{◌≡◌, ◌≢◌, ◌==◌, length, map, arith, ◌⊎◌, ◌||◌, refl, sym, ap, subst, inl, inr, ℕ, Bool, true, false, List, [], ◌∷◌, codes}
+use Rattle.std.proofs.Common.{◌≡◌, ◌≢◌, ◌==◌, length, map, arith, ◌⊎◌, ◌||◌, refl, sym, ap, subst}
+use Rattle.std.proofs.Common.{inl, inr, ℕ, Bool, true, false, List, [], ◌∷◌, codes}
 use Rattle.std.proofs.lemmas.Bool.{false≢true}
 use Rattle.std.specs.List.{list_any}
 use Rattle.clap.specs.declared.error.Error.{Error}
@@ -7,9 +8,11 @@ use Rattle.clap.specs.declared.error.kind.ErrorKind.{ErrorKind}
 use Rattle.clap.specs.declared.error.kind.ErrorKind.TheVariants.{OutOfMemory}
 use Rattle.clap.specs.Words.{HasKind, IsAmong, Kinds, Text, kind_of}
 use Rattle.rfq_venue.proofs.LawfulArguments.{command_is}
-use Rattle.rfq_venue.specs.Arguments.{IsCommand, asks_for_frames, is_help, is_mistake, may_be_help, may_be_mistake, arguments_fault}
+use Rattle.rfq_venue.specs.Arguments.{IsCommand, asks_for_frames, is_help, is_mistake, may_be_help}
+use Rattle.rfq_venue.specs.Arguments.{may_be_mistake, arguments_fault}
 use Rattle.venue_text.specs.declared.faults.ProgramFault.TheVariants.{Memory}
-use Rattle.rfq_venue.specs.Runs.{EndsAlone, EndsAsAsked, EndsByFault, EndsByArguments, EndsTold, IsUntouched, Streams, Written}
+use Rattle.rfq_venue.specs.Runs.{EndsAlone, EndsAsAsked, EndsByFault, EndsByArguments, EndsTold}
+use Rattle.rfq_venue.specs.Runs.{IsUntouched, Streams, Written}
 
 first_or : (a b : Bool) → (a || false) ≡ true → (a || b) ≡ true
 first_or true b h = refl

@@ -1,5 +1,7 @@
 -- Which arguments are a command.
-use Rattle.std.proofs.Common.{◌≡◌, ◌∙◌, ◌⊎◌, ◌||◌, ◌&&◌, ◌==◌, refl, sym, ap, ap₂, subst, inl, inr, ℕ, Bool, zero, suc, true, false, List, [], ◌∷◌, length, Option, Some, None, cond, not, codes, unwrap_or}
+use Rattle.std.proofs.Common.{◌≡◌, ◌∙◌, ◌⊎◌, ◌||◌, ◌&&◌, ◌==◌, refl, sym, ap, ap₂, subst, inl, inr}
+use Rattle.std.proofs.Common.{ℕ, Bool, zero, suc, true, false, List, [], ◌∷◌, length, Option, Some}
+use Rattle.std.proofs.Common.{None, cond, not, codes, unwrap_or}
 use Rattle.std.proofs.lemmas.Bool.{eqb-true, false≢true}
 use Rattle.std.proofs.lemmas.List.Sums.{take_while-cons}
 use Rattle.std.proofs.lemmas.Slice.Eq.{bytes_eq-Decides}
@@ -11,11 +13,15 @@ use Rattle.clap.specs.declared.builder.value_parser.Reading.TheVariants.{AsWritt
 use Rattle.clap.specs.declared.error.kind.ErrorKind.{ErrorKind}
 use Rattle.clap.specs.declared.error.kind.ErrorKind.TheVariants as kind
 use Rattle.clap.specs.declared.parser.matches.ValueSource.TheVariants.{CommandLine}
-use Rattle.clap.specs.Faults.{bundle_step_fault, entered_fault, flag_word_fault, flags_fault, long_fault, other_fault, short_fault, step_fault, turn_fault, walk_fault}
+use Rattle.clap.specs.Faults.{bundle_step_fault, entered_fault, flag_word_fault, flags_fault}
+use Rattle.clap.specs.Faults.{long_fault, other_fault, short_fault, step_fault, turn_fault}
+use Rattle.clap.specs.Faults.{walk_fault}
 use Rattle.clap.specs.Kinds.{Kinds, or_else}
 use Rattle.clap.specs.Lexer.{has_byte, long_of, long_of_rest, name_and_value, short_of, strip_byte}
 use Rattle.clap.specs.Simple.{Shape, built, names_of, new_shape}
-use Rattle.clap.specs.Walk.{Held, Names, Row, Rule, Text, Walk, after_flag, bundle_met, bundle_step, has_row, idle, long_or_other, plain, short_or_plain, subcommand_or_other, trailing, walk_from, walked}
+use Rattle.clap.specs.Walk.{Held, Names, Row, Rule, Text, Walk, after_flag, bundle_met, bundle_step}
+use Rattle.clap.specs.Walk.{has_row, idle, long_or_other, plain, short_or_plain}
+use Rattle.clap.specs.Walk.{subcommand_or_other, trailing, walk_from, walked}
 use Rattle.clap.proofs.OnLiterals.{clap_on_literals}
 use Rattle.clap.proofs.WalkLemmas.{walk_stopped}
 use Rattle.rfq_venue.specs.Arguments.{IsCommand, venue_app, arguments_fault}

@@ -1,13 +1,18 @@
 -- What readers and writers hold, where they tell it.
-use Rattle.std.proofs.Common.{◌≡◌, ◌≢◌, ℕ, ◌-◌, ◌<◌, ◌≤◌, List, [], ◌++◌, length, take, drop, sym, ap, ◌∙◌, subst, refl, arith, Option, Some, None, append_assoc, Bool, true, nat_lt, inl, inr}
+use Rattle.std.proofs.Common.{◌≡◌, ◌≢◌, ℕ, ◌-◌, ◌<◌, ◌≤◌, List, [], ◌++◌, length, take, drop, sym}
+use Rattle.std.proofs.Common.{ap, ◌∙◌, subst, refl, arith, Option, Some, None, append_assoc, Bool}
+use Rattle.std.proofs.Common.{true, nat_lt, inl, inr}
 use Rattle.std.specs.Io.KnownBytes.{Appends, Keeps}
-use Rattle.std.proofs.lemmas.List.{append-nil, take-append-drop, take_all, length-drop, length-append}
+use Rattle.std.proofs.lemmas.List.{append-nil, take-append-drop, take_all, length-drop}
+use Rattle.std.proofs.lemmas.List.{length-append}
 use Rattle.std.proofs.Math.Seq.{take-append_seam}
 use Rattle.venue_text.specs.AloneText.{IsPrinted, first_fault}
 use Rattle.venue_text.specs.declared.lines.TheConstants.{MOST_INPUT}
-use Rattle.rfq_venue.specs.Runs.{Written, Gains, GainsPart, IsReadOf, HasPrinted, HasPrintedPart, FaultLeaves}
+use Rattle.rfq_venue.specs.Runs.{Written, Gains, GainsPart, IsReadOf, HasPrinted, HasPrintedPart}
+use Rattle.rfq_venue.specs.Runs.{FaultLeaves}
 use Rattle.venue_text.specs.declared.faults.ProgramFault.{ProgramFault}
-use Rattle.venue_text.specs.declared.faults.ProgramFault.TheVariants.{Read, Input, Parts, Form, Memory, Write}
+use Rattle.venue_text.specs.declared.faults.ProgramFault.TheVariants.{Read, Input, Parts, Form}
+use Rattle.venue_text.specs.declared.faults.ProgramFault.TheVariants.{Memory, Write}
 use Rattle.std.proofs.lemmas.Bool.{cases_Bool}
 use Rattle.std.proofs.lemmas.Bool.Decides.{nat_tests}
 use Rattle.std.specs.Option.{IfSome}

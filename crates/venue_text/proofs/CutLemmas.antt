@@ -1,9 +1,11 @@
 -- Cutting a text at the first place of a byte, and the parts that this gives.
-use Rattle.std.proofs.Common.{◌≡◌, ℕ, ◌+◌, ◌-◌, ◌≤◌, ◌==◌, true, false, List, [], ◌∷◌, length, take, drop, get_or, sym, ap, ◌∙◌, refl, arith, inl, inr, Option, Some, None, suc, add-one, drop-drop}
+use Rattle.std.proofs.Common.{◌≡◌, ℕ, ◌+◌, ◌-◌, ◌≤◌, ◌==◌, Bool, cond, nat_lt, true, false, List}
+use Rattle.std.proofs.Common.{[], ◌∷◌, ◌++◌, length, take, drop, get_or, sym, ap, ◌∙◌, refl, arith}
+use Rattle.std.proofs.Common.{inl, inr, Some, None, suc, add-one, drop-drop}
 use Rattle.std.proofs.Math.Nat.{add_comm}
+use Rattle.std.proofs.Math.Seq.{take-add}
 use Rattle.std.proofs.lemmas.Bool.Decides.{nat_tests}
-use Rattle.std.specs.Option.{MatchOption}
-use Rattle.std.specs.List.{before_first, after_first, onto_first, position_or_len}
+use Rattle.std.specs.List.{before_first, after_first, onto_first, position, position_or_len}
 use Rattle.std.proofs.lemmas.Bool.{cases_Bool, false_from_ne_true}
 use Rattle.std.proofs.lemmas.List.{take_all, drop_all, length-drop}
 use Rattle.std.proofs.lemmas.List.Sums.{position_or_len_is}
@@ -126,11 +128,41 @@ pub spoken_first : (k : ℕ) (rest line behind : List ℕ) (all : List (ℕ × L
 spoken_first k rest line behind all is some e f spoken =
     is ∙ ap (spoken_from k) (parts_of-cut 10 rest line behind some e f) ∙ spoken_stop k line (parts_of 10 behind) spoken
 
--- one call of `next` less
-one_less : {A : Type 0} (all : List A) (i : ℕ) (s : List A) → s ≡ drop i all → drop 1 s ≡ drop (i + 1) all
-one_less all i s is = ap (drop 1) is ∙ drop-drop 1 i all
+-- one call of `next` more, which takes the first of what is left
+pub taken_more : {A : Type 0} (all front : List A) (i : ℕ) (s t : List A) (x : A) → (front ≡ take i all) × (s ≡ drop i all) → s ≡ x ∷ t
+    → (front ++ x ∷ [] ≡ take (i + 1) all) × (t ≡ drop (i + 1) all)
+taken_more all front i s t x (is, left) steps = (
+  ap (λ xs. xs ++ x ∷ []) is ∙ ap (λ rest. take i all ++ take 1 rest) (sym steps ∙ left) ∙ sym (take-add i 1 all),
+  ap (drop 1) (sym steps ∙ left) ∙ drop-drop 1 i all,
+)
 
-pub next_drop : {A B : Type 0} (view : B → A) (all : List A) (i : ℕ) (s t : List A) (r : Option B) → s ≡ drop i all
-    → MatchOption r ((s ≡ []) × (t ≡ [])) (λ x. s ≡ view x ∷ t) → t ≡ drop (i + 1) all
-next_drop view all i s t None is steps = steps.1 ∙ ap (drop 1) (sym steps.0) ∙ one_less all i s is
-next_drop view all i s t (Some x) is steps = ap (drop 1) (sym steps) ∙ one_less all i s is
+-- and one more that finds nothing left
+pub taken_all : {A : Type 0} (all front : List A) (i n : ℕ) (s t : List A) → (front ≡ take i all) × (s ≡ drop i all) → i ≤ n → (s ≡ []) × (t ≡ [])
+    → (front ≡ take n all) × (t ≡ drop n all)
+taken_all all front i n s t (is, left) before (none, last) =
+    let few : length all ≤ i = omega (arith, ap length (sym left ∙ none), length-drop i all) in
+    (is ∙ take_all i all few ∙ sym (take_all n all (omega arith)), last ∙ sym (drop_all n all (omega arith)))
+
+chosen_some : (b : Bool) (n place : ℕ) → cond b (Some n) None ≡ Some place → n ≡ place
+chosen_some true n place h = cc
+chosen_some false n place h = cc
+
+chosen_none : (b : Bool) (n : ℕ) → cond b (Some n) None ≡ None → b ≡ false
+chosen_none true n h = cc
+chosen_none false n h = refl
+
+-- a text cut at the first place of a byte, and one that has none
+pub cut_there : (byte : ℕ) (text : List ℕ) (place : ℕ) → position (λ (c : ℕ). c == byte) text ≡ Some place
+    → (take place text ≡ before_first (λ (c : ℕ). c == byte) text) × (drop (place + 1) text ≡ after_first (λ (c : ℕ). c == byte) text)
+cut_there byte text place h =
+    let p = λ (c : ℕ). c == byte in
+    let found : position_or_len p text ≡ place = chosen_some (nat_lt (position_or_len p text) (length text)) (position_or_len p text) place h in
+    rw found (refl, refl)
+
+pub cut_nowhere : (byte : ℕ) (text : List ℕ) → position (λ (c : ℕ). c == byte) text ≡ None
+    → (text ≡ before_first (λ (c : ℕ). c == byte) text) × ([] ≡ after_first (λ (c : ℕ). c == byte) text)
+cut_nowhere byte text h =
+    let p = λ (c : ℕ). c == byte in
+    let beyond : nat_lt (position_or_len p text) (length text) ≡ false = chosen_none (nat_lt (position_or_len p text) (length text)) (position_or_len p text) h in
+    let within : length text ≤ position_or_len p text = grind (arith, nat_tests) in
+    (sym (take_all (position_or_len p text) text within), sym (drop_all (position_or_len p text + 1) text (omega arith)))

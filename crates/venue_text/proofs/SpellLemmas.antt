@@ -1,5 +1,7 @@
 -- What was read so far, and what is left to read.
-use Rattle.std.proofs.Common.{◌≡◌, ℕ, ◌+◌, ◌<◌, ◌≤◌, List, [], ◌∷◌, ◌++◌, length, refl, ap, sym, ◌∙◌, arith, Option, Some, None, Result, Ok, Err, append_assoc, true, false, decimal, fold, nat_le, inl, inr, codes}
+use Rattle.std.proofs.Common.{◌≡◌, ℕ, ◌+◌, ◌<◌, ◌≤◌, List, [], ◌∷◌, ◌++◌, length, refl, ap, sym}
+use Rattle.std.proofs.Common.{◌∙◌, arith, Option, Some, None, Result, Ok, Err, append_assoc, true}
+use Rattle.std.proofs.Common.{false, decimal, fold, nat_le, inl, inr, codes}
 use Rattle.fix_fields.specs.Frame.{Field, field_text, fields_text, fields_len, left_of, frame_text}
 use Rattle.fix_fields.specs.UtcTimestamp.{timestamp_text}
 use Rattle.std.specs.Option.{option_map}

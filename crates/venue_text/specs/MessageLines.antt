@@ -1,5 +1,5 @@
 -- Messages as lines.
-use Rattle.std.specs.Prelude.{ℕ, Bool, ◌==◌, List, [], ◌∷◌, ◌++◌, map, drop, decimal}
+use Rattle.std.specs.Prelude.{ℕ, Bool, ◌==◌, List, [], ◌∷◌, ◌++◌, map, take, drop, decimal}
 use Rattle.std.specs.Prelude.{unwrap_or, if◌then◌else◌}
 use Rattle.std.specs.List.{flat_map}
 use Rattle.fix_fields.specs.Frame.{Field, frame_of}
@@ -23,19 +23,25 @@ fields_text_behind divider (field ∷ fields) =
 abbrev pub time_of_day : List ℕ → List ℕ
 time_of_day timestamp = drop 9 timestamp
 
--- MsgSeqNum (34), the time of day of SendingTime (52) and MsgType (35), each behind a space
-abbrev pub header_text : List Field → List ℕ
-header_text fields =
-    32 ∷ text_at 34 fields ++ 32 ∷ time_of_day (text_at 52 fields) ++ 32 ∷ text_at 35 fields
+-- the header of a written message, which has five fields: 35, 49, 56, 34 and 52
+abbrev pub header_of : List Field → List Field
+header_of fields = take 5 fields
 
--- the fields behind the header of a written message, which has five: 35, 49, 56, 34 and 52
+-- the fields behind the header
 abbrev pub fields_behind_header : List Field → List Field
 fields_behind_header fields = drop 5 fields
+
+-- MsgSeqNum (34), the time of day of SendingTime (52) and MsgType (35) of a header, each behind a
+-- space
+abbrev pub header_text : List Field → List ℕ
+header_text header =
+    32 ∷ text_at 34 header ++ 32 ∷ time_of_day (text_at 52 header) ++ 32 ∷ text_at 35 header
 
 -- a message as a line: `FIRM N TIME TYPE BODY`; vertical bars divide the fields of BODY
 abbrev pub fields_line : List ℕ → List Field → List ℕ
 fields_line firm fields =
-    firm ++ header_text fields ++ fields_text_behind 32 (fields_behind_header fields) ++ 10 ∷ []
+    firm ++ header_text (header_of fields)
+    ++ fields_text_behind 32 (fields_behind_header fields) ++ 10 ∷ []
 
 -- the same of a message, whose bytes are a frame
 abbrev pub message_line : List ℕ → List ℕ → List ℕ

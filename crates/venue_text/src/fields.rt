@@ -5,7 +5,7 @@ ghost use Rattle.fix_fields.specs.Frame.{IsTag};
 ghost use Rattle.venue_text.specs.SayLine as spec;
 
 use crate::lines::Parts;
-use crate::parts::cut_at;
+use crate::parts::cut_near;
 use fix_fields::Memory;
 use quote_messages::read_number;
 use std::alloc::Global;
@@ -48,12 +48,15 @@ impl<'a> Field<'a> {
     }
 }
 
+/// How many fields a usual BODY has at most: for so many there is room from the first on.
+const USUAL_FIELDS: usize = 8;
+
 /// The fields that vertical bars divide, one at the end allowed, or none where one of them is not
 /// of the form of a field.
 pub fn read_fields(alloc: Global, body: &[u8]) -> Result<Option<Vec<Field<'_>>>, Memory>
     ensures { IfOk result (λ fields. option_map (λ f. f.items) fields ≡ spec.said_fields body.now) }
 {
-    let mut fields = Vec::new(alloc);
+    let mut fields = Vec::with_capacity(alloc, USUAL_FIELDS)?;
     for text in Parts::new(body, b'|') {
         let Some(field) = read_field(text) else {
             return Ok(None);
@@ -68,7 +71,7 @@ pub fn read_fields(alloc: Global, body: &[u8]) -> Result<Option<Vec<Field<'_>>>,
 fn read_field(text: &[u8]) -> Option<Field<'_>>
     ensures { result ≡ spec.said_field text.now }
 {
-    let (digits, value) = cut_at(text, b'=');
+    let (digits, value) = cut_near(text, b'=');
     if digits.len() == text.len() || !is_plain_value(value) {
         return None;
     }

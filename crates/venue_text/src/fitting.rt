@@ -35,6 +35,8 @@ pub(crate) fn begun_frame(alloc: Global, msg_type: &[u8]) -> Result<Option<Frame
 }
 
 /// A frame with one field more, where that still fits.
+// Inlined, as the next function is, so that a frame is not moved for each of its fields.
+#[inline(always)]
 #[tactic(auto, using(crate::proofs::SpellLemmas::push_fits, crate::proofs::SpellLemmas::push_long, crate::proofs::SpellLemmas::push_none, crate::proofs::SpellLemmas::with_field_none))]
 fn with_field(
     frame: Option<FrameWriter>,
@@ -61,6 +63,7 @@ fn with_field(
 }
 
 /// A frame with a field of the header, unless BODY has one of its tag.
+#[inline(always)]
 pub(crate) fn with_header_field(
     frame: Option<FrameWriter>,
     body: &[Field],

@@ -1,8 +1,10 @@
 //! Messages as the program prints them.
 ghost use Rattle.std.specs.Prelude.{◌≡◌, ◌++◌, map, IfOk, OnOk};
+ghost use Rattle.quote_messages.specs.SessionLines.{text_at};
 ghost use Rattle.venue_text.specs.MessageLines as spec;
 
-use fix_fields::{Fields, Frame, Memory};
+use arrayvec::ArrayVec;
+use fix_fields::{Fields, Memory};
 use itoa::Buffer;
 use quote_messages::SentMessage;
 use std::alloc::Global;
@@ -73,25 +75,55 @@ fn push_message_line(text: &mut Vec<u8>, firm: &Name, message: &SentMessage) -> 
     ensures { OnOk result (text.new.items
         ≡ text.old.items ++ spec.message_line firm.now message.now) }
 {
-    let frame = message.frame();
+    let mut fields = message.frame().fields();
+    let header = header_of(&mut fields);
     text.extend_from_slice(firm.as_bytes())?;
-    push_header(text, &frame)?;
-    push_fields(text, behind_header(frame.fields()))?;
+    push_header(text, header.as_slice())?;
+    push_fields(text, fields)?;
     text.push(b'\n')?;
     Ok(())
 }
 
+/// Takes the fields of the header off the front, so that each field is read once.
+fn header_of<'a>(fields: &mut Fields<'a>) -> ArrayVec<(u32, &'a [u8]), HEADER_FIELDS>
+    ensures header { map (λ field. (field.0, field.1.now)) result.items
+        ≡ spec.header_of fields.old }
+    ensures behind { fields.new ≡ spec.fields_behind_header fields.old }
+{
+    let mut header = ArrayVec::new();
+    for _ in 0..HEADER_FIELDS {
+        let Some(field) = fields.next() else {
+            return header;
+        };
+        header.push(field);
+    }
+    header
+}
+
 /// The number, the time of day and the type of a message.
-fn push_header(text: &mut Vec<u8>, frame: &Frame<'_>) -> Result<(), Memory>
-    ensures { OnOk result (text.new.items ≡ text.old.items ++ spec.header_text frame.now) }
+fn push_header(text: &mut Vec<u8>, header: &[(u32, &[u8])]) -> Result<(), Memory>
+    ensures { OnOk result (text.new.items ≡ text.old.items
+        ++ spec.header_text (map (λ field. (field.0, field.1.now)) header.now)) }
 {
     text.push(b' ')?;
-    text.extend_from_slice(frame.get(34).unwrap_or(&[]))?;
+    text.extend_from_slice(value_in(header, 34))?;
     text.push(b' ')?;
-    text.extend_from_slice(time_of_day(frame.get(52).unwrap_or(&[])))?;
+    text.extend_from_slice(time_of_day(value_in(header, 52)))?;
     text.push(b' ')?;
-    text.extend_from_slice(frame.get(35).unwrap_or(&[]))?;
+    text.extend_from_slice(value_in(header, 35))?;
     Ok(())
+}
+
+/// The value of the first of these fields that has this tag, or nothing.
+fn value_in<'a>(fields: &[(u32, &'a [u8])], tag: u32) -> &'a [u8]
+    ensures { result.now ≡ text_at tag (map (λ field. (field.0, field.1.now)) fields.now) }
+{
+    for field in fields {
+        if field.0 == tag {
+            return field.1;
+        }
+    }
+    &[]
 }
 
 /// The time of day of a timestamp, which stands behind the date and a dash.
@@ -102,16 +134,6 @@ pub(crate) fn time_of_day(timestamp: &[u8]) -> &[u8]
         return &[];
     }
     &timestamp[9..]
-}
-
-/// The fields behind the header.
-fn behind_header(mut fields: Fields<'_>) -> Fields<'_>
-    ensures { result ≡ spec.fields_behind_header fields.entry }
-{
-    for _ in 0..HEADER_FIELDS {
-        let _ = fields.next();
-    }
-    fields
 }
 
 /// Fields, a space before the first one and a vertical bar before each other.

@@ -1,6 +1,6 @@
 //! The parts of a line, and what single parts spell.
 ghost use Rattle.std.specs.Prelude.{◌≡◌, ◌<◌, ◌==◌, length};
-ghost use Rattle.std.specs.List.{before_first, after_first};
+ghost use Rattle.std.specs.List.{before_first, after_first, position};
 ghost use Rattle.venue_config.specs.Texts as texts;
 ghost use Rattle.venue_text.specs.Lines as spec;
 
@@ -22,12 +22,31 @@ pub(crate) fn cut_at(text: &[u8], byte: u8) -> (&[u8], &[u8])
     (&text[..place], &text[place + 1..])
 }
 
+/// The same where the first `byte` is near: a plain walk is there before `memchr` begins.
+#[tactic(auto, using(crate::proofs::CutLemmas::cut_there, crate::proofs::CutLemmas::cut_nowhere))]
+pub(crate) fn cut_near(text: &[u8], byte: u8) -> (&[u8], &[u8])
+    ensures front { result.0.now ≡ before_first (λ c. c == byte) text.now }
+    ensures behind { result.1.now ≡ after_first (λ c. c == byte) text.now }
+{
+    let Some(place) = place_of(text, byte) else {
+        return (text, &[]);
+    };
+    (&text[..place], &text[place + 1..])
+}
+
+/// Where the first `byte` of a text stands.
+fn place_of(text: &[u8], byte: u8) -> Option<usize>
+    ensures { result ≡ position (λ c. c == byte) text.now }
+{
+    text.iter().position(|c| *c == byte)
+}
+
 /// The first part of a line, and what stands behind the space that ends it.
 pub fn cut_part(text: &[u8]) -> (&[u8], &[u8])
     ensures part { result.0.now ≡ spec.first_part text.now }
     ensures behind { result.1.now ≡ spec.behind_part text.now }
 {
-    cut_at(text, b' ')
+    cut_near(text, b' ')
 }
 
 /// Whether a further part stands behind the first part of a line.

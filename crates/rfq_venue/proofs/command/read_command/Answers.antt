@@ -1,7 +1,10 @@
-use Rattle.std.proofs.Common.{◌≡◌, ◌∙◌, ◌⊎◌, refl, sym, ap, subst, inl, inr, Bool, true, false, List, [], map, Option, Some, None, option_map, Result, Ok, Err, codes, unwrap_or}
+use Rattle.std.proofs.Common.{◌≡◌, ◌∙◌, ◌⊎◌, refl, sym, ap, subst, inl, inr, Bool, true, false}
+use Rattle.std.proofs.Common.{List, [], map, Option, Some, None, option_map, Result, Ok, Err, codes}
+use Rattle.std.proofs.Common.{unwrap_or}
 use Rattle.std.specs.Prelude.{IfErr, IsErrAnd, option_and_then}
 use Rattle.clap.specs.declared.error.Error.{Error}
-use Rattle.clap.specs.Words.{HasKind, Row, Text, app_of, fault_of, found_of, is_simple, is_simple_and_free, one_of, subcommand_of}
+use Rattle.clap.specs.Words.{HasKind, Row, Text, app_of, fault_of, found_of, is_simple}
+use Rattle.clap.specs.Words.{is_simple_and_free, one_of, subcommand_of}
 use Rattle.clap.proofs.OnLiterals.{clap_on_literals}
 use Rattle.clap.proofs.WalkLemmas.{one_text-rows}
 use Rattle.rfq_venue.specs.Arguments.{IsCommand, asks_for_frames, venue_app, arguments_fault}

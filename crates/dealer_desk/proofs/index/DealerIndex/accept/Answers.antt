@@ -1,11 +1,12 @@
 use Rattle.std.proofs.Common.{◌≡◌, List, [], ◌∷◌, ◌++◌, length, None, sym, ap, subst, ◌∙◌}
 use Rattle.dealer_desk.specs.DealerFacts.{Quoted, standing_quote}
 use Rattle.dealer_desk.specs.BookChanges.{FitsBook}
-use Rattle.dealer_desk.specs.DealerTable.{IndexView, live_number_among, requests_in}
+use Rattle.dealer_desk.specs.DealerTable.{key_of, IndexView, live_number_among, requests_in}
 use Rattle.dealer_desk.specs.declared.standing.StandingQuote.{StandingQuote}
 use Rattle.dealer_desk.specs.declared.standing.StandingRequest.{StandingRequest}
 use Rattle.dealer_desk.proofs.BookLemmas.{quoted_book}
-use Rattle.dealer_desk.proofs.IndexLemmas.{book_with, same_book, view_after, index_pushed, fits_alone, fits_exposure, fits_id}
+use Rattle.dealer_desk.proofs.IndexLemmas.{book_with, same_book, view_after, index_pushed}
+use Rattle.dealer_desk.proofs.IndexLemmas.{fits_alone, fits_exposure, fits_id}
 use Rattle.dealer_desk.proofs.index.DealerIndex.accept.Goals as goal
 
 pub push_quote-requires-clause-alone : goal.push_quote-requires-clause-alone
@@ -27,9 +28,9 @@ invariant_of-self-2 c =
     let t = i.table in
     let n = c.push_quote.new.self in
     index_pushed i.used i.notices t.rows.items n.rows.items t.quotes.items n.quotes.items t.lines.items n.lines.items t.exposure n.exposure t.first_droppable n.first_droppable
-    i.rooms.items i.by_id c.insert.new.self i.by_room c.args.quote c.copy.result c.self.invariant c.in_ok-push_quote.ensures.table
+    i.rooms.items i.by_id c.insert.new.self i.by_room c.args.quote c.of_id.result c.self.invariant c.in_ok-push_quote.ensures.table
     (c.in_ok-push_quote.ensures.quotes ∙ ap (λ (qs : List StandingQuote). qs ++ standing_quote c.args.quote [] ∷ []) c.in_ok-reserve.ensures.items)
-    c.copy.ensures
+    (c.of_id.ensures ∙ ap key_of c.copy.ensures)
     (fits_id i.used i.notices (requests_in t.rows.items) t.quotes.items c.args.quote None (subst (λ (v : IndexView). FitsBook v.book c.args.quote None) (sym c.self.view_is) c.requires))
     c.in_ok-insert.ensures.updates.0
     (ap (λ (rs : List StandingRequest). length rs) c.in_ok-push_quote.ensures.requests)

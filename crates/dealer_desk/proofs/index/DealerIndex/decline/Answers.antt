@@ -6,7 +6,8 @@ use Rattle.dealer_desk.specs.DealerTable.{requests_in}
 use Rattle.dealer_desk.specs.declared.standing.StandingRequest.{StandingRequest}
 use Rattle.dealer_desk.specs.declared.standing.StandingQuote.{StandingQuote}
 use Rattle.dealer_desk.proofs.BookLemmas.{declined_book}
-use Rattle.dealer_desk.proofs.IndexLemmas.{book_with, same_book, view_after, index_changed, unchanged, most_rows}
+use Rattle.dealer_desk.proofs.IndexLemmas.{book_with, same_book, view_after, index_changed}
+use Rattle.dealer_desk.proofs.IndexLemmas.{unchanged, most_rows}
 use Rattle.dealer_desk.proofs.index.DealerIndex.decline.Goals as goal
 
 pub decline-requires-clause-to_last : goal.decline-requires-clause-to_last

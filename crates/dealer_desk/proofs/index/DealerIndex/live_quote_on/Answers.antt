@@ -1,8 +1,11 @@
-use Rattle.std.proofs.Common.{◌≡◌, ◌≤◌, ◌-◌, List, length, get_or, Some, None, option_map, Bor, sym, ap, subst, ◌∙◌, arith}
-use Rattle.dealer_desk.specs.DealerFacts.{live_quote_on, live_number_on, quote_numbered, request_numbered}
+use Rattle.std.proofs.Common.{◌≡◌, ◌≤◌, ◌-◌, List, length, get_or, Some, None, option_map, Bor, sym}
+use Rattle.std.proofs.Common.{ap, subst, ◌∙◌, arith}
+use Rattle.dealer_desk.specs.DealerFacts.{live_quote_on, live_number_on, quote_numbered}
+use Rattle.dealer_desk.specs.DealerFacts.{request_numbered}
 use Rattle.dealer_desk.specs.DealerTable.{IndexView, requests_in}
 use Rattle.dealer_desk.specs.declared.standing.StandingQuote.{StandingQuote}
-use Rattle.dealer_desk.proofs.ReaderLemmas.{request_number, live_missing_request, live_missing, live_within, live_found_by, quote_found}
+use Rattle.dealer_desk.proofs.ReaderLemmas.{request_number, live_missing_request, live_missing}
+use Rattle.dealer_desk.proofs.ReaderLemmas.{live_within, live_found_by, quote_found}
 use Rattle.dealer_desk.proofs.index.DealerIndex.live_quote_on.Goals as goal
 
 pub returns-in_err-row : goal.returns-in_err-row

@@ -3,7 +3,8 @@ use Rattle.dealer_desk.specs.DealerFacts.{quote_numbered}
 use Rattle.dealer_desk.specs.DealerTable.{IndexView, requests_in}
 use Rattle.dealer_desk.proofs.ReaderLemmas.{quote_found, quote_missing}
 use Rattle.dealer_desk.proofs.index.DealerIndex.quote_numbered.Goals as goal
-use Rattle.dealer_desk.proofs.index.DealerIndex.quote_numbered.Goals.{then-number-lt1-via-then-number-lt1, then-number-lt1-via-else-number-lt1+then-number-len}
+use Rattle.dealer_desk.proofs.index.DealerIndex.quote_numbered.Goals.{then-number-lt1-via-then-number-lt1}
+use Rattle.dealer_desk.proofs.index.DealerIndex.quote_numbered.Goals.{then-number-lt1-via-else-number-lt1+then-number-len}
 
 pub returns-then-number-lt1 : goal.returns-then-number-lt1
 returns-then-number-lt1 c =

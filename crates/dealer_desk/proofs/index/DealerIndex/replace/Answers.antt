@@ -1,8 +1,10 @@
-use Rattle.std.proofs.Common.{◌≡◌, List, [], ◌∷◌, ◌++◌, length, map, find, Some, None, sym, ap, subst, ◌∙◌}
+use Rattle.std.proofs.Common.{◌≡◌, List, [], ◌∷◌, ◌++◌, length, map, find, Some, None, sym, ap}
+use Rattle.std.proofs.Common.{subst, ◌∙◌}
 use Rattle.venue_config.specs.Texts.{same_text}
 use Rattle.dealer_desk.specs.DealerFacts.{Quoted, Withdrawn, standing_quote}
 use Rattle.dealer_desk.specs.BookChanges.{FitsBook, IsLiveNumber, ended_at}
-use Rattle.dealer_desk.specs.DealerTable.{IndexView, live_number_among, with_fact, requests_in}
+use Rattle.dealer_desk.specs.DealerTable.{key_of, IndexView, live_number_among, with_fact}
+use Rattle.dealer_desk.specs.DealerTable.{requests_in}
 use Rattle.dealer_desk.specs.declared.standing.StandingQuote.{StandingQuote}
 use Rattle.dealer_desk.specs.declared.standing.StandingRequest.{StandingRequest}
 use Rattle.dealer_desk.specs.declared.standing.QuoteEnd.{QuoteEnd}
@@ -11,7 +13,8 @@ use Rattle.dealer_desk.specs.declared.standing.Withdrawal.TheVariants as by
 use Rattle.dealer_desk.proofs.BookLemmas.{quoted_book, withdrawn_book}
 use Rattle.dealer_desk.proofs.TableLemmas.{ended_keeps}
 use Rattle.dealer_desk.proofs.TableGrowth.{live_stands, replaced_none}
-use Rattle.dealer_desk.proofs.IndexLemmas.{book_with, same_book, view_after, index_changed, index_pushed, fits_live, fits_beside, fits_id}
+use Rattle.dealer_desk.proofs.IndexLemmas.{book_with, same_book, view_after, index_changed}
+use Rattle.dealer_desk.proofs.IndexLemmas.{index_pushed, fits_live, fits_beside, fits_id}
 use Rattle.dealer_desk.proofs.GrowthLemmas.{id_stays_new}
 use Rattle.dealer_desk.proofs.index.DealerIndex.replace.Goals as goal
 
@@ -55,11 +58,11 @@ invariant_of-self-2 c =
     let ended : e.quotes.items ≡ map (ended_at c.args.replaced how) t.quotes.items =
     c.end_live.ensures.quotes ∙ ap (λ (qs : List StandingQuote). map (ended_at c.args.replaced how) qs) c.in_ok-reserve.ensures.items in
     index_pushed i.used i.notices e.rows.items n.rows.items e.quotes.items n.quotes.items e.lines.items n.lines.items e.exposure n.exposure e.first_droppable n.first_droppable
-    i.rooms.items i.by_id c.insert.new.self i.by_room c.args.quote c.copy.result
+    i.rooms.items i.by_id c.insert.new.self i.by_room c.args.quote c.of_id.result
     (index_changed i.used i.notices i.used i.notices t.rows.items e.rows.items t.quotes.items e.quotes.items t.lines.items e.lines.items t.exposure e.exposure t.first_droppable e.first_droppable
     i.rooms.items i.by_id i.by_room (ended_at c.args.replaced how) c.self.invariant c.self.invariant.used_fits c.self.invariant.notices_fit
     c.end_live.ensures.table ended (ended_keeps c.args.replaced how) (ap (λ (rs : List StandingRequest). length rs) c.end_live.ensures.requests))
-    c.in_ok-push_quote.ensures.table c.in_ok-push_quote.ensures.quotes c.copy.ensures
+    c.in_ok-push_quote.ensures.table c.in_ok-push_quote.ensures.quotes (c.of_id.ensures ∙ ap key_of c.copy.ensures)
     (subst (λ (qs : List StandingQuote). find (λ (q : StandingQuote). same_text q.quote.id c.args.quote.id) qs ≡ None) (sym ended)
     (id_stays_new t.quotes.items (ended_at c.args.replaced how) c.args.quote.id (ended_keeps c.args.replaced how)
     (fits_id i.used i.notices (requests_in t.rows.items) t.quotes.items c.args.quote (Some c.args.replaced) (subst (λ (v : IndexView). FitsBook v.book c.args.quote (Some c.args.replaced)) (sym c.self.view_is) c.requires))))

@@ -1,11 +1,14 @@
-use Rattle.std.proofs.Common.{rules, ◌≡◌, ◌<◌, ◌≤◌, ◌^◌, length, Some, None, option_map, inl, inr, Bor, sym, ap, subst, ◌∙◌, arith}
+use Rattle.std.proofs.Common.{rules, ◌≡◌, ◌<◌, ◌≤◌, ◌^◌, length, Some, None, option_map, inl, inr}
+use Rattle.std.proofs.Common.{Bor, sym, ap, subst, ◌∙◌, arith}
 use Rattle.std.proofs.lemmas.Option.{none-some}
 use Rattle.dealer_desk.specs.DealerFacts.{request_named, live_number_on, has_lifted_quote}
 use Rattle.dealer_desk.specs.DealerTable.{IndexView}
 use Rattle.dealer_desk.specs.declared.table.RequestRow.{RequestRow}
-use Rattle.dealer_desk.proofs.ReaderLemmas.{named_missing, named_past, named_found, request_found, request_missing, row_live, row_lifted}
+use Rattle.dealer_desk.proofs.ReaderLemmas.{named_missing, named_past, named_found, request_found}
+use Rattle.dealer_desk.proofs.ReaderLemmas.{request_missing, row_live, row_lifted}
 use Rattle.dealer_desk.proofs.index.DealerIndex.request_named.Goals as goal
-use Rattle.dealer_desk.proofs.index.DealerIndex.request_named.Goals.{then-number-lt1-via-then-number-lt1, then-number-lt1-via-else-number-lt1+then-number-shown}
+use Rattle.dealer_desk.proofs.index.DealerIndex.request_named.Goals.{then-number-lt1-via-then-number-lt1}
+use Rattle.dealer_desk.proofs.index.DealerIndex.request_named.Goals.{then-number-lt1-via-else-number-lt1+then-number-shown}
 
 pub returns-in_err-number-clause-request : goal.returns-in_err-number-clause-request
 returns-in_err-number-clause-request c =

@@ -3,7 +3,8 @@ use Rattle.dealer_desk.specs.DealerFacts.{request_numbered, live_number_on, has_
 use Rattle.dealer_desk.specs.DealerTable.{IndexView}
 use Rattle.dealer_desk.proofs.ReaderLemmas.{request_found, request_missing, row_live, row_lifted}
 use Rattle.dealer_desk.proofs.index.DealerIndex.request_numbered.Goals as goal
-use Rattle.dealer_desk.proofs.index.DealerIndex.request_numbered.Goals.{then-number-lt1-via-then-number-lt1, then-number-lt1-via-else-number-lt1+then-number-len}
+use Rattle.dealer_desk.proofs.index.DealerIndex.request_numbered.Goals.{then-number-lt1-via-then-number-lt1}
+use Rattle.dealer_desk.proofs.index.DealerIndex.request_numbered.Goals.{then-number-lt1-via-else-number-lt1+then-number-len}
 
 pub returns-then-number-lt1-clause-request : goal.returns-then-number-lt1-clause-request
 returns-then-number-lt1-clause-request c =

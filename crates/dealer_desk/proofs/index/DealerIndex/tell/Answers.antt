@@ -5,7 +5,8 @@ use Rattle.dealer_desk.specs.BookChanges.{told_at, closed_on}
 use Rattle.dealer_desk.specs.DealerTable.{IndexView, requests_in}
 use Rattle.dealer_desk.specs.declared.standing.StandingRequest.{StandingRequest}
 use Rattle.dealer_desk.proofs.BookLemmas.{told_book}
-use Rattle.dealer_desk.proofs.IndexLemmas.{book_with, same_book, view_after, index_changed, closed_keeps, most_rows}
+use Rattle.dealer_desk.proofs.IndexLemmas.{book_with, same_book, view_after, index_changed}
+use Rattle.dealer_desk.proofs.IndexLemmas.{closed_keeps, most_rows}
 use Rattle.dealer_desk.proofs.index.DealerIndex.tell.Goals as goal
 
 pub close-requires-clause-to_last : goal.close-requires-clause-to_last

@@ -1,5 +1,7 @@
-use Rattle.std.proofs.Common.{◌≡◌, ℕ, ◌-◌, ◌≤◌, length, Some, None, slice_get, refl, sym, ap, subst, ◌∙◌, arith}
-use Rattle.dealer_desk.proofs.TableReads.{is_read, end_live_table, end_live_quotes, row_kept, none_before, first_within}
+use Rattle.std.proofs.Common.{◌≡◌, ℕ, ◌-◌, ◌≤◌, length, Some, None, slice_get, refl, sym, ap, subst}
+use Rattle.std.proofs.Common.{◌∙◌, arith}
+use Rattle.dealer_desk.proofs.TableReads.{is_read, end_live_table, end_live_quotes, row_kept}
+use Rattle.dealer_desk.proofs.TableReads.{none_before, first_within}
 use Rattle.dealer_desk.proofs.TableLemmas.{quantity_within}
 use Rattle.dealer_desk.proofs.table.Table.end_live.Goals as goal
 

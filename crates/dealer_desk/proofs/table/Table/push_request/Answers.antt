@@ -1,4 +1,5 @@
-use Rattle.std.proofs.Common.{rules, ◌≡◌, ℕ, ◌+◌, List, [], ◌∷◌, ◌++◌, false, None, length, sym, ap, subst, ◌∙◌}
+use Rattle.std.proofs.Common.{rules, ◌≡◌, ℕ, ◌+◌, List, [], ◌∷◌, ◌++◌, false, None, length, sym, ap}
+use Rattle.std.proofs.Common.{subst, ◌∙◌}
 use Rattle.dealer_desk.specs.DealerFacts.{standing_request}
 use Rattle.dealer_desk.specs.DealerTable.{IsTable}
 use Rattle.dealer_desk.specs.declared.table.RequestRow.{RequestRow}
