@@ -110,10 +110,12 @@ refuse_each "--version" /dev/null "$work/version" --version
 
 refuse_in_test dealer_desk_tests calls::memory::a_refused_call_leaves_the_desk always
 refuse_in_test dealer_desk_tests calls::drops::a_refused_drop_leaves_the_desk always
+refuse_in_test investor_desk_tests calls::memory::a_refused_call_leaves_the_desk always
 for test in a_refused_call_leaves_the_room a_refused_pass_leaves_the_room a_refused_expiry_leaves_the_room \
     a_hundred_posts_are_refused_in_turn; do
     refuse_in_test request_room_tests "rooms::memory::$test" always
 done
+refuse_in_test venue_steps_tests memory::a_refused_step_leaves_its_place always
 refuse_in_test quote_messages tests::written::refused_memory_changes_no_answer always
 for test in a_refused_piece_is_fed_again a_refused_piece_with_a_fault_is_fed_again; do
     refuse_in_test fix_fields_tests "memory::$test" always

@@ -1,0 +1,12 @@
+mod BookLemmas
+mod BookPush
+mod DealerLemmas
+mod DeskLemmas
+mod IndexLemmas
+mod KeptLemmas
+mod ListLemmas
+mod OutcomeLemmas
+mod ReaderLemmas
+mod StandLemmas
+mod VerdictLemmas
+mod WriteLemmas

@@ -1,0 +1,107 @@
+-- How the code cuts the checks of a request, what it notes, and what it writes at once. Only
+-- private functions say this.
+use Rattle.std.specs.Prelude.{◌≡◌, ◌≤◌, ℕ, ◌+◌, Bool, ◌==◌, not, nat_lt, nat_le, List, [], ◌∷◌}
+use Rattle.std.specs.Prelude.{◌++◌, length, Option, Some, None, is_none, is_some}
+use Rattle.std.specs.List.{list_any}
+use Rattle.std.specs.Option.{option_to_list}
+use Rattle.market_terms.specs.Dealers.{are_distinct}
+use Rattle.market_terms.specs.declared.rooms.TheConstants.AskedDealers.{MOST}
+use Rattle.quote_messages.specs.declared.requests.QuoteRequest.{QuoteRequest}
+use Rattle.quote_messages.specs.declared.reject_reasons.RequestRejectReason.{RequestRejectReason}
+use Rattle.quote_messages.specs.declared.reject_reasons.RequestRejectReason.TheVariants.{UnknownSymbol}
+use Rattle.quote_messages.specs.declared.reject_reasons.RequestRejectReason.TheVariants.{ExceedsLimit}
+use Rattle.quote_messages.specs.declared.reject_reasons.RequestRejectReason.TheVariants.{TooLate}
+use Rattle.quote_messages.specs.declared.reject_reasons.RequestRejectReason.TheVariants.{Other}
+use Rattle.investor_desk.specs.InvestorFacts.{Asked, Offered, Gone, Closed, InvestorBook, book_of}
+use Rattle.investor_desk.specs.InvestorFacts.{request_with_id, requests_accepted, requests_open}
+use Rattle.investor_desk.specs.InvestorRules.{InvestorMarket, bond_with_id, is_unknown_dealer}
+use Rattle.investor_desk.specs.InvestorRules.{dealer_numbers}
+use Rattle.investor_desk.specs.InvestorOutput.{DeskEvents, desk_after, investor_output}
+use Rattle.investor_desk.specs.InvestorOutput.{written_from}
+use Rattle.investor_desk.specs.BookChanges.{book_after, book_with, gone_of, IsAccepted, FitsBook}
+use Rattle.investor_desk.specs.BookChanges.{FitsOffer}
+use Rattle.investor_desk.specs.declared.events.InvestorEvent.{InvestorEvent}
+use Rattle.quote_messages.specs.declared.out_messages.OutMessage.{OutMessage}
+use Rattle.quote_messages.specs.declared.out_messages.OutMessage.TheVariants as out
+use Rattle.investor_desk.specs.declared.verdicts.InvestorVerdict.{InvestorVerdict}
+use Rattle.investor_desk.specs.declared.verdicts.InvestorVerdict.TheVariants as verdict
+use Rattle.investor_desk.specs.declared.outcomes.Outcome.{Outcome}
+use Rattle.investor_desk.specs.declared.outcomes.Note.{Note}
+use Rattle.investor_desk.specs.declared.outcomes.Note.TheVariants as note
+
+-- what a request says of itself, of its bond and of its size
+abbrev pub terms_checks : InvestorMarket → InvestorBook → QuoteRequest
+    → List (Bool × RequestRejectReason)
+terms_checks market book request =
+    (is_some (request_with_id book request.id), Other)
+    ∷ (is_none (bond_with_id market request.bond), UnknownSymbol)
+    ∷ (nat_lt market.row.quantity request.quantity, ExceedsLimit)
+    ∷ []
+
+-- whom it names
+abbrev pub dealer_checks : InvestorMarket → List (List ℕ) → List (Bool × RequestRejectReason)
+dealer_checks market names =
+    (length names == 0, Other)
+    ∷ (list_any (is_unknown_dealer market) names, Other)
+    ∷ (not (are_distinct (dealer_numbers market names)), Other)
+    ∷ (nat_lt MOST (length names), Other)
+    ∷ []
+
+-- what its deadline and the investor's day leave room for
+abbrev pub day_checks : InvestorMarket → InvestorBook → ℕ → QuoteRequest
+    → List (Bool × RequestRejectReason)
+day_checks market book moment request =
+    (nat_le request.deadline moment, TooLate)
+    ∷ (nat_le market.row.requests (requests_accepted book), ExceedsLimit)
+    ∷ (nat_le market.row.open_limit (requests_open book), ExceedsLimit)
+    ∷ []
+
+-- the book after what is noted
+abbrev pub noted : InvestorBook → Note → InvestorBook
+noted book note.Nothing = book
+noted book note.Number = record book { used = book.used + 1 }
+noted book (note.Asked request) = book_after (record book { used = book.used + 1 }) (Asked request)
+noted book (note.Shown replaced shown) =
+    book_with book (gone_of shown.request replaced ++ Offered shown ∷ [])
+noted book (note.Gone request quote) = book_after book (Gone request quote)
+noted book (note.Closed request close) = book_after book (Closed request close)
+
+-- what can be noted
+abbrev pub IsLawful : InvestorBook → Note → Type 0
+IsLawful book note.Nothing = Unit {0}
+IsLawful book note.Number = Unit {0}
+IsLawful book (note.Asked request) = FitsBook book request
+IsLawful book (note.Shown replaced shown) = FitsOffer book shown
+IsLawful book (note.Gone request quote) = IsAccepted (requests_accepted book) request
+IsLawful book (note.Closed request close) = IsAccepted (requests_accepted book) request
+
+-- What a desk keeps beside its events: their messages, and the index of their facts.
+pub record IsDesk (market : InvestorMarket) (events : List InvestorEvent) (sent : List (List ℕ))
+    (book : InvestorBook) : Type 0 where
+  pub sent_are : sent ≡ (desk_after market events).sent
+  pub book_is : book ≡ book_of (desk_after market events).facts
+  pub used_least : book.used ≤ length events
+
+-- the messages of an outcome, in their order
+abbrev pub messages_of : Outcome → List OutMessage
+messages_of outcome = option_to_list outcome.gone ++ option_to_list outcome.message
+
+-- what is noted, with the one message that is sent
+abbrev pub sends : Note → Option OutMessage → Outcome
+sends note message = record { note = note; gone = None; message = message }
+
+-- messages as the next ones that the investor is sent
+abbrev pub next_written : DeskEvents → ℕ → List OutMessage → List (List ℕ)
+next_written desk moment messages =
+    written_from desk.market (length (investor_output desk.market desk.events) + 1) moment messages
+
+-- what a verdict leads to
+abbrev pub own_outcome : InvestorVerdict → Outcome
+own_outcome verdict.Dropped = sends note.Nothing None
+own_outcome (verdict.OutOfSequence reject) = sends note.Nothing (Some (out.Reject reject))
+own_outcome (verdict.Rejected reject) = sends note.Number (Some (out.Reject reject))
+own_outcome (verdict.Refused message) = sends note.Number (Some message)
+own_outcome (verdict.RequestAccepted id request) =
+    sends (note.Asked request) (Some (out.RequestAccepted id))
+own_outcome (verdict.Hits request response word) = sends note.Number None
+own_outcome (verdict.Passes request response) = sends note.Number None

@@ -1,0 +1,294 @@
+//! The desk of one investor.
+ghost use Rattle.std.specs.Prelude.{◌≡◌, ◌++◌, true, is_some, Some, IfOk, OnOk, OnErr};
+ghost use Rattle.std.specs.Option.{option_map, option_to_list};
+ghost use Rattle.venue_config.specs.Rows.{investor_numbered};
+ghost use Rattle.investor_desk.specs.InvestorFacts.{knows};
+ghost use Rattle.investor_desk.specs.InvestorOutput as spec;
+ghost use Rattle.investor_desk.specs.InvestorOutput.{investor_output, market_for, no_events};
+ghost use Rattle.investor_desk.specs.InvestorOutput.{book_at, verdict_at, with_event, verdict_duty};
+ghost use Rattle.investor_desk.specs.InvestorOutput.{event_facts, event_messages, moment_of};
+ghost use Rattle.investor_desk.specs.BookChanges.{book_with};
+ghost use Rattle.investor_desk.specs.RuleCuts.{IsLawful, messages_of, next_written, noted};
+ghost use Rattle.investor_desk.specs.RequestLines.{lines_of};
+
+use crate::InvestorEvent;
+use crate::answers::{
+    answer_outcome, decline_outcome, duty_of, expiry_outcome, offer_outcome, own_outcome,
+    response_again, take_note, withdrawal_outcome,
+};
+use crate::index::{InvestorIndex, copy_of};
+use crate::market::Market;
+use crate::outcomes::{Note, Outcome, Sent};
+use crate::rules::investor_verdict;
+use crate::sending::{push_some, write_both};
+use fix_fields::{Date, Memory, Moment};
+use market_terms::{Duty, Offer, Reply, RequestLine, ResponseRef};
+use quote_messages::{Message, SentMessage};
+use std::alloc::Global;
+use std::marker::Model;
+use venue_config::{InvestorRow, Name, VenueConfig};
+
+/// The desk of one investor: the events that came to it, and the messages that the investor was
+/// sent.
+///
+/// A contract sees what the desk looks at of the venue's configuration, and the list of events.
+/// What was sent is `investor_output` of them, and nothing else goes into it. A call about a
+/// request that was not accepted changes nothing but the events.
+#[derive(Drop)]
+pub struct InvestorDesk {
+    alloc: Global,
+    market: Market,
+    events: Vec<InvestorEvent>,
+    sent: Vec<SentMessage>,
+    index: InvestorIndex,
+}
+
+impl Model for InvestorDesk {
+    ghost use Rattle.investor_desk.specs.InvestorOutput.{DeskEvents};
+    ghost use Rattle.investor_desk.specs.RuleCuts.{IsDesk};
+
+    ghost Value = { DeskEvents };
+
+    ghost view = { λ desk. record { market = desk.market; events = desk.events.items } };
+
+    ghost invariant = { λ desk. IsDesk desk.market desk.events.items desk.sent.items desk.index };
+}
+
+impl InvestorDesk {
+    /// The desk at the start of the day of the investor with this number as a firm. Of the
+    /// configuration it keeps the day, the bonds, the names of the dealers and the investor's row.
+    pub fn new(alloc: Global, config: &VenueConfig, firm: u16) -> Result<Self, Memory>
+        requires { is_some (investor_numbered config.now firm) ≡ true }
+        ensures { IfOk result (λ desk. Some desk
+            ≡ option_map no_events (market_for config.now firm)) }
+    {
+        let row = config.investor(firm).unwrap();
+        let market = Market::of(alloc, config, firm, row)?;
+        Ok(InvestorDesk {
+            alloc,
+            market,
+            events: Vec::new(alloc),
+            sent: Vec::new(alloc),
+            index: InvestorIndex::new(alloc),
+        })
+    }
+
+    /// Takes a message of the investor's own, whatever its bytes are, and gives what is left to be
+    /// done in the room of its request. After an error the desk is as before.
+    pub fn take(&mut self, moment: Moment, bytes: &[u8]) -> Result<Option<Duty>, Memory>
+        ensures ok { OnOk result (self.new
+            ≡ with_event self.old (InvestorEvent.Own moment bytes.now)) }
+        ensures duty { IfOk result (λ duty. duty
+            ≡ verdict_duty self.old.market moment (verdict_at self.old moment bytes.now)) }
+        ensures err { OnErr result (self.new ≡ self.old) }
+    {
+        let message = Message::copy_of(self.alloc, bytes)?;
+        let verdict = investor_verdict(&self.market, &self.index, moment, bytes);
+        let duty = duty_of(&self.market, moment, &verdict);
+        let outcome = own_outcome(verdict);
+        let sent = self.written(moment, &outcome)?;
+        self.keep(InvestorEvent::Own { moment, message }, outcome.note, sent)?;
+        Ok(duty)
+    }
+
+    /// Shows the investor a quote on a request with this number, where the request is open. Where a
+    /// quote of the same dealer stands on that request, it first reports that one gone. After an
+    /// error the desk is as before.
+    pub fn quote_came(&mut self, n: u32, offer: &Offer, moment: Moment) -> Result<(), Memory>
+        ensures ok { OnOk result (self.new
+            ≡ with_event self.old (InvestorEvent.QuoteCame n offer.now moment)) }
+        ensures err { OnErr result (self.new ≡ self.old) }
+    {
+        let outcome = offer_outcome(&self.index, n, offer);
+        let sent = self.written(moment, &outcome)?;
+        let note = outcome.note;
+        let event = InvestorEvent::QuoteCame {
+            request: n,
+            offer: copy_of(offer),
+            moment,
+        };
+        self.keep(event, note, sent)
+    }
+
+    /// Reports the earliest shown of the quotes with this word that stand on the request with this
+    /// number gone, where the request is open and there is such a quote. After an error the desk is
+    /// as before.
+    pub fn quote_gone(&mut self, n: u32, word: u32, moment: Moment) -> Result<(), Memory>
+        ensures ok { OnOk result (self.new
+            ≡ with_event self.old (InvestorEvent.QuoteGone n word moment)) }
+        ensures err { OnErr result (self.new ≡ self.old) }
+    {
+        let outcome = withdrawal_outcome(&self.index, n, word);
+        let sent = self.written(moment, &outcome)?;
+        let note = outcome.note;
+        let event = InvestorEvent::QuoteGone {
+            request: n,
+            word,
+            moment,
+        };
+        self.keep(event, note, sent)
+    }
+
+    /// Tells the investor that a dealer declined the request with this number, where the request is
+    /// open. After an error the desk is as before.
+    pub fn dealer_declined(&mut self, n: u32, dealer: Name, moment: Moment) -> Result<(), Memory>
+        ensures ok { OnOk result (self.new
+            ≡ with_event self.old (InvestorEvent.DealerDeclined n dealer moment)) }
+        ensures err { OnErr result (self.new ≡ self.old) }
+    {
+        let outcome = decline_outcome(&self.index, n, &dealer);
+        let sent = self.written(moment, &outcome)?;
+        let note = outcome.note;
+        let event = InvestorEvent::DealerDeclined {
+            request: n,
+            dealer,
+            moment,
+        };
+        self.keep(event, note, sent)
+    }
+
+    /// Answers a hit or a pass of the request with this number as its room decided. A hit that is
+    /// not refused closes the request by the award of its quote, and a pass that is not refused
+    /// passes it. After an error the desk is as before.
+    pub fn answered(
+        &mut self,
+        n: u32,
+        response: &ResponseRef,
+        reply: Reply,
+        moment: Moment,
+    ) -> Result<(), Memory>
+        ensures ok { OnOk result (self.new
+            ≡ with_event self.old (InvestorEvent.Answered n response.now reply moment)) }
+        ensures err { OnErr result (self.new ≡ self.old) }
+    {
+        let outcome = answer_outcome(&self.index, n, response, reply);
+        let sent = self.written(moment, &outcome)?;
+        let note = outcome.note;
+        let event = InvestorEvent::Answered {
+            request: n,
+            response: response_again(response),
+            reply,
+            moment,
+        };
+        self.keep(event, note, sent)
+    }
+
+    /// Tells the investor that the request with this number expired, and closes it. After an error
+    /// the desk is as before.
+    pub fn closed(&mut self, n: u32, moment: Moment) -> Result<(), Memory>
+        ensures ok { OnOk result (self.new ≡ with_event self.old (InvestorEvent.Closed n moment)) }
+        ensures err { OnErr result (self.new ≡ self.old) }
+    {
+        let outcome = expiry_outcome(&self.index, n);
+        let sent = self.written(moment, &outcome)?;
+        let note = outcome.note;
+        let event = InvestorEvent::Closed { request: n, moment };
+        self.keep(event, note, sent)
+    }
+
+    /// The messages that an event leads to, as the next ones that the investor is sent.
+    fn written(&self, moment: Moment, outcome: &Outcome) -> Result<Sent, Memory>
+        ensures { IfOk result (λ sent. option_to_list sent.first ++ option_to_list sent.second
+            ≡ next_written self.now moment (messages_of outcome.now)) }
+    {
+        let number = self.sent.len() as u64 + 1;
+        let sent = write_both(
+            self.alloc,
+            &self.market,
+            number,
+            moment,
+            &outcome.gone,
+            &outcome.message,
+        )?;
+        Ok(sent)
+    }
+
+    /// Keeps an event with what is noted of it and the messages that it sends. After an error the
+    /// desk is as before.
+    fn keep(&mut self, event: InvestorEvent, note: Note, sent: Sent) -> Result<(), Memory>
+        requires lawful { IsLawful (book_at self.old) note }
+        requires facts { noted (book_at self.old) note
+            ≡ book_with (book_at self.old) (event_facts self.old.market (book_at self.old) event) }
+        requires sent { option_to_list sent.first ++ option_to_list sent.second
+            ≡ next_written self.old (moment_of event)
+            (event_messages self.old.market (book_at self.old) event) }
+        ensures ok { OnOk result (self.new ≡ with_event self.old event) }
+        ensures err { OnErr result (self.new ≡ self.old) }
+    {
+        self.events.reserve(1)?;
+        self.sent.reserve(2)?;
+        take_note(&mut self.index, note)?;
+        self.events.push(event)?;
+        push_some(&mut self.sent, sent.first)?;
+        push_some(&mut self.sent, sent.second)?;
+        Ok(())
+    }
+
+    /// Whether the request with this number was accepted, and the quote with this number, where one
+    /// is given, was shown on it.
+    pub fn knows(&self, n: u32, k: Option<u64>) -> bool
+        ensures { result ≡ knows (book_at self.now) n k }
+    {
+        if self.index.request_numbered(n).is_none() {
+            return false;
+        }
+        let Some(quote) = k else {
+            return true;
+        };
+        match self.index.offer_numbered(quote) {
+            Some(shown) => shown.request == n,
+            None => false,
+        }
+    }
+
+    /// The messages that the investor was sent, the first one first.
+    pub fn sent(&self) -> &[SentMessage]
+        ensures { result.now ≡ investor_output self.now.market self.now.events }
+    {
+        self.sent.as_slice()
+    }
+
+    /// The events and the messages, taken out of the desk. It takes no memory.
+    pub fn into_parts(self) -> (Vec<InvestorEvent>, Vec<SentMessage>)
+        ensures events { result.0.items ≡ self.events }
+        ensures sent { result.1.items ≡ investor_output self.market self.events }
+    {
+        let Self { events, sent, .. } = self;
+        (events, sent)
+    }
+
+    /// The events that came to the desk, the first one first.
+    pub fn events(&self) -> &[InvestorEvent]
+        ensures { result.now ≡ self.now.events }
+    {
+        self.events.as_slice()
+    }
+
+    /// The lines of the investor's blotter: one for each accepted request, in order.
+    pub fn lines(&self) -> &[RequestLine]
+        ensures { result.now ≡ lines_of (book_at self.now) }
+    {
+        self.index.lines()
+    }
+
+    /// The day.
+    pub fn date(&self) -> &Date
+        ensures { result.now ≡ self.now.market.date }
+    {
+        &self.market.date
+    }
+
+    /// The investor's number as a firm.
+    pub fn firm(&self) -> u16
+        ensures { result ≡ self.now.market.firm }
+    {
+        self.market.firm
+    }
+
+    /// What the configuration says of the investor.
+    pub fn row(&self) -> &InvestorRow
+        ensures { result.now ≡ self.now.market.row }
+    {
+        &self.market.row
+    }
+}

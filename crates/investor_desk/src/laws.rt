@@ -1,0 +1,40 @@
+//! Laws over the definitions of a desk, each the contract of a function that does nothing.
+ghost use Rattle.std.specs.Prelude.{◌≡◌, ◌≤◌, ℕ, List, [], ◌∷◌, ◌++◌, IfSome};
+ghost use Rattle.investor_desk.specs.declared.events.InvestorEvent.{InvestorEvent};
+ghost use Rattle.investor_desk.specs.InvestorFacts.{book_of, requests_accepted, requests_open};
+ghost use Rattle.investor_desk.specs.InvestorRules.{InvestorMarket};
+ghost use Rattle.investor_desk.specs.InvestorOutput.{DeskEvents, desk_after, event_facts};
+ghost use Rattle.investor_desk.specs.InvestorOutput.{event_messages, investor_output, moment_of};
+ghost use Rattle.investor_desk.specs.InvestorOutput.{sent_with, verdict_at, verdict_duty};
+ghost use Rattle.investor_desk.specs.DeskLaws.{IsOfDay};
+
+/// The facts after one event more are those before it, and behind them what this event adds: a
+/// function of the book as it stood. So are the messages.
+pub fn facts_after_one_event_more()
+    ensures facts { (market : InvestorMarket) (events : List InvestorEvent) (more : InvestorEvent)
+        → (desk_after market (events ++ more ∷ [])).facts
+        ≡ (desk_after market events).facts
+        ++ event_facts market (book_of (desk_after market events).facts) more }
+    ensures sent { (market : InvestorMarket) (events : List InvestorEvent) (more : InvestorEvent)
+        → investor_output market (events ++ more ∷ [])
+        ≡ sent_with market (investor_output market events) (moment_of more)
+        (event_messages market (book_of (desk_after market events).facts) more) }
+{}
+
+/// The limits of the investor's row are kept: no more requests than it may have in a day, and no
+/// more of them open.
+pub fn limits_are_kept()
+    ensures requests { (market : InvestorMarket) (events : List InvestorEvent)
+        → requests_accepted (book_of (desk_after market events).facts) ≤ market.row.requests }
+    ensures open_requests { (market : InvestorMarket) (events : List InvestorEvent)
+        → requests_open (book_of (desk_after market events).facts) ≤ market.row.open_limit }
+{}
+
+/// What a message leaves to be done is so in the room of a request of the day, from 1 to the
+/// requests of the investor's row, and a request that is opened names 1 to 8 dealers of the venue,
+/// none of them twice.
+pub fn what_is_left_is_of_the_day()
+    ensures { (desk : DeskEvents) (moment : ℕ) (bytes : List ℕ)
+        → IfSome (verdict_duty desk.market moment (verdict_at desk moment bytes))
+        (IsOfDay desk.market) }
+{}

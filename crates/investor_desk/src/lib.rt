@@ -1,0 +1,46 @@
+//! The desk of one investor of a blind multi-dealer RFQ venue: its requests, the quotes that it is
+//! shown, its hits and passes, and every message that it is sent.
+//!
+//! # Example
+//!
+//! ```
+//! let mut desk = InvestorDesk::new(alloc, &config, firm)?;
+//! if let Some(duty) = desk.take(moment, bytes)? {
+//!     // a room is to be opened, or a hit or a pass goes to its room
+//! }
+//! desk.quote_came(n, &offer, moment)?;
+//! desk.answered(n, &response, Reply::Awarded, moment)?;
+//! for message in desk.sent() {
+//!     send(message.as_bytes());
+//! }
+//! ```
+//!
+//! # What is promised
+//!
+//! - Each call adds one event, or answers an error and changes nothing. What was sent is
+//!   `investor_output` of the events: nothing else goes into it but the day, the bonds, the names
+//!   of the dealers, and the investor's own number and row.
+//! - What a message leaves to be done is so in a room of the investor's own, of a request of the
+//!   day, and a request that is opened names 1 to 8 dealers of the venue, none of them twice.
+//! - No more requests are accepted in a day than the row allows, and no more of them are open.
+//!
+//! No call but [`InvestorDesk::new`] has a condition: a call about a request that was not accepted
+//! adds its event and changes nothing else.
+#![tactic(auto)]
+
+mod answers;
+mod desks;
+mod events;
+mod index;
+mod laws;
+mod market;
+mod outcomes;
+mod rules;
+mod sending;
+mod standing;
+mod verdicts;
+
+pub use desks::InvestorDesk;
+pub use events::InvestorEvent;
+pub use standing::{AcceptedRequest, RequestClose, ShownOffer};
+pub use verdicts::InvestorVerdict;

@@ -1,0 +1,43 @@
+//! What a desk decides of a message.
+
+use crate::AcceptedRequest;
+use market_terms::{Id, ResponseRef};
+use quote_messages::{OutMessage, Reject};
+
+/// The verdict on a message that came to an investor's desk. Hits and passes are left to the room
+/// of their request.
+#[derive(Drop)]
+pub enum InvestorVerdict<'a> {
+    /// The bytes are no frame, or have no readable MsgSeqNum (34): nothing is sent.
+    Dropped,
+    /// MsgSeqNum (34) is not the expected one, which stays.
+    OutOfSequence(Reject<'a>),
+    /// The message used up its number and met a session fault.
+    Rejected(Reject<'a>),
+    /// The market refuses the message, by this answer: that of the first check that it does not
+    /// pass.
+    Refused(OutMessage<'a>),
+    /// A request is accepted.
+    RequestAccepted {
+        /// QuoteReqID (131) as received.
+        id: Id<'a>,
+        /// What the desk keeps of it.
+        request: AcceptedRequest,
+    },
+    /// A quote is hit that the investor was shown.
+    Hits {
+        /// Which of the investor's accepted requests the quote answers.
+        request: u32,
+        /// The response, as its answer will name it.
+        response: ResponseRef,
+        /// The quote's word.
+        word: u32,
+    },
+    /// A request is passed.
+    Passes {
+        /// Which of the investor's accepted requests it is.
+        request: u32,
+        /// The response, as its answer will name it.
+        response: ResponseRef,
+    },
+}
