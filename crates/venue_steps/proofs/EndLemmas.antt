@@ -1,5 +1,6 @@
 -- Who is told where a step has just ended a room.
-use Rattle.std.proofs.Common.{◌≡◌, ℕ, Bool, true, false, not, ◌&&◌, cond, List, [], ◌∷◌, ◌++◌, fold, map, Option, Some, None, is_some, unwrap_or, refl, sym, ap, ◌∙◌, subst}
+use Rattle.std.proofs.Common.{◌≡◌, ℕ, Bool, true, false, not, cond, List, [], ◌∷◌, ◌++◌, Option}
+use Rattle.std.proofs.Common.{Some, None, is_some, unwrap_or, refl, sym, ap, ◌∙◌}
 use Rattle.std.specs.Prelude.{Result, Ok, Err}
 use Rattle.std.specs.Option.{option_or}
 use Rattle.std.proofs.lemmas.Bool.{and_parts, not-true}
@@ -8,18 +9,22 @@ use Rattle.market_terms.specs.Checks.{first_refusal}
 use Rattle.market_terms.specs.declared.closes.HitRefusal.{HitRefusal}
 use Rattle.market_terms.specs.declared.closes.HitRefusal.TheVariants.{NotOpen}
 use Rattle.market_terms.specs.declared.closes.Reply.{Reply}
-use Rattle.market_terms.specs.declared.closes.Reply.TheVariants as reply
 use Rattle.market_terms.specs.declared.duties.Duty.{Duty}
 use Rattle.market_terms.specs.declared.duties.Duty.TheVariants as duty
 use Rattle.market_terms.specs.declared.rooms.ResponseRef.{ResponseRef}
 use Rattle.market_terms.specs.declared.rooms.RoomRef.{RoomRef}
 use Rattle.quote_word.specs.declared.settled.Settled.{Settled}
-use Rattle.request_room.specs.RoomFacts.{RoomFact, Ended, first_said, ended_as, opened_for, end_of, request_of, is_ended, is_open, is_ready}
-use Rattle.request_room.specs.Book.{after_event, event_facts, room_after, passed, expired, may_expire, is_past_deadline, hit_outcome, hit_settled, hit_refusal, open_checks, award_of, is_lift, reply_of}
+use Rattle.request_room.specs.RoomFacts.{RoomFact, Ended, first_said, ended_as, opened_for, end_of}
+use Rattle.request_room.specs.RoomFacts.{request_of, is_ended, is_open, is_ready}
+use Rattle.request_room.specs.Book.{after_event, event_facts, room_after, passed, expired}
+use Rattle.request_room.specs.Book.{may_expire, is_past_deadline, hit_outcome, hit_settled}
+use Rattle.request_room.specs.Book.{hit_refusal, open_checks, award_of, reply_of}
 use Rattle.request_room.specs.declared.ends.End.{End}
 use Rattle.request_room.specs.declared.events.RoomEvent.{RoomEvent}
 use Rattle.request_room.specs.declared.events.RoomEvent.TheVariants as event
-use Rattle.venue_steps.specs.RoomSteps.{told_in, told_of_end, told_by, told_of_hit, told_to_each, dealers_of, is_award, reply_to_pass, duties_of_pass, duties_of_expire, hit_duties, duties_of_hit}
+use Rattle.venue_steps.specs.RoomSteps.{told_in, told_of_end, told_by, told_of_hit, told_to_each}
+use Rattle.venue_steps.specs.RoomSteps.{dealers_of, is_award, reply_to_pass, duties_of_pass}
+use Rattle.venue_steps.specs.RoomSteps.{duties_of_expire, hit_duties, duties_of_hit}
 
 -- what some facts say first, after one more
 or_assoc : {A : Type 0} (x y z : Option A) → option_or x (option_or y z) ≡ option_or (option_or x y) z

@@ -25,7 +25,8 @@ abbrev pub desk_after_own : DeskEvents → ℕ → List ℕ → Bool → Option 
 desk_after_own desk moment bytes has answer =
     if has then with_event desk (event.Own moment bytes answer) else desk
 
--- what a message leaves: a post, an unpost, a decline, the first drop of a cancel of all, or nothing
+-- what a message leaves: a post, an unpost, a decline, the first drop of a cancel of all, or
+-- nothing
 abbrev pub duties_of_own : DeskEvents → ℕ → List ℕ → Bool → Option Settled → List Duty
 duties_of_own desk moment bytes has answer =
     if has
@@ -57,4 +58,5 @@ duties_of_drop desk last moment has answer =
 -- the desk after a request is shown: once a room
 abbrev pub desk_after_show : DeskEvents → RoomRef → Ask → ℕ → DeskEvents
 desk_after_show desk room ask moment =
-    if is_some (number_in (rooms_at desk) room) then desk else with_event desk (event.Shown room ask moment)
+    if is_some (number_in (rooms_at desk) room) then desk
+    else with_event desk (event.Shown room ask moment)

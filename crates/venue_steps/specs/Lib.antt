@@ -1,3 +1,4 @@
 pub mod DealerSteps
+pub mod InvestorSteps
 pub mod RoomSteps
 pub mod Words

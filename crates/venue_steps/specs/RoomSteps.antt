@@ -16,7 +16,7 @@ use Rattle.market_terms.specs.declared.rooms.Offer.{Offer}
 use Rattle.market_terms.specs.declared.rooms.ResponseRef.{ResponseRef}
 use Rattle.market_terms.specs.declared.rooms.RoomRef.{RoomRef}
 use Rattle.quote_word.specs.declared.settled.Settled.{Settled}
-use Rattle.request_room.specs.RoomFacts.{RoomFact, hears, is_vacant, is_opening, is_open}
+use Rattle.request_room.specs.RoomFacts.{RoomFact, hears, is_vacant, is_open}
 use Rattle.request_room.specs.RoomFacts.{takes_quotes, request_of, end_of}
 use Rattle.request_room.specs.Book.{room_after, may_unpost, may_expire, hit_question, hit_outcome}
 use Rattle.request_room.specs.Book.{reply_of, passed, expired}
@@ -42,7 +42,10 @@ where_follows false duty = []
 -- the room after it is opened
 abbrev pub room_after_open : List RoomEvent → Ask → List ℕ → List RoomEvent
 room_after_open events ask dealers =
-    where_done (is_vacant (room_after events)) events (event.Open (record { ask = ask; dealers = dealers }))
+    where_done (is_vacant (room_after events)) events (event.Open (record {
+      ask = ask;
+      dealers = dealers;
+    }))
 
 -- each named dealer is shown the request, in the request's order, and then the room is made ready
 abbrev pub shown_then_ready : RoomRef → Ask → List ℕ → ℕ → List Duty
@@ -145,7 +148,8 @@ hit_word facts word moment = word_asked_by (hit_question facts word moment)
 
 -- what a hit leaves with the answer of its word: the investor is answered, then each named dealer
 -- is told where the hit awards
-abbrev pub hit_duties : List RoomFact → RoomRef → ResponseRef → ℕ → Result End HitRefusal → List Duty
+abbrev pub hit_duties : List RoomFact → RoomRef → ResponseRef → ℕ → Result End HitRefusal
+    → List Duty
 hit_duties facts at response moment outcome =
     duty.Answer at response (reply_of outcome) moment ∷ told_of_hit facts at moment outcome
 

@@ -1,7 +1,6 @@
 -- The word that a step asks, if it asks one, and its answer.
 use Rattle.std.specs.Prelude.{◌≡◌, ℕ, ◌+◌, ◌-◌, Bool, true, nat_lt, Option, Some, None}
 use Rattle.std.specs.Prelude.{if◌then◌else◌}
-use Rattle.std.specs.Option.{option_map}
 use Rattle.quote_word.specs.declared.settled.Settled.{Settled}
 
 -- the word of a dealer's quote with this own number, from 1: a dealer's words stand one behind the

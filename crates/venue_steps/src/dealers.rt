@@ -117,7 +117,7 @@ pub fn do_tell(
 }
 
 /// Puts a duty behind the others, where there is one.
-fn with_duty(mut duties: Duties, duty: Option<Duty>) -> Duties
+pub(crate) fn with_duty(mut duties: Duties, duty: Option<Duty>) -> Duties
     requires { length duties.items ≤ 1 }
     ensures { result.items ≡ duties.items ++ option_to_list duty }
 {

@@ -75,7 +75,8 @@ pub fn do_post(
     offer: Offer,
     moment: Moment,
 ) -> Result<Duties, Memory>
-    ensures ok { OnOk result (room.new ≡ spec.where_done (hears (room_after room.old) dealer) room.old
+    ensures ok { OnOk result (room.new
+        ≡ spec.where_done (hears (room_after room.old) dealer) room.old
         (event.Post dealer offer.word offer.price offer.valid_until)) }
     ensures duties { IfOk result (λ duties. duties.items ≡
         spec.duties_of_post (room_after room.old) at dealer offer moment) }
@@ -103,7 +104,8 @@ pub fn do_unpost(
     word: u32,
     moment: Moment,
 ) -> Result<Duties, Memory>
-    ensures ok { OnOk result (room.new ≡ spec.where_done (hears (room_after room.old) dealer) room.old
+    ensures ok { OnOk result (room.new
+        ≡ spec.where_done (hears (room_after room.old) dealer) room.old
         (event.Unpost dealer word)) }
     ensures duties { IfOk result (λ duties. duties.items ≡
         spec.duties_of_unpost (room_after room.old) at dealer word moment) }
@@ -130,7 +132,8 @@ pub fn do_decline(
     dealer: u16,
     moment: Moment,
 ) -> Result<Duties, Memory>
-    ensures ok { OnOk result (room.new ≡ spec.where_done (hears (room_after room.old) dealer) room.old
+    ensures ok { OnOk result (room.new
+        ≡ spec.where_done (hears (room_after room.old) dealer) room.old
         (event.Decline dealer)) }
     ensures duties { IfOk result (λ duties. duties.items ≡
         spec.duties_of_decline (room_after room.old) at dealer moment) }

@@ -1,5 +1,4 @@
 use Rattle.std.proofs.Common.{rules}
-use Rattle.request_room.specs.Book.{room_after}
 use Rattle.venue_steps.proofs.EndLemmas.{expired_duties}
 use Rattle.venue_steps.proofs.ends.do_expire.Goals as goal
 

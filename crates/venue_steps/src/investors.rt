@@ -1,0 +1,182 @@
+//! The steps at an investor's desk.
+ghost use Rattle.std.specs.Prelude.{◌≡◌, ◌&&◌, [], IfOk, OnOk, OnErr};
+ghost use Rattle.investor_desk.specs.InvestorFacts.{knows};
+ghost use Rattle.investor_desk.specs.InvestorOutput.{book_at};
+ghost use Rattle.venue_steps.specs.InvestorSteps as spec;
+
+use crate::Duties;
+use crate::dealers::with_duty;
+use fix_fields::{Memory, Moment};
+use investor_desk::InvestorDesk;
+use market_terms::{HitRefusal, Offer, Reply, ResponseRef};
+use venue_config::Name;
+
+/// A message comes to the desk of its investor. What follows is the opening of an accepted
+/// request's room, a hit, a pass, or nothing. It fails for memory alone, and then the desk is as
+/// before.
+pub fn own_investor(desk: &mut InvestorDesk, moment: Moment, bytes: &[u8]) -> Result<Duties, Memory>
+    ensures ok { OnOk result (desk.new ≡ spec.desk_after_own desk.old moment bytes.now) }
+    ensures duties { IfOk result (λ duties. duties.items
+        ≡ spec.duties_of_own desk.old moment bytes.now) }
+    ensures err { OnErr result (desk.new ≡ desk.old) }
+{
+    let duty = desk.take(moment, bytes)?;
+    Ok(with_duty(Duties::new(), duty))
+}
+
+/// The investor is shown a quote on its request with this number, by the next of its own quote
+/// numbers; a quote of the same dealer that stands there is reported gone first. Where the request
+/// was not accepted nothing changes. Nothing follows. It fails for memory alone, and then the desk
+/// is as before.
+pub fn do_relay(
+    desk: &mut InvestorDesk,
+    request: u32,
+    offer: &Offer,
+    moment: Moment,
+) -> Result<Duties, Memory>
+    ensures ok { OnOk result
+        (desk.new ≡ spec.desk_after_relay desk.old request offer.now moment) }
+    ensures duties { IfOk result (λ duties. duties.items ≡ []) }
+    ensures err { OnErr result (desk.new ≡ desk.old) }
+{
+    if !desk.knows(request, None) {
+        return Ok(Duties::new());
+    }
+    desk.quote_came(request, offer, moment)?;
+    Ok(Duties::new())
+}
+
+/// The investor is told that the quote with this word on its request with this number is gone.
+/// Where the request was not accepted nothing changes. Nothing follows. It fails for memory alone,
+/// and then the desk is as before.
+pub fn do_gone(
+    desk: &mut InvestorDesk,
+    request: u32,
+    word: u32,
+    moment: Moment,
+) -> Result<Duties, Memory>
+    ensures ok { OnOk result (desk.new ≡ spec.desk_after_gone desk.old request word moment) }
+    ensures duties { IfOk result (λ duties. duties.items ≡ []) }
+    ensures err { OnErr result (desk.new ≡ desk.old) }
+{
+    if !desk.knows(request, None) {
+        return Ok(Duties::new());
+    }
+    desk.quote_gone(request, word, moment)?;
+    Ok(Duties::new())
+}
+
+/// The investor is told that a dealer declined its request with this number. Where the request was
+/// not accepted nothing changes. Nothing follows. It fails for memory alone, and then the desk is
+/// as before.
+pub fn do_declined(
+    desk: &mut InvestorDesk,
+    request: u32,
+    dealer: Name,
+    moment: Moment,
+) -> Result<Duties, Memory>
+    ensures ok { OnOk result
+        (desk.new ≡ spec.desk_after_declined desk.old request dealer moment) }
+    ensures duties { IfOk result (λ duties. duties.items ≡ []) }
+    ensures err { OnErr result (desk.new ≡ desk.old) }
+{
+    if !desk.knows(request, None) {
+        return Ok(Duties::new());
+    }
+    desk.dealer_declined(request, dealer, moment)?;
+    Ok(Duties::new())
+}
+
+/// The investor is answered to a hit or a pass of its request with this number, as the room
+/// decided. Where the request was not accepted, the quote that was hit was not shown on it, or no
+/// room answers such a response so (a pass is not awarded, a hit is not passed), nothing changes.
+/// Nothing follows. It fails for memory alone, and then the desk is as before.
+pub fn do_answer(
+    desk: &mut InvestorDesk,
+    request: u32,
+    response: &ResponseRef,
+    reply: Reply,
+    moment: Moment,
+) -> Result<Duties, Memory>
+    ensures ok { OnOk result
+        (desk.new ≡ spec.desk_after_answer desk.old request response.now reply moment) }
+    ensures duties { IfOk result (λ duties. duties.items ≡ []) }
+    ensures err { OnErr result (desk.new ≡ desk.old) }
+{
+    if !may_answer(desk, request, response.k, reply) {
+        return Ok(Duties::new());
+    }
+    desk.answered(request, response, reply, moment)?;
+    Ok(Duties::new())
+}
+
+/// Whether a desk knows a request and the quote, where one was hit, and the reply answers such a
+/// response.
+fn may_answer(desk: &InvestorDesk, request: u32, quote: Option<u64>, reply: Reply) -> bool
+    ensures { result ≡ knows (book_at desk.now) request quote && spec.answers quote reply }
+{
+    if !desk.knows(request, quote) {
+        return false;
+    }
+    answers(quote, reply)
+}
+
+/// Whether a reply answers a response, to this quote or to the request.
+fn answers(quote: Option<u64>, reply: Reply) -> bool
+    ensures { result ≡ spec.answers quote reply }
+{
+    match quote {
+        Some(_) => answers_hit(reply),
+        None => answers_pass(reply),
+    }
+}
+
+/// Whether a reply answers a hit.
+fn answers_hit(reply: Reply) -> bool
+    ensures { result ≡ spec.answers_hit reply }
+{
+    match reply {
+        Reply::Awarded => true,
+        Reply::Passed => false,
+        Reply::Refused(_) => true,
+    }
+}
+
+/// Whether a reply answers a pass.
+fn answers_pass(reply: Reply) -> bool
+    ensures { result ≡ spec.answers_pass reply }
+{
+    match reply {
+        Reply::Awarded => false,
+        Reply::Passed => true,
+        Reply::Refused(refusal) => is_not_open(refusal),
+    }
+}
+
+/// Whether a refusal is that the request is not open.
+fn is_not_open(refusal: HitRefusal) -> bool
+    ensures { result ≡ spec.is_not_open refusal }
+{
+    match refusal {
+        HitRefusal::NotOpen => true,
+        HitRefusal::Deadline => false,
+        HitRefusal::Gone => false,
+        HitRefusal::Expired => false,
+        HitRefusal::Withdrawn => false,
+    }
+}
+
+/// The investor is told that its request with this number expired, which closes it. Where the
+/// request was not accepted nothing changes. Nothing follows. It fails for memory alone, and then
+/// the desk is as before.
+pub fn do_close(desk: &mut InvestorDesk, request: u32, moment: Moment) -> Result<Duties, Memory>
+    ensures ok { OnOk result (desk.new ≡ spec.desk_after_close desk.old request moment) }
+    ensures duties { IfOk result (λ duties. duties.items ≡ []) }
+    ensures err { OnErr result (desk.new ≡ desk.old) }
+{
+    if !desk.knows(request, None) {
+        return Ok(Duties::new());
+    }
+    desk.closed(request, moment)?;
+    Ok(Duties::new())
+}
