@@ -20,10 +20,28 @@
 //!   memory is refused. The view has no other argument, so nothing else of the venue goes into
 //!   it.
 //! - [`equal_lists_have_equal_views`] says so of two lists.
+//!
+//! # The whole venue
+//!
+//! A day of the venue is a list of [`Step`]s, and `audit_trail` (`specs/AuditTrail`) is what
+//! becomes so of it: the facts at each place, the duties that were left, and the turns that did
+//! one. It is a definition; what follows from it stands as laws:
+//!
+//! - [`dealers_are_sent_their_view`]: what a dealer was sent is the dealer view of what was due to
+//!   it, after every list of steps of every venue.
+//! - [`dealers_are_isolated`], the headline: so two venues that agree on what was due to a dealer,
+//!   its row and the date sent it the same bytes.
+//! - [`no_quote_is_lifted_and_withdrawn`].
 #![tactic(auto)]
 
 mod dealer_view;
 mod due;
+mod laws;
+mod steps;
 
 pub use dealer_view::{alone, equal_lists_have_equal_views};
 pub use due::Due;
+pub use laws::{
+    dealers_are_isolated, dealers_are_sent_their_view, no_quote_is_lifted_and_withdrawn,
+};
+pub use steps::{Actor, Step};

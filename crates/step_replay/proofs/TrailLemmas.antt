@@ -1,0 +1,92 @@
+-- A dealer's trail, event by event: its facts, what it was sent and what was due by it.
+use Rattle.std.proofs.Common.{◌≡◌, ℕ, false, List, [], ◌∷◌, ◌++◌, map}
+use Rattle.std.proofs.Common.{filter_map, Option, Some, None}
+use Rattle.std.proofs.Common.{refl, ap, ◌∙◌}
+use Rattle.std.specs.List.{list_any}
+use Rattle.std.proofs.lemmas.List.{append-nil}
+use Rattle.std.proofs.lemmas.List.Elements.{filter_map-append}
+use Rattle.std.proofs.lemmas.List.Folds.{list_any-append}
+use Rattle.market_terms.specs.declared.rooms.RoomRef.{RoomRef}
+use Rattle.dealer_desk.specs.DealerFacts.{DealerFact}
+use Rattle.step_replay.specs.DealerTrail.{DealerEntry, AtDesk, ShownIn, Sent}
+use Rattle.step_replay.specs.DealerTrail.{fact_in, message_in, lifts}
+use Rattle.step_replay.specs.DueList.{due_by, due_by_fact}
+
+-- Lists.
+
+-- what is found in none of some items
+none_of : {A Y : Type 0} (h : DealerEntry → Option Y) (f : A → DealerEntry)
+    → ((x : A) → h (f x) ≡ None) → (xs : List A) → filter_map h (map f xs) ≡ []
+none_of h f none [] = refl
+none_of h f none (x ∷ xs) = rw (none x) (none_of h f none xs)
+
+-- what is found in each of some items
+all_of : {A Y : Type 0} (h : DealerEntry → Option Y) (f : A → DealerEntry) (g : A → Option Y)
+    → ((x : A) → h (f x) ≡ g x) → (xs : List A) → filter_map h (map f xs) ≡ filter_map g xs
+all_of h f g each [] = refl
+all_of h f g each (x ∷ xs) = rw (each x, all_of h f g each xs) refl
+
+-- each item stays
+each_stays : {Y : Type 0} (ys : List Y) → filter_map (λ (y : Y). Some y) ys ≡ ys
+each_stays [] = refl
+each_stays (y ∷ ys) = ap (λ (l : List _). y ∷ l) (each_stays ys)
+
+-- what is found in three parts
+in_parts : {Y : Type 0} (h : DealerEntry → Option Y) (a b c : List DealerEntry)
+    → filter_map h (a ++ b ++ c) ≡ filter_map h a ++ filter_map h b ++ filter_map h c
+in_parts h a b c =
+    filter_map-append h (a ++ b) c
+    ∙ ap (λ l. l ++ filter_map h c) (filter_map-append h a b)
+
+-- What an event adds.
+
+module _ (facts : List DealerFact) (rooms : List RoomRef) (messages : List (List ℕ)) where
+  -- the entries of it
+  abbrev added : List DealerEntry
+  added = map AtDesk facts ++ map ShownIn rooms ++ map Sent messages
+
+  pub facts_added : filter_map fact_in added ≡ facts
+  facts_added =
+      in_parts fact_in (map AtDesk facts) (map ShownIn rooms) (map Sent messages)
+      ∙ rw (
+        all_of fact_in AtDesk (λ fact. Some fact) (λ fact. refl) facts,
+        each_stays facts,
+        none_of fact_in ShownIn (λ room. refl) rooms,
+        none_of fact_in Sent (λ m. refl) messages,
+      )
+      (append-nil (facts ++ []) ∙ append-nil facts)
+
+  pub sent_added : filter_map message_in added ≡ messages
+  sent_added =
+      in_parts message_in (map AtDesk facts) (map ShownIn rooms) (map Sent messages)
+      ∙ rw (
+        all_of message_in Sent (λ m. Some m) (λ m. refl) messages,
+        each_stays messages,
+        none_of message_in ShownIn (λ room. refl) rooms,
+        none_of message_in AtDesk (λ fact. refl) facts,
+      ) refl
+
+  pub due_added : filter_map due_by added ≡ filter_map due_by_fact facts
+  due_added =
+      in_parts due_by (map AtDesk facts) (map ShownIn rooms) (map Sent messages)
+      ∙ rw (
+        all_of due_by AtDesk due_by_fact (λ fact. refl) facts,
+        none_of due_by ShownIn (λ room. refl) rooms,
+        none_of due_by Sent (λ m. refl) messages,
+      )
+      (append-nil (filter_map due_by_fact facts ++ []) ∙ append-nil (filter_map due_by_fact facts))
+
+  pub lifts_none : (quote : ℕ) → list_any (lifts quote) added ≡ false
+  lifts_none quote =
+      list_any-append (lifts quote) (map AtDesk facts ++ map ShownIn rooms) (map Sent messages)
+      ∙ rw (
+        list_any-append (lifts quote) (map AtDesk facts) (map ShownIn rooms),
+        no_lift AtDesk (λ fact. refl) facts,
+        no_lift ShownIn (λ room. refl) rooms,
+        no_lift Sent (λ m. refl) messages,
+      ) refl
+    where
+      no_lift : {A : Type 0} (f : A → DealerEntry) → ((x : A) → lifts quote (f x) ≡ false)
+          → (xs : List A) → list_any (lifts quote) (map f xs) ≡ false
+      no_lift f none [] = refl
+      no_lift f none (x ∷ xs) = rw (none x, no_lift f none xs) refl

@@ -1,0 +1,400 @@
+-- What each action of the venue adds to the facts that stand, at its one place, and what it leaves
+-- to be done, in its order: a message of a firm, a duty, or a sweep. An action whose condition does
+-- not hold (a room shown before, a room that is not vacant, a word that the venue does not have)
+-- adds nothing and leaves nothing.
+use Rattle.std.specs.Prelude.{ℕ, ◌+◌, ◌-◌, Bool, true, ◌&&◌, nat_lt, List, [], ◌∷◌, ◌++◌}
+use Rattle.std.specs.Prelude.{map, take, sum_by, Option, Some, None, is_some, if◌then◌else◌}
+use Rattle.std.specs.Prelude.{Result, Ok}
+use Rattle.std.specs.Option.{option_map, option_to_list}
+use Rattle.market_terms.specs.declared.asks.Ask.{Ask}
+use Rattle.market_terms.specs.declared.closes.Close.{Close}
+use Rattle.market_terms.specs.declared.closes.HitRefusal.{HitRefusal}
+use Rattle.market_terms.specs.declared.closes.Reply.{Reply}
+use Rattle.market_terms.specs.declared.duties.Duty.{Duty}
+use Rattle.market_terms.specs.declared.duties.Duty.TheVariants as duty
+use Rattle.market_terms.specs.declared.rooms.Offer.{Offer}
+use Rattle.market_terms.specs.declared.rooms.ResponseRef.{ResponseRef}
+use Rattle.market_terms.specs.declared.rooms.RoomRef.{RoomRef}
+use Rattle.quote_word.specs.declared.settled.Settled.{Settled}
+use Rattle.venue_config.specs.Rows.{Configuration, dealer_numbered, has_room}
+use Rattle.venue_config.specs.declared.dealer_rows.DealerRow.{DealerRow}
+use Rattle.dealer_desk.specs.DealerFacts.{number_to_drop, quote_to_drop}
+use Rattle.dealer_desk.specs.DealerRules.{dealer_verdict}
+use Rattle.dealer_desk.specs.DealerOutput.{number_in, closable, word_asked}
+use Rattle.dealer_desk.specs.DealerOutput as dealer_output
+use Rattle.dealer_desk.specs.declared.verdicts.DealerVerdict.{DealerVerdict}
+use Rattle.dealer_desk.specs.declared.events.DealerEvent.{DealerEvent}
+use Rattle.dealer_desk.specs.declared.events.DealerEvent.TheVariants as at_desk
+use Rattle.investor_desk.specs.InvestorFacts.{knows}
+use Rattle.investor_desk.specs.InvestorRules.{InvestorMarket, investor_verdict}
+use Rattle.investor_desk.specs.InvestorOutput as investor_output
+use Rattle.investor_desk.specs.declared.events.InvestorEvent.{InvestorEvent}
+use Rattle.investor_desk.specs.declared.events.InvestorEvent.TheVariants as at_investor
+use Rattle.request_room.specs.RoomFacts.{hears}
+use Rattle.request_room.specs.Book.{event_facts, hit_outcome}
+use Rattle.request_room.specs.declared.ends.End.{End}
+use Rattle.request_room.specs.declared.events.RoomEvent.{RoomEvent}
+use Rattle.request_room.specs.declared.events.RoomEvent.TheVariants as at_room
+use Rattle.venue_steps.specs.InvestorSteps.{answers}
+use Rattle.venue_steps.specs.RoomSteps.{duties_of_open, duties_of_post, duties_of_unpost}
+use Rattle.venue_steps.specs.RoomSteps.{duties_of_decline, duties_of_hit, duties_of_pass}
+use Rattle.venue_steps.specs.RoomSteps.{duties_of_expire, hit_word}
+use Rattle.venue_steps.specs.Words.{word_of, has_word}
+use Rattle.step_replay.specs.DealerTrail.{DealerEntry, Lifted, book_by, rooms_by}
+use Rattle.step_replay.specs.DealerTrail.{answer_to_dealer, answer_to_investor, entries_of}
+use Rattle.step_replay.specs.InvestorTrail as investor_trail
+use Rattle.step_replay.specs.VenueFacts.{Fact, AtDealer, InRoom, AtInvestor}
+use Rattle.step_replay.specs.VenueFacts.{of_dealer, of_room, of_investor}
+use Rattle.step_replay.specs.declared.steps.Actor.{Actor}
+use Rattle.step_replay.specs.declared.steps.Actor.TheVariants as actor
+
+-- what an action adds, and what it leaves to be done
+pub record Effect : Type 0 where
+  pub facts : List Fact
+  pub duties : List Duty
+
+-- nothing happens
+abbrev pub nothing : Effect
+nothing = record { facts = []; duties = [] }
+
+-- At a dealer.
+
+-- a dealer: its number among the firms, and its row
+pub record Dealer : Type 0 where
+  pub number : ℕ
+  pub row : DealerRow
+
+-- a dealer with this number and row
+abbrev pub dealer_of : ℕ → DealerRow → Dealer
+dealer_of number row = record { number = number; row = row }
+
+-- the dealer with this number
+abbrev pub dealer_at : Configuration → ℕ → Option Dealer
+dealer_at config number = option_map (dealer_of number) (dealer_numbered config number)
+
+-- the dealer that an actor is
+abbrev pub acting_dealer : Configuration → Actor → Option Dealer
+acting_dealer config (actor.Firm number) = dealer_at config number
+acting_dealer config actor.Clock = None
+
+-- what a dealer does, where there is one
+abbrev pub done_by : Option Dealer → (Dealer → Effect) → Effect
+done_by None action = nothing
+done_by (Some dealer) action = action dealer
+
+-- one event at a dealer's desk
+abbrev pub at_dealer : Configuration → List Fact → Dealer → DealerEvent → List Duty → Effect
+at_dealer config facts dealer event duties = record {
+  facts = map (AtDealer dealer.number)
+      (entries_of config.date dealer.row (of_dealer dealer.number facts) event);
+  duties = duties;
+}
+
+-- Words. The venue has one for each quote that a dealer may give in its day: those of the first
+-- dealer, behind them those of the next, and so on.
+
+-- how many quotes these dealers may give
+abbrev pub quotes_of : List DealerRow → ℕ
+quotes_of dealers = sum_by (λ (row : DealerRow). row.quotes) dealers
+
+-- how many words there are
+abbrev pub words_of : Configuration → ℕ
+words_of config = quotes_of config.dealers
+
+-- the first word of a dealer
+abbrev pub first_word : Configuration → Dealer → ℕ
+first_word config dealer = quotes_of (take dealer.number config.dealers)
+
+-- the word of a dealer's quote
+abbrev pub word_for : Configuration → Dealer → ℕ → ℕ
+word_for config dealer quote = word_of (first_word config dealer) quote
+
+-- a quote by its dealer's number among the firms and its own number
+pub record QuoteRef : Type 0 where
+  pub dealer : ℕ
+  pub quote : ℕ
+
+-- the quote that has a word, counted from the first word of these dealers, of which the first has
+-- this number
+abbrev pub quote_among : ℕ → List DealerRow → ℕ → Option QuoteRef
+quote_among number [] word = None
+quote_among number (row ∷ rows) word =
+    if nat_lt word row.quotes
+    then Some (record { dealer = number; quote = word + 1 })
+    else quote_among (number + 1) rows (word - row.quotes)
+
+-- the quote that has a word
+abbrev pub quote_with_word : Configuration → ℕ → Option QuoteRef
+quote_with_word config word = quote_among 0 config.dealers word
+
+-- A message of a dealer: the word that its verdict asks is withdrawn where it is open, and the
+-- verdict leaves a post, an unpost, a decline, the first drop of a cancel of all, or nothing.
+
+-- the answer of the word that a verdict asks, where it asks one
+abbrev pub answer_of : List DealerEntry → DealerVerdict → Option Settled
+answer_of trail verdict = option_map (answer_to_dealer trail) (word_asked verdict)
+
+-- what a verdict leaves
+abbrev pub left_by : List DealerEntry → ℕ → DealerVerdict → List Duty
+left_by trail moment verdict = option_to_list
+    (dealer_output.verdict_duty (rooms_by trail) moment verdict (answer_of trail verdict))
+
+-- a message with this verdict, where the venue has the word that it asks
+abbrev pub dealer_says : Configuration → List Fact → Dealer → ℕ → List ℕ → DealerVerdict → Effect
+dealer_says config facts dealer moment bytes verdict =
+    let trail = of_dealer dealer.number facts in
+    if has_word (words_of config) (option_map (word_for config dealer) (word_asked verdict))
+    then at_dealer config facts dealer (at_desk.Own moment bytes (answer_of trail verdict))
+    (left_by trail moment verdict)
+    else nothing
+
+-- the verdict on a message
+abbrev pub verdict_on : Configuration → List Fact → ℕ → List ℕ → Dealer → DealerVerdict
+verdict_on config facts moment bytes dealer =
+    dealer_verdict config.date dealer.row (book_by (of_dealer dealer.number facts)) moment bytes
+
+-- a message
+abbrev pub said_by_dealer : Configuration → List Fact → ℕ → List ℕ → Dealer → Effect
+said_by_dealer config facts moment bytes dealer =
+    dealer_says config facts dealer moment bytes (verdict_on config facts moment bytes dealer)
+
+-- A drop: the first quote of a cancel of all that can still be dropped is withdrawn where its word
+-- is open, and taken out of its room; where another one is left, the same drop follows.
+
+-- the answer of its word, where there is such a quote
+abbrev pub answer_to_drop : List DealerEntry → ℕ → Option Settled
+answer_to_drop trail last =
+    option_map (answer_to_dealer trail) (number_to_drop (book_by trail) last)
+
+-- the drop of the quotes up to this one as an event
+abbrev pub drop_at : List DealerEntry → ℕ → ℕ → DealerEvent
+drop_at trail last moment = at_desk.Drop last moment (answer_to_drop trail last)
+
+-- what it leaves
+abbrev pub left_by_drop : Configuration → List Fact → ℕ → ℕ → Dealer → List Duty
+left_by_drop config facts last moment dealer =
+    let trail = of_dealer dealer.number facts in
+    let after = trail ++ entries_of config.date dealer.row trail (drop_at trail last moment) in
+    option_to_list (dealer_output.unpost_dropped (rooms_by trail) moment (answer_to_drop trail last)
+    (quote_to_drop (book_by trail) last))
+    ++ option_to_list (dealer_output.further_drop (book_by after) last moment)
+
+-- a drop, where the venue has the word that it asks
+abbrev pub dropped_by : Configuration → List Fact → ℕ → ℕ → Dealer → Effect
+dropped_by config facts last moment dealer =
+    let trail = of_dealer dealer.number facts in
+    if has_word (words_of config)
+    (option_map (word_for config dealer) (number_to_drop (book_by trail) last))
+    then at_dealer config facts dealer (drop_at trail last moment)
+    (left_by_drop config facts last moment dealer)
+    else nothing
+
+-- A dealer is shown a request, once a room.
+abbrev pub shown_to : Configuration → List Fact → RoomRef → Ask → ℕ → Dealer → Effect
+shown_to config facts room ask moment dealer =
+    if is_some (number_in (rooms_by (of_dealer dealer.number facts)) room)
+    then nothing
+    else at_dealer config facts dealer (at_desk.Shown room ask moment) []
+
+-- A dealer is told how the request with this number ended, once, where it was shown.
+abbrev pub told_of : Configuration → List Fact → Dealer → Close → ℕ → Option ℕ → Effect
+told_of config facts dealer close moment None = nothing
+told_of config facts dealer close moment (Some request) =
+    if is_some (closable (book_by (of_dealer dealer.number facts)) request)
+    then at_dealer config facts dealer (at_desk.Told request close moment) []
+    else nothing
+
+-- the same of a request by its room
+abbrev pub told_to : Configuration → List Fact → RoomRef → Close → ℕ → Dealer → Effect
+told_to config facts room close moment dealer =
+    told_of config facts dealer close moment
+    (number_in (rooms_by (of_dealer dealer.number facts)) room)
+
+-- In a room.
+
+-- an event in a room of the venue, where its step takes place there
+abbrev pub in_room : Configuration → List Fact → RoomRef → Bool → RoomEvent → List Duty → Effect
+in_room config facts room may event duties =
+    if has_room config room.investor room.n && may
+    then record {
+      facts = map (InRoom room) (event_facts (of_room room facts) event);
+      duties = duties;
+    }
+    else nothing
+
+-- the room of a request is opened
+abbrev pub opened : Configuration → List Fact → RoomRef → Ask → List ℕ → ℕ → Effect
+opened config facts room ask dealers moment =
+    in_room config facts room true (at_room.Open (record { ask = ask; dealers = dealers }))
+    (duties_of_open (of_room room facts) room ask dealers moment)
+
+-- a dealer's quote as the investor sees it
+abbrev pub offer_of : Configuration → Dealer → ℕ → ℕ → Option ℕ → Offer
+offer_of config dealer quote price valid_until = record {
+  dealer = dealer.row.name;
+  word = word_for config dealer quote;
+  price = price;
+  valid_until = valid_until;
+}
+
+-- a quote is posted
+abbrev pub posted_by : Configuration → List Fact → RoomRef → ℕ → ℕ → Option ℕ → ℕ → Dealer → Effect
+posted_by config facts room quote price valid_until moment dealer =
+    let known = of_room room facts in
+    in_room config facts room (hears known dealer.number)
+    (at_room.Post dealer.number (word_for config dealer quote) price valid_until)
+    (duties_of_post known room dealer.number (offer_of config dealer quote price valid_until) moment)
+
+-- a quote is taken out
+abbrev pub unposted_by : Configuration → List Fact → RoomRef → ℕ → ℕ → Dealer → Effect
+unposted_by config facts room quote moment dealer =
+    let known = of_room room facts in
+    in_room config facts room (hears known dealer.number)
+    (at_room.Unpost dealer.number (word_for config dealer quote))
+    (duties_of_unpost known room dealer.number (word_for config dealer quote) moment)
+
+-- a dealer declines
+abbrev pub declined_by : Configuration → List Fact → RoomRef → ℕ → Dealer → Effect
+declined_by config facts room moment dealer =
+    let known = of_room room facts in
+    in_room config facts room (hears known dealer.number) (at_room.Decline dealer.number)
+    (duties_of_decline known room dealer.number moment)
+
+-- A hit: where no check of the room refuses it, the word of the quote is lifted where it is open.
+
+-- the answer of a quote's word to an investor that would lift it
+abbrev pub answer_to_hit : List Fact → QuoteRef → Settled
+answer_to_hit facts hit = answer_to_investor (of_dealer hit.dealer facts) hit.quote
+
+-- that a quote was lifted, where the hit of it awards
+abbrev pub lifting : Option QuoteRef → Result End HitRefusal → List Fact
+lifting (Some hit) (Ok award) = AtDealer hit.dealer (Lifted hit.quote) ∷ []
+lifting hit outcome = []
+
+-- a hit with the answer of the word that it asks, where it asks one
+abbrev pub hit_with : Configuration → List Fact → RoomRef → ResponseRef → ℕ → ℕ → Option Settled
+    → Effect
+hit_with config facts room response word moment answer =
+    let known = of_room room facts in
+    record {
+      facts = lifting (quote_with_word config word) (hit_outcome known word moment answer)
+          ++ map (InRoom room) (event_facts known (at_room.Hit word moment answer));
+      duties = duties_of_hit known room response word moment true answer;
+    }
+
+-- the word that a hit asks of the venue, where it asks one
+abbrev pub quote_asked : Configuration → Option ℕ → Option QuoteRef
+quote_asked config None = None
+quote_asked config (Some word) = quote_with_word config word
+
+-- a hit in a room of the venue, where the venue has the word that it asks
+abbrev pub hit_in : Configuration → List Fact → RoomRef → ResponseRef → ℕ → ℕ → Effect
+hit_in config facts room response word moment =
+    let asked = hit_word (of_room room facts) word moment in
+    if has_room config room.investor room.n && has_word (words_of config) asked
+    then hit_with config facts room response word moment
+    (option_map (answer_to_hit facts) (quote_asked config asked))
+    else nothing
+
+-- At an investor.
+
+-- one event at an investor's desk
+abbrev pub at_market : List Fact → InvestorMarket → InvestorEvent → List Duty → Effect
+at_market facts market event duties = record {
+  facts = map (AtInvestor market.firm)
+      (investor_trail.entries_of market (of_investor market.firm facts) event);
+  duties = duties;
+}
+
+-- what a message of an investor leaves: an opening, a hit, a pass, or nothing
+abbrev pub left_by_investor : List Fact → ℕ → List ℕ → InvestorMarket → List Duty
+left_by_investor facts moment bytes market =
+    let book = investor_trail.book_by (of_investor market.firm facts) in
+    option_to_list (investor_output.verdict_duty market moment
+    (investor_verdict market book moment bytes))
+
+-- a message of an investor
+abbrev pub said_by_investor : List Fact → ℕ → List ℕ → InvestorMarket → Effect
+said_by_investor facts moment bytes market =
+    at_market facts market (at_investor.Own moment bytes)
+    (left_by_investor facts moment bytes market)
+
+-- an event at an investor's desk on its request with this number, where it knows that request and
+-- the quote on it that is meant, if one is
+abbrev pub where_known : List Fact → ℕ → Option ℕ → InvestorEvent → InvestorMarket → Effect
+where_known facts request quote event market =
+    if knows (investor_trail.book_by (of_investor market.firm facts)) request quote
+    then at_market facts market event []
+    else nothing
+
+-- what comes to an investor, where there is one
+abbrev pub done_for : Option InvestorMarket → (InvestorMarket → Effect) → Effect
+done_for None action = nothing
+done_for (Some market) action = action market
+
+-- what comes to the investor of a request
+abbrev pub at_investor_of : Configuration → RoomRef → (InvestorMarket → Effect) → Effect
+at_investor_of config room action =
+    done_for (investor_output.market_for config room.investor) action
+
+-- the room's reply to a response
+abbrev pub answered_by : List Fact → RoomRef → ResponseRef → Reply → ℕ → InvestorMarket → Effect
+answered_by facts room response reply moment market =
+    if answers response.k reply
+    then where_known facts room.n response.k (at_investor.Answered room.n response reply moment)
+    market
+    else nothing
+
+-- All duties.
+
+-- What a duty does, line by line of the market's table.
+unfoldable pub duty_effect : Configuration → List Fact → Actor → Duty → Effect
+duty_effect config facts actor (duty.Open room ask dealers moment) =
+    opened config facts room ask dealers moment
+duty_effect config facts actor (duty.Show dealer room ask moment) =
+    done_by (dealer_at config dealer) (shown_to config facts room ask moment)
+duty_effect config facts actor (duty.Ready room moment) =
+    in_room config facts room true at_room.Ready []
+duty_effect config facts actor (duty.Post room quote price valid_until moment) =
+    done_by (acting_dealer config actor) (posted_by config facts room quote price valid_until moment)
+duty_effect config facts actor (duty.Relay room offer moment) =
+    at_investor_of config room
+    (where_known facts room.n None (at_investor.QuoteCame room.n offer moment))
+duty_effect config facts actor (duty.Unpost room quote moment) =
+    done_by (acting_dealer config actor) (unposted_by config facts room quote moment)
+duty_effect config facts actor (duty.Gone room word moment) =
+    at_investor_of config room
+    (where_known facts room.n None (at_investor.QuoteGone room.n word moment))
+duty_effect config facts actor (duty.Decline room moment) =
+    done_by (acting_dealer config actor) (declined_by config facts room moment)
+duty_effect config facts actor (duty.Declined room moment) =
+    done_by (acting_dealer config actor) (λ dealer. at_investor_of config room
+    (where_known facts room.n None
+    (at_investor.DealerDeclined room.n dealer.row.name moment)))
+duty_effect config facts actor (duty.Hit room response word moment) =
+    hit_in config facts room response word moment
+duty_effect config facts actor (duty.Pass room response moment) =
+    in_room config facts room true (at_room.Pass moment)
+    (duties_of_pass (of_room room facts) room response moment)
+duty_effect config facts actor (duty.Answer room response reply moment) =
+    at_investor_of config room (answered_by facts room response reply moment)
+duty_effect config facts actor (duty.Close room moment) =
+    at_investor_of config room (where_known facts room.n None (at_investor.Closed room.n moment))
+duty_effect config facts actor (duty.Tell dealer room close moment) =
+    done_by (dealer_at config dealer) (told_to config facts room close moment)
+duty_effect config facts actor (duty.Drop last moment) =
+    done_by (acting_dealer config actor) (dropped_by config facts last moment)
+
+-- What a sweep does: an open room ends where its deadline has come.
+unfoldable pub sweep_effect : Configuration → List Fact → RoomRef → ℕ → Effect
+sweep_effect config facts room moment =
+    in_room config facts room true (at_room.Expire moment)
+    (duties_of_expire (of_room room facts) room moment)
+
+-- What a message of the firm with this number does at its own desk: that of a dealer or of an
+-- investor.
+unfoldable pub message_effect : Configuration → List Fact → ℕ → ℕ → List ℕ → Effect
+message_effect config facts firm moment bytes =
+    if is_some (dealer_numbered config firm)
+    then done_by (dealer_at config firm) (said_by_dealer config facts moment bytes)
+    else done_for (investor_output.market_for config firm) (said_by_investor facts moment bytes)

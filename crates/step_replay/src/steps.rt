@@ -1,0 +1,25 @@
+//! The steps of a venue's day, and who does them.
+use fix_fields::Moment;
+use market_terms::RoomRef;
+use quote_messages::Message;
+
+/// Who has duties to do: each firm those that its own messages began, and the clock those that its
+/// sweeps began. Each has one queue of them, first in, first out.
+#[derive(Clone, Copy)]
+pub enum Actor {
+    /// The firm with this number: the dealers from 0 on, behind them the investors.
+    Firm(u16),
+    /// The clock.
+    Clock,
+}
+
+/// One step of the venue. It changes one desk or one room, and asks the word of at most one quote.
+#[derive(Drop)]
+pub enum Step {
+    /// A message of the firm with this number comes to its desk, at this moment.
+    In(u16, Moment, Message),
+    /// The actor does the oldest of its duties; where it has none, nothing happens.
+    Turn(Actor),
+    /// The clock sweeps a room, at this moment: an open room ends where its deadline has come.
+    Expire(RoomRef, Moment),
+}
