@@ -9,9 +9,10 @@ use Rattle.market_terms.specs.declared.duties.Duty.{Duty}
 use Rattle.market_terms.specs.declared.duties.Duty.TheVariants as duty
 use Rattle.quote_word.specs.declared.settled.Settled.{Settled}
 use Rattle.dealer_desk.specs.DealerFacts.{DealerBook, quote_to_drop, is_droppable, is_live}
+use Rattle.dealer_desk.specs.DealerFacts.{number_to_drop}
 use Rattle.dealer_desk.specs.DealerOutput.{DeskEvents, rooms_at, book_at, verdict_at, room_of}
 use Rattle.dealer_desk.specs.DealerOutput.{verdict_duty, unpost_dropped, goes_through, is_withdrawn}
-use Rattle.dealer_desk.specs.DealerOutput.{post_of}
+use Rattle.dealer_desk.specs.DealerOutput.{post_of, word_asked}
 use Rattle.dealer_desk.specs.DeskLaws.{IsOfDay, request_meant}
 use Rattle.dealer_desk.specs.BookChanges.{IsLiveNumber}
 use Rattle.dealer_desk.specs.declared.standing.StandingQuote.{StandingQuote}
@@ -20,6 +21,7 @@ use Rattle.dealer_desk.specs.declared.verdicts.DealerVerdict.TheVariants as verd
 use Rattle.dealer_desk.proofs.ListLemmas.{find_stands, stands_within}
 use Rattle.dealer_desk.proofs.StandLemmas.{StandsIn}
 use Rattle.dealer_desk.proofs.VerdictLemmas.{Holds, IsShown, verdict_holds, live_within}
+use Rattle.dealer_desk.proofs.VerdictLemmas.{asked_within}
 use Rattle.dealer_desk.proofs.DeskLemmas.{Stood, desk_sound}
 
 room_there : (rooms : List RoomRef) (book : DealerBook) (number : ℕ) → length book.requests ≡ length rooms → IsShown book number → is_some (room_of rooms number) ≡ true
@@ -117,3 +119,19 @@ drop_duty desk last moment answer = let s = stood_at desk in
 pub drop_room : (desk : DeskEvents) (last : ℕ) → IfSome (quote_to_drop (book_at desk) last) (λ own. is_some (room_of (rooms_at desk) own.quote.request) ≡ true)
 drop_room desk last = let s = stood_at desk in
     drop_has_room desk.row (book_at desk) (rooms_at desk) last (quote_to_drop (book_at desk) last) s.stands s.as_many refl
+
+-- the words that are asked
+pub message_asks : (desk : DeskEvents) (moment : ℕ) (bytes : List ℕ)
+    → IfSome (word_asked (verdict_at desk moment bytes))
+    (λ quote. (1 ≤ quote) × (quote ≤ desk.row.quotes))
+message_asks desk moment bytes =
+    let s = stood_at desk in
+    asked_within desk.row (book_at desk) (verdict_at desk moment bytes) s.stands
+    (verdict_holds desk.date desk.row (book_at desk) moment bytes s.stands)
+
+pub drop_at_asks : (desk : DeskEvents) (last : ℕ)
+    → IfSome (number_to_drop (book_at desk) last)
+    (λ quote. (1 ≤ quote) × (quote ≤ desk.row.quotes))
+drop_at_asks desk last =
+    drop_asks desk.row (book_at desk) last (quote_to_drop (book_at desk) last)
+    (stood_at desk).stands refl

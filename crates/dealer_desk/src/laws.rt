@@ -90,6 +90,17 @@ pub fn what_is_left_is_of_the_day()
         (λ own. is_some (room_of (rooms_at desk) own.quote.request) ≡ true) }
 {}
 
+/// A word that is asked, by a message or a drop, is that of a quote of the day: from 1 to the quotes of
+/// the dealer's row.
+pub fn what_is_asked_is_of_the_day()
+    ensures message { (desk : DeskEvents) (moment : ℕ) (bytes : List ℕ)
+        → IfSome (word_asked (verdict_at desk moment bytes))
+        (λ quote. (1 ≤ quote) × (quote ≤ desk.row.quotes)) }
+    ensures drop { (desk : DeskEvents) (last : ℕ)
+        → IfSome (number_to_drop (book_at desk) last)
+        (λ quote. (1 ≤ quote) × (quote ≤ desk.row.quotes)) }
+{}
+
 /// Each quote stands as its word was answered: it is withdrawn exactly where its word was asked and
 /// is withdrawn, and it is known to be lifted exactly where its word was asked and found lifted.
 pub fn quotes_stand_as_their_words_were_answered()

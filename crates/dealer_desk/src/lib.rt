@@ -79,7 +79,7 @@ pub use events::DealerEvent;
 pub use laws::{
     an_answer_unasked_changes_nothing, facts_after_one_event_more,
     facts_say_how_words_were_answered, limits_are_kept, quotes_stand_as_their_words_were_answered,
-    what_is_left_is_of_the_day, words_are_asked_event_by_event,
+    what_is_asked_is_of_the_day, what_is_left_is_of_the_day, words_are_asked_event_by_event,
 };
 pub use standing::{QuoteEnd, StandingQuote, StandingRequest, Withdrawal};
 pub use verdicts::DealerVerdict;

@@ -19,6 +19,7 @@ use Rattle.std.proofs.lemmas.List.Elements.{All-from_recursion}
 use Rattle.std.specs.Str.{IsUtf8}
 use Rattle.std.proofs.lemmas.Str.{IsUtf8-from_ascii}
 use Rattle.std.proofs.lemmas.Str.Parse.{digit_from_value}
+use Rattle.fix_fields.specs.TimeOfDay.{time_text}
 use Rattle.std.proofs.Math.Seq.{take-append_seam, drop-append_seam}
 use Rattle.fix_fields.specs.Frame.{three_digits}
 use Rattle.fix_fields.specs.UtcTimestamp.{IsDate, date_text, two_digits, four_digits, clock_text}
@@ -360,17 +361,41 @@ is_other_day date text is =
           let wrong : refused Form ≡ Err OtherDay = sym (moment_of-other date text none) ∙ is in cc)
     ]
 
--- what is written
-pub written : (day h m s r : List ℕ) (k n : ℕ) → length day ≡ 8 → h ≡ two_digits (n / 3600000) → m ≡ two_digits (n / 60000 % 60)
+-- what is written of a time of day
+pub written : (h m s r : List ℕ) (k n : ℕ) → h ≡ two_digits (n / 3600000) → m ≡ two_digits (n / 60000 % 60)
     → s ≡ two_digits (n / 1000 % 60) → k ≡ 48 + n % 1000 / 100 → r ≡ two_digits (n % 100)
-    → get_or day 0 0 ∷ (get_or day 1 0 ∷ (get_or day 2 0 ∷ (get_or day 3 0 ∷ (get_or day 4 0 ∷ (get_or day 5 0 ∷ (get_or day 6 0 ∷ (get_or day 7 0
-    ∷ (45 ∷ (get_or h 0 0 ∷ (get_or h 1 0 ∷ (58 ∷ (get_or m 0 0 ∷ (get_or m 1 0 ∷ (58 ∷ (get_or s 0 0 ∷ (get_or s 1 0 ∷ (46 ∷ (k ∷ (get_or r 0 0 ∷ (get_or r 1 0 ∷ []))))))))))))))))))))
-    ≡ timestamp_text day n
-written (a ∷ (b ∷ (c ∷ (d ∷ (e ∷ (f ∷ (g ∷ (i ∷ [])))))))) h m s r k n long hours minutes seconds hundreds rest =
+    → get_or h 0 0 ∷ (get_or h 1 0 ∷ (58 ∷ (get_or m 0 0 ∷ (get_or m 1 0 ∷ (58 ∷ (get_or s 0 0 ∷ (get_or s 1 0 ∷ (46 ∷ (k ∷ (get_or r 0 0 ∷ (get_or r 1 0 ∷ [])))))))))))
+    ≡ time_text n
+unfolding time_text
+written h m s r k n hours minutes seconds hundreds rest =
     rw (hours, minutes, seconds, hundreds, rest) (ap
-    (λ t. a ∷ (b ∷ (c ∷ (d ∷ (e ∷ (f ∷ (g ∷ (i ∷ (45 ∷ (clock_text n ++ (46 ∷ ((48 + n % 1000 / 100) ∷ t))))))))))))
+    (λ t. clock_text n ++ (46 ∷ ((48 + n % 1000 / 100) ∷ t)))
     (cons_same (omega arith) (cons_same (omega arith) refl)))
-written _ h m s r k n long hours minutes seconds hundreds rest = absurd (omega arith)
+
+-- a date, a dash and a time of day are a timestamp
+pub dated : (date : List ℕ) (n : ℕ) → timestamp_text date n ≡ date ++ 45 ∷ time_text n
+unfolding time_text
+dated date n = append_assoc date (45 ∷ clock_text n) (46 ∷ three_digits (n % 1000))
+
+-- the same, byte by byte
+pub written_behind : (day t : List ℕ) (n : ℕ) → length day ≡ 8 → t ≡ time_text n
+    → get_or day 0 0 ∷ (get_or day 1 0 ∷ (get_or day 2 0 ∷ (get_or day 3 0 ∷ (get_or day 4 0 ∷ (get_or day 5 0 ∷ (get_or day 6 0 ∷ (get_or day 7 0
+    ∷ (45 ∷ (get_or t 0 0 ∷ (get_or t 1 0 ∷ (get_or t 2 0 ∷ (get_or t 3 0 ∷ (get_or t 4 0 ∷ (get_or t 5 0 ∷ (get_or t 6 0 ∷ (get_or t 7 0
+    ∷ (get_or t 8 0 ∷ (get_or t 9 0 ∷ (get_or t 10 0 ∷ (get_or t 11 0 ∷ []))))))))))))))))))))
+    ≡ timestamp_text day n
+unfolding time_text
+written_behind (a ∷ (b ∷ (c ∷ (d ∷ (e ∷ (f ∷ (g ∷ (i ∷ [])))))))) t n long time = rw time refl
+written_behind _ t n long time = absurd (omega arith)
+
+time_below_128 : (n : ℕ) → n < 86400000 → AllByRecursion (λ b. b < 128) (time_text n)
+unfolding time_text
+time_below_128 n below =
+    (omega arith, (omega arith, (omega arith, (omega arith, (omega arith, (omega arith, (omega arith, (omega arith, (omega arith, (omega arith, (omega arith, (omega arith, tt))))))))))))
+
+pub time_utf8 : (n : ℕ) → n < 86400000 → IsUtf8 (time_text n)
+time_utf8 n below =
+    let all : All (λ b. b < 128) (time_text n) = All-from_recursion (λ b. b < 128) (time_text n) (time_below_128 n below) in
+    IsUtf8-from_ascii (time_text n) (IsAscii-from_all (time_text n) all)
 
 below_128 : (y m d n : ℕ) → y < 10000 → m ≤ 12 → d ≤ 31 → n < 86400000 → AllByRecursion (λ b. b < 128) (timestamp_text (date_text y m d) n)
 below_128 y m d n year month day below =

@@ -5,3 +5,4 @@ pub mod Garbled
 pub mod Scan
 pub mod TextLaws
 pub mod UtcTimestamp
+pub mod TimeOfDay

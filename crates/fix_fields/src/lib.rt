@@ -30,14 +30,15 @@
 //!   [`is_value`] and [`fits`] are the tests of what a writer asks for, and [`FrameWriter::left`]
 //!   tells how much still fits. A call whose memory is refused leaves the writer as it was.
 //! - [`read_moment`] reads exactly the two spellings of a moment of its date, and tells what is no
-//!   spelling at all from what is one of another date. What [`moment_text`] returns is read back.
+//!   spelling at all from what is one of another date. What [`moment_text`] returns is read back;
+//!   [`time_text`] is its part behind the date.
 //!
 //! Not promised: that memory is there; calendar arithmetic, since a [`Date`] is any month from 01
 //! to 12 with any day from 01 to 31.
 //!
 //! A contract sees a [`Frame`] and a [`FrameWriter`] as the list of their fields, a tag and the
 //! bytes of a value each, a [`Date`] as the list of its digits, and a [`Moment`] as a number. The
-//! definitions are in `specs/`: `Frame`, `Garbled` and `UtcTimestamp`.
+//! definitions are in `specs/`: `Frame`, `Garbled`, `UtcTimestamp` and `TimeOfDay`.
 #![tactic(auto)]
 
 mod dates;
@@ -60,7 +61,7 @@ pub use laws::{
     moment_of_is_the_reading,
 };
 pub use limits::{MOST_BODY, MOST_FRAME};
-pub use moments::{Moment, moment_text, read_moment};
+pub use moments::{Moment, moment_text, read_moment, time_text};
 pub use stream_laws::{
     envelopes_of_is_the_cutting, frames_are_cut, pieces_make_no_difference,
     stream_faults_are_for_ever,

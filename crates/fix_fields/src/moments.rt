@@ -1,9 +1,11 @@
 //! Moments of a day.
 ghost use Rattle.std.specs.Prelude.{◌≡◌, ◌≢◌, ◌↔◌, ℕ, ◌+◌, ◌-◌, ◌*◌, ◌<◌, ◌≤◌, List, Ok, Err};
-ghost use Rattle.std.specs.Prelude.{length, take, drop, slice_index, SomeIff, MatchOption};
+ghost use Rattle.std.specs.Prelude.{◌∷◌, ◌++◌, length, take, drop, slice_index, SomeIff};
+ghost use Rattle.std.specs.Prelude.{MatchOption};
 ghost use Rattle.fix_fields.specs.Frame.{IsValue};
 ghost use Rattle.fix_fields.specs.UtcTimestamp.{UtcTimestamp, moment_of, timestamp_text};
 ghost use Rattle.fix_fields.specs.UtcTimestamp.{two_digits};
+ghost use Rattle.fix_fields.specs.TimeOfDay as time;
 ghost use Rattle.fix_fields.specs.Clock.{IsClock, IsTwoDigits};
 ghost use Rattle.fix_fields.specs.declared.fault.MomentFault.TheVariants.{Form, OtherDay};
 
@@ -157,21 +159,45 @@ pub fn moment_text(date: &Date, moment: Moment) -> ArrayString<21>
     ensures read_back { moment_of date.now result.bytes ≡ Ok moment }
     ensures value { IsValue result.bytes }
 {
-    let n = moment.get();
     let d = date.digits();
-    let hours = digits_of(n / 3_600_000);
-    let minutes = digits_of(n / 60_000 % 60);
-    let seconds = digits_of(n / 1_000 % 60);
-    let hundreds = b'0' + (n % 1_000 / 100) as u8;
-    let rest = digits_of(n % 100);
+    let t = time_bytes(moment);
     let bytes = [
-        d[0], d[1], d[2], d[3], d[4], d[5], d[6], d[7], b'-', hours[0], hours[1], b':', minutes[0],
-        minutes[1], b':', seconds[0], seconds[1], b'.', hundreds, rest[0], rest[1],
+        d[0], d[1], d[2], d[3], d[4], d[5], d[6], d[7], b'-', t[0], t[1], t[2], t[3], t[4], t[5],
+        t[6], t[7], t[8], t[9], t[10], t[11],
     ];
     let Ok(text) = ArrayString::from_byte_string(&bytes) else {
         unreachable!();
     };
     text
+}
+
+/// The time of day of a moment, `HH:MM:SS.sss`: always with milliseconds. It is what stands behind
+/// the date and the dash in [`moment_text`].
+pub fn time_text(moment: Moment) -> ArrayString<12>
+    ensures text { result.bytes ≡ time.time_text moment }
+    ensures of_a_timestamp { (date : List ℕ)
+        → timestamp_text date moment ≡ date ++ 45 ∷ result.bytes }
+{
+    let bytes = time_bytes(moment);
+    let Ok(text) = ArrayString::from_byte_string(&bytes) else {
+        unreachable!();
+    };
+    text
+}
+
+/// The bytes of `HH:MM:SS.sss`.
+fn time_bytes(moment: Moment) -> [u8; 12]
+    ensures { result ≡ time.time_text moment }
+{
+    let n = moment.get();
+    let h = digits_of(n / 3_600_000);
+    let m = digits_of(n / 60_000 % 60);
+    let s = digits_of(n / 1_000 % 60);
+    let hundreds = b'0' + (n % 1_000 / 100) as u8;
+    let rest = digits_of(n % 100);
+    [
+        h[0], h[1], b':', m[0], m[1], b':', s[0], s[1], b'.', hundreds, rest[0], rest[1],
+    ]
 }
 
 /// The two digits of a number below 100.

@@ -1,5 +1,5 @@
 //! Dates and moments.
-use fix_fields::{Date, Moment, MomentFault, moment_text, read_moment};
+use fix_fields::{Date, Moment, MomentFault, moment_text, read_moment, time_text};
 use std::test::Fail;
 
 /// The milliseconds of a text of the given day, or the fault that it has.
@@ -56,6 +56,8 @@ fn moments_are_written(rt: HostRuntime) -> Result<(), Fail> {
     );
     let last = Moment::new(86_399_999).ok_or("no moment")?;
     assert_eq!(rt; moment_text(&date, last).as_str(), "20250314-23:59:59.999");
+    assert_eq!(rt; time_text(moment).as_str(), "09:05:10.007");
+    assert_eq!(rt; time_text(last).as_str(), "23:59:59.999");
     assert!(rt; Moment::new(86_400_000).is_none());
     assert!(rt; moment < last);
     Ok(())

@@ -2,3 +2,4 @@ pub mod Checks
 pub mod Codes
 pub mod Dealers
 pub mod Texts
+pub mod DayLines

@@ -43,6 +43,6 @@ pub use asks::{Ask, Side};
 pub use closes::{Close, HitRefusal, Reply};
 pub use duties::Duty;
 pub use ids::{Id, IdBuf};
-pub use lines::{QuoteLine, QuoteState, RequestLine, RequestState};
+pub use lines::{FirmLines, QuoteLine, QuoteState, RequestLine, RequestState};
 pub use quantities::Quantity;
 pub use rooms::{AskedDealers, Offer, ResponseRef, RoomRef};

@@ -79,3 +79,13 @@ pub enum RequestState {
         price: Ticks,
     },
 }
+
+/// The lines of a firm's blotter, as its desk has them. A contract sees them as `lines_in` of
+/// `specs/DayLines`.
+#[derive(Drop)]
+pub enum FirmLines<'a> {
+    /// A dealer's: one for each of its accepted quotes.
+    Dealer(&'a [QuoteLine]),
+    /// An investor's: one for each of its accepted requests.
+    Investor(&'a [RequestLine]),
+}

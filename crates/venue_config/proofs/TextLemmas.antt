@@ -46,6 +46,9 @@ name_is_value (first ∷ rest) h =
 pub bond_id_is_value : (text : List ℕ) → is_bond_id text ≡ true → IsValue text
 bond_id_is_value text h = value_if_all is_capital_or_digit capital_or_digit-apart text (and_parts (length text == 12) (list_all is_capital_or_digit text) h).1
 
+pub bond_id_is_utf8 : (text : List ℕ) → is_bond_id text ≡ true → IsUtf8 text
+bond_id_is_utf8 text h = utf8_if_all is_capital_or_digit capital_or_digit-low text (and_parts (length text == 12) (list_all is_capital_or_digit text) h).1
+
 -- the texts of fixed room are names
 abbrev pub are_names : List ArrayString → Bool
 are_names names = list_all (λ own. is_name own.bytes) names

@@ -5,6 +5,7 @@ ghost use Rattle.venue_config.specs.Texts as spec;
 
 use crate::characters::are_capitals_or_digits;
 use std::marker::Model;
+use std::str;
 
 /// The identifier of a bond (SecurityID 48 with SecurityIDSource 22=4): 12 capital letters and
 /// digits, the shape of an ISIN, whose check digit is not looked at.
@@ -43,5 +44,16 @@ impl BondId {
         ensures field { IsValue self.now }
     {
         &self.text
+    }
+
+    /// The identifier as text.
+    #[tactic(auto, using(crate::proofs::TextLemmas::bond_id_is_utf8))]
+    pub fn as_str(&self) -> &str
+        ensures { result.now ≡ self.now }
+    {
+        let Ok(text) = str::from_utf8(&self.text) else {
+            unreachable!();
+        };
+        text
     }
 }

@@ -58,6 +58,13 @@ impl Name {
         self.text.as_bytes()
     }
 
+    /// The name as text.
+    pub fn as_str(&self) -> &str
+        ensures { result.now ≡ self.now }
+    {
+        self.text.as_str()
+    }
+
     /// The name that a text of fixed room is.
     pub(crate) fn of_text(text: ArrayString<8>) -> Self
         requires { IsTrue (spec.is_name text.bytes) }

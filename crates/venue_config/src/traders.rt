@@ -1,6 +1,7 @@
 //! The traders of a firm.
-ghost use Rattle.std.specs.Prelude.{◌≡◌, ℕ, ◌≤◌, List, [], length, IsTrue};
+ghost use Rattle.std.specs.Prelude.{◌≡◌, ℕ, ◌≤◌, List, [], length, slice_get, IsTrue};
 ghost use Rattle.std.specs.List.{find, list_any};
+ghost use Rattle.std.specs.Option.{option_copied};
 ghost use Rattle.venue_config.specs.Texts as spec;
 
 use crate::Name;
@@ -44,6 +45,14 @@ impl Traders {
         ensures most { result ≤ Self.MOST }
     {
         self.names.len()
+    }
+
+    /// The name of the trader at a place, from 0, or none behind the last one.
+    pub fn get(&self, index: usize) -> Option<&[u8]>
+        ensures { option_copied result ≡ slice_get self.now index }
+    {
+        let name = self.names.as_slice().get(index)?;
+        Some(name.as_bytes())
     }
 
     /// Whether one of them has this name.

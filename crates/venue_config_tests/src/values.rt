@@ -11,6 +11,7 @@ fn the_example_has_its_rows(rt: HostRuntime) -> Result<(), Fail> {
     assert_eq!(rt; bonds.len(), 2);
     assert!(rt; bonds[0].id.as_bytes() == b"BONDA0000001".as_slice());
     assert!(rt; bonds[1].id.as_bytes() == b"BONDB0000002".as_slice());
+    assert_eq!(rt; bonds[1].id.as_str(), "BONDB0000002");
     assert_eq!(rt; bonds[0].grid.get(), 256);
     assert_eq!(rt; bonds[1].grid.get(), 256);
     let dealers = config.dealers();
@@ -24,6 +25,7 @@ fn the_example_has_its_rows(rt: HostRuntime) -> Result<(), Fail> {
     let investors = config.investors();
     assert_eq!(rt; investors.len(), 2);
     assert!(rt; investors[1].name.as_bytes() == b"INV2".as_slice());
+    assert_eq!(rt; investors[1].name.as_str(), "INV2");
     assert!(rt; investors[1].traders.contains(b"T9"));
     assert_eq!(rt; investors[1].requests, 3);
     assert_eq!(rt; investors[1].open_limit, 2);
@@ -103,6 +105,9 @@ fn traders_are_found_by_their_names(rt: HostRuntime) -> Result<(), Fail> {
     let dealer = config.dealer(1).ok_or("no dealer")?;
     let trader = dealer.traders.find(b"T2").ok_or("no trader")?;
     assert!(rt; trader.as_bytes() == b"T2".as_slice());
+    let first = dealer.traders.get(0).ok_or("no first trader")?;
+    assert!(rt; first == b"T2".as_slice());
+    assert!(rt; dealer.traders.get(1).is_none());
     assert!(rt; dealer.traders.find(b"T1").is_none());
     assert!(rt; dealer.traders.find(b"t2").is_none());
     assert!(rt; dealer.traders.find(b"T").is_none());
