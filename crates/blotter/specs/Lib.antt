@@ -1,0 +1,2 @@
+pub mod BlotterText
+pub mod LineCuts
