@@ -11,7 +11,7 @@ use Rattle.step_replay.proofs.SeenLemmas.{lifted_seen, start_seen}
 use Rattle.step_replay.proofs.StepLemmas.{IsKept, kept_by_all}
 
 -- the view stays at the desk of the dealer's trail
-seen_is_kept : (date : List ℕ) (row : DealerRow) → IsKept date row (Seen date row)
+pub seen_is_kept : (date : List ℕ) (row : DealerRow) → IsKept date row (Seen date row)
 seen_is_kept date row = record {
   own = λ trail moment bytes before. own_seen date row trail before moment bytes _ refl;
   drop = λ trail last moment before. drop_seen date row trail before last moment _ refl;

@@ -18,8 +18,8 @@ use Rattle.dealer_desk.specs.DealerOutput.{may_close, verdict_at, word_asked, wi
 use Rattle.dealer_desk.specs.DealerOutput.{with_notice}
 use Rattle.dealer_desk.specs.declared.events.DealerEvent.{DealerEvent}
 use Rattle.dealer_desk.specs.declared.events.DealerEvent.TheVariants as event
-use Rattle.step_replay.specs.declared.due.Due.{Due}
-use Rattle.step_replay.specs.declared.due.Due.TheVariants as due
+use Rattle.step_replay.specs.declared.dues.Due.{Due}
+use Rattle.step_replay.specs.declared.dues.Due.TheVariants as due
 use Rattle.step_replay.specs.DealerView.{DealerView, after_due, answer_to, dealer_view}
 use Rattle.step_replay.specs.DealerView.{is_withdrawn_at, no_room, sent_at}
 use Rattle.step_replay.specs.DealerView.{view_after, view_at_start, with_event_at_desk}

@@ -38,9 +38,10 @@ use Rattle.step_replay.specs.DealerTrail.{entries_of, message_by, fact_in, messa
 use Rattle.step_replay.specs.DueList.{due_by, due_by_fact, due_list}
 use Rattle.step_replay.specs.DealerView.{DealerView, after_due, view_after, view_at_start}
 use Rattle.step_replay.specs.DealerView.{answer_to, no_room}
-use Rattle.step_replay.specs.declared.due.Due.{Due}
-use Rattle.step_replay.specs.declared.due.Due.TheVariants as due
-use Rattle.step_replay.proofs.TrailLemmas.{facts_added, sent_added, due_added, lifts_none}
+use Rattle.step_replay.specs.declared.dues.Due.{Due}
+use Rattle.step_replay.specs.declared.dues.Due.TheVariants as due
+use Rattle.step_replay.specs.DealerTrail.{room_in, rooms_by}
+use Rattle.step_replay.proofs.TrailLemmas.{rooms_added, facts_added, sent_added, due_added, lifts_none}
 
 -- the view at a desk with these events, where these quotes are lifted
 abbrev pub view_of : List ℕ → DealerRow → List DealerEvent → List ℕ → DealerView
@@ -65,7 +66,7 @@ pub record Seen (date : List ℕ) (row : DealerRow) (trail : List DealerEntry) :
 abbrev desk_with : List DealerFact → List (List ℕ) → DeskState
 desk_with facts sent = record { facts = facts; sent = sent }
 
-both : (facts facts_too : List DealerFact) (sent sent_too : List (List ℕ))
+pub both : (facts facts_too : List DealerFact) (sent sent_too : List (List ℕ))
     → facts ≡ facts_too → sent ≡ sent_too → desk_with facts sent ≡ desk_with facts_too sent_too
 both facts facts_too sent sent_too one other =
     ap (λ f. desk_with f sent) one ∙ ap (λ s. desk_with facts_too s) other
@@ -80,14 +81,14 @@ map_same f g same None = refl
 map_same f g same (Some x) = ap (λ y. Some y) (same x)
 
 -- a desk after one event more
-desk_push : (date : List ℕ) (row : DealerRow) (events : List DealerEvent) (more : DealerEvent)
+pub desk_push : (date : List ℕ) (row : DealerRow) (events : List DealerEvent) (more : DealerEvent)
     → desk_after date row (events ++ more ∷ [])
     ≡ after_event date row (desk_after date row events) more
 unfolding desk_after
 desk_push date row events more = fold-append (after_event date row) no_facts events (more ∷ [])
 
 -- what is sent with a message is the next of the list
-sent_is : (date : List ℕ) (row : DealerRow) (sent : List (List ℕ)) (moment : ℕ)
+pub sent_is : (date : List ℕ) (row : DealerRow) (sent : List (List ℕ)) (moment : ℕ)
     (message : Option OutMessage)
     → sent_with date row sent moment message
     ≡ sent ++ option_to_list (option_map (next_message date row sent moment) message)
@@ -102,7 +103,7 @@ answers_undue quote how None = refl
 answers_undue quote how (Some settled.Withdrawn) = refl
 answers_undue quote how (Some settled.Lifted) = refl
 
-settled_undue : (asked : Option ℕ) (how : Withdrawal) (answer : Option Settled)
+pub settled_undue : (asked : Option ℕ) (how : Withdrawal) (answer : Option Settled)
     → filter_map due_by_fact (settled_facts asked how answer) ≡ []
 settled_undue None how answer = refl
 settled_undue (Some quote) how answer = answers_undue quote how answer
@@ -112,7 +113,7 @@ kept_undue : (b : Bool) (quote : AcceptedQuote)
 kept_undue true quote = refl
 kept_undue false quote = refl
 
-verdict_undue : (v : DealerVerdict) (answer : Option Settled)
+pub verdict_undue : (v : DealerVerdict) (answer : Option Settled)
     → filter_map due_by_fact (verdict_facts v answer) ≡ []
 verdict_undue (verdict.QuoteAccepted request id quote replaced) answer =
     filter_map-append due_by_fact (settled_facts replaced by.Replacement answer)
@@ -138,7 +139,7 @@ module _ (date : List ℕ) (row : DealerRow) (trail : List DealerEntry) (more : 
       (option_to_list (shown_room more))
       (option_to_list (message_by date row trail more)))
 
-  sent_grown : sent_by grown ≡ sent_by trail ++ option_to_list (message_by date row trail more)
+  pub sent_grown : sent_by grown ≡ sent_by trail ++ option_to_list (message_by date row trail more)
   unfolding entries_of
   sent_grown =
       filter_map-append message_in trail (entries_of date row trail more)
@@ -146,7 +147,15 @@ module _ (date : List ℕ) (row : DealerRow) (trail : List DealerEntry) (more : 
       (option_to_list (shown_room more))
       (option_to_list (message_by date row trail more)))
 
-  due_grown : (item : Due)
+  pub rooms_grown : rooms_by grown ≡ rooms_by trail ++ option_to_list (shown_room more)
+  unfolding entries_of
+  rooms_grown =
+      filter_map-append room_in trail (entries_of date row trail more)
+      ∙ ap (λ l. rooms_by trail ++ l) (rooms_added (event_facts date row (book_by trail) more)
+      (option_to_list (shown_room more))
+      (option_to_list (message_by date row trail more)))
+
+  pub due_grown : (item : Due)
       → filter_map due_by_fact (event_facts date row (book_by trail) more) ≡ item ∷ []
       → due_list grown ≡ due_list trail ++ item ∷ []
   unfolding entries_of

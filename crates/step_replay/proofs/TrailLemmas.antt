@@ -9,7 +9,7 @@ use Rattle.std.proofs.lemmas.List.Folds.{list_any-append}
 use Rattle.market_terms.specs.declared.rooms.RoomRef.{RoomRef}
 use Rattle.dealer_desk.specs.DealerFacts.{DealerFact}
 use Rattle.step_replay.specs.DealerTrail.{DealerEntry, AtDesk, ShownIn, Sent}
-use Rattle.step_replay.specs.DealerTrail.{fact_in, message_in, lifts}
+use Rattle.step_replay.specs.DealerTrail.{fact_in, message_in, room_in, lifts}
 use Rattle.step_replay.specs.DueList.{due_by, due_by_fact}
 
 -- Lists.
@@ -90,3 +90,14 @@ module _ (facts : List DealerFact) (rooms : List RoomRef) (messages : List (List
           → (xs : List A) → list_any (lifts quote) (map f xs) ≡ false
       no_lift f none [] = refl
       no_lift f none (x ∷ xs) = rw (none x, no_lift f none xs) refl
+
+  pub rooms_added : filter_map room_in added ≡ rooms
+  rooms_added =
+      in_parts room_in (map AtDesk facts) (map ShownIn rooms) (map Sent messages)
+      ∙ rw (
+        all_of room_in ShownIn (λ room. Some room) (λ room. refl) rooms,
+        each_stays rooms,
+        none_of room_in AtDesk (λ fact. refl) facts,
+        none_of room_in Sent (λ m. refl) messages,
+      )
+      (append-nil rooms)

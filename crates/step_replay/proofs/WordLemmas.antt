@@ -154,7 +154,7 @@ lifted_one trail quote still before other =
         rw open_word (and_false (was_lifted trail other || true))
     by_test false test = one_more (was_lifted trail other) (was_withdrawn trail other) (before other)
 
-one_is_kept : (date : List ℕ) (row : DealerRow) → IsKept date row IsOneOf
+pub one_is_kept : (date : List ℕ) (row : DealerRow) → IsKept date row IsOneOf
 unfolding event_facts
 one_is_kept date row = record {
   own = λ trail moment bytes before.

@@ -237,19 +237,23 @@ offer_of config dealer quote price valid_until = record {
   valid_until = valid_until;
 }
 
--- a quote is posted
+-- whether the venue has the word of a dealer's quote
+abbrev pub has_word_for : Configuration → Dealer → ℕ → Bool
+has_word_for config dealer quote = nat_lt (word_for config dealer quote) (words_of config)
+
+-- a quote is posted, where the venue has its word
 abbrev pub posted_by : Configuration → List Fact → RoomRef → ℕ → ℕ → Option ℕ → ℕ → Dealer → Effect
 posted_by config facts room quote price valid_until moment dealer =
     let known = of_room room facts in
-    in_room config facts room (hears known dealer.number)
+    in_room config facts room (has_word_for config dealer quote && hears known dealer.number)
     (at_room.Post dealer.number (word_for config dealer quote) price valid_until)
     (duties_of_post known room dealer.number (offer_of config dealer quote price valid_until) moment)
 
--- a quote is taken out
+-- a quote is taken out, where the venue has its word
 abbrev pub unposted_by : Configuration → List Fact → RoomRef → ℕ → ℕ → Dealer → Effect
 unposted_by config facts room quote moment dealer =
     let known = of_room room facts in
-    in_room config facts room (hears known dealer.number)
+    in_room config facts room (has_word_for config dealer quote && hears known dealer.number)
     (at_room.Unpost dealer.number (word_for config dealer quote))
     (duties_of_unpost known room dealer.number (word_for config dealer quote) moment)
 

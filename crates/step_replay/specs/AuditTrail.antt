@@ -11,7 +11,7 @@ use Rattle.step_replay.specs.DealerTrail as dealer_trail
 use Rattle.step_replay.specs.InvestorTrail as investor_trail
 use Rattle.step_replay.specs.Actions.{Effect, duty_effect, message_effect, sweep_effect}
 use Rattle.step_replay.specs.DueList.{due_list}
-use Rattle.step_replay.specs.declared.due.Due.{Due}
+use Rattle.step_replay.specs.declared.dues.Due.{Due}
 use Rattle.step_replay.specs.declared.steps.Actor.{Actor}
 use Rattle.step_replay.specs.declared.steps.Actor.TheVariants as actor
 use Rattle.step_replay.specs.declared.steps.Step.{Step}

@@ -13,8 +13,8 @@ use Rattle.dealer_desk.specs.DealerOutput.{verdict_at, word_asked, with_event, w
 use Rattle.dealer_desk.specs.DeskLaws.{withdraws}
 use Rattle.dealer_desk.specs.declared.events.DealerEvent.{DealerEvent}
 use Rattle.dealer_desk.specs.declared.events.DealerEvent.TheVariants as event
-use Rattle.step_replay.specs.declared.due.Due.{Due}
-use Rattle.step_replay.specs.declared.due.Due.TheVariants as due
+use Rattle.step_replay.specs.declared.dues.Due.{Due}
+use Rattle.step_replay.specs.declared.dues.Due.TheVariants as due
 
 -- How far a list of what is due has come: the dealer's desk, and the quotes whose lifting counts,
 -- by their own numbers, in the order of the list.

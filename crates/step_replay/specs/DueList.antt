@@ -3,8 +3,8 @@
 use Rattle.std.specs.Prelude.{List, filter_map, Option, Some, None}
 use Rattle.dealer_desk.specs.DealerFacts.{DealerFact, Came, Shown, Told, Dropped}
 use Rattle.step_replay.specs.DealerTrail.{DealerEntry, AtDesk, Lifted}
-use Rattle.step_replay.specs.declared.due.Due.{Due}
-use Rattle.step_replay.specs.declared.due.Due.TheVariants as due
+use Rattle.step_replay.specs.declared.dues.Due.{Due}
+use Rattle.step_replay.specs.declared.dues.Due.TheVariants as due
 
 -- what a fact of the desk says was due
 abbrev pub due_by_fact : DealerFact → Option Due

@@ -20,9 +20,13 @@ abbrev pub message_in : InvestorEntry → Option (List ℕ)
 message_in (AtDesk fact) = None
 message_in (Sent message) = Some message
 
--- the book by the facts of the desk
+-- the facts of the desk
+abbrev pub facts_of : List InvestorEntry → List InvestorFact
+facts_of trail = filter_map fact_in trail
+
+-- the book by them
 abbrev pub book_by : List InvestorEntry → InvestorBook
-book_by trail = book_of (filter_map fact_in trail)
+book_by trail = book_of (facts_of trail)
 
 -- the messages that the investor was sent
 abbrev pub sent_by : List InvestorEntry → List (List ℕ)

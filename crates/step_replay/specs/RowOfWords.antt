@@ -9,7 +9,7 @@ use Rattle.quote_word.specs.declared.settled.Settled.TheVariants.{Withdrawn, Lif
 use Rattle.dealer_desk.specs.DealerOutput.{DeskEvents, asked_by, book_at, with_event}
 use Rattle.dealer_desk.specs.DeskLaws.{says_withdrawn}
 use Rattle.dealer_desk.specs.declared.events.DealerEvent.{DealerEvent}
-use Rattle.step_replay.specs.declared.due.Due.{Due}
+use Rattle.step_replay.specs.declared.dues.Due.{Due}
 use Rattle.step_replay.specs.DealerView.{DealerView, after_due, is_lifted, is_withdrawn_at}
 
 -- A row of words: what each of them is, or none while it is open. Words are numbered from 0,

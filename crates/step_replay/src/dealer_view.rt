@@ -5,7 +5,7 @@ ghost use Rattle.venue_config.specs.declared.dealer_rows.DealerRow.{DealerRow};
 ghost use Rattle.dealer_desk.specs.DealerFacts.{number_to_drop};
 ghost use Rattle.dealer_desk.specs.DealerOutput.{book_at, verdict_at, with_event, word_asked};
 ghost use Rattle.dealer_desk.specs.declared.events.DealerEvent.{DealerEvent};
-ghost use Rattle.step_replay.specs.declared.due.Due.{Due};
+ghost use Rattle.step_replay.specs.declared.dues.Due.{Due};
 ghost use Rattle.step_replay.specs.DealerView as spec;
 ghost use Rattle.step_replay.specs.RowOfWords as kept;
 

@@ -1,4 +1,15 @@
-//! The core of the venue: what is due to a dealer, and what the dealer is sent for it.
+//! The core of the venue: a day of the whole venue, what is due to a dealer in it, and what the
+//! dealer is sent for that.
+//!
+//! A day is a list of [`Step`]s: messages of firms, turns at which duties are done, sweeps of rooms.
+//! [`run`] replays it, and the [`World`] that it gives has what each firm was sent, and the lines of
+//! its blotter. [`due`] gives what was due to a dealer:
+//!
+//! ```ignore
+//! let world = run(alloc, &config, &steps)?;
+//! let messages = world.sent(dealer);
+//! let dues = due(alloc, &config, &steps, dealer)?;
+//! ```
 //!
 //! A dealer learns five things of a day, in some order: its own messages come, it is shown
 //! requests, quotes of its are lifted, it is told how requests ended, and the quotes that it
@@ -23,25 +34,69 @@
 //!
 //! # The whole venue
 //!
-//! A day of the venue is a list of [`Step`]s, and `audit_trail` (`specs/AuditTrail`) is what
-//! becomes so of it: the facts at each place, the duties that were left, and the turns that did
-//! one. It is a definition; what follows from it stands as laws:
+//! `audit_trail` (`specs/AuditTrail`) is what becomes so of a day: the facts at each place, the
+//! duties that were left, and the turns that did one. It is a definition, and the replay is held to
+//! it:
+//!
+//! - [`run`]: what each firm was sent, and the lines of its blotter, are those of the audit trail;
+//!   [`due`]: the list is the dealer's of the audit trail. The first step that names a firm or a
+//!   room that the venue does not have is the fault ([`ReplayFault`]), before any step is done; else
+//!   only memory can be refused.
+//!
+//! What follows from the definition stands as laws:
 //!
 //! - [`dealers_are_sent_their_view`]: what a dealer was sent is the dealer view of what was due to
 //!   it, after every list of steps of every venue.
 //! - [`dealers_are_isolated`], the headline: so two venues that agree on what was due to a dealer,
 //!   its row and the date sent it the same bytes.
+//! - [`words_are_answered_as_the_view_says`]: lifted where a lifting of the quote that counts stands
+//!   before, else withdrawn.
+//! - [`notices_come_once_after_their_requests`]; [`each_named_dealer_is_told_once`] where nothing is
+//!   left to be done; [`a_hit_notice_names_the_lifted_quote`].
+//! - [`price_law`]: where two days are one but for the prices of other dealers, what was due to a
+//!   dealer is one in both, but that Cover may stand against Done Away.
 //! - [`no_quote_is_lifted_and_withdrawn`].
+//! - [`words_are_answered_as_the_view_says`]: a message or a drop that asks a quote's word is
+//!   answered as the dealer view answers it.
+//! - [`notices_come_once_after_their_requests`], [`each_named_dealer_is_told_once`]: a closing
+//!   notice comes after its request was shown, and at most once; where no duty is left and a room
+//!   has ended, each dealer that its request names was told once, as the end says for it.
+//! - [`a_hit_notice_names_the_lifted_quote`]: a notice of a hit names the quote that was lifted.
+//! - [`steps_meet_their_tests`]: a duty's test never fails. The duty that stands first in a queue
+//!   meets the test of its action, and a dealer's message asks a word that the venue has.
 #![tactic(auto)]
 
+mod condition_laws;
+mod dealer_actions;
 mod dealer_view;
-mod due;
+mod due_lists;
+mod dues;
+mod duties;
+mod faults;
+mod floor;
+mod hits;
+mod investor_actions;
 mod laws;
+mod notice_laws;
+mod opening;
+mod prices;
+mod queues;
+mod replay;
+mod room_actions;
 mod steps;
+mod world;
 
+pub use condition_laws::steps_meet_their_tests;
 pub use dealer_view::{alone, equal_lists_have_equal_views};
-pub use due::Due;
+pub use dues::Due;
+pub use faults::ReplayFault;
 pub use laws::{
     dealers_are_isolated, dealers_are_sent_their_view, no_quote_is_lifted_and_withdrawn,
 };
+pub use notice_laws::{
+    a_hit_notice_names_the_lifted_quote, each_named_dealer_is_told_once,
+    notices_come_once_after_their_requests, words_are_answered_as_the_view_says,
+};
+pub use prices::price_law;
 pub use steps::{Actor, Step};
+pub use world::{World, due, run};

@@ -1,1 +1,2 @@
+pub mod PricedDays
 pub mod WorkedDays

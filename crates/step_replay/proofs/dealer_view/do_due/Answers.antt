@@ -3,8 +3,8 @@ use Rattle.market_terms.specs.declared.asks.Ask.{Ask}
 use Rattle.dealer_desk.specs.DealerOutput.{with_event}
 use Rattle.dealer_desk.specs.declared.events.DealerEvent.TheVariants as event
 use Rattle.step_replay.specs.DealerView.{no_room}
-use Rattle.step_replay.specs.declared.due.Due.{Due}
-use Rattle.step_replay.specs.declared.due.Due.TheVariants as due
+use Rattle.step_replay.specs.declared.dues.Due.{Due}
+use Rattle.step_replay.specs.declared.dues.Due.TheVariants as due
 use Rattle.step_replay.specs.RowOfWords.{DeskAndWords, Happens}
 use Rattle.step_replay.proofs.ItemLemmas.{closed_happens, drop_happens, lifted_happens}
 use Rattle.step_replay.proofs.ItemLemmas.{own_happens, shown_happens}

@@ -1,0 +1,50 @@
+-- The due list of a dealer, run by run.
+use Rattle.std.proofs.Common.{◌≡◌, ◌<◌, ◌≤◌, ℕ, suc, ◌+◌, ◌-◌}
+use Rattle.std.proofs.Common.{List, [], ◌∷◌, ◌++◌, map, length, take, drop, get_or}
+use Rattle.std.proofs.Common.{sym, ap, ◌∙◌, arith}
+use Rattle.std.proofs.Math.Seq.{take-suc}
+use Rattle.std.proofs.lemmas.List.{append_assoc, map-append, get_or-drop}
+use Rattle.std.proofs.lemmas.List.{length-drop}
+use Rattle.dealer_desk.specs.declared.events.DealerEvent.{DealerEvent}
+use Rattle.step_replay.specs.Liftings.{due_by_event}
+use Rattle.step_replay.specs.declared.dues.Due.{Due}
+
+-- A run of events.
+
+-- the dues of a run of events, behind some dues
+abbrev pub run_behind : List Due → List DealerEvent → ℕ → ℕ → List Due
+run_behind dues events from to = dues ++ map due_by_event (take (to - from) (drop from events))
+
+run_grown : (dues : List Due) (events : List DealerEvent) (from index : ℕ) (event : DealerEvent)
+    → from ≤ index → index < length events → get_or events index event ≡ event
+    → run_behind dues events from index ++ due_by_event event ∷ []
+    ≡ run_behind dues events from (index + 1)
+run_grown dues events from index event since inside is =
+    let size : length (drop from events) ≡ length events - from = length-drop from events in
+    let within : index - from < length (drop from events) = omega arith in
+    let place : from + (index - from) ≡ index = omega arith in
+    let next : index + 1 - from ≡ suc (index - from) = omega arith in
+    let here : get_or (drop from events) (index - from) event ≡ event =
+    get_or-drop from events (index - from) event
+    ∙ ap (λ n. get_or events n event) place ∙ is in
+    append_assoc dues (map due_by_event (take (index - from) (drop from events)))
+    (due_by_event event ∷ [])
+    ∙ ap (λ (l : List Due). dues ++ l)
+    (sym (map-append due_by_event (take (index - from) (drop from events)) (event ∷ [])))
+    ∙ ap (λ (l : List DealerEvent). dues ++ map due_by_event l)
+    (sym (ap (λ (n : ℕ). take n (drop from events)) next
+    ∙ take-suc (drop from events) (index - from) event within
+    ∙ ap (λ (e : DealerEvent). take (index - from) (drop from events) ++ e ∷ []) here))
+
+-- what was due by one event more is put behind them
+pub run_pushed : (dues before now : List Due) (events : List DealerEvent) (from index : ℕ)
+    (event : DealerEvent) (item : Due)
+    → now ≡ before ++ item ∷ [] → before ≡ run_behind dues events from index
+    → item ≡ due_by_event event → from ≤ index → index < length events
+    → event ≡ get_or events index event
+    → now ≡ run_behind dues events from (index + 1)
+run_pushed dues before now events from index event item now_is before_is item_is since inside is =
+    now_is
+    ∙ ap (λ (l : List Due). l ++ item ∷ []) before_is
+    ∙ ap (λ (d : Due). run_behind dues events from index ++ d ∷ []) item_is
+    ∙ run_grown dues events from index event since inside (sym is)

@@ -1,0 +1,273 @@
+-- What happens at the investors' desks of a replay does what it should, wherever the places stood.
+use Rattle.std.proofs.Common.{◌≡◌, ◌<◌, ◌≤◌, ℕ, ◌-◌, Bool, true, false, ◌&&◌}
+use Rattle.std.proofs.Common.{List, [], ◌++◌, map, length, nat_le}
+use Rattle.std.proofs.Common.{get_or, nat_lt}
+use Rattle.std.proofs.Common.{Option, Some, None, option_map, if◌then◌else◌}
+use Rattle.std.proofs.Common.{refl, sym, ap, ◌∙◌, subst, arith}
+use Rattle.std.specs.Prelude.{slice_get}
+use Rattle.std.specs.Option.{option_to_list}
+use Rattle.std.specs.Vec.{with_item}
+use Rattle.std.proofs.lemmas.Bool.Decides.{nat_tests}
+use Rattle.std.proofs.lemmas.List.{append-nil}
+use Rattle.market_terms.specs.declared.closes.Reply.{Reply}
+use Rattle.market_terms.specs.declared.duties.Duty.{Duty}
+use Rattle.market_terms.specs.declared.rooms.ResponseRef.{ResponseRef}
+use Rattle.market_terms.specs.declared.rooms.RoomRef.{RoomRef}
+use Rattle.venue_config.specs.Rows.{Configuration}
+use Rattle.venue_config.specs.declared.dealer_rows.DealerRow.{DealerRow}
+use Rattle.investor_desk.specs.InvestorFacts.{InvestorBook, book_of, knows}
+use Rattle.investor_desk.specs.InvestorRules.{InvestorMarket, investor_verdict}
+use Rattle.investor_desk.specs.InvestorOutput.{DeskEvents, DeskState, desk_after}
+use Rattle.investor_desk.specs.InvestorOutput.{with_event, book_at, verdict_duty}
+use Rattle.investor_desk.specs.InvestorOutput.{market_of, market_for}
+use Rattle.investor_desk.specs.declared.events.InvestorEvent.{InvestorEvent}
+use Rattle.investor_desk.specs.declared.events.InvestorEvent.TheVariants as event
+use Rattle.venue_steps.specs.InvestorSteps.{desk_after_own, duties_of_own, where_so, answers}
+use Rattle.venue_steps.specs.InvestorSteps.{desk_after_answer}
+use Rattle.step_replay.specs.InvestorTrail.{book_by}
+use Rattle.step_replay.specs.VenueFacts.{Fact, AtInvestor, of_investor}
+use Rattle.step_replay.specs.Actions.{Effect, nothing, done_for, at_market, said_by_investor}
+use Rattle.step_replay.specs.Actions.{where_known, answered_by, at_investor_of, Dealer, dealer_at}
+use Rattle.step_replay.specs.Actions.{acting_dealer, done_by}
+use Rattle.step_replay.specs.Standing.{InvestorStands}
+use Rattle.step_replay.specs.Standing.{Stands, Does}
+use Rattle.step_replay.specs.declared.floor.DealerPlace.{DealerPlace}
+use Rattle.step_replay.specs.declared.floor.InvestorPlace.{InvestorPlace}
+use Rattle.step_replay.specs.declared.floor.Floor.{Floor}
+use Rattle.step_replay.specs.declared.steps.Actor.{Actor}
+use Rattle.step_replay.specs.declared.steps.Actor.TheVariants as actor
+use Rattle.step_replay.proofs.OwnerLemmas.{same_value}
+use Rattle.step_replay.proofs.PlaceLemmas.{lent, not_lent}
+use Rattle.step_replay.proofs.FloorLemmas.{dealer_found}
+use Rattle.step_replay.proofs.FloorLemmas.{by_found, by_number}
+use Rattle.step_replay.proofs.InvestorPlaceLemmas.{InvestorFound, investor_found, no_investor}
+use Rattle.step_replay.proofs.InvestorPlaceLemmas.{added_by, investor_event_stands}
+use Rattle.step_replay.proofs.InvestorPlaceLemmas.{at_investor_stands}
+
+-- Where an investor's place stands among those of the investors.
+
+pub record Placed (floor : Floor) (number at : ℕ) : Type 0 where
+  pub behind : length floor.dealers.items ≤ number
+  pub at_is : at ≡ number - length floor.dealers.items
+
+pub placed : (floor : Floor) (number at dealers : ℕ) → dealers ≡ length floor.dealers.items
+    → Some at ≡ (if nat_le dealers number then Some (number - dealers) else None)
+    → Placed floor number at
+placed floor number at dealers count is = by_test (nat_le dealers number) refl is
+  where
+    by_test : (b : Bool) → nat_le dealers number ≡ b
+        → Some at ≡ (if b then Some (number - dealers) else None) → Placed floor number at
+    by_test true test found = record {
+      behind = grind (arith, nat_tests);
+      at_is = same_value at (number - dealers) found ∙ ap (λ (d : ℕ). number - d) count;
+    }
+    by_test false test found = absurd cc
+
+index_is : (config : Configuration) (facts : List Fact) (floor : Floor) (number at : ℕ)
+    → Stands config facts floor → Placed floor number at → at ≡ number - length config.dealers
+index_is config facts floor number at before is =
+    is.at_is ∙ ap (λ (d : ℕ). number - d) before.dealer_count
+
+-- where there is no such investor
+pub no_investor_does : (config : Configuration) (facts : List Fact) (floor : Floor)
+    (number at : ℕ) (action : InvestorMarket → Effect) → Stands config facts floor
+    → Placed floor number at → slice_get floor.investors.items at ≡ None
+    → Does config facts (done_for (market_for config number) action) floor []
+no_investor_does config facts floor number at action before is beyond =
+    let missing : market_for config number ≡ None =
+    ap (option_map (market_of config number))
+    (no_investor config facts floor number before
+    (ap (slice_get floor.investors.items)
+    (sym (index_is config facts floor number at before is)) ∙ beyond)) in
+    subst (λ (m : Option InvestorMarket). Does config facts (done_for m action) floor [])
+    (sym missing)
+    (record {
+      stands = subst (λ l. Stands config l floor) (sym (append-nil facts)) before;
+      leaves = refl;
+    })
+
+module _ (config : Configuration) (facts : List Fact) (floor : Floor) (number at : ℕ)
+    (place : InvestorPlace) (before : Stands config facts floor) (is : Placed floor number at)
+    (stood : slice_get floor.investors.items at ≡ Some place) where
+  stood_there : slice_get floor.investors.items (number - length config.dealers) ≡ Some place
+  stood_there =
+      ap (slice_get floor.investors.items)
+      (sym (index_is config facts floor number at before is)) ∙ stood
+
+  found : InvestorFound config facts number place
+  found =
+      investor_found config facts floor number place before
+      (subst (λ (d : ℕ). d ≤ number) before.dealer_count is.behind) stood_there
+
+  module _ (desk : DeskEvents) where
+    -- the floor with this desk at the investor's place
+    abbrev after : Floor
+    after = record floor { investors = with_item floor.investors at (record place { desk = desk }) }
+
+    -- an action of the investor that was found
+    by_market : (action : InvestorMarket → Effect) (duties : List Duty)
+        → Does config facts (action (market_of config number found.row)) after duties
+        → Does config facts (done_for (market_for config number) action) after duties
+    by_market action duties does =
+        subst (λ (m : Option InvestorMarket). Does config facts (done_for m action) after duties)
+        (sym (ap (option_map (market_of config number)) found.row_is)) does
+
+    at_place : (later : List Fact)
+        → Stands config later (record floor {
+          investors = with_item floor.investors (number - length config.dealers)
+              (record place { desk = desk });
+        })
+        → Stands config later after
+    at_place later stands =
+        subst (λ (n : ℕ). Stands config later (record floor {
+          investors = with_item floor.investors n (record place { desk = desk });
+        })) (sym (index_is config facts floor number at before is)) stands
+
+    -- one event at its desk
+    event_stands : (more : InvestorEvent) → desk ≡ with_event place.desk more
+        → Stands config
+        (facts ++ map (AtInvestor number) (added_by config facts number found.row more)) after
+    event_stands more same =
+        at_place _
+        (at_investor_stands config facts floor number found.row found.row_is before
+        (added_by config facts number found.row more) place
+        (record place { desk = desk }) stood_there
+        (investor_event_stands config number found.row facts place desk more
+        found.stands same))
+
+    -- nothing at its desk
+    idle_stands : desk ≡ place.desk → Stands config (facts ++ []) after
+    idle_stands same =
+        at_place _
+        (at_investor_stands config facts floor number found.row found.row_is before []
+        place (record place { desk = desk }) stood_there
+        (subst (λ d. InvestorStands config number found.row (facts ++ [])
+        (record place { desk = d })) (sym same)
+        (subst (λ l. InvestorStands config number found.row l place)
+        (sym (append-nil facts)) found.stands)))
+
+    -- one event at its desk, where it may come
+    event_if : (may : Bool) (more : InvestorEvent) → desk ≡ where_so may place.desk more
+        → Does config facts
+        (if may then at_market facts (market_of config number found.row) more []
+        else nothing)
+        after []
+    event_if true more same = record { stands = event_stands more same; leaves = refl }
+    event_if false more same = record { stands = idle_stands same; leaves = refl }
+
+    -- the book of the desk is that of the trail
+    book_is : book_at place.desk ≡ book_by (of_investor number facts)
+    book_is =
+        ap (λ (m : InvestorMarket). book_of (desk_after m place.desk.events).facts)
+        found.stands.market_is
+        ∙ ap (λ (state : DeskState). book_of state.facts) found.stands.state_is
+
+    -- The actions.
+
+    pub said_does : (moment : ℕ) (bytes : List ℕ)
+        → desk ≡ desk_after_own place.desk moment bytes
+        → Does config facts
+        (done_for (market_for config number) (said_by_investor facts moment bytes))
+        after (duties_of_own place.desk moment bytes)
+    said_does moment bytes same =
+        by_market (said_by_investor facts moment bytes) _
+        (record {
+          stands = event_stands (event.Own moment bytes) same;
+          leaves = left found.stands.market_is;
+        })
+      where
+        left : place.desk.market ≡ market_of config number found.row
+            → duties_of_own place.desk moment bytes
+            ≡ option_to_list (verdict_duty (market_of config number found.row) moment
+            (investor_verdict (market_of config number found.row)
+            (book_by (of_investor number facts)) moment bytes))
+        left market =
+            ap (λ (b : InvestorBook). option_to_list (verdict_duty place.desk.market moment
+            (investor_verdict place.desk.market b moment bytes))) book_is
+            ∙ ap (λ (m : InvestorMarket). option_to_list (verdict_duty m moment
+            (investor_verdict m (book_by (of_investor number facts)) moment bytes))) market
+
+    pub known_does : (request : ℕ) (more : InvestorEvent)
+        → desk ≡ where_so (knows (book_at place.desk) request None) place.desk more
+        → Does config facts
+        (done_for (market_for config number) (where_known facts request None more)) after []
+    known_does request more same =
+        by_market (where_known facts request None more) []
+        (event_if (knows (book_by (of_investor number facts)) request None) more
+        (same ∙ ap (λ (b : InvestorBook).
+        where_so (knows b request None) place.desk more) book_is))
+
+    -- where an answer is known, and answers such a response
+    answer_if : (known fits : Bool) (more : InvestorEvent)
+        → desk ≡ where_so (known && fits) place.desk more
+        → Does config facts
+        (if fits
+        then (if known then at_market facts (market_of config number found.row) more []
+        else nothing)
+        else nothing)
+        after []
+    answer_if true true more same = event_if true more same
+    answer_if true false more same = event_if false more same
+    answer_if false true more same = event_if false more same
+    answer_if false false more same = event_if false more same
+
+    pub answer_does : (room : RoomRef) (response : ResponseRef) (reply : Reply) (moment : ℕ)
+        → desk ≡ desk_after_answer place.desk room.n response reply moment
+        → Does config facts
+        (done_for (market_for config number) (answered_by facts room response reply moment))
+        after []
+    answer_does room response reply moment same =
+        by_market (answered_by facts room response reply moment) []
+        (answer_if (knows (book_by (of_investor number facts)) room.n response.k)
+        (answers response.k reply) (event.Answered room.n response reply moment)
+        (same ∙ ap (λ (b : InvestorBook).
+        where_so (knows b room.n response.k && answers response.k reply) place.desk
+        (event.Answered room.n response reply moment)) book_is))
+
+-- A dealer declines.
+
+-- what is looked up in a list that was seen
+pub looked : {X : Type 0} (xs seen : List X) (i : ℕ) (x : X) → seen ≡ xs
+    → true ≡ nat_lt i (length seen) → x ≡ get_or seen i x → slice_get xs i ≡ Some x
+looked xs seen i x same within is =
+    let inside : i < length seen = grind (arith, nat_tests) in
+    ap (λ l. slice_get l i) (sym same) ∙ lent seen i x inside is
+
+pub not_looked : {X : Type 0} (xs seen : List X) (i : ℕ) → seen ≡ xs
+    → false ≡ nat_lt i (length seen) → slice_get xs i ≡ None
+not_looked xs seen i same beyond =
+    let outside : length seen ≤ i = grind (arith, nat_tests) in
+    ap (λ l. slice_get l i) (sym same) ∙ not_lent seen i outside
+
+-- what an investor is told where a dealer of this name declines
+abbrev pub declined_as : Configuration → List Fact → RoomRef → ℕ → List ℕ → Effect
+declined_as config facts room moment name =
+    at_investor_of config room
+    (where_known facts room.n None (event.DealerDeclined room.n name moment))
+
+-- what it is told where this dealer does
+abbrev pub declined_to : Configuration → List Fact → RoomRef → ℕ → Dealer → Effect
+declined_to config facts room moment dealer =
+    declined_as config facts room moment dealer.row.name
+
+-- an action of the dealer that acts
+pub by_actor : (config : Configuration) (facts : List Fact) (by : Actor) (number index : ℕ)
+    (action : Dealer → Effect) (after : Floor) (duties : List Duty) → by ≡ actor.Firm number
+    → index ≡ number → Does config facts (done_by (dealer_at config index) action) after duties
+    → Does config facts (done_by (acting_dealer config by) action) after duties
+by_actor config facts by number index action after duties is same does =
+    subst (λ (a : Actor). Does config facts (done_by (acting_dealer config a) action) after duties)
+    (sym is) (by_number config facts index number action after duties same does)
+
+pub declined_does : (config : Configuration) (facts : List Fact) (floor : Floor) (dealer : ℕ)
+    (acting : DealerPlace) (room : RoomRef) (moment : ℕ) (name : List ℕ) (after : Floor)
+    → Stands config facts floor → slice_get floor.dealers.items dealer ≡ Some acting
+    → name ≡ acting.desk.row.name
+    → Does config facts (declined_as config facts room moment name) after []
+    → Does config facts (done_by (dealer_at config dealer) (declined_to config facts room moment))
+    after []
+declined_does config facts floor dealer acting room moment name after before stood named does =
+    let found = dealer_found config facts floor dealer acting before stood in
+    by_found config facts dealer acting found (declined_to config facts room moment) after []
+    (subst (λ (n : List ℕ). Does config facts (declined_as config facts room moment n) after [])
+    (named ∙ ap (λ (r : DealerRow). r.name) found.stands.row_is) does)

@@ -1,0 +1,308 @@
+-- An investor's place stands where the facts have come, after what happens at its desk; its rooms and
+-- all other places stay.
+use Rattle.std.proofs.Common.{◌≡◌, ◌≢◌, ◌<◌, ◌≤◌, ℕ, ◌+◌, ◌-◌, ◌==◌, Bool, true, false}
+use Rattle.std.proofs.Common.{List, [], ◌∷◌, ◌++◌, map, filter_map, length, slice_set, nat_le}
+use Rattle.std.proofs.Common.{Option, Some, None, if◌then◌else◌}
+use Rattle.std.proofs.Common.{refl, sym, ap, ◌∙◌, subst, arith}
+use Rattle.std.specs.Prelude.{slice_get}
+use Rattle.std.specs.Vec.{with_item}
+use Rattle.std.proofs.lemmas.Bool.Decides.{nat_tests}
+use Rattle.std.proofs.lemmas.List.{append-nil, length-set}
+use Rattle.std.proofs.lemmas.List.Elements.{filter_map-append}
+use Rattle.std.proofs.lemmas.List.Sums.{fold-append}
+use Rattle.market_terms.specs.declared.rooms.RoomRef.{RoomRef}
+use Rattle.venue_config.specs.Rows.{Configuration, investor_numbered}
+use Rattle.venue_config.specs.declared.investor_rows.InvestorRow.{InvestorRow}
+use Rattle.investor_desk.specs.InvestorFacts.{InvestorFact}
+use Rattle.investor_desk.specs.InvestorRules.{InvestorMarket}
+use Rattle.investor_desk.specs.InvestorOutput.{DeskEvents, DeskState, desk_after, after_event}
+use Rattle.investor_desk.specs.InvestorOutput.{no_facts, event_facts, event_messages, moment_of}
+use Rattle.investor_desk.specs.InvestorOutput.{written_from, with_event}
+use Rattle.investor_desk.specs.InvestorOutput.{market_of}
+use Rattle.investor_desk.specs.declared.events.InvestorEvent.{InvestorEvent}
+use Rattle.step_replay.specs.InvestorTrail.{InvestorEntry, AtDesk, Sent, fact_in, message_in}
+use Rattle.step_replay.specs.InvestorTrail.{facts_of, book_by, sent_by, entries_of}
+use Rattle.step_replay.specs.VenueFacts.{Fact, AtInvestor, of_dealer, of_room, of_investor}
+use Rattle.step_replay.specs.Standing.{DealerStandsIn, InvestorStands, InvestorStandsIn}
+use Rattle.step_replay.specs.Standing.{Stands, word_is}
+use Rattle.step_replay.specs.declared.floor.InvestorPlace.{InvestorPlace}
+use Rattle.step_replay.specs.declared.floor.Floor.{Floor}
+use Rattle.step_replay.proofs.OwnerLemmas.{same_value}
+use Rattle.step_replay.proofs.PlaceLemmas.{get_set_same, get_set_other, get_within, get_beyond}
+use Rattle.step_replay.proofs.PlaceLemmas.{dealer_grown, room_grown, investor_grown}
+use Rattle.step_replay.proofs.PlaceLemmas.{own_investor, other_investor, trail_at_investor}
+use Rattle.step_replay.proofs.PlaceLemmas.{room_at_investor}
+use Rattle.step_replay.proofs.FloorLemmas.{room_kept, investor_kept, words_kept}
+
+-- What an event adds to an investor's trail.
+
+none_of : {A Y : Type 0} (h : InvestorEntry → Option Y) (f : A → InvestorEntry)
+    → ((x : A) → h (f x) ≡ None) → (xs : List A) → filter_map h (map f xs) ≡ []
+none_of h f none [] = refl
+none_of h f none (x ∷ xs) = rw (none x) (none_of h f none xs)
+
+each_of : {A : Type 0} (h : InvestorEntry → Option A) (f : A → InvestorEntry)
+    → ((x : A) → h (f x) ≡ Some x) → (xs : List A) → filter_map h (map f xs) ≡ xs
+each_of h f each [] = refl
+each_of h f each (x ∷ xs) = rw (each x) (ap (λ l. x ∷ l) (each_of h f each xs))
+
+facts_added : (facts : List InvestorFact) (messages : List (List ℕ))
+    → filter_map fact_in (map AtDesk facts ++ map Sent messages) ≡ facts
+facts_added facts messages =
+    filter_map-append fact_in (map AtDesk facts) (map Sent messages)
+    ∙ ap (λ l. filter_map fact_in (map AtDesk facts) ++ l)
+    (none_of fact_in Sent (λ m. refl) messages)
+    ∙ append-nil (filter_map fact_in (map AtDesk facts))
+    ∙ each_of fact_in AtDesk (λ fact. refl) facts
+
+sent_added : (facts : List InvestorFact) (messages : List (List ℕ))
+    → filter_map message_in (map AtDesk facts ++ map Sent messages) ≡ messages
+sent_added facts messages =
+    filter_map-append message_in (map AtDesk facts) (map Sent messages)
+    ∙ ap (λ l. l ++ filter_map message_in (map Sent messages))
+    (none_of message_in AtDesk (λ fact. refl) facts)
+    ∙ each_of message_in Sent (λ m. refl) messages
+
+module _ (market : InvestorMarket) (trail : List InvestorEntry) (more : InvestorEvent) where
+  -- the messages that the event sends
+  abbrev messages : List (List ℕ)
+  messages = written_from market (length (sent_by trail) + 1) (moment_of more)
+      (event_messages market (book_by trail) more)
+
+  facts_grown : facts_of (trail ++ entries_of market trail more)
+      ≡ facts_of trail ++ event_facts market (book_by trail) more
+  unfolding entries_of
+  facts_grown =
+      filter_map-append fact_in trail (entries_of market trail more)
+      ∙ ap (λ l. facts_of trail ++ l)
+      (facts_added (event_facts market (book_by trail) more) messages)
+
+  sent_grown : sent_by (trail ++ entries_of market trail more) ≡ sent_by trail ++ messages
+  unfolding entries_of
+  sent_grown =
+      filter_map-append message_in trail (entries_of market trail more)
+      ∙ ap (λ l. sent_by trail ++ l)
+      (sent_added (event_facts market (book_by trail) more) messages)
+
+-- a desk with these facts, whose investor was sent these messages
+abbrev desk_with : List InvestorFact → List (List ℕ) → DeskState
+desk_with facts sent = record { facts = facts; sent = sent }
+
+-- a desk where a trail has come
+abbrev desk_of : List InvestorEntry → DeskState
+desk_of trail = desk_with (facts_of trail) (sent_by trail)
+
+both : (facts facts_too : List InvestorFact) (sent sent_too : List (List ℕ))
+    → facts ≡ facts_too → sent ≡ sent_too → desk_with facts sent ≡ desk_with facts_too sent_too
+both facts facts_too sent sent_too one other =
+    ap (λ f. desk_with f sent) one ∙ ap (λ s. desk_with facts_too s) other
+
+-- a desk after one event more
+desk_push : (market : InvestorMarket) (events : List InvestorEvent) (more : InvestorEvent)
+    → desk_after market (events ++ more ∷ []) ≡ after_event market (desk_after market events) more
+unfolding desk_after
+desk_push market events more = fold-append (after_event market) no_facts events (more ∷ [])
+
+-- a desk of a trail after one event more
+trail_push : (market : InvestorMarket) (trail : List InvestorEntry) (more : InvestorEvent)
+    → after_event market (desk_of trail) more ≡ desk_of (trail ++ entries_of market trail more)
+trail_push market trail more =
+    both _ _ _ _ (sym (facts_grown market trail more)) (sym (sent_grown market trail more))
+
+-- The facts with what is added at an investor.
+
+module _ (facts : List Fact) (number : ℕ) (added : List InvestorEntry) where
+  -- the facts with it
+  abbrev now : List Fact
+  now = facts ++ map (AtInvestor number) added
+
+  own_now : of_investor number now ≡ of_investor number facts ++ added
+  own_now =
+      investor_grown number facts (map (AtInvestor number) added)
+      ∙ ap (λ l. of_investor number facts ++ l) (own_investor number added)
+
+  other_now : (other : ℕ) → (number == other) ≡ false
+      → of_investor other now ≡ of_investor other facts
+  other_now other differs =
+      investor_grown other facts (map (AtInvestor number) added)
+      ∙ ap (λ l. of_investor other facts ++ l) (other_investor other number differs added)
+      ∙ append-nil (of_investor other facts)
+
+  room_now : (room : RoomRef) → of_room room now ≡ of_room room facts
+  room_now room =
+      room_grown room facts (map (AtInvestor number) added)
+      ∙ ap (λ l. of_room room facts ++ l) (room_at_investor room number added)
+      ∙ append-nil (of_room room facts)
+
+  dealer_now : (other : ℕ) → of_dealer other now ≡ of_dealer other facts
+  dealer_now other =
+      dealer_grown other facts (map (AtInvestor number) added)
+      ∙ ap (λ l. of_dealer other facts ++ l) (trail_at_investor other number added)
+      ∙ append-nil (of_dealer other facts)
+
+-- An investor's place after one event more.
+
+-- what an event at the investor's desk adds
+abbrev pub added_by : Configuration → List Fact → ℕ → InvestorRow → InvestorEvent
+    → List InvestorEntry
+added_by config facts number row more =
+    entries_of (market_of config number row) (of_investor number facts) more
+
+pub investor_event_stands : (config : Configuration) (number : ℕ) (row : InvestorRow)
+    (facts : List Fact) (place : InvestorPlace) (desk : DeskEvents) (more : InvestorEvent)
+    → InvestorStands config number row facts place → desk ≡ with_event place.desk more
+    → InvestorStands config number row
+    (facts ++ map (AtInvestor number) (added_by config facts number row more))
+    (record place { desk = desk })
+investor_event_stands config number row facts place desk more before is = record {
+  market_is = ap (λ (d : DeskEvents). d.market) is ∙ before.market_is;
+  state_is = ap (λ (d : DeskEvents). desk_after (market_of config number row) d.events) is
+      ∙ desk_push (market_of config number row) place.desk.events more
+      ∙ ap (λ (state : DeskState). after_event (market_of config number row) state more)
+      before.state_is
+      ∙ trail_push (market_of config number row) (of_investor number facts) more
+      ∙ ap (λ (l : List InvestorEntry). desk_of l)
+      (sym (own_now facts number (added_by config facts number row more)));
+  room_count = before.room_count;
+  rooms_are = λ n within.
+      room_kept (of_room (record { investor = number; n = n }) facts) _
+      (slice_get place.rooms.items (n - 1))
+      (room_now facts number (added_by config facts number row more)
+      (record { investor = number; n = n }))
+      (before.rooms_are n within);
+}
+
+-- Looking an investor up.
+
+-- an investor that stands has a place and a row
+pub record InvestorFound (config : Configuration) (facts : List Fact) (number : ℕ)
+    (place : InvestorPlace) : Type 0 where
+  pub row : InvestorRow
+  pub row_is : investor_numbered config number ≡ Some row
+  pub stands : InvestorStands config number row facts place
+
+pub numbered_at : (config : Configuration) (number : ℕ) → length config.dealers ≤ number
+    → investor_numbered config number
+    ≡ slice_get config.investors (number - length config.dealers)
+numbered_at config number behind =
+    let test : nat_le (length config.dealers) number ≡ true = grind (arith, nat_tests) in
+    ap (λ (b : Bool). if b then slice_get config.investors (number - length config.dealers)
+    else None) test
+
+pub behind_dealers : (config : Configuration) (number : ℕ) (row : InvestorRow)
+    → investor_numbered config number ≡ Some row → length config.dealers ≤ number
+behind_dealers config number row is = by_test (nat_le (length config.dealers) number) refl is
+  where
+    by_test : (b : Bool) → nat_le (length config.dealers) number ≡ b
+        → (if b then slice_get config.investors (number - length config.dealers) else None)
+        ≡ Some row → length config.dealers ≤ number
+    by_test true test found = grind (arith, nat_tests)
+    by_test false test found = cc
+
+pub investor_found : (config : Configuration) (facts : List Fact) (floor : Floor) (number : ℕ)
+    (place : InvestorPlace) → Stands config facts floor → length config.dealers ≤ number
+    → slice_get floor.investors.items (number - length config.dealers) ≡ Some place
+    → InvestorFound config facts number place
+investor_found config facts floor number place stands behind is =
+    by_row (investor_numbered config number) refl
+  where
+    by_row : (found : Option InvestorRow) → investor_numbered config number ≡ found
+        → InvestorFound config facts number place
+    by_row None none =
+        let beyond : length config.investors ≤ number - length config.dealers =
+        get_beyond config.investors (number - length config.dealers)
+        (sym (numbered_at config number behind) ∙ none) in
+        let within : number - length config.dealers < length floor.investors.items =
+        get_within floor.investors.items (number - length config.dealers) place is in
+        let count : length floor.investors.items ≡ length config.investors =
+        stands.investor_count in
+        absurd (omega arith)
+    by_row (Some row) some = record {
+      row = row;
+      row_is = some;
+      stands = subst (InvestorStandsIn config number row facts) is
+          (stands.investors_are number row some);
+    }
+
+pub no_investor : (config : Configuration) (facts : List Fact) (floor : Floor) (number : ℕ)
+    → Stands config facts floor
+    → slice_get floor.investors.items (number - length config.dealers) ≡ None
+    → investor_numbered config number ≡ None
+no_investor config facts floor number stands is = by_row (investor_numbered config number) refl
+  where
+    by_row : (found : Option InvestorRow) → investor_numbered config number ≡ found
+        → investor_numbered config number ≡ None
+    by_row None none = none
+    by_row (Some row) some =
+        absurd (subst (InvestorStandsIn config number row facts) is
+        (stands.investors_are number row some))
+
+-- The floor after something at an investor's desk: its own rooms, and all other places, stay.
+
+module _ (config : Configuration) (facts : List Fact) (floor : Floor) (number : ℕ)
+    (row : InvestorRow) (is : investor_numbered config number ≡ Some row)
+    (before : Stands config facts floor) (added : List InvestorEntry)
+    (old place : InvestorPlace)
+    (stood : slice_get floor.investors.items (number - length config.dealers) ≡ Some old)
+    (stands : InvestorStands config number row (now facts number added) place) where
+  -- the investor's place among those of the investors
+  abbrev index : ℕ
+  index = number - length config.dealers
+
+  investor_now : (other : ℕ) (row_too : InvestorRow)
+      → investor_numbered config other ≡ Some row_too
+      → InvestorStandsIn config other row_too (now facts number added)
+      (slice_get (slice_set floor.investors.items index place)
+      (other - length config.dealers))
+  investor_now other row_too is_too = by_test (number == other) refl
+    where
+      by_test : (same : Bool) → (number == other) ≡ same
+          → InvestorStandsIn config other row_too (now facts number added)
+          (slice_get (slice_set floor.investors.items index place)
+          (other - length config.dealers))
+      by_test true test =
+          let equal : number ≡ other = grind (arith, nat_tests) in
+          let rows : row ≡ row_too = same_value row row_too
+          (sym is ∙ ap (investor_numbered config) equal ∙ is_too) in
+          let within = get_within floor.investors.items index old stood in
+          let Own : ℕ → InvestorRow → Type 0 = λ n r.
+          InvestorStandsIn config n r (now facts number added)
+          (slice_get (slice_set floor.investors.items index place)
+          (n - length config.dealers)) in
+          let own : Own number row =
+          subst (InvestorStandsIn config number row (now facts number added))
+          (sym (get_set_same floor.investors.items index place within)) stands in
+          subst (λ n. Own n row_too) equal (subst (Own number) rows own)
+      by_test false test =
+          let behind : length config.dealers ≤ number = behind_dealers config number row is in
+          let behind_too : length config.dealers ≤ other =
+          behind_dealers config other row_too is_too in
+          let unlike : number ≢ other = grind (arith, nat_tests) in
+          let differs : (other - length config.dealers) ≢ (number - length config.dealers) =
+          λ same. unlike (omega arith) in
+          subst (InvestorStandsIn config other row_too (now facts number added))
+          (sym (get_set_other floor.investors.items index (other - length config.dealers)
+          place differs))
+          (investor_kept config other row_too facts (now facts number added)
+          (slice_get floor.investors.items (other - length config.dealers))
+          (other_now facts number added other test)
+          (λ n. room_now facts number added (record { investor = other; n = n }))
+          (before.investors_are other row_too is_too))
+
+  pub at_investor_stands : Stands config (now facts number added)
+      (record floor { investors = with_item floor.investors index place })
+  at_investor_stands = record {
+    dealer_count = before.dealer_count;
+    dealers_are = λ other row_too is_too.
+        subst (λ l. DealerStandsIn config other row_too l
+        (slice_get floor.dealers.items other))
+        (sym (dealer_now facts number added other))
+        (before.dealers_are other row_too is_too);
+    investor_count = length-set floor.investors.items index place ∙ before.investor_count;
+    investors_are = investor_now;
+    word_count = before.word_count;
+    words_are = words_kept config facts (now facts number added) floor.words
+        (λ other quote. ap (λ l. word_is l quote) (dealer_now facts number added other))
+        before.words_are;
+    owners_are = before.owners_are;
+  }

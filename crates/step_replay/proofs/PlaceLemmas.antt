@@ -1,0 +1,169 @@
+-- The facts of each place after an action, and the places of a replay.
+use Rattle.std.proofs.Common.{◌≡◌, ◌≢◌, ◌<◌, ◌≤◌, ℕ, zero, suc, ◌==◌, true, false}
+use Rattle.std.proofs.Common.{List, [], ◌∷◌, ◌++◌, map, filter_map, length, slice_set, get_or}
+use Rattle.std.proofs.Common.{Option, Some, None}
+use Rattle.std.proofs.Common.{refl, sym, ap, arith, eq-eqb}
+use Rattle.std.specs.Prelude.{slice_get}
+use Rattle.std.proofs.lemmas.List.Elements.{filter_map-append}
+use Rattle.market_terms.specs.declared.rooms.RoomRef.{RoomRef}
+use Rattle.dealer_desk.specs.DealerOutput.{is_same_room}
+use Rattle.request_room.specs.RoomFacts.{RoomFact}
+use Rattle.step_replay.specs.DealerTrail.{DealerEntry}
+use Rattle.step_replay.specs.InvestorTrail.{InvestorEntry}
+use Rattle.step_replay.specs.VenueFacts.{Fact, AtDealer, InRoom, AtInvestor}
+use Rattle.step_replay.specs.VenueFacts.{of_dealer, of_room, of_investor}
+use Rattle.step_replay.specs.VenueFacts.{entry_at_dealer, fact_in_room, entry_at_investor}
+
+-- Lists.
+
+pub get_set_same : {X : Type 0} (xs : List X) (i : ℕ) (x : X) → i < length xs
+    → slice_get (slice_set xs i x) i ≡ Some x
+get_set_same [] i x within = absurd (omega arith)
+get_set_same (y ∷ xs) zero x within = refl
+get_set_same (y ∷ xs) (suc i) x within =
+    let rest : i < length xs = omega arith in
+    get_set_same xs i x rest
+
+pub get_set_other : {X : Type 0} (xs : List X) (i j : ℕ) (x : X) → j ≢ i
+    → slice_get (slice_set xs i x) j ≡ slice_get xs j
+get_set_other [] i j x differs = refl
+get_set_other (y ∷ xs) zero zero x differs = absurd (differs refl)
+get_set_other (y ∷ xs) zero (suc j) x differs = refl
+get_set_other (y ∷ xs) (suc i) zero x differs = refl
+get_set_other (y ∷ xs) (suc i) (suc j) x differs =
+    let rest : j ≢ i = λ same. differs (ap suc same) in
+    get_set_other xs i j x rest
+
+pub get_within : {X : Type 0} (xs : List X) (i : ℕ) (x : X) → slice_get xs i ≡ Some x
+    → i < length xs
+get_within [] i x is = cc
+get_within (y ∷ xs) zero x is = omega arith
+get_within (y ∷ xs) (suc i) x is =
+    let rest : i < length xs = get_within xs i x is in
+    omega arith
+
+pub get_beyond : {X : Type 0} (xs : List X) (i : ℕ) → slice_get xs i ≡ None → length xs ≤ i
+get_beyond [] i is = omega arith
+get_beyond (y ∷ xs) zero is = cc
+get_beyond (y ∷ xs) (suc i) is =
+    let rest : length xs ≤ i = get_beyond xs i is in
+    omega arith
+
+-- The facts of a place after more facts.
+
+pub dealer_grown : (number : ℕ) (facts more : List Fact)
+    → of_dealer number (facts ++ more) ≡ of_dealer number facts ++ of_dealer number more
+unfolding of_dealer
+dealer_grown number facts more = filter_map-append (entry_at_dealer number) facts more
+
+pub room_grown : (room : RoomRef) (facts more : List Fact)
+    → of_room room (facts ++ more) ≡ of_room room facts ++ of_room room more
+unfolding of_room
+room_grown room facts more = filter_map-append (fact_in_room room) facts more
+
+pub investor_grown : (number : ℕ) (facts more : List Fact)
+    → of_investor number (facts ++ more) ≡ of_investor number facts ++ of_investor number more
+unfolding of_investor
+investor_grown number facts more = filter_map-append (entry_at_investor number) facts more
+
+-- Facts of one place say nothing of another.
+
+nothing_of : {A B : Type 0} (of : Fact → Option B) (f : A → Fact) → ((x : A) → of (f x) ≡ None)
+    → (xs : List A) → filter_map of (map f xs) ≡ []
+nothing_of of f none [] = refl
+nothing_of of f none (x ∷ xs) = rw (none x) (nothing_of of f none xs)
+
+everything_of : {A : Type 0} (of : Fact → Option A) (f : A → Fact) → ((x : A) → of (f x) ≡ Some x)
+    → (xs : List A) → filter_map of (map f xs) ≡ xs
+everything_of of f all [] = refl
+everything_of of f all (x ∷ xs) = rw (all x) (ap (λ l. x ∷ l) (everything_of of f all xs))
+
+pub own_trail : (number : ℕ) (xs : List DealerEntry) → of_dealer number (map (AtDealer number) xs) ≡ xs
+unfolding of_dealer
+own_trail number xs =
+    let same : (number == number) ≡ true = eq-eqb number number refl in
+    everything_of (entry_at_dealer number) (AtDealer number) (λ x. rw same refl) xs
+
+pub other_trail : (number other : ℕ) → (other == number) ≡ false → (xs : List DealerEntry)
+    → of_dealer number (map (AtDealer other) xs) ≡ []
+unfolding of_dealer
+other_trail number other differs xs =
+    nothing_of (entry_at_dealer number) (AtDealer other) (λ x. rw differs refl) xs
+
+pub trail_in_room : (number : ℕ) (room : RoomRef) (xs : List RoomFact)
+    → of_dealer number (map (InRoom room) xs) ≡ []
+unfolding of_dealer
+trail_in_room number room xs =
+    nothing_of (entry_at_dealer number) (InRoom room) (λ x. refl) xs
+
+pub trail_at_investor : (number other : ℕ) (xs : List InvestorEntry)
+    → of_dealer number (map (AtInvestor other) xs) ≡ []
+unfolding of_dealer
+trail_at_investor number other xs =
+    nothing_of (entry_at_dealer number) (AtInvestor other) (λ x. refl) xs
+
+pub own_room : (room : RoomRef) (xs : List RoomFact) → of_room room (map (InRoom room) xs) ≡ xs
+unfolding of_room
+own_room room xs =
+    let investor : (room.investor == room.investor) ≡ true = eq-eqb room.investor room.investor refl in
+    let n : (room.n == room.n) ≡ true = eq-eqb room.n room.n refl in
+    everything_of (fact_in_room room) (InRoom room) (λ x. rw (investor, n) refl) xs
+
+pub other_room : (room other : RoomRef) → is_same_room other room ≡ false → (xs : List RoomFact)
+    → of_room room (map (InRoom other) xs) ≡ []
+unfolding of_room
+other_room room other differs xs =
+    nothing_of (fact_in_room room) (InRoom other) (λ x. rw differs refl) xs
+
+pub room_at_dealer : (room : RoomRef) (number : ℕ) (xs : List DealerEntry)
+    → of_room room (map (AtDealer number) xs) ≡ []
+unfolding of_room
+room_at_dealer room number xs = nothing_of (fact_in_room room) (AtDealer number) (λ x. refl) xs
+
+pub room_at_investor : (room : RoomRef) (number : ℕ) (xs : List InvestorEntry)
+    → of_room room (map (AtInvestor number) xs) ≡ []
+unfolding of_room
+room_at_investor room number xs =
+    nothing_of (fact_in_room room) (AtInvestor number) (λ x. refl) xs
+
+pub own_investor : (number : ℕ) (xs : List InvestorEntry)
+    → of_investor number (map (AtInvestor number) xs) ≡ xs
+unfolding of_investor
+own_investor number xs =
+    let same : (number == number) ≡ true = eq-eqb number number refl in
+    everything_of (entry_at_investor number) (AtInvestor number) (λ x. rw same refl) xs
+
+pub other_investor : (number other : ℕ) → (other == number) ≡ false → (xs : List InvestorEntry)
+    → of_investor number (map (AtInvestor other) xs) ≡ []
+unfolding of_investor
+other_investor number other differs xs =
+    nothing_of (entry_at_investor number) (AtInvestor other) (λ x. rw differs refl) xs
+
+pub investor_at_dealer : (number other : ℕ) (xs : List DealerEntry)
+    → of_investor number (map (AtDealer other) xs) ≡ []
+unfolding of_investor
+investor_at_dealer number other xs =
+    nothing_of (entry_at_investor number) (AtDealer other) (λ x. refl) xs
+
+pub investor_in_room : (number : ℕ) (room : RoomRef) (xs : List RoomFact)
+    → of_investor number (map (InRoom room) xs) ≡ []
+unfolding of_investor
+investor_in_room number room xs =
+    nothing_of (entry_at_investor number) (InRoom room) (λ x. refl) xs
+
+-- What is lent of a list.
+
+pub lent : {X : Type 0} (xs : List X) (i : ℕ) (x : X) → i < length xs → x ≡ get_or xs i x
+    → slice_get xs i ≡ Some x
+lent [] i x within is = absurd (omega arith)
+lent (y ∷ xs) zero x within is = ap (λ z. Some z) (sym is)
+lent (y ∷ xs) (suc i) x within is =
+    let rest : i < length xs = omega arith in
+    lent xs i x rest is
+
+pub not_lent : {X : Type 0} (xs : List X) (i : ℕ) → length xs ≤ i → slice_get xs i ≡ None
+not_lent [] i beyond = refl
+not_lent (y ∷ xs) zero beyond = absurd (omega arith)
+not_lent (y ∷ xs) (suc i) beyond =
+    let rest : length xs ≤ i = omega arith in
+    not_lent xs i rest

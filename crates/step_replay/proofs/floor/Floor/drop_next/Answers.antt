@@ -1,0 +1,29 @@
+use Rattle.std.proofs.Common.{◌<◌, [], arith, length}
+use Rattle.std.proofs.lemmas.Bool.Decides.{nat_tests}
+use Rattle.step_replay.specs.Actions.{dropped_by}
+use Rattle.step_replay.proofs.PlaceLemmas.{lent, not_lent}
+use Rattle.step_replay.proofs.FloorLemmas.{by_number, leaving, no_dealer_does}
+use Rattle.step_replay.proofs.DealerActionLemmas.{drop_does}
+use Rattle.step_replay.proofs.floor.Floor.drop_next.Goals as goal
+
+pub returns-in_default : goal.returns-in_default
+returns-in_default c config facts stands =
+    let action = dropped_by config facts c.args.last c.args.moment in
+    leaving config facts _ _ c.new.result.items [] c.new.ensures
+    (by_number config facts c.from.result c.args.dealer action _ [] c.from.ensures
+    (no_dealer_does config facts c.args.self.now c.from.result action stands
+    (not_lent c.args.self.now.dealers.items c.from.result c.in_default.ensures.item.3)))
+
+pub returns : goal.returns
+returns c config facts stands =
+    let action = dropped_by config facts c.args.last c.args.moment in
+    let within : c.from.result < length c.args.self.now.dealers.items =
+    grind (arith, nat_tests, c.in-Some.ensures.item.0) in
+    let stood = lent c.args.self.now.dealers.items c.from.result c.in-Some.place.now within
+    c.in-Some.ensures.item.1 in
+    by_number config facts c.from.result c.args.dealer action _ _ c.from.ensures
+    (drop_does config facts c.args.self.now c.from.result c.in-Some.place.now c.args.last
+    c.args.moment c.do_drop.new.desk c.do_drop.new.words c.in_ok-duties.duties.items stands
+    stood
+    (c.what_is_asked_is_of_the_day.ensures.drop c.in-Some.place.now.desk c.args.last)
+    c.do_drop.ensures.words c.in_ok-duties.ensures.ok c.in_ok-duties.ensures.duties)

@@ -1,0 +1,69 @@
+use Rattle.std.proofs.Common.{◌<◌, length, arith, sym}
+use Rattle.std.proofs.lemmas.Bool.Decides.{nat_tests}
+use Rattle.step_replay.specs.Actions.{dealer_of, posted_by}
+use Rattle.step_replay.proofs.RoomPlaceLemmas.{investor_inside, room_inside, found_by_code}
+use Rattle.step_replay.proofs.ActingLemmas.{no_word, word_found, name_found}
+use Rattle.step_replay.proofs.ActingLemmas.{acting_found, offer_found}
+use Rattle.step_replay.proofs.RoomActionLemmas.{no_word_does, by_acting, no_room_does, post_does}
+use Rattle.step_replay.proofs.floor.Floor.post.Goals as goal
+
+pub returns-in_default-word_by : goal.returns-in_default-word_by
+returns-in_default-word_by c config facts stands =
+    let acting = acting_found config facts c.args.self.now c.args.by c.in-Some.dealer stands
+    c.in-Some.ensures in
+    by_acting config facts c.args.self.now c.args.by c.in-Some.dealer acting
+    (posted_by config facts c.args.room c.args.quote c.args.price c.args.valid_until
+    c.args.moment) _ _
+    (no_word_does config facts c.args.self.now c.args.room
+    (dealer_of c.in-Some.dealer acting.found.row) c.args.quote _ _ _ _ stands
+    (no_word config facts c.args.self.now c.args.by c.in-Some.dealer c.args.quote stands
+    acting (sym c.in_default-word_by.ensures)) c.new-in_default-word_by.ensures)
+
+pub returns-in_default-room_place : goal.returns-in_default-room_place
+returns-in_default-room_place c config facts stands =
+    let acting = acting_found config facts c.args.self.now c.args.by c.in-Some.dealer stands
+    c.in-Some.ensures in
+    by_acting config facts c.args.self.now c.args.by c.in-Some.dealer acting
+    (posted_by config facts c.args.room c.args.quote c.args.price c.args.valid_until
+    c.args.moment) _ _
+    (no_room_does config facts c.args.self.now c.args.room _ _ _ _ stands
+    (sym c.in_default-room_place.ensures) c.new-in_default-room_place.ensures)
+
+pub index_mut-requires : goal.index_mut-requires
+index_mut-requires c =
+    let inside : c.in-Some-room_place.investor < length c.args.self.now.investors.items =
+    investor_inside c.args.self.now c.args.room c.in-Some-room_place.investor
+    c.in-Some-room_place.index c.in-Some-room_place.ensures in
+    grind (arith, nat_tests, inside)
+
+pub index_mut-place-requires : goal.index_mut-place-requires
+index_mut-place-requires c =
+    let inside : c.in-Some-room_place.index < length c.index_mut.result.now.rooms.items =
+    room_inside c.args.self.now c.args.room c.in-Some-room_place.investor
+    c.in-Some-room_place.index c.index_mut.result.now c.in-Some-room_place.ensures
+    c.index_mut.ensures.value in
+    grind (arith, nat_tests, inside)
+
+pub returns : goal.returns
+returns c config facts stands =
+    let acting = acting_found config facts c.args.self.now c.args.by c.in-Some.dealer stands
+    c.in-Some.ensures in
+    let found = found_by_code config facts c.args.self.now c.args.room
+    c.in-Some-room_place.investor c.in-Some-room_place.index c.index_mut.result.now
+    c.index_mut-place.result.now stands c.in-Some-room_place.ensures c.index_mut.ensures.value
+    c.index_mut-place.ensures.value in
+    let word = word_found config facts c.args.self.now c.args.by c.in-Some.dealer c.args.quote
+    c.in-Some-word_by.word stands acting c.in-Some-word_by.ensures in
+    by_acting config facts c.args.self.now c.args.by c.in-Some.dealer acting
+    (posted_by config facts c.args.room c.args.quote c.args.price c.args.valid_until
+    c.args.moment) _ _
+    (post_does config facts c.args.self.now c.args.room c.in-Some-room_place.investor
+    c.in-Some-room_place.index c.index_mut.result.now c.index_mut-place.result.now stands
+    found c.args.quote c.args.price c.args.valid_until c.args.moment
+    (dealer_of c.in-Some.dealer acting.found.row) _ c.do_post.new.room
+    c.in_ok-duties.duties.items word.has
+    (offer_found config (dealer_of c.in-Some.dealer acting.found.row) c.args.quote
+    c.args.price c.args.valid_until c.in-Some-name_by.name c.in-Some-word_by.word
+    (name_found config facts c.args.self.now c.args.by c.in-Some.dealer
+    c.in-Some-name_by.name acting c.in-Some-name_by.ensures) word.word_is)
+    c.in_ok-duties.ensures.ok c.in_ok-duties.ensures.duties)

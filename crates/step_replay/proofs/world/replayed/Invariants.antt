@@ -1,0 +1,8 @@
+use Rattle.std.proofs.Common.{take}
+use Rattle.step_replay.specs.AuditTrail.{audit_trail}
+use Rattle.step_replay.specs.Following.{ReplayStands}
+use Rattle.step_replay.proofs.world.replayed.Given as goal
+
+abbrev pub invariant-loop-step : goal.invariant-loop-step
+invariant-loop-step l =
+    ReplayStands l.config (audit_trail l.config (take l.step-index l.steps)) l.replay

@@ -1,0 +1,29 @@
+-- How the code keeps the day of each firm: words of private functions alone.
+use Rattle.std.specs.Prelude.{List, ◌++◌, map}
+use Rattle.market_terms.specs.DayLines.{OfDealer, OfInvestor}
+use Rattle.dealer_desk.specs.DealerOutput.{book_at, dealer_output}
+use Rattle.dealer_desk.specs.QuoteLines as quotes
+use Rattle.investor_desk.specs.InvestorOutput as investor
+use Rattle.investor_desk.specs.RequestLines as requests
+use Rattle.step_replay.specs.FirmDays.{FirmDay}
+use Rattle.step_replay.specs.declared.floor.DealerPlace.{DealerPlace}
+use Rattle.step_replay.specs.declared.floor.InvestorPlace.{InvestorPlace}
+use Rattle.step_replay.specs.declared.floor.Floor.{Floor}
+
+-- the day of the dealer of a place
+abbrev pub dealer_day_at : DealerPlace → FirmDay
+dealer_day_at place = record {
+  sent = dealer_output place.desk.date place.desk.row place.desk.events;
+  lines = OfDealer (quotes.lines_of (book_at place.desk));
+}
+
+-- the day of the investor of a place
+abbrev pub investor_day_at : InvestorPlace → FirmDay
+investor_day_at place = record {
+  sent = investor.investor_output place.desk.market place.desk.events;
+  lines = OfInvestor (requests.lines_of (investor.book_at place.desk));
+}
+
+-- the days of the firms at their places
+abbrev pub days_of_floor : Floor → List FirmDay
+days_of_floor floor = map dealer_day_at floor.dealers.items ++ map investor_day_at floor.investors.items

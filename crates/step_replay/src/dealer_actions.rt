@@ -1,0 +1,93 @@
+//! What happens at the dealers' desks of a replay.
+ghost use Rattle.std.specs.Prelude.{IfOk};
+ghost use Rattle.step_replay.specs.Standing.{Acts};
+ghost use Rattle.step_replay.specs.Actions as action;
+
+use crate::floor::Floor;
+use dealer_desk::what_is_asked_is_of_the_day;
+use fix_fields::{Memory, Moment};
+use market_terms::{Ask, Close, RoomRef};
+use venue_steps::{Duties, do_drop, do_show, do_tell, own_dealer};
+
+impl Floor {
+    /// A dealer is shown a request.
+    pub(crate) fn show(
+        &mut self,
+        dealer: u16,
+        room: RoomRef,
+        ask: Ask,
+        moment: Moment,
+    ) -> Result<Duties, Memory>
+        ensures { IfOk result (λ duties. Acts (λ config facts.
+            action.done_by (action.dealer_at config dealer) (action.shown_to config facts room ask moment))
+            self.old self.new duties.items) }
+    {
+        let Some(place) = self.dealers.get_mut(usize::from(dealer)) else {
+            return Ok(Duties::new());
+        };
+        let duties = do_show(&mut place.desk, room, ask, moment)?;
+        Ok(duties)
+    }
+
+    /// A dealer is told how a request ended for it.
+    pub(crate) fn tell(
+        &mut self,
+        dealer: u16,
+        room: RoomRef,
+        close: Close,
+        moment: Moment,
+    ) -> Result<Duties, Memory>
+        ensures { IfOk result (λ duties. Acts (λ config facts.
+            action.done_by (action.dealer_at config dealer)
+            (action.told_to config facts room close moment))
+            self.old self.new duties.items) }
+    {
+        let Some(place) = self.dealers.get_mut(usize::from(dealer)) else {
+            return Ok(Duties::new());
+        };
+        let duties = do_tell(&mut place.desk, room, close, moment)?;
+        Ok(duties)
+    }
+
+    /// A message of a dealer comes to its desk.
+    pub(crate) fn dealer_says(
+        &mut self,
+        dealer: u16,
+        moment: Moment,
+        bytes: &[u8],
+    ) -> Result<Duties, Memory>
+        ensures { IfOk result (λ duties. Acts (λ config facts.
+            action.done_by (action.dealer_at config dealer)
+            (action.said_by_dealer config facts moment bytes.now))
+            self.old self.new duties.items) }
+    {
+        what_is_asked_is_of_the_day();
+        let Some(place) = self.dealers.get_mut(usize::from(dealer)) else {
+            return Ok(Duties::new());
+        };
+        let first = place.first_word;
+        let duties = own_dealer(&mut place.desk, &mut self.words, first, moment, bytes)?;
+        Ok(duties)
+    }
+
+    /// The next quote of a dealer's cancel of all is dropped, of those up to `last`.
+    pub(crate) fn drop_next(
+        &mut self,
+        dealer: u16,
+        last: u32,
+        moment: Moment,
+    ) -> Result<Duties, Memory>
+        ensures { IfOk result (λ duties. Acts (λ config facts.
+            action.done_by (action.dealer_at config dealer)
+            (action.dropped_by config facts last moment))
+            self.old self.new duties.items) }
+    {
+        what_is_asked_is_of_the_day();
+        let Some(place) = self.dealers.get_mut(usize::from(dealer)) else {
+            return Ok(Duties::new());
+        };
+        let first = place.first_word;
+        let duties = do_drop(&mut place.desk, &mut self.words, first, last, moment)?;
+        Ok(duties)
+    }
+}

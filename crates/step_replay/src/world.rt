@@ -1,0 +1,127 @@
+//! A day of the venue, replayed, and what each firm has of it.
+ghost use Rattle.std.specs.Prelude.{◌≡◌, slice_get, Ok, Err, None, IfOk, IfErr, IfSome, OnOk};
+ghost use Rattle.std.specs.Option.{option_copied, option_map};
+ghost use Rattle.step_replay.specs.AuditTrail as venue;
+ghost use Rattle.market_terms.specs.DayLines.{lines_in};
+ghost use Rattle.step_replay.specs.FirmDays.{FirmDay, firm_days};
+ghost use Rattle.step_replay.specs.Standing.{Stands};
+ghost use Rattle.step_replay.specs.StepFaults as spec;
+
+use crate::due_lists::dues_at;
+use crate::dues::Due;
+use crate::faults::{ReplayFault, first_fault};
+use crate::floor::Floor;
+use crate::replay::Replay;
+use crate::steps::Step;
+use fix_fields::Memory;
+use market_terms::FirmLines;
+use quote_messages::SentMessage;
+use std::alloc::Global;
+use std::marker::Model;
+use venue_config::VenueConfig;
+
+/// A venue after a day. A contract sees what it has of the day of each firm, in the order of their
+/// numbers: the dealers from 0 on, behind them the investors.
+#[derive(Drop)]
+pub struct World {
+    floor: Floor,
+}
+
+impl Model for World {
+    ghost use Rattle.std.specs.Prelude.{List};
+    ghost use Rattle.step_replay.specs.FirmDays.{FirmDay};
+    ghost use Rattle.step_replay.specs.FloorDays.{days_of_floor};
+
+    ghost Value = { List FirmDay };
+
+    ghost view = { λ world. days_of_floor world.floor };
+}
+
+impl World {
+    /// The messages that the firm with this number was sent, the first one first, or none where no
+    /// firm has this number.
+    pub fn sent(&self, firm: u16) -> Option<&[SentMessage]>
+        ensures { option_copied result
+            ≡ option_map (λ (day : FirmDay). day.sent) (slice_get self.now firm) }
+    {
+        let Some(index) = usize::from(firm).checked_sub(self.floor.dealers.len()) else {
+            let place = self.floor.dealers.get(usize::from(firm))?;
+            return Some(place.desk.sent());
+        };
+        let place = self.floor.investors.get(index)?;
+        Some(place.desk.sent())
+    }
+
+    /// The lines of the blotter of the firm with this number, or none where no firm has it.
+    pub fn lines(&self, firm: u16) -> Option<FirmLines<'_>>
+        ensures { option_map lines_in result
+            ≡ option_map (λ (day : FirmDay). day.lines) (slice_get self.now firm) }
+    {
+        let Some(index) = usize::from(firm).checked_sub(self.floor.dealers.len()) else {
+            let place = self.floor.dealers.get(usize::from(firm))?;
+            return Some(FirmLines::Dealer(place.desk.lines()));
+        };
+        let place = self.floor.investors.get(index)?;
+        Some(FirmLines::Investor(place.desk.lines()))
+    }
+}
+
+/// Replays a day of the venue, step by step. Where a step names a firm or a room that the venue
+/// does not have, the first such step is the fault, and no step is done; else only memory can be
+/// refused.
+pub fn run(alloc: Global, config: &VenueConfig, steps: &[Step]) -> Result<World, ReplayFault>
+    ensures known { IfSome (spec.first_fault config.now steps.now) (λ fault. result ≡ Err fault) }
+    ensures ok { IfOk result (λ world. world
+        ≡ firm_days config.now (venue.audit_trail config.now steps.now).facts) }
+    ensures err { IfErr result (λ fault. spec.IsFirstOrMemory fault
+        (spec.first_fault config.now steps.now)) }
+{
+    if let Some(fault) = first_fault(config, steps) {
+        return Err(fault);
+    }
+    let floor = replayed(alloc, config, steps)?;
+    Ok(World { floor })
+}
+
+/// What was due to the dealer with this number on a day of the venue. A number that no dealer has
+/// is the fault before all others, at the place 0.
+pub fn due(
+    alloc: Global,
+    config: &VenueConfig,
+    steps: &[Step],
+    dealer: u16,
+) -> Result<Vec<Due>, ReplayFault>
+    ensures known { IfSome (spec.due_fault config.now steps.now dealer)
+        (λ fault. result ≡ Err fault) }
+    ensures ok { IfOk result (λ dues. dues.items
+        ≡ venue.due_to dealer (venue.audit_trail config.now steps.now)) }
+    ensures err { IfErr result (λ fault. spec.IsFirstOrMemory fault
+        (spec.due_fault config.now steps.now dealer)) }
+{
+    if config.dealer(dealer).is_none() {
+        return Err(ReplayFault::UnknownFirm(0));
+    }
+    if let Some(fault) = first_fault(config, steps) {
+        return Err(fault);
+    }
+    let floor = replayed(alloc, config, steps)?;
+    let Some(place) = floor.dealers.get(usize::from(dealer)) else {
+        return Err(ReplayFault::UnknownFirm(0));
+    };
+    let dues = dues_at(alloc, place)?;
+    Ok(dues)
+}
+
+/// The places of a venue after these steps, each of which names what the venue has.
+fn replayed(alloc: Global, config: &VenueConfig, steps: &[Step]) -> Result<Floor, Memory>
+    requires { spec.first_fault config.now steps.now ≡ None }
+    ensures { IfOk result (λ floor.
+        Stands config.now (venue.audit_trail config.now steps.now).facts floor) }
+{
+    let mut replay = Replay::new(alloc, config)?;
+    for step in steps {
+        replay.step(step)?;
+    }
+    let Replay { floor, .. } = replay;
+    Ok(floor)
+}
