@@ -1,3 +1,10 @@
+pub mod AskedLemmas
+pub mod CompareLemmas
 pub mod CutLemmas
+pub mod DayLemmas
+pub mod FirmLemmas
+pub mod PartLemmas
 pub mod SpellLemmas
+pub mod StepLemmas
+pub mod StreamLemmas
 pub mod TagLemmas

@@ -5,7 +5,7 @@ use Rattle.std.proofs.Common.{false, decimal, fold, nat_le, inl, inr, codes}
 use Rattle.fix_fields.specs.Frame.{Field, field_text, fields_text, fields_len, left_of, frame_text}
 use Rattle.fix_fields.specs.UtcTimestamp.{timestamp_text}
 use Rattle.std.specs.Option.{option_map}
-use Rattle.step_replay.specs.declared.due.Due.{Due}
+use Rattle.step_replay.specs.declared.dues.Due.{Due}
 use Rattle.venue_text.specs.declared.faults.ProgramFault.{ProgramFault}
 use Rattle.venue_text.specs.SayLine.{fitting, with_field, Said, header_field, said_message}
 use Rattle.venue_text.specs.OptionSteps as option

@@ -1,6 +1,6 @@
 -- Tags and values of fields.
 use Rattle.std.proofs.Common.{◌≡◌, ◌≢◌, ℕ, ◌<◌, ◌≤◌, ◌==◌, ◌&&◌, true, not, nat_le, List, length}
-use Rattle.std.proofs.Common.{arith, inl, inr, Some, None}
+use Rattle.std.proofs.Common.{arith, inl, inr, Some, None, [], ◌∷◌, map}
 use Rattle.std.specs.List.{list_all}
 use Rattle.std.specs.Char.{is_ascii_digit}
 use Rattle.std.specs.Str.Parse.{AllDigits, digits_value}
@@ -11,6 +11,7 @@ use Rattle.std.proofs.lemmas.Str.Parse.{digits_value_short}
 use Rattle.fix_fields.specs.Frame.{IsValue}
 use Rattle.fix_fields.specs.TextLaws.{digits_if_all, value_if_all}
 use Rattle.quote_messages.specs.Texts.{number_up_to}
+use Rattle.venue_text.specs.MessageLines.{with_bar}
 use Rattle.venue_text.specs.SayLine.{is_plain_value, is_plain_character, is_plain_part}
 
 plain : IsNumeralModel (AllDigits 10) (digits_value 10)
@@ -42,3 +43,14 @@ value_is_plain value h = value_if_all (λ (c : ℕ). not (c == 1)) plain-apart v
 
 pub part_is_value : (word : List ℕ) → is_plain_part word ≡ true → IsValue word
 part_is_value word h = value_if_all is_plain_character character-apart word (and_parts (not (length word == 0)) (list_all is_plain_character word) h).1
+
+-- a vertical bar in the place of each SOH
+bar-apart : (c : ℕ) → with_bar c ≢ 1
+bar-apart c = λ is. elim (cases_Bool (c == 1)) [
+  | inl soh ↦ (let bar : 124 ≡ 1 = rw soh at is in cc)
+  | inr other ↦ (let same : c ≡ 1 = rw other at is in grind (arith, nat_tests))
+]
+
+pub barred_is_value : (word : List ℕ) → IsValue (map with_bar word)
+barred_is_value [] = tt
+barred_is_value (c ∷ word) = (bar-apart c, barred_is_value word)

@@ -4,7 +4,7 @@ use Rattle.std.specs.Prelude.{Result, Ok, Err, if◌then◌else◌}
 use Rattle.venue_config.specs.Rows.{dealer_values}
 use Rattle.venue_config.specs.declared.dealer_rows.DealerRow.{DealerRow}
 use Rattle.step_replay.specs.DealerView.{dealer_view}
-use Rattle.step_replay.specs.declared.due.Due.{Due}
+use Rattle.step_replay.specs.declared.dues.Due.{Due}
 use Rattle.venue_text.specs.DueText.{Spelled, due_text_of}
 use Rattle.venue_text.specs.MessageLines.{messages_text}
 use Rattle.venue_text.specs.declared.lines.TheConstants.{MOST_INPUT}

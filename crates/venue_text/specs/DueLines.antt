@@ -12,8 +12,8 @@ use Rattle.market_terms.specs.declared.closes.Close.{Close}
 use Rattle.market_terms.specs.declared.closes.Close.TheVariants.{Hit, Expired, Cover}
 use Rattle.market_terms.specs.declared.closes.Close.TheVariants.{DoneAway, Pass}
 use Rattle.quote_messages.specs.Texts.{number_of, number_up_to}
-use Rattle.step_replay.specs.declared.due.Due.{Due}
-use Rattle.step_replay.specs.declared.due.Due.TheVariants as due
+use Rattle.step_replay.specs.declared.dues.Due.{Due}
+use Rattle.step_replay.specs.declared.dues.Due.TheVariants as due
 use Rattle.venue_text.specs.Lines.{parts_of, first_part, behind_part, has_part_behind}
 use Rattle.venue_text.specs.Lines.{side_of, time_of}
 use Rattle.venue_text.specs.OptionSteps.{◌>>=◌}

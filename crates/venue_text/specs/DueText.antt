@@ -2,7 +2,7 @@
 use Rattle.std.specs.Prelude.{ℕ, List, [], ◌∷◌, Option, Some, None, Result, Ok, Err}
 use Rattle.std.specs.Prelude.{if◌then◌else◌}
 use Rattle.venue_config.specs.Rows.{DealerValues}
-use Rattle.step_replay.specs.declared.due.Due.{Due}
+use Rattle.step_replay.specs.declared.dues.Due.{Due}
 use Rattle.venue_text.specs.DueLines.{date_of, row_of, due_of}
 use Rattle.venue_text.specs.Lines.{spoken_lines, one_past, has_divider}
 use Rattle.venue_text.specs.ResultSteps.{◌>>=◌}

@@ -1,5 +1,5 @@
 //! Why a run of the program prints no messages, and the lines that tell it.
-ghost use Rattle.std.specs.Prelude.{◌≡◌, Some};
+ghost use Rattle.std.specs.Prelude.{◌≡◌, ◌≤◌, ◌++◌, ◌∷◌, [], codes, decimal, length, Some};
 ghost use Rattle.venue_text.specs.Faults as spec;
 ghost use Rattle.venue_text.specs.declared.faults.ProgramFault.TheVariants.{Memory};
 
@@ -7,22 +7,45 @@ use arrayvec::ArrayString;
 use itoa::Buffer;
 use std::alloc::{AllocError, AllocFailed};
 use std::fmt;
+use venue_config::ConfigFault;
 
 /// A fault of a run, which ends with status 1 and one line on standard error.
 ///
 /// Where several could be told, the one that comes first here is told, but `memory` wherever it
-/// is met.
+/// is met. Of an input of several parts, each part is read to its end before the next one; of its
+/// lines the first that is at fault is told, and on one line the fault that comes first here.
 #[derive(Clone, Copy, Debug, PartialEq, Eq)]
 pub enum ProgramFault {
     /// Standard input could not be read to its end.
     Read,
     /// The input has more than 16,777,216 bytes.
     Input,
-    /// The input is divided by a line `%%`, and due text has one part.
+    /// Lines `%%` divide the input into another number of parts than is asked for: due text has
+    /// one.
     Parts,
+    /// The configuration is none.
+    Config(ConfigFault),
+    /// An argument is the name of no firm, or of no dealer where a dealer is asked for. The
+    /// argument's word belongs to the line that tells the fault.
+    Firm,
     /// A line is not of its form.
     Form {
         /// Its number, from 1 over all lines of the input.
+        line: usize,
+    },
+    /// A line names a firm that the configuration does not have.
+    UnknownFirm {
+        /// Its number.
+        line: usize,
+    },
+    /// A line names a room that the configuration does not have.
+    UnknownRoom {
+        /// Its number.
+        line: usize,
+    },
+    /// A line brings bytes at which no message can begin, go on or end any more.
+    Stream {
+        /// Its number.
         line: usize,
     },
     /// Memory was refused.
@@ -41,7 +64,12 @@ impl fmt::Display for ProgramFault {
             ProgramFault::Read => write!(f, "read"),
             ProgramFault::Input => write!(f, "input"),
             ProgramFault::Parts => write!(f, "parts"),
+            ProgramFault::Config(fault) => write!(f, "config: {}", fault.name()),
+            ProgramFault::Firm => write!(f, "firm"),
             ProgramFault::Form { line } => write!(f, "line {line}: form"),
+            ProgramFault::UnknownFirm { line } => write!(f, "line {line}: unknown firm"),
+            ProgramFault::UnknownRoom { line } => write!(f, "line {line}: unknown room"),
+            ProgramFault::Stream { line } => write!(f, "line {line}: stream"),
             ProgramFault::Memory => write!(f, "memory"),
             ProgramFault::Write => write!(f, "write"),
         }
@@ -64,23 +92,59 @@ impl<T: Drop> From<AllocFailed<T>> for ProgramFault {
     }
 }
 
-/// The line that tells a fault, whole, with its line feed. It takes no memory.
+/// The line that tells a fault, whole, with its line feed; of [`ProgramFault::Firm`] what stands
+/// before the argument's word, which is to be written behind it with a line feed. It takes no
+/// memory.
 pub fn fault_line(fault: &ProgramFault) -> ArrayString<64>
     ensures { result.bytes ≡ spec.fault_line fault.now }
 {
-    let mut line = ArrayString::new();
     match fault {
-        ProgramFault::Read => line.push_str("read\n"),
-        ProgramFault::Input => line.push_str("input\n"),
-        ProgramFault::Parts => line.push_str("parts\n"),
-        ProgramFault::Form { line: number } => {
-            let mut digits = Buffer::new();
-            line.push_str("line ");
-            line.push_str(digits.format(*number));
-            line.push_str(": form\n");
-        }
-        ProgramFault::Memory => line.push_str("memory\n"),
-        ProgramFault::Write => line.push_str("write\n"),
+        ProgramFault::Read => short_line("read\n"),
+        ProgramFault::Input => short_line("input\n"),
+        ProgramFault::Parts => short_line("parts\n"),
+        ProgramFault::Config(fault) => config_line(fault.name()),
+        ProgramFault::Firm => short_line("firm: "),
+        ProgramFault::Form { line } => numbered_line(*line, ": form"),
+        ProgramFault::UnknownFirm { line } => numbered_line(*line, ": unknown firm"),
+        ProgramFault::UnknownRoom { line } => numbered_line(*line, ": unknown room"),
+        ProgramFault::Stream { line } => numbered_line(*line, ": stream"),
+        ProgramFault::Memory => short_line("memory\n"),
+        ProgramFault::Write => short_line("write\n"),
     }
+}
+
+/// A line of one word.
+fn short_line(text: &str) -> ArrayString<64>
+    requires { length text.now ≤ 16 }
+    ensures { result.bytes ≡ text.now }
+{
+    let mut line = ArrayString::new();
+    line.push_str(text);
+    line
+}
+
+/// The line of a fault of a configuration with this name.
+fn config_line(name: &str) -> ArrayString<64>
+    requires { length name.now ≤ 16 }
+    ensures { result.bytes ≡ codes "config: " ++ name.now ++ 10 ∷ [] }
+{
+    let mut line = ArrayString::new();
+    line.push_str("config: ");
+    line.push_str(name);
+    line.push_str("\n");
+    line
+}
+
+/// The line of a fault of the line with this number.
+fn numbered_line(number: usize, what: &str) -> ArrayString<64>
+    requires { length what.now ≤ 16 }
+    ensures { result.bytes ≡ codes "line " ++ decimal number ++ what.now ++ 10 ∷ [] }
+{
+    let mut digits = Buffer::new();
+    let mut line = ArrayString::new();
+    line.push_str("line ");
+    line.push_str(digits.format(number));
+    line.push_str(what);
+    line.push_str("\n");
     line
 }

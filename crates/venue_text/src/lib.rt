@@ -10,12 +10,26 @@
 //! let text = alone_text(alloc, false, b"date 20250314\ndealer DLR1 4 10000000 T1\n..")?;
 //! ```
 //!
+//! A day of the whole venue is two *parts*, divided by a line `%%`: a configuration, and the lines
+//! of steps. A command reads them one by one, so that it may look at its own argument between them:
+//!
+//! ```ignore
+//! let day = day_parts(input)?;
+//! let config = read_venue(alloc, day.config)?;
+//! let dealer = asked_dealer(&config, b"DLR1")?;
+//! let steps = read_steps(alloc, &config, day.steps)?;
+//! ```
+//!
 //! # What is promised
 //!
 //! - [`alone_text`]: the text is that of the dealer view of what the input spells; each fault is
 //!   the first of the input, by a total function of its bytes (`first_fault`).
 //! - [`read_due_text`] is `due_text_of`: the date, the dealer's row and the list, or the first
 //!   fault.
+//! - [`read_steps`] is `steps_of`: exactly the steps that the lines spell, each of which names what
+//!   the venue has, or their first fault.
+//! - [`day_parts`], [`two_days_parts`] and [`read_venue`] give the parts of an input and the
+//!   configuration that one spells, [`asked_firm`] and [`asked_dealer`] whom an argument names.
 //! - [`messages_text`] and [`due_lines`] are the lines of their definitions, byte by byte.
 //! - [`Said`] and [`read_received`] read what a firm sends as lines of steps and of due text
 //!   share it, [`SpokenLines`], [`Parts`], [`read_time`] and [`read_side`] what is in a line.
@@ -24,18 +38,30 @@
 //! No call has a condition but those that say so; each returns, and only memory can be refused.
 #![tactic(auto)]
 
+mod asked_days;
 mod dealer_line;
 mod due_items;
 mod due_text;
 mod faults;
 mod fields;
 mod fitting;
+mod heard;
+mod input_parts;
 mod lines;
 mod message_lines;
 mod parts;
 mod printed;
+mod printed_blotter;
+mod printed_comparison;
+mod printed_due;
+mod printed_replay;
 mod received;
 mod said;
+mod same_dues;
+mod spelled;
+mod step_lines;
+mod step_text;
+mod venue_parts;
 mod written_dues;
 
 pub use due_text::{DueText, read_due_text};
@@ -46,6 +72,15 @@ pub use lines::{MOST_INPUT, Parts, SpokenLines, has_divider, one_past};
 pub use message_lines::messages_text;
 pub use parts::{cut_part, read_side, read_time, same_text};
 pub use printed::alone_text;
+pub use printed_blotter::blotter_command_text;
+pub use printed_comparison::compare_text;
+pub use printed_due::due_command_text;
+pub use printed_replay::replay_text;
 pub use received::read_received;
 pub use said::Said;
+pub use step_lines::MOST_TURNS;
+pub use step_text::read_steps;
+pub use venue_parts::{
+    DayParts, asked_dealer, asked_firm, day_parts, firm_of, read_venue, two_days_parts,
+};
 pub use written_dues::due_lines;

@@ -77,10 +77,15 @@ impl<'a> SpokenLines<'a> {
         requires { length text.now ≤ MOST_INPUT }
         ensures { result ≡ spec.spoken_lines text.entry.now }
     {
-        SpokenLines {
-            rest: text,
-            number: 1,
-        }
+        SpokenLines::numbered(text, 1)
+    }
+
+    /// The same of a text whose first line has this number.
+    pub(crate) fn numbered(text: &'a [u8], number: usize) -> Self
+        requires { number + length text.now ≤ MOST_INPUT + 1 }
+        ensures { result ≡ spec.spoken_from number (spec.lines_of text.entry.now) }
+    {
+        SpokenLines { rest: text, number }
     }
 }
 

@@ -26,10 +26,24 @@ pub fn messages_text(
         text.items ≡ spec.messages_text with_frames firm.now messages.now) }
 {
     let mut text = Vec::new(alloc);
-    for message in messages {
-        push_line(&mut text, with_frames, firm, message)?;
-    }
+    push_messages(&mut text, with_frames, firm, messages)?;
     Ok(text)
+}
+
+/// The lines of messages that a firm is sent.
+pub(crate) fn push_messages(
+    text: &mut Vec<u8>,
+    with_frames: bool,
+    firm: &Name,
+    messages: &[SentMessage],
+) -> Result<(), Memory>
+    ensures { OnOk result (text.new.items
+        ≡ text.old.items ++ spec.messages_text with_frames firm.now messages.now) }
+{
+    for message in messages {
+        push_line(text, with_frames, firm, message)?;
+    }
+    Ok(())
 }
 
 /// The line of a message, in one form or the other.

@@ -1,10 +1,13 @@
 //! A message that a firm sends, field by field: `TRADER TIME TYPE BODY`.
-ghost use Rattle.std.specs.Prelude.{◌≡◌, IfOk};
+ghost use Rattle.std.specs.Prelude.{◌≡◌, map, IfOk};
 ghost use Rattle.std.specs.List.{list_all};
+ghost use Rattle.fix_fields.specs.Frame.{IsValue};
+ghost use Rattle.venue_text.specs.MessageLines.{with_bar};
 ghost use Rattle.venue_text.specs.SayLine as spec;
 
 use crate::fields::{Field, read_fields};
 use crate::fitting::{begun_frame, finished, has_tag, with_all, with_header_field};
+use crate::message_lines::push_barred;
 use crate::parts::{cut_part, read_time};
 use fix_fields::{Date, Memory, Moment, moment_text};
 use itoa::Buffer;
@@ -82,7 +85,6 @@ impl<'a> Said<'a> {
     /// The message as this firm sends it, or none where its frame would be longer than 4,096
     /// bytes. The header, with this number in MsgSeqNum (34), is written but for the fields that
     /// BODY has.
-    #[tactic(auto, using(crate::proofs::TagLemmas::part_is_value))]
     pub fn message(
         &self,
         alloc: Global,
@@ -93,11 +95,45 @@ impl<'a> Said<'a> {
         ensures { IfOk result (λ message.
             message ≡ spec.said_message date.now firm.now number self.now) }
     {
+        let message = self.framed(alloc, date, firm.as_bytes(), number)?;
+        Ok(message)
+    }
+
+    /// The message as a firm with this word as its name would send it, with a vertical bar for each
+    /// SOH in the word.
+    pub(crate) fn message_by(
+        &self,
+        alloc: Global,
+        date: &Date,
+        word: &[u8],
+        number: u64,
+    ) -> Result<Option<Message>, Memory>
+        ensures { IfOk result (λ message.
+            message ≡ spec.said_message date.now (map with_bar word.now) number self.now) }
+    {
+        let word = with_bars(alloc, word)?;
+        let message = self.framed(alloc, date, word.as_slice(), number)?;
+        Ok(message)
+    }
+
+    /// The message with this value of SenderCompID (49).
+    #[tactic(auto, using(crate::proofs::TagLemmas::part_is_value))]
+    fn framed(
+        &self,
+        alloc: Global,
+        date: &Date,
+        firm: &[u8],
+        number: u64,
+    ) -> Result<Option<Message>, Memory>
+        requires { IsValue firm.now }
+        ensures { IfOk result (λ message.
+            message ≡ spec.said_message date.now firm.now number self.now) }
+    {
         let mut buffer = Buffer::new();
         let digits = buffer.format(number).as_bytes();
         let time = moment_text(date, self.moment);
         let typed = begun_frame(alloc, self.msg_type)?;
-        let sender = with_header_field(typed, &self.fields, 49, firm.as_bytes())?;
+        let sender = with_header_field(typed, &self.fields, 49, firm)?;
         let target = with_header_field(sender, &self.fields, 56, b"VENUE")?;
         let numbered = with_header_field(target, &self.fields, 34, digits)?;
         let timed = with_header_field(numbered, &self.fields, 52, time.as_bytes())?;
@@ -106,6 +142,17 @@ impl<'a> Said<'a> {
         let message = finished(whole)?;
         Ok(message)
     }
+}
+
+/// A word with a vertical bar for each SOH, so that it can be a value of a field.
+#[tactic(auto, using(crate::proofs::TagLemmas::barred_is_value))]
+fn with_bars(alloc: Global, word: &[u8]) -> Result<Vec<u8>, Memory>
+    ensures barred { IfOk result (λ text. text.items ≡ map with_bar word.now) }
+    ensures value { IfOk result (λ text. IsValue text.items) }
+{
+    let mut text = Vec::with_capacity(alloc, word.len())?;
+    push_barred(&mut text, word)?;
+    Ok(text)
 }
 
 /// Whether a part may be a trader or a type: it is not empty and has neither a vertical bar nor

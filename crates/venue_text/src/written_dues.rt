@@ -1,10 +1,11 @@
 //! What is due to a dealer, written as lines of due text.
 ghost use Rattle.std.specs.Prelude.{◌≡◌, ◌++◌, [], decimal, IfOk, OnOk};
+ghost use Rattle.fix_fields.specs.TimeOfDay as times;
 ghost use Rattle.venue_text.specs.WrittenDues as spec;
 
-use crate::message_lines::{push_barred, time_of_day};
+use crate::message_lines::push_barred;
 use bond_prices::Grid;
-use fix_fields::{Date, Memory, Moment, moment_text};
+use fix_fields::{Memory, Moment, time_text};
 use itoa::Buffer;
 use quote_messages::{Ask, Close};
 use std::alloc::Global;
@@ -12,36 +13,44 @@ use step_replay::Due;
 
 /// The lines of due text that spell a list, an item each: a message of the dealer's own as an
 /// `own` line, with a vertical bar for each SOH, and times with milliseconds.
-pub fn due_lines(alloc: Global, date: &Date, dues: &[Due]) -> Result<Vec<u8>, Memory>
-    ensures { IfOk result (λ text. text.items ≡ spec.due_lines date.now dues.now) }
+pub fn due_lines(alloc: Global, dues: &[Due]) -> Result<Vec<u8>, Memory>
+    ensures { IfOk result (λ text. text.items ≡ spec.due_lines dues.now) }
 {
     let mut text = Vec::new(alloc);
-    for due in dues {
-        push_due(&mut text, date, due)?;
-    }
+    push_dues(&mut text, dues)?;
     Ok(text)
 }
 
+/// The lines of a list.
+pub(crate) fn push_dues(text: &mut Vec<u8>, dues: &[Due]) -> Result<(), Memory>
+    ensures { OnOk result (text.new.items ≡ text.old.items ++ spec.due_lines dues.now) }
+{
+    for due in dues {
+        push_due(text, due)?;
+    }
+    Ok(())
+}
+
 /// The line of an item.
-fn push_due(text: &mut Vec<u8>, date: &Date, due: &Due) -> Result<(), Memory>
-    ensures { OnOk result (text.new.items ≡ text.old.items ++ spec.due_line date.now due.now) }
+fn push_due(text: &mut Vec<u8>, due: &Due) -> Result<(), Memory>
+    ensures { OnOk result (text.new.items ≡ text.old.items ++ spec.due_line due.now) }
 {
     match due {
-        Due::Own(moment, message) => push_own(text, date, *moment, message.as_bytes()),
-        Due::Shown(ask, moment) => push_shown(text, date, ask, *moment),
+        Due::Own(moment, message) => push_own(text, *moment, message.as_bytes()),
+        Due::Shown(ask, moment) => push_shown(text, ask, *moment),
         Due::Lifted(quote) => push_lifted(text, *quote),
-        Due::Closed(request, close, moment) => push_closed(text, date, *request, *close, *moment),
-        Due::Drop(last, moment) => push_drop(text, date, *last, *moment),
+        Due::Closed(request, close, moment) => push_closed(text, *request, *close, *moment),
+        Due::Drop(last, moment) => push_drop(text, *last, *moment),
     }
 }
 
 /// `own TIME FRAME`.
-fn push_own(text: &mut Vec<u8>, date: &Date, moment: Moment, message: &[u8]) -> Result<(), Memory>
+fn push_own(text: &mut Vec<u8>, moment: Moment, message: &[u8]) -> Result<(), Memory>
     ensures { OnOk result (text.new.items
-        ≡ text.old.items ++ spec.due_line date.now (Due.Own moment message.now)) }
+        ≡ text.old.items ++ spec.due_line (Due.Own moment message.now)) }
 {
     text.extend_from_slice(b"own ")?;
-    push_time(text, date, moment)?;
+    push_time(text, moment)?;
     text.push(b' ')?;
     push_barred(text, message)?;
     text.push(b'\n')?;
@@ -49,23 +58,23 @@ fn push_own(text: &mut Vec<u8>, date: &Date, moment: Moment, message: &[u8]) -> 
 }
 
 /// `shown INVESTOR BOND SIDE QUANTITY DEADLINE TIME`, and GRID where it is not the finest.
-fn push_shown(text: &mut Vec<u8>, date: &Date, ask: &Ask, moment: Moment) -> Result<(), Memory>
+fn push_shown(text: &mut Vec<u8>, ask: &Ask, moment: Moment) -> Result<(), Memory>
     ensures { OnOk result (text.new.items
-        ≡ text.old.items ++ spec.due_line date.now (Due.Shown ask.now moment)) }
+        ≡ text.old.items ++ spec.due_line (Due.Shown ask.now moment)) }
 {
     text.extend_from_slice(b"shown ")?;
-    push_ask(text, date, ask)?;
+    push_ask(text, ask)?;
     text.push(b' ')?;
-    push_end(text, date, moment, ask.grid)?;
+    push_end(text, moment, ask.grid)?;
     Ok(())
 }
 
 /// TIME and GRID, with which a request's line ends.
 #[tactic(auto, unfolding(crate::specs::WrittenDues::end_text))]
-fn push_end(text: &mut Vec<u8>, date: &Date, moment: Moment, grid: Grid) -> Result<(), Memory>
-    ensures { OnOk result (text.new.items ≡ text.old.items ++ spec.end_text date.now moment grid) }
+fn push_end(text: &mut Vec<u8>, moment: Moment, grid: Grid) -> Result<(), Memory>
+    ensures { OnOk result (text.new.items ≡ text.old.items ++ spec.end_text moment grid) }
 {
-    push_time(text, date, moment)?;
+    push_time(text, moment)?;
     push_grid(text, grid)?;
     text.push(b'\n')?;
     Ok(())
@@ -85,12 +94,12 @@ fn push_grid(text: &mut Vec<u8>, grid: Grid) -> Result<(), Memory>
 }
 
 /// `INVESTOR BOND SIDE QUANTITY DEADLINE`.
-fn push_ask(text: &mut Vec<u8>, date: &Date, ask: &Ask) -> Result<(), Memory>
-    ensures { OnOk result (text.new.items ≡ text.old.items ++ spec.ask_text date.now ask.now) }
+fn push_ask(text: &mut Vec<u8>, ask: &Ask) -> Result<(), Memory>
+    ensures { OnOk result (text.new.items ≡ text.old.items ++ spec.ask_text ask.now) }
 {
     push_terms(text, ask)?;
     text.push(b' ')?;
-    push_time(text, date, ask.deadline)?;
+    push_time(text, ask.deadline)?;
     Ok(())
 }
 
@@ -111,7 +120,7 @@ fn push_terms(text: &mut Vec<u8>, ask: &Ask) -> Result<(), Memory>
 /// `lifted N`.
 fn push_lifted(text: &mut Vec<u8>, quote: u32) -> Result<(), Memory>
     ensures { OnOk result (text.new.items
-        ≡ text.old.items ++ spec.due_line [] (Due.Lifted quote)) }
+        ≡ text.old.items ++ spec.due_line (Due.Lifted quote)) }
 {
     text.extend_from_slice(b"lifted ")?;
     push_number(text, quote as u64)?;
@@ -120,45 +129,38 @@ fn push_lifted(text: &mut Vec<u8>, quote: u32) -> Result<(), Memory>
 }
 
 /// `closed N KIND TIME`.
-fn push_closed(
-    text: &mut Vec<u8>,
-    date: &Date,
-    request: u64,
-    close: Close,
-    moment: Moment,
-) -> Result<(), Memory>
+fn push_closed(text: &mut Vec<u8>, request: u64, close: Close, moment: Moment) -> Result<(), Memory>
     ensures { OnOk result (text.new.items
-        ≡ text.old.items ++ spec.due_line date.now (Due.Closed request close moment)) }
+        ≡ text.old.items ++ spec.due_line (Due.Closed request close moment)) }
 {
     text.extend_from_slice(b"closed ")?;
     push_number(text, request)?;
     text.push(b' ')?;
     push_number(text, close.code())?;
     text.push(b' ')?;
-    push_time(text, date, moment)?;
+    push_time(text, moment)?;
     text.push(b'\n')?;
     Ok(())
 }
 
 /// `drop LAST TIME`.
-fn push_drop(text: &mut Vec<u8>, date: &Date, last: u32, moment: Moment) -> Result<(), Memory>
+fn push_drop(text: &mut Vec<u8>, last: u32, moment: Moment) -> Result<(), Memory>
     ensures { OnOk result (text.new.items
-        ≡ text.old.items ++ spec.due_line date.now (Due.Drop last moment)) }
+        ≡ text.old.items ++ spec.due_line (Due.Drop last moment)) }
 {
     text.extend_from_slice(b"drop ")?;
     push_number(text, u64::from(last))?;
     text.push(b' ')?;
-    push_time(text, date, moment)?;
+    push_time(text, moment)?;
     text.push(b'\n')?;
     Ok(())
 }
 
 /// TIME, with milliseconds.
-fn push_time(text: &mut Vec<u8>, date: &Date, moment: Moment) -> Result<(), Memory>
-    ensures { OnOk result (text.new.items ≡ text.old.items ++ spec.time_text date.now moment) }
+fn push_time(text: &mut Vec<u8>, moment: Moment) -> Result<(), Memory>
+    ensures { OnOk result (text.new.items ≡ text.old.items ++ times.time_text moment) }
 {
-    let timestamp = moment_text(date, moment);
-    text.extend_from_slice(time_of_day(timestamp.as_bytes()))?;
+    text.extend_from_slice(time_text(moment).as_bytes())?;
     Ok(())
 }
 

@@ -1,10 +1,12 @@
-//! Tests of the program's texts: due text and what is printed for it, lines, and the lines of
-//! faults.
+//! Tests of the program's texts: due text and what is printed for it, the steps of a day, lines, and
+//! the lines of faults.
 //!
 //! What is wanted is written down beforehand: by hand, and the frames' lengths and checksums by a
 //! program of their own.
 #![tactic(auto)]
 
+#[cfg(test)]
+mod comparisons;
 #[cfg(test)]
 mod days;
 #[cfg(test)]
@@ -21,3 +23,11 @@ mod limits;
 mod lines;
 #[cfg(test)]
 mod said;
+#[cfg(test)]
+mod steps;
+#[cfg(test)]
+mod venue_days;
+#[cfg(test)]
+mod venue_parts;
+#[cfg(test)]
+mod venues;

@@ -4,6 +4,7 @@ use fix_fields::Date;
 use quote_messages::Side;
 use std::process::Abort;
 use std::test::Fail;
+use venue_config::ConfigFault;
 use venue_text::{
     Parts, ProgramFault, SpokenLines, cut_part, due_lines, fault_line, has_divider, one_past,
     read_due_text, read_side, read_time, same_text,
@@ -14,6 +15,11 @@ const FAULTS: &[(ProgramFault, &str)] = &[
     (ProgramFault::Read, "read\n"),
     (ProgramFault::Input, "input\n"),
     (ProgramFault::Parts, "parts\n"),
+    (ProgramFault::Config(ConfigFault::Toml), "config: Toml\n"),
+    (
+        ProgramFault::Config(ConfigFault::Missing),
+        "config: Missing\n",
+    ),
     (ProgramFault::Form { line: 1 }, "line 1: form\n"),
     (ProgramFault::Form { line: 9_999 }, "line 9999: form\n"),
     (ProgramFault::Form { line: 10_000 }, "line 10000: form\n"),
@@ -21,6 +27,15 @@ const FAULTS: &[(ProgramFault, &str)] = &[
         ProgramFault::Form { line: usize::MAX },
         "line 18446744073709551615: form\n",
     ),
+    (
+        ProgramFault::UnknownFirm { line: usize::MAX },
+        "line 18446744073709551615: unknown firm\n",
+    ),
+    (
+        ProgramFault::UnknownRoom { line: 17 },
+        "line 17: unknown room\n",
+    ),
+    (ProgramFault::Stream { line: 17 }, "line 17: stream\n"),
     (ProgramFault::Memory, "memory\n"),
     (ProgramFault::Write, "write\n"),
 ];
@@ -43,6 +58,11 @@ fn faults_are_told_whole(rt: HostRuntime) -> Result<(), Fail> {
         assert_line(&rt, fault, line)?;
     }
     Ok(())
+}
+
+#[test]
+fn fault_of_an_argument_ends_with_its_word(rt: HostRuntime) {
+    assert_eq!(&rt; fault_line(&ProgramFault::Firm).as_str(), "firm: ");
 }
 
 /// A list as the program writes it: one of each kind of item.
@@ -71,7 +91,7 @@ fn items_are_written_as_they_are_read(rt: HostRuntime) -> Result<(), Fail> {
     };
     assert_eq!(&rt; text.dues.len(), 14);
     assert_eq!(&rt; text.row.quotes, 4);
-    let lines = due_lines(rt.alloc(), &text.date, text.dues.as_slice())?;
+    let lines = due_lines(rt.alloc(), text.dues.as_slice())?;
     assert!(&rt; lines.as_slice() == ITEMS.as_bytes());
     Ok(())
 }

@@ -1,0 +1,111 @@
+-- Lines of steps: what was read so far, and what is left.
+use Rattle.std.proofs.Common.{◌≡◌, ℕ, ◌+◌, ◌==◌, Bool, true, false, not, List, [], ◌∷◌, ◌++◌, length, map, refl, ap, sym, ◌∙◌}
+use Rattle.std.proofs.Common.{Option, Some, None, Result, Ok, Err, append_assoc, replicate}
+use Rattle.std.proofs.Common.{zero, suc, nat_lt, if◌then◌else◌}
+use Rattle.venue_config.specs.Rows.{ConfigValues, Configuration}
+use Rattle.step_replay.specs.StepFaults.{first_fault, first_fault_from, fault_of, or_else, firms_of}
+use Rattle.step_replay.specs.declared.faults.ReplayFault.{ReplayFault}
+use Rattle.step_replay.specs.declared.steps.Actor.{Actor}
+use Rattle.step_replay.specs.declared.steps.Actor.TheVariants as actor
+use Rattle.step_replay.specs.declared.steps.Step.{Step}
+use Rattle.step_replay.specs.declared.steps.Step.TheVariants as step
+use Rattle.venue_text.specs.ResultSteps.{◌>>=◌}
+use Rattle.venue_text.specs.Lines.{first_part, behind_part}
+use Rattle.venue_text.specs.MessageLines.{with_bar}
+use Rattle.venue_text.specs.SayLine.{Said, has_tag, said_of, said_message}
+use Rattle.venue_text.specs.StepLines.{said_step, firm_named, Heard, with_number, number_for, steps_of_line, steps_from, in_steps}
+use Rattle.venue_text.specs.StepReading.{counted, read_as, steps_in, is_actor, is_known}
+use Rattle.venue_text.specs.DueText.{Lines}
+use Rattle.venue_text.specs.declared.faults.ProgramFault.{ProgramFault}
+use Rattle.venue_text.specs.declared.faults.ProgramFault.TheVariants.{Form, UnknownFirm}
+use Rattle.venue_text.specs.declared.spelled.Spelled.{Spelled}
+use Rattle.venue_text.specs.declared.spelled.Spelled.TheVariants as spelled
+
+-- a `say` line is counted where its number was written
+said_counted : (heard : Heard) (firm moment : ℕ) (message : List ℕ) (is_numbered : Bool)
+    → (if is_numbered then heard else with_number heard firm (number_for heard (Some firm) + 1))
+    ≡ counted (spelled.Said firm moment message (not is_numbered)) heard
+said_counted heard firm moment message true = refl
+said_counted heard firm moment message false = refl
+
+-- steps that were read, before others that are
+abbrev pub behind_steps : List Step → Result (List Step) ProgramFault → Result (List Step) ProgramFault
+behind_steps done (Err fault) = Err fault
+behind_steps done (Ok rest) = Ok (done ++ rest)
+
+pub behind_steps-none : (rest : Result (List Step) ProgramFault) → behind_steps [] rest ≡ rest
+behind_steps-none (Err fault) = refl
+behind_steps-none (Ok rest) = refl
+
+pub behind_steps-more : (done more : List Step) (rest : Result (List Step) ProgramFault)
+    → behind_steps done (rest >>= (λ steps. Ok (more ++ steps))) ≡ behind_steps (done ++ more) rest
+behind_steps-more done more (Err fault) = refl
+behind_steps-more done more (Ok rest) = ap Ok (sym (append_assoc done more rest))
+
+module _ (config : ConfigValues) (heard : Heard) (k : ℕ) (text : List ℕ) (said : Said) where
+  -- what a `say` line spells, from what each step of its reading gave
+  pub say_ok : (message : List ℕ) (firm : ℕ) (is_numbered : Bool) → (length (first_part text) == 0) ≡ false
+      → Some said ≡ said_of config.date (behind_part text)
+      → Some message ≡ said_message config.date (map with_bar (first_part text)) (number_for heard (firm_named config (first_part text))) said
+      → Some firm ≡ firm_named config (first_part text) → is_numbered ≡ has_tag said.fields 34
+      → said_step config heard k text ≡ read_as (spelled.Said firm said.moment message (not is_numbered)) heard
+  unfolding said_step
+  say_ok message firm is_numbered filled is_said is_message is_firm numbered =
+      rw (filled, sym is_said, sym is_message, sym is_firm, sym numbered)
+      (ap (λ after. Ok (step.In firm said.moment message ∷ [], after)) (said_counted heard firm said.moment message is_numbered))
+
+  pub say_long : (length (first_part text) == 0) ≡ false → Some said ≡ said_of config.date (behind_part text)
+      → None ≡ said_message config.date (map with_bar (first_part text)) (number_for heard (firm_named config (first_part text))) said
+      → said_step config heard k text ≡ Err (Form k)
+  unfolding said_step
+  say_long filled is_said is_message = rw (filled, sym is_said, sym is_message) refl
+
+  pub say_unknown : (message : List ℕ) → (length (first_part text) == 0) ≡ false → Some said ≡ said_of config.date (behind_part text)
+      → Some message ≡ said_message config.date (map with_bar (first_part text)) (number_for heard (firm_named config (first_part text))) said
+      → None ≡ firm_named config (first_part text) → said_step config heard k text ≡ Err (UnknownFirm k)
+  unfolding said_step
+  say_unknown message filled is_said is_message is_firm = rw (filled, sym is_said, sym is_message, sym is_firm) refl
+
+-- A line more.
+
+pub steps_more : (config : ConfigValues) (heard mid : Heard) (k : ℕ) (text : List ℕ) (rest : Lines) (spelled : Spelled) (done : List Step)
+    → steps_of_line config heard k text ≡ read_as spelled mid
+    → behind_steps done (steps_from config heard ((k, text) ∷ rest)) ≡ behind_steps (done ++ steps_in spelled) (steps_from config (counted spelled mid) rest)
+steps_more config heard mid k text rest spelled done is =
+    ap (λ read. behind_steps done (read >>= (λ r. steps_from config r.1 rest >>= (λ steps. Ok (r.0 ++ steps))))) is
+    ∙ behind_steps-more done (steps_in spelled) (steps_from config (counted spelled mid) rest)
+
+-- Steps that name what the venue has.
+
+or_none : (first other : Option ReplayFault) → or_else first other ≡ None → (first ≡ None) × (other ≡ None)
+or_none None other is = (refl, is)
+or_none (Some fault) other is = cc
+
+none_then : (config : Configuration) (k : ℕ) (steps more : List Step) → first_fault_from config k steps ≡ None
+    → ((n : ℕ) → first_fault_from config n more ≡ None) → first_fault_from config k (steps ++ more) ≡ None
+none_then config k [] more is next = next k
+none_then config k (step ∷ steps) more is next =
+    let parts = or_none (fault_of config k step) (first_fault_from config (k + 1) steps) is in
+    rw (parts.0) (none_then config (k + 1) steps more parts.1 next)
+
+known_turns : (config : Configuration) (by : Actor) (count k : ℕ) → is_actor config by ≡ true
+    → first_fault_from config k (replicate count (step.Turn by)) ≡ None
+known_turns config by zero k known = refl
+known_turns config (actor.Firm firm) (suc count) k known = rw known (known_turns config (actor.Firm firm) count (k + 1) known)
+known_turns config actor.Clock (suc count) k known = known_turns config actor.Clock count (k + 1) known
+
+known_messages : (config : Configuration) (firm moment : ℕ) (messages : List (List ℕ)) (k : ℕ) → nat_lt firm (firms_of config) ≡ true
+    → first_fault_from config k (in_steps firm moment messages) ≡ None
+known_messages config firm moment [] k known = refl
+known_messages config firm moment (message ∷ messages) k known = rw known (known_messages config firm moment messages (k + 1) known)
+
+known_steps : (config : Configuration) (spelled : Spelled) → is_known config spelled ≡ true → (k : ℕ) → first_fault_from config k (steps_in spelled) ≡ None
+known_steps config (spelled.Said firm moment message is_counted) known k = rw known refl
+known_steps config (spelled.Came firm moment message) known k = rw known refl
+known_steps config (spelled.Turns by count) known k = known_turns config by count k known
+known_steps config (spelled.Sweep room moment) known k = rw known refl
+known_steps config (spelled.Pieces firm moment messages) known k = known_messages config firm moment messages k known
+
+pub known_more : (config : Configuration) (done : List Step) (spelled : Spelled) → first_fault config done ≡ None → is_known config spelled ≡ true
+    → first_fault config (done ++ steps_in spelled) ≡ None
+known_more config done spelled before known = none_then config 1 done (steps_in spelled) before (known_steps config spelled known)

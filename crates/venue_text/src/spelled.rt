@@ -1,0 +1,84 @@
+//! What a line of steps spells, before its steps are put behind the others.
+ghost use Rattle.std.specs.Prelude.{◌≡◌, ◌≤◌, ◌+◌, ◌++◌, All, length, replicate, take, OnOk};
+ghost use Rattle.step_replay.specs.declared.steps.Step.TheVariants as step;
+ghost use Rattle.venue_text.specs.StepLines.{in_steps};
+ghost use Rattle.venue_text.specs.StepReading as spec;
+
+use crate::heard::Heard;
+use fix_fields::{Memory, Messages, Moment};
+use quote_messages::{Message, RoomRef};
+use step_replay::{Actor, Step};
+
+/// What a line of steps spells.
+#[derive(Drop)]
+pub(crate) enum Spelled {
+    /// A message of a firm that a `say` line makes, and whether the line is counted.
+    Said(u16, Moment, Message, bool),
+    /// A message of a firm that came byte by byte.
+    Came(u16, Moment, Message),
+    /// So many turns of an actor.
+    Turns(Actor, u64),
+    /// A sweep of a room.
+    Sweep(RoomRef, Moment),
+    /// The messages of a firm that end in a piece of its stream.
+    Pieces(u16, Moment, Messages),
+}
+
+/// Puts the steps of a line behind those before it, and counts the line.
+pub(crate) fn push_spelled(
+    steps: &mut Vec<Step>,
+    heard: &mut Heard,
+    spelled: Spelled,
+) -> Result<(), Memory>
+    requires { All (λ number. number ≤ length steps.old.items + 1) heard.old.numbers }
+    ensures steps { OnOk result (steps.new.items ≡ steps.old.items ++ spec.steps_in spelled) }
+    ensures heard { OnOk result (heard.new ≡ spec.counted spelled heard.old) }
+    ensures few { OnOk result
+        (All (λ number. number ≤ length steps.new.items + 1) heard.new.numbers) }
+{
+    match spelled {
+        Spelled::Said(firm, moment, message, is_counted) => {
+            steps.push(Step::In(firm, moment, message))?;
+            if is_counted {
+                heard.count(firm);
+            }
+            Ok(())
+        }
+        Spelled::Came(firm, moment, message) => {
+            steps.push(Step::In(firm, moment, message))?;
+            Ok(())
+        }
+        Spelled::Turns(by, count) => push_turns(steps, by, count),
+        Spelled::Sweep(room, moment) => {
+            steps.push(Step::Expire(room, moment))?;
+            Ok(())
+        }
+        Spelled::Pieces(firm, moment, messages) => push_messages(steps, firm, moment, messages),
+    }
+}
+
+/// Puts so many turns of an actor behind other steps.
+fn push_turns(steps: &mut Vec<Step>, by: Actor, count: u64) -> Result<(), Memory>
+    ensures { OnOk result (steps.new.items
+        ≡ steps.old.items ++ replicate count (step.Turn by)) }
+{
+    for _ in 0..count {
+        steps.push(Step::Turn(by))?;
+    }
+    Ok(())
+}
+
+/// Puts messages of a firm that came at this moment behind other steps.
+fn push_messages(
+    steps: &mut Vec<Step>,
+    firm: u16,
+    moment: Moment,
+    messages: Messages,
+) -> Result<(), Memory>
+    ensures { OnOk result (steps.new.items ≡ steps.old.items ++ in_steps firm moment messages) }
+{
+    for bytes in messages.into_vec() {
+        steps.push(Step::In(firm, moment, Message::new(bytes)))?;
+    }
+    Ok(())
+}
