@@ -1,18 +1,18 @@
 -- How a run ends by its arguments.
-use Rattle.std.proofs.Common.{◌≡◌, ◌≢◌, ◌==◌, length, map, arith, ◌⊎◌, ◌||◌, refl, sym, ap, subst}
-use Rattle.std.proofs.Common.{inl, inr, ℕ, Bool, true, false, List, [], ◌∷◌, codes}
+use Rattle.std.proofs.Common.{◌≡◌, ◌<◌, ◌||◌, ◌⊎◌, ◌==◌, refl, sym, subst, inl, inr, ℕ, Bool, true}
+use Rattle.std.proofs.Common.{false, List, [], ◌∷◌, length, map, arith, Option, Some, None}
 use Rattle.std.proofs.lemmas.Bool.{false≢true}
 use Rattle.std.specs.List.{list_any}
+use Rattle.std.specs.Prelude.{is_some}
 use Rattle.clap.specs.declared.error.Error.{Error}
 use Rattle.clap.specs.declared.error.kind.ErrorKind.{ErrorKind}
 use Rattle.clap.specs.declared.error.kind.ErrorKind.TheVariants.{OutOfMemory}
 use Rattle.clap.specs.Words.{HasKind, IsAmong, Kinds, Text, kind_of}
-use Rattle.rfq_venue.proofs.LawfulArguments.{command_is}
-use Rattle.rfq_venue.specs.Arguments.{IsCommand, asks_for_frames, is_help, is_mistake, may_be_help}
-use Rattle.rfq_venue.specs.Arguments.{may_be_mistake, arguments_fault}
 use Rattle.venue_text.specs.declared.faults.ProgramFault.TheVariants.{Memory}
-use Rattle.rfq_venue.specs.Runs.{EndsAlone, EndsAsAsked, EndsByFault, EndsByArguments, EndsTold}
-use Rattle.rfq_venue.specs.Runs.{IsUntouched, Streams, Written}
+use Rattle.rfq_venue.specs.Arguments.{Command, arguments_fault, command_of, is_help, is_mistake}
+use Rattle.rfq_venue.specs.Arguments.{may_be_help, may_be_mistake}
+use Rattle.rfq_venue.specs.Runs.{EndsAsAsked, EndsBy, EndsInCommand, EndsTold, Streams, Written}
+use Rattle.rfq_venue.proofs.LawfulArguments.{lawful_arguments}
 
 first_or : (a b : Bool) → (a || false) ≡ true → (a || b) ≡ true
 first_or true b h = refl
@@ -42,90 +42,34 @@ told_of kinds k status out err (inr is) (inr (inl help)) = inr (inl (any_among i
 told_of kinds k status out err (inr is) (inr (inr mistake)) = inr (inr (any_among is_mistake k kinds is mistake.0, mistake.1))
 
 -- memory alone is refused of arguments that are a command
-memory_alone : (with_frames : Bool) (status : ℕ) (streams : Streams) → EndsTold [] status streams.out streams.err → EndsAlone with_frames status streams
-memory_alone with_frames status streams (inl memory) =
-    inr (memory.0, record { fault = Memory; left = memory.1; told = memory.2 })
-memory_alone with_frames status streams (inr (inl help)) = absurd (false≢true help.0)
-memory_alone with_frames status streams (inr (inr mistake)) = absurd (false≢true mistake.0)
+memory_alone : (command : Command) (status : ℕ) (streams : Streams) → EndsTold [] status streams.out streams.err → EndsInCommand command status streams
+memory_alone command status streams (inl memory) = inr (memory.0, record { fault = Memory; left = memory.1; told = memory.2 })
+memory_alone command status streams (inr (inl help)) = absurd (false≢true help.0)
+memory_alone command status streams (inr (inr mistake)) = absurd (false≢true mistake.0)
 
-by_fault : (kinds : Kinds) (with_frames : Bool) (status : ℕ) (streams : Streams)
-    → EndsTold kinds status streams.out streams.err → EndsByFault kinds with_frames status streams
-by_fault [] with_frames status streams ends = memory_alone with_frames status streams ends
-by_fault (k ∷ ks) with_frames status streams ends = ends
+ends_by : (asked : Option Command) (kinds : Kinds) (status : ℕ) (streams : Streams) → (is_some asked ≡ true → kinds ≡ [])
+    → EndsTold kinds status streams.out streams.err → EndsBy asked kinds status streams
+ends_by None kinds status streams none ends = ends
+ends_by (Some command) kinds status streams none ends =
+    memory_alone command status streams (subst (λ (ks : Kinds). EndsTold ks status streams.out streams.err) (none refl) ends)
 
 -- a run whose arguments are no command, or for whose arguments memory was refused
-ends_told : (arguments : List Text) (error : Error) (status : ℕ) (streams : Streams) → HasKind (arguments_fault arguments) error
-    → EndsTold (kind_of error ∷ []) status streams.out streams.err → EndsByArguments arguments status streams
-ends_told arguments error status streams is ends =
-    by_fault (arguments_fault arguments) (asks_for_frames arguments) status streams
-    (told_of (arguments_fault arguments) (kind_of error) status streams.out streams.err is ends)
+pub asked_told : {A : Type 0} (text : A → Text) (arguments : List A) (error : Error) (status : ℕ) (streams : Streams) → 0 < length arguments
+    → HasKind (arguments_fault (map text arguments)) error → EndsTold (kind_of error ∷ []) status streams.out streams.err
+    → EndsAsAsked (map text arguments) status streams
+asked_told text [] error status streams some is ends = absurd (omega arith)
+asked_told text (argument ∷ arguments) error status streams some is ends =
+    let words = map text (argument ∷ arguments) in
+    ends_by (command_of words) (arguments_fault words) status streams (lawful_arguments (text argument) (map text arguments)).1
+    (told_of (arguments_fault words) (kind_of error) status streams.out streams.err is ends)
 
--- a run of `alone`
-ends_alone : (arguments : List Text) (with_frames : Bool) (status : ℕ) (streams : Streams) → arguments_fault arguments ≡ []
-    → with_frames ≡ asks_for_frames arguments → EndsAlone with_frames status streams → EndsByArguments arguments status streams
-ends_alone arguments with_frames status streams none is ends =
-    subst (λ (kinds : Kinds). EndsByFault kinds (asks_for_frames arguments) status streams) (sym none)
-    (subst (λ (b : Bool). EndsAlone b status streams) is ends)
+-- a run of a command
+pub asked_command : (words : List Text) (command : Command) (status : ℕ) (streams : Streams) → command_of words ≡ Some command
+    → EndsInCommand command status streams → EndsAsAsked words status streams
+asked_command words command status streams is ends =
+    subst (λ (asked : Option Command). EndsBy asked (arguments_fault words) status streams) (sym is) ends
 
--- where the arguments are a command, a run with them is one of `alone`
-command_ends : (arguments : List Text) (status : ℕ) (streams : Streams) → EndsByArguments arguments status streams → IsCommand arguments
-    → EndsAlone (asks_for_frames arguments) status streams
-command_ends arguments status streams ends is =
-    subst (λ (kinds : Kinds). EndsByFault kinds (asks_for_frames arguments) status streams) (command_is arguments is) ends
-
-alone_ends : (arguments : List Text) (status : ℕ) (streams : Streams) → EndsByArguments arguments status streams
-    → arguments ≡ codes "alone" ∷ [] → EndsAlone false status streams
-alone_ends arguments status streams ends same =
-    subst (λ (b : Bool). EndsAlone b status streams) (ap asks_for_frames same) (command_ends arguments status streams ends (inl same))
-
-frames_ends : (arguments : List Text) (status : ℕ) (streams : Streams) → EndsByArguments arguments status streams
-    → arguments ≡ codes "alone" ∷ codes "--frames" ∷ [] → EndsAlone true status streams
-frames_ends arguments status streams ends same =
-    subst (λ (b : Bool). EndsAlone b status streams) (ap asks_for_frames same) (command_ends arguments status streams ends (inr (inl same)))
-
--- a run with some arguments, however it ends
-asked : (arguments : List Text) (status : ℕ) (streams : Streams) → (length arguments ≢ 0) → (status ≡ 2 → IsUntouched streams.out)
-    → EndsByArguments arguments status streams → EndsAsAsked arguments status streams
-asked arguments status streams some wrong ends = record {
-  none = λ none. absurd (some none);
-  commands = command_ends arguments status streams ends;
-  alone = alone_ends arguments status streams ends;
-  frames = frames_ends arguments status streams ends;
-  some = λ _. ends;
-  wrong = wrong;
-}
-
-pub asked_alone : (arguments : List Text) (with_frames : Bool) (status : ℕ) (streams : Streams) → (length arguments ≢ 0) → status ≢ 2
-    → arguments_fault arguments ≡ [] → with_frames ≡ asks_for_frames arguments → EndsAlone with_frames status streams
-    → EndsAsAsked arguments status streams
-asked_alone arguments with_frames status streams some other none is ends =
-    asked arguments status streams some (λ two. absurd (other two)) (ends_alone arguments with_frames status streams none is ends)
-
-pub asked_told : (arguments : List Text) (error : Error) (status : ℕ) (streams : Streams) → (length arguments ≢ 0)
-    → (status ≡ 2 → IsUntouched streams.out) → HasKind (arguments_fault arguments) error
-    → EndsTold (kind_of error ∷ []) status streams.out streams.err → EndsAsAsked arguments status streams
-asked_told arguments error status streams some wrong is ends =
-    asked arguments status streams some wrong (ends_told arguments error status streams is ends)
-
-pub asked_nothing : (arguments : List Text) (status : ℕ) (streams : Streams) → length arguments ≡ 0 → status ≢ 2
-    → EndsAlone false status streams → EndsAsAsked arguments status streams
-asked_nothing [] status streams none other ends = record {
-  none = λ _. ends;
-  commands = λ is. no_command is;
-  alone = λ _. ends;
-  frames = λ (same : [] ≡ codes "alone" ∷ codes "--frames" ∷ []). cc;
-  some = λ some. absurd (omega arith);
-  wrong = λ two. absurd (other two);
-}
-  where
-    no_command : IsCommand [] → EndsAlone (asks_for_frames []) status streams
-    no_command (inl e) = cc
-    no_command (inr (inl e)) = cc
-    no_command (inr (inr (inl e))) = cc
-    no_command (inr (inr (inr e))) = cc
-asked_nothing (argument ∷ arguments) status streams none other ends = absurd (omega arith)
-
--- as many texts as arguments
-pub some_arguments : {A : Type 0} (text : A → Text) (arguments : List A) → false ≡ (length arguments == 0) → length (map text arguments) ≢ 0
-some_arguments text [] e = absurd (false≢true e)
-some_arguments text (argument ∷ arguments) e = λ none. absurd (omega arith)
+-- some arguments are there
+pub some_arguments : {A : Type 0} (arguments : List A) → false ≡ (length arguments == 0) → 0 < length arguments
+some_arguments [] e = absurd (false≢true e)
+some_arguments (argument ∷ arguments) e = omega arith

@@ -1,20 +1,49 @@
 -- How a run of the program ends.
-use Rattle.std.specs.Prelude.{◌≡◌, ◌<◌, ◌≤◌, ◌⊎◌, ℕ, Bool, true, false, List, [], ◌∷◌, ◌++◌}
-use Rattle.std.specs.Prelude.{length, take, codes, Option, Some, Result, Ok, Err}
+use Rattle.std.specs.Prelude.{◌≡◌, ◌<◌, ◌≤◌, ◌⊎◌, ℕ, true, List, [], ◌++◌, length, take}
+use Rattle.std.specs.Prelude.{Option, Some, None, Result, Ok, Err}
 use Rattle.std.specs.Option.{IfSome}
 use Rattle.std.specs.Io.KnownBytes.{Appends, Keeps}
 use Rattle.clap.specs.Kinds.{Kinds}
 use Rattle.clap.specs.Walk.{Text}
 use Rattle.venue_text.specs.AloneText.{IsPrinted, first_fault}
-use Rattle.venue_text.specs.Faults.{fault_line}
+use Rattle.venue_text.specs.AskedDays.{dealer_by, firm_by, firms_by, one_day, two_days}
+use Rattle.venue_text.specs.BlotterCommand.{IsBlotter}
+use Rattle.venue_text.specs.CompareText.{IsCompared}
+use Rattle.venue_text.specs.DueCommand.{IsDueText}
+use Rattle.venue_text.specs.Faults.{fault_line, told_line}
+use Rattle.venue_text.specs.ReplayText.{IsReplayed}
 use Rattle.venue_text.specs.declared.faults.ProgramFault.{ProgramFault}
-use Rattle.venue_text.specs.declared.faults.ProgramFault.TheVariants.{Read, Input, Parts, Form}
-use Rattle.venue_text.specs.declared.faults.ProgramFault.TheVariants.{Memory, Write}
+use Rattle.venue_text.specs.declared.faults.ProgramFault.TheVariants.{Read, Memory, Write}
 use Rattle.venue_text.specs.declared.lines.TheConstants.{MOST_INPUT}
-use Rattle.rfq_venue.specs.Arguments.{IsCommand, asks_for_frames, arguments_fault}
-use Rattle.rfq_venue.specs.Arguments.{may_be_help, may_be_mistake}
+use Rattle.rfq_venue.specs.Arguments.{Command, alone, arguments_fault, blotter, command_of, compare}
+use Rattle.rfq_venue.specs.Arguments.{due, may_be_help, may_be_mistake, replay}
 use Rattle.rfq_venue.specs.declared.process.ArgumentFault.{ArgumentFault}
 use Rattle.rfq_venue.specs.declared.process.ArgumentFault.TheVariants as argument
+
+-- What a command prints for an input.
+abbrev pub IsTextOf : Command → List ℕ → List ℕ → Type 0
+IsTextOf (alone with_frames) input text = IsPrinted with_frames input text
+IsTextOf (replay firm with_frames) input text = IsReplayed firm with_frames input text
+IsTextOf (due dealer) input text = IsDueText dealer input text
+IsTextOf (compare dealer) input text = IsCompared dealer input text
+IsTextOf (blotter firm) input text = IsBlotter firm input text
+
+-- the first fault of an input, for a command
+abbrev pub IsFaultOf : Command → List ℕ → ProgramFault → Type 0
+IsFaultOf (alone with_frames) input fault = first_fault input ≡ Some fault
+IsFaultOf (replay firm with_frames) input fault = one_day (firms_by firm) input ≡ Err fault
+IsFaultOf (due dealer) input fault = one_day (dealer_by dealer) input ≡ Err fault
+IsFaultOf (compare dealer) input fault = two_days (dealer_by dealer) input ≡ Err fault
+IsFaultOf (blotter firm) input fault = one_day (firm_by firm) input ≡ Err fault
+
+-- the word of a command that names a firm; it is told where no firm has that name
+abbrev pub word_of : Command → List ℕ
+word_of (alone with_frames) = []
+word_of (replay None with_frames) = []
+word_of (replay (Some firm) with_frames) = firm
+word_of (due dealer) = dealer
+word_of (compare dealer) = dealer
+word_of (blotter firm) = firm
 
 -- What a writer held before a run and after it, where it tells.
 pub record Written : Type 0 where
@@ -47,48 +76,46 @@ pub record IsReadOf (all bytes : List ℕ) : Type 0 where
   pub split : all ≡ bytes ++ rest
   pub whole : length bytes ≤ MOST_INPUT → rest ≡ []
 
--- what `alone` prints for an input was written, and nothing else
-pub record HasPrinted (with_frames : Bool) (input : List ℕ) (out : Written) : Type 0 where
+-- what a command prints for an input was written, and nothing else
+pub record HasPrinted (command : Command) (input : List ℕ) (out : Written) : Type 0 where
   pub text : List ℕ
-  pub is_text : IsPrinted with_frames input text
+  pub is_text : IsTextOf command input text
   pub gained : Gains text out
 
 -- a part of it was written, from its front
-pub record HasPrintedPart (with_frames : Bool) (input : List ℕ) (out : Written) : Type 0 where
+pub record HasPrintedPart (command : Command) (input : List ℕ) (out : Written) : Type 0 where
   pub text : List ℕ
-  pub is_text : IsPrinted with_frames input text
+  pub is_text : IsTextOf command input text
   pub gained : GainsPart text out
 
 -- What a fault says of the input, where its bytes are known.
-abbrev pub IsFirstOf : ProgramFault → Option (List ℕ) → Type 0
-IsFirstOf fault input = IfSome input (λ all. first_fault all ≡ Some fault)
+abbrev pub IsFirstOf : Command → ProgramFault → Option (List ℕ) → Type 0
+IsFirstOf command fault input = IfSome input (λ all. IsFaultOf command all fault)
 
 -- What standard output holds after a fault, and what the fault says of the input: nothing was
 -- written, but for a part of the text where the output itself refused.
-abbrev pub FaultLeaves : Bool → ProgramFault → Option (List ℕ) → Written → Type 0
-FaultLeaves with_frames Read input out = IsUntouched out
-FaultLeaves with_frames Input input out = IsUntouched out × IsFirstOf Input input
-FaultLeaves with_frames Parts input out = IsUntouched out × IsFirstOf Parts input
-FaultLeaves with_frames (Form line) input out = IsUntouched out × IsFirstOf (Form line) input
-FaultLeaves with_frames Memory input out = IsUntouched out
-FaultLeaves with_frames Write input out = IfSome input (λ all. HasPrintedPart with_frames all out)
+abbrev pub FaultLeaves : Command → ProgramFault → Option (List ℕ) → Written → Type 0
+FaultLeaves command Read input out = IsUntouched out
+FaultLeaves command Memory input out = IsUntouched out
+FaultLeaves command Write input out = IfSome input (λ all. HasPrintedPart command all out)
+FaultLeaves command fault input out = IsUntouched out × IsFirstOf command fault input
 
 -- a fault, whose line standard error has taken, or a part of it where it refused
-pub record EndsInFault (with_frames : Bool) (streams : Streams) : Type 0 where
+pub record EndsInFault (command : Command) (streams : Streams) : Type 0 where
   pub fault : ProgramFault
-  pub left : FaultLeaves with_frames fault streams.input streams.out
-  pub told : GainsPart (fault_line fault) streams.err
+  pub left : FaultLeaves command fault streams.input streams.out
+  pub told : GainsPart (told_line (word_of command) fault) streams.err
 
--- all of what `alone` prints for the input was written, and nothing to standard error
-abbrev pub EndsInMessages : Bool → Streams → Type 0
-EndsInMessages with_frames streams =
-    IfSome streams.input (λ all. HasPrinted with_frames all streams.out) × IsUntouched streams.err
+-- all of what the command prints for the input was written, and nothing to standard error
+abbrev pub EndsInPrint : Command → Streams → Type 0
+EndsInPrint command streams =
+    IfSome streams.input (λ all. HasPrinted command all streams.out) × IsUntouched streams.err
 
--- How a run of `alone` ends: with status 0 and all of its text, or with status 1 and a fault.
-abbrev pub EndsAlone : Bool → ℕ → Streams → Type 0
-EndsAlone with_frames status streams =
-    ((status ≡ 0) × EndsInMessages with_frames streams)
-    ⊎ ((status ≡ 1) × EndsInFault with_frames streams)
+-- How a run of a command ends: with status 0 and all of its text, or with status 1 and a fault.
+abbrev pub EndsInCommand : Command → ℕ → Streams → Type 0
+EndsInCommand command status streams =
+    ((status ≡ 0) × EndsInPrint command streams)
+    ⊎ ((status ≡ 1) × EndsInFault command streams)
 
 -- How a run ends that prints one text: with status 0 and all of it, or, where the output refused
 -- a part, with status 1.
@@ -124,29 +151,15 @@ EndsTold kinds status out err =
     ⊎ (((may_be_help kinds ≡ true) × EndsInHelp status out err)
     ⊎ ((may_be_mistake kinds ≡ true) × EndsInMistake status out err))
 
--- How a run with arguments ends: as `alone` where nothing is wrong with them, and else it tells
--- what is.
-abbrev pub EndsByFault : Kinds → Bool → ℕ → Streams → Type 0
-EndsByFault [] with_frames status streams = EndsAlone with_frames status streams
-EndsByFault (k ∷ ks) with_frames status streams = EndsTold (k ∷ ks) status streams.out streams.err
-
--- the same by the arguments themselves
-abbrev pub EndsByArguments : List Text → ℕ → Streams → Type 0
-EndsByArguments arguments status streams =
-    EndsByFault (arguments_fault arguments) (asks_for_frames arguments) status streams
+-- How a run ends, by the command that is asked for, or else by what is wrong with the arguments.
+abbrev pub EndsBy : Option Command → Kinds → ℕ → Streams → Type 0
+EndsBy (Some command) kinds status streams = EndsInCommand command status streams
+EndsBy None kinds status streams = EndsTold kinds status streams.out streams.err
 
 -- How a run ends, by its arguments.
-pub record EndsAsAsked (arguments : List Text) (status : ℕ) (streams : Streams) : Type 0 where
-  -- No arguments at all mean `alone`.
-  pub none : length arguments ≡ 0 → EndsAlone false status streams
-  -- Those of a command, and two of them by name.
-  pub commands : IsCommand arguments → EndsAlone (asks_for_frames arguments) status streams
-  pub alone : arguments ≡ codes "alone" ∷ [] → EndsAlone false status streams
-  pub frames : arguments ≡ codes "alone" ∷ codes "--frames" ∷ [] → EndsAlone true status streams
-  -- All arguments: those of a command run it, others print help or tell what is wrong with them.
-  pub some : 0 < length arguments → EndsByArguments arguments status streams
-  -- Wrong arguments print nothing.
-  pub wrong : status ≡ 2 → IsUntouched streams.out
+abbrev pub EndsAsAsked : List Text → ℕ → Streams → Type 0
+EndsAsAsked arguments status streams =
+    EndsBy (command_of arguments) (arguments_fault arguments) status streams
 
 -- the arguments of the process as texts
 abbrev pub as_texts : {A : Type 0} → (A → List Text) → Result A ArgumentFault

@@ -1,15 +1,50 @@
 //! The arguments of a command.
-ghost use Rattle.std.specs.Prelude.{◌≡◌, ◌↔◌, ℕ, List, [], ◌∷◌, codes, map, IfOk, IfErr};
-ghost use Rattle.clap.specs.Words.{HasKind, app_of, kind_of};
-ghost use Rattle.rfq_venue.specs.Arguments.{IsCommand, IsToldOf, arguments_fault, asks_for_frames};
-ghost use Rattle.rfq_venue.specs.Arguments.{venue_app};
+ghost use Rattle.std.specs.Prelude.{◌≡◌, ◌↔◌, ℕ, List, [], ◌∷◌, Bool, Some, None, codes, map};
+ghost use Rattle.std.specs.Prelude.{◌<◌, IfOk, IfErr, is_some, length, option_map, true, false};
+ghost use Rattle.clap.specs.Words.{HasKind, kind_of, rule_of};
+ghost use Rattle.rfq_venue.specs.Arguments as spec;
 
-use crate::help::{ABOUT, ALONE, FRAMES, READS, VERSION};
+use crate::help::{
+    ABOUT, ALONE, BLOTTER, COMPARE, DAY, DAYS, DEALER, DUE, DUE_TEXT, FIRM, FRAMES, READS, REPLAY,
+    VERSION,
+};
 use clap::error::ErrorKind;
 use clap::{Arg, ArgAction, Command, Error};
 use fix_fields::Memory;
 use std::alloc::Global;
 use std::convert::AsStr;
+
+/// What a command asks for.
+#[derive(Clone, Copy)]
+pub(crate) enum VenueCommand<'a> {
+    /// The messages of the dealer whose due text is read.
+    Alone {
+        /// Each message is printed as its whole frame.
+        frames: bool,
+    },
+    /// All firms' messages of a day.
+    Replay {
+        /// Those of the firm with this name alone.
+        firm: Option<&'a str>,
+        /// Each message is printed as its whole frame.
+        frames: bool,
+    },
+    /// The due text of a dealer.
+    Due {
+        /// Its name.
+        dealer: &'a str,
+    },
+    /// What differs for a dealer between two days.
+    Compare {
+        /// Its name.
+        dealer: &'a str,
+    },
+    /// The blotter of a firm.
+    Blotter {
+        /// Its name.
+        firm: &'a str,
+    },
+}
 
 /// What is told of arguments that are not those of a command.
 #[derive(Drop)]
@@ -22,46 +57,143 @@ pub(crate) enum Told {
     Memory,
 }
 
-/// Whether the arguments of `alone` ask for frames, or what is wrong with arguments that are not
-/// those of a command.
-pub(crate) fn read_command<'a, S: AsStr>(alloc: Global, arguments: &'a [S]) -> Result<bool, Error>
-    ensures none { IfOk result (λ _. arguments_fault (map S.text arguments.entry.now) ≡ []) }
-    ensures frames { IfOk result (λ with_frames.
-        with_frames ≡ asks_for_frames (map S.text arguments.entry.now)) }
-    ensures err { IfErr result (HasKind (arguments_fault (map S.text arguments.entry.now))) }
+/// The command that arguments ask for, or what is wrong with arguments that are not those of one.
+pub(crate) fn read_command<'a, S: AsStr>(
+    alloc: Global,
+    arguments: &'a [S],
+) -> Result<VenueCommand<'a>, Error>
+    requires { 0 < length arguments.now }
+    ensures ok { IfOk result (λ command.
+        spec.command_of (map S.text arguments.entry.now) ≡ Some (spec.meant command)) }
+    ensures none { IfOk result (λ _. spec.arguments_fault (map S.text arguments.entry.now) ≡ []) }
+    ensures err { IfErr result (HasKind (spec.arguments_fault (map S.text arguments.entry.now))) }
 {
     let matches = venue_command(alloc)?.try_get_matches_from(arguments)?;
-    let Some((_, alone)) = matches.subcommand() else {
-        return Ok(false);
+    let Some((name, words)) = matches.subcommand() else {
+        return Ok(VenueCommand::Alone { frames: false });
     };
-    Ok(alone.get_flag("frames"))
+    let command = command_named(name, words.get_str("firm"), words.get_flag("frames"));
+    Ok(command)
 }
 
-/// The command and its subcommands.
-fn venue_command<'a>(alloc: Global) -> Result<Command<'a>, Memory>
-    ensures { IfOk result (λ command. app_of command ≡ venue_app) }
+/// The command with this name, by the word that was found for it, and whether the flag was.
+fn command_named<'a>(name: &str, firm: Option<&'a str>, frames: bool) -> VenueCommand<'a>
+    ensures { spec.meant result
+        ≡ spec.named_command name.now (option_map (λ word. word.now) firm.entry) frames }
 {
-    let frames = Arg::new(alloc, "frames")
+    if name == "alone" {
+        return VenueCommand::Alone { frames };
+    }
+    if name == "replay" {
+        return VenueCommand::Replay { firm, frames };
+    }
+    let word = firm.unwrap_or("");
+    if name == "due" {
+        return VenueCommand::Due { dealer: word };
+    }
+    if name == "compare" {
+        return VenueCommand::Compare { dealer: word };
+    }
+    VenueCommand::Blotter { firm: word }
+}
+
+/// The flag `--frames`.
+fn frames_flag<'a>(alloc: Global) -> Arg<'a>
+    ensures rule { rule_of result ≡ spec.frames_flag }
+    ensures own { result.global ≡ false }
+{
+    Arg::new(alloc, "frames")
         .long("frames")
         .action(ArgAction::SetTrue)
-        .help(FRAMES);
-    let alone = Command::new(alloc, "alone")
+        .help(FRAMES)
+}
+
+/// The command `alone`.
+fn alone_command<'a>(alloc: Global) -> Result<Command<'a>, Memory>
+    ensures { IfOk result (spec.IsAppOf spec.alone_app) }
+{
+    let frames = frames_flag(alloc);
+    Command::new(alloc, "alone")
         .about(ALONE)
-        .after_help(READS)
+        .after_help(DUE_TEXT)
+        .arg(frames)
+}
+
+/// The command `replay`.
+fn replay_command<'a>(alloc: Global) -> Result<Command<'a>, Memory>
+    ensures { IfOk result (spec.IsAppOf spec.replay_app) }
+{
+    let frames = frames_flag(alloc);
+    let firm = Arg::new(alloc, "firm").value_name("FIRM").help(FIRM);
+    let framed = Command::new(alloc, "replay")
+        .about(REPLAY)
+        .after_help(DAY)
         .arg(frames)?;
+    framed.arg(firm)
+}
+
+/// A command of one word.
+fn one_word_command<'a>(
+    alloc: Global,
+    name: &'a str,
+    about: &'a str,
+    reads: &'a str,
+    word: &'a str,
+    help: &'a str,
+) -> Result<Command<'a>, Memory>
+    ensures { IfOk result (spec.IsAppOf (spec.one_word_app name.now)) }
+{
+    let firm = Arg::new(alloc, "firm")
+        .value_name(word)
+        .required(true)
+        .help(help);
+    Command::new(alloc, name)
+        .about(about)
+        .after_help(reads)
+        .arg(firm)
+}
+
+/// The program without its commands.
+fn program_command<'a>(alloc: Global) -> Result<Command<'a>, Memory>
+    ensures { IfOk result (spec.IsAppOf spec.program_app) }
+{
     let named = Command::new(alloc, "rfq_venue").bin_name("rfq_venue")?;
-    named
+    let program = named
         .version(VERSION)
         .about(ABOUT)
         .after_help(READS)
         .no_binary_name(true)
-        .subcommand_required(true)
-        .subcommand(alone)
+        .subcommand_required(true);
+    Ok(program)
+}
+
+/// The program with the commands that print messages.
+fn message_command<'a>(alloc: Global) -> Result<Command<'a>, Memory>
+    ensures { IfOk result (spec.IsAppOf spec.message_app) }
+{
+    let alone = alone_command(alloc)?;
+    let replay = replay_command(alloc)?;
+    let program = program_command(alloc)?;
+    program.subcommand(alone)?.subcommand(replay)
+}
+
+/// The program and its commands.
+fn venue_command<'a>(alloc: Global) -> Result<Command<'a>, Memory>
+    ensures { IfOk result (spec.IsAppOf spec.venue_app) }
+{
+    let due = one_word_command(alloc, "due", DUE, DAY, "DEALER", DEALER)?;
+    let compare = one_word_command(alloc, "compare", COMPARE, DAYS, "DEALER", DEALER)?;
+    let blotter = one_word_command(alloc, "blotter", BLOTTER, DAY, "FIRM", FIRM)?;
+    let messages = message_command(alloc)?;
+    messages
+        .subcommand(due)?
+        .subcommand(compare)?
+        .subcommand(blotter)
 }
 
 /// What an error of the arguments is to tell.
 pub(crate) fn told_by(alloc: Global, error: &Error) -> Told
-    ensures { IsToldOf (kind_of error.now) result }
+    ensures { spec.IsToldOf (kind_of error.now) result }
 {
     let Ok(text) = error.to_string(alloc) else {
         return Told::Memory;
@@ -77,37 +209,43 @@ pub(crate) fn told_by(alloc: Global, error: &Error) -> Told
     }
 }
 
-/// The arguments that are a command are `alone` and `alone --frames`, each with `--` behind it or
-/// not, and no others.
+/// The arguments with which clap finds nothing wrong are those of a command.
 pub fn these_arguments_are_commands()
-    ensures { (arguments : List (List ℕ)) → (arguments_fault arguments ≡ []) ↔ IsCommand arguments }
+    ensures { (name : List ℕ) → (rest : List (List ℕ))
+        → (spec.arguments_fault (name ∷ rest) ≡ [])
+        ↔ (is_some (spec.command_of (name ∷ rest)) ≡ true) }
 {}
 
 /// What is wrong with some arguments that are no command: they ask for help or the version, or
 /// there is a mistake in them. [`run_program`](crate::run_program) says how a run with such
 /// arguments ends.
 pub fn arguments_have_these_faults()
-    ensures help { arguments_fault (codes "--help" ∷ []) ≡ ErrorKind.DisplayHelp ∷ [] }
-    ensures short_help { arguments_fault (codes "-h" ∷ []) ≡ ErrorKind.DisplayHelp ∷ [] }
-    ensures version { arguments_fault (codes "--version" ∷ []) ≡ ErrorKind.DisplayVersion ∷ [] }
-    ensures short_version { arguments_fault (codes "-V" ∷ []) ≡ ErrorKind.DisplayVersion ∷ [] }
-    ensures help_as_a_command { arguments_fault (codes "help" ∷ [])
+    ensures help { spec.arguments_fault (codes "--help" ∷ []) ≡ ErrorKind.DisplayHelp ∷ [] }
+    ensures short_help { spec.arguments_fault (codes "-h" ∷ []) ≡ ErrorKind.DisplayHelp ∷ [] }
+    ensures version { spec.arguments_fault (codes "--version" ∷ [])
+        ≡ ErrorKind.DisplayVersion ∷ [] }
+    ensures short_version { spec.arguments_fault (codes "-V" ∷ [])
+        ≡ ErrorKind.DisplayVersion ∷ [] }
+    ensures help_as_a_command { spec.arguments_fault (codes "help" ∷ [])
         ≡ ErrorKind.DisplayHelp ∷ ErrorKind.InvalidSubcommand ∷ [] }
-    ensures help_on_alone { arguments_fault (codes "alone" ∷ codes "--help" ∷ [])
+    ensures help_on_replay { spec.arguments_fault (codes "replay" ∷ codes "--help" ∷ [])
         ≡ ErrorKind.DisplayHelp ∷ [] }
 
     // Help wins at its first flag, whatever stands behind it.
-    ensures help_first { (rest : List (List ℕ)) → arguments_fault (codes "--help" ∷ rest)
+    ensures help_first { (rest : List (List ℕ)) → spec.arguments_fault (codes "--help" ∷ rest)
         ≡ ErrorKind.DisplayHelp ∷ [] }
-    ensures help_on_alone_first { arguments_fault (codes "alone" ∷ codes "--help" ∷ codes "x" ∷ [])
-        ≡ ErrorKind.DisplayHelp ∷ [] }
+    ensures help_on_due_first { spec.arguments_fault
+        (codes "due" ∷ codes "DLR1" ∷ codes "-h" ∷ codes "x" ∷ []) ≡ ErrorKind.DisplayHelp ∷ [] }
 
-    ensures frames_of_nothing { arguments_fault (codes "--frames" ∷ [])
+    ensures frames_of_nothing { spec.arguments_fault (codes "--frames" ∷ [])
         ≡ ErrorKind.UnknownArgument ∷ [] }
-    ensures frames_twice { arguments_fault
-        (codes "alone" ∷ codes "--frames" ∷ codes "--frames" ∷ []) ≡ ErrorKind.ArgumentConflict ∷ [] }
-    ensures one_argument_more { arguments_fault (codes "alone" ∷ codes "x" ∷ [])
+    ensures frames_twice { spec.arguments_fault
+        (codes "replay" ∷ codes "--frames" ∷ codes "--frames" ∷ [])
+        ≡ ErrorKind.ArgumentConflict ∷ [] }
+    ensures one_argument_more { spec.arguments_fault (codes "alone" ∷ codes "x" ∷ [])
         ≡ ErrorKind.UnknownArgument ∷ [] }
-    ensures no_command { arguments_fault (codes "replay" ∷ [])
+    ensures one_argument_less { spec.arguments_fault (codes "due" ∷ [])
+        ≡ ErrorKind.MissingRequiredArgument ∷ [] }
+    ensures no_command { spec.arguments_fault (codes "day" ∷ [])
         ≡ ErrorKind.UnknownArgument ∷ ErrorKind.InvalidSubcommand ∷ [] }
 {}

@@ -7,10 +7,31 @@ pub(crate) const ABOUT: &str = "A blind multi-dealer RFQ venue for bonds";
 pub(crate) const ALONE: &str =
     "Prints the messages that one dealer is sent, from its due text on standard input";
 
+pub(crate) const REPLAY: &str =
+    "Prints the messages of all firms, or of FIRM, on a day of the venue";
+
+pub(crate) const DUE: &str = "Prints the due text of DEALER on a day of the venue";
+
+pub(crate) const COMPARE: &str = "Says where two days of the venue differ for DEALER";
+
+pub(crate) const BLOTTER: &str = "Prints the blotter of FIRM on a day of the venue";
+
 pub(crate) const FRAMES: &str =
     "Prints each message as its whole frame, with a vertical bar for each SOH";
 
+pub(crate) const FIRM: &str = "The name of a dealer or of an investor of the configuration";
+
+pub(crate) const DEALER: &str = "The name of a dealer of the configuration";
+
 pub(crate) const READS: &str = "\
+Everything is read from standard input, at most 16,777,216 bytes: due text for `alone`, a day of
+the venue for `replay`, `due` and `blotter`, two days for `compare`. The help of a command tells
+its form. No arguments at all mean `alone`.
+
+The status is 0 when done, 1 for a fault, with one line on standard error, and 2 for wrong
+arguments.";
+
+pub(crate) const DUE_TEXT: &str = "\
 Standard input is due text, at most 16,777,216 bytes. Its first two lines are
   date YYYYMMDD
   dealer NAME QUOTES EXPOSURE TRADER ..
@@ -51,3 +72,50 @@ Example:
 prints
   DLR1 1 09:00:00.000 R 131=R1|146=1|55=[N/A]|48=BONDA0000001|22=4|54=1|38=2000000|126=20250314-09:05:00.000|453=1|448=INV1|447=D|452=13
   DLR1 2 09:00:10.000 AI 131=R1|117=a1|297=0";
+
+pub(crate) const DAY: &str = "\
+Standard input is a day of the venue, at most 16,777,216 bytes: a configuration in TOML, a line %%,
+and in the order in which they happen the steps of the day, a line each:
+  say FIRM TRADER TIME TYPE BODY    a message of a firm
+  in FIRM TIME FRAME                its bytes, with a vertical bar for each SOH
+  piece FIRM TIME BYTES             the next bytes of a firm, in which its messages may end
+  turn ACTOR N                      a firm, or CLOCK, does its N oldest duties, 1 to 1000
+  expire FIRM N TIME                the sweep of the room of an investor's request N
+One space divides the parts of a line. Empty lines and lines that begin with # are skipped.
+
+  TIME            HH:MM:SS or HH:MM:SS.sss
+  TYPE            S a quote, Z a cancel, AG a decline, R a request, AJ a hit or a pass
+  BODY            TAG=VALUE|TAG=VALUE|..; the whole frame has at most 4096 bytes
+  N               1 to 9 digits
+
+The configuration has `version`, `date`, and the tables `bond` (id), `dealer` (name, traders,
+quotes, exposure) and `investor` (name, traders, requests, open, quantity).
+
+Example:
+  version = 1
+  date = \"20250314\"
+  [[bond]]
+  id = \"BONDA0000001\"
+  [[dealer]]
+  name = \"DLR1\"
+  traders = [\"T1\"]
+  quotes = 4
+  exposure = 10000000
+  [[investor]]
+  name = \"INV1\"
+  traders = [\"T8\"]
+  requests = 3
+  open = 2
+  quantity = 5000000
+  %%
+  say INV1 T8 09:00:00 R 131=A|146=1|48=BONDA0000001|22=4|54=1|38=2000000|126=20250314-09:05:00|453=1|448=DLR1|447=D|452=35
+  turn INV1 3";
+
+pub(crate) const DAYS: &str = "\
+Standard input is two days of the venue, at most 16,777,216 bytes in all: a configuration, a line
+%%, steps, a line %%, a configuration, a line %%, and steps, as the help of `replay` has them.
+
+Three lines are printed: `row equal` or `row differs`, by the date and the row of the dealer; `due
+equal` or `due differs at K`, by what is due to it; `messages equal` or `messages differ at K`, by
+what it is sent. K is the first position, from 1, at which one list has something else, or has
+ended.";

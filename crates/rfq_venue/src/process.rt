@@ -94,6 +94,6 @@ fn run_status<H, R: Read, W: Write, E: Write>(
             write_text(err, NOT_UTF8.as_bytes());
             2
         }
-        Err(ArgumentFault::Memory) => report(err, &ProgramFault::Memory),
+        Err(ArgumentFault::Memory) => report(err, b"", &ProgramFault::Memory),
     }
 }

@@ -1,18 +1,20 @@
 //! A run of the program.
-ghost use Rattle.std.specs.Prelude.{◌≡◌, ◌≢◌, [], ◌∷◌, map, IfErr, IfSome, OnOk, OnErr};
-ghost use Rattle.std.specs.Io.KnownBytes.{Appends, Keeps};
+ghost use Rattle.std.specs.Prelude.{◌≡◌, ◌≢◌, ◌++◌, [], ◌∷◌, map, IfOk, IfErr, IfSome, OnOk, OnErr};
+ghost use Rattle.std.specs.Io.KnownBytes.{Appends};
 ghost use Rattle.clap.specs.Words.{kind_of};
 ghost use Rattle.venue_text.specs.Faults as faults;
+ghost use Rattle.rfq_venue.specs.Arguments.{meant};
 ghost use Rattle.rfq_venue.specs.Runs as spec;
 
-use crate::command::{Told, read_command, told_by};
+use crate::command::{Told, VenueCommand, read_command, told_by};
 use crate::input::read_input;
 use crate::output::write_text;
+use crate::texts::{command_text, command_word};
 use clap::Error;
 use std::alloc::Global;
 use std::convert::AsStr;
 use std::io::{Read, Write};
-use venue_text::{ProgramFault, alone_text, fault_line};
+use venue_text::{ProgramFault, fault_line};
 
 /// Runs the program: reads what its arguments ask for from `input`, prints it to `out`, and
 /// answers the exit status: 0 is done. A fault is told in one line on `err`, with status 1; wrong
@@ -32,41 +34,40 @@ pub fn run_program<H, S: AsStr, R: Read, W: Write, E: Write>(
     }) }
 {
     if arguments.is_empty() {
-        return run_alone(alloc, false, input, out, err);
+        let command = VenueCommand::Alone { frames: false };
+        return run_command(alloc, &command, input, out, err);
     }
     match read_command(alloc, arguments) {
-        Ok(with_frames) => run_alone(alloc, with_frames, input, out, err),
+        Ok(command) => run_command(alloc, &command, input, out, err),
         Err(error) => tell(alloc, &error, out, err),
     }
 }
 
-/// Prints the messages of the dealer whose due text is read, or tells the fault.
-fn run_alone<R: Read, W: Write, E: Write>(
+/// Prints what a command asks for, or tells the fault.
+fn run_command<R: Read, W: Write, E: Write>(
     alloc: Global,
-    with_frames: bool,
+    command: &VenueCommand<'_>,
     input: &mut R,
     out: &mut W,
     err: &mut E,
 ) -> u8
-    ensures ends { spec.EndsAlone with_frames result (record {
+    ensures { spec.EndsInCommand (meant command.now) result (record {
       input = R.remaining input.old;
       out = record { before = W.contents out.old; after = W.contents out.new };
       err = record { before = E.contents err.old; after = E.contents err.new };
     }) }
-    ensures status { result ≢ 2 }
 {
-    let Err(fault) = print_alone(alloc, with_frames, input, out) else {
+    let Err(fault) = print_command(alloc, command, input, out) else {
         return 0;
     };
-    report(err, &fault)
+    report(err, command_word(command), &fault)
 }
 
 /// Prints the help that the arguments ask for, or says on `err` why they are wrong.
 fn tell<W: Write, E: Write>(alloc: Global, error: &Error, out: &mut W, err: &mut E) -> u8
-    ensures ends { spec.EndsTold (kind_of error.now ∷ []) result
+    ensures { spec.EndsTold (kind_of error.now ∷ []) result
         (record { before = W.contents out.old; after = W.contents out.new })
         (record { before = E.contents err.old; after = E.contents err.new }) }
-    ensures wrong { result ≡ 2 → Keeps (W.contents out.old) (W.contents out.new) }
 {
     match told_by(alloc, error) {
         Told::Help(text) => print_help(text.as_bytes(), out, err),
@@ -74,37 +75,38 @@ fn tell<W: Write, E: Write>(alloc: Global, error: &Error, out: &mut W, err: &mut
             write_text(err, text.as_bytes());
             2
         }
-        Told::Memory => report(err, &ProgramFault::Memory),
+        Told::Memory => report(err, b"", &ProgramFault::Memory),
     }
 }
 
 /// Prints a help text.
 fn print_help<W: Write, E: Write>(text: &[u8], out: &mut W, err: &mut E) -> u8
-    ensures ends { spec.EndsInText text.now result
+    ensures { spec.EndsInText text.now result
         (record { before = W.contents out.old; after = W.contents out.new })
         (record { before = E.contents err.old; after = E.contents err.new }) }
-    ensures status { result ≢ 2 }
 {
     let Err(fault) = print_text(out, text) else {
         return 0;
     };
-    report(err, &fault)
+    report(err, b"", &fault)
 }
 
-/// Prints the messages of the dealer whose due text is read.
-fn print_alone<R: Read, W: Write>(
+/// Prints what a command asks for.
+fn print_command<R: Read, W: Write>(
     alloc: Global,
-    with_frames: bool,
+    command: &VenueCommand<'_>,
     input: &mut R,
     out: &mut W,
 ) -> Result<(), ProgramFault>
-    ensures ok { OnOk result (IfSome (R.remaining input.old) (λ all. spec.HasPrinted with_frames all
+    ensures ok { OnOk result (IfSome (R.remaining input.old) (λ all. spec.HasPrinted
+        (meant command.now) all
         (record { before = W.contents out.old; after = W.contents out.new }))) }
-    ensures err { IfErr result (λ fault. spec.FaultLeaves with_frames fault (R.remaining input.old)
+    ensures err { IfErr result (λ fault. spec.FaultLeaves (meant command.now) fault
+        (R.remaining input.old)
         (record { before = W.contents out.old; after = W.contents out.new })) }
 {
     let bytes = read_input(alloc, input)?;
-    let text = match alone_text(alloc, with_frames, bytes.as_slice()) {
+    let text = match command_text(alloc, command, bytes.as_slice()) {
         Ok(text) => text,
         Err(fault) => return Err(fault),
     };
@@ -128,12 +130,32 @@ fn print_text<W: Write>(out: &mut W, text: &[u8]) -> Result<(), ProgramFault>
     Ok(())
 }
 
-/// Tells a fault in one line, and answers the status of a run that has one.
-pub(crate) fn report<E: Write>(err: &mut E, fault: &ProgramFault) -> u8
+/// Tells a fault of a run in one line, and answers the status of a run that has one. The word is
+/// the one of the arguments that names a firm.
+pub(crate) fn report<E: Write>(err: &mut E, word: &[u8], fault: &ProgramFault) -> u8
     ensures status { result ≡ 1 }
-    ensures told { spec.GainsPart (faults.fault_line fault.now)
+    ensures told { spec.GainsPart (faults.told_line word.now fault.now)
         (record { before = E.contents err.old; after = E.contents err.new }) }
 {
-    write_text(err, fault_line(fault).as_bytes());
+    let line = fault_line(fault);
+    if !matches!(fault, ProgramFault::Firm) {
+        write_text(err, line.as_bytes());
+        return 1;
+    }
+    write_named(err, line.as_bytes(), word);
     1
+}
+
+/// Writes a line: its front, and the word that it ends with.
+fn write_named<E: Write>(err: &mut E, front: &[u8], word: &[u8])
+    ensures { spec.GainsPart (front.now ++ word.now ++ 10 ∷ [])
+        (record { before = E.contents err.old; after = E.contents err.new }) }
+{
+    if !write_text(err, front) {
+        return;
+    }
+    if !write_text(err, word) {
+        return;
+    }
+    write_text(err, b"\n");
 }

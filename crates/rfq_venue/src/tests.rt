@@ -5,6 +5,7 @@ use crate::run_program;
 use std::process::{Abort, ExitCode};
 
 mod arguments;
+mod days;
 mod help;
 mod streams;
 
@@ -23,6 +24,15 @@ fn ran<T: AllocGlobal>(rt: &T, arguments: &[&str], mut input: &[u8]) -> (u8, Vec
     let mut err = Vec::new(rt.alloc());
     let status = run_program(rt, rt.alloc(), arguments, &mut input, &mut out, &mut err);
     (status, out, err)
+}
+
+/// Texts one behind the other.
+fn joined<T: Abort + AllocGlobal>(rt: &T, parts: &[&[u8]]) -> Vec<u8> {
+    let mut all = Vec::new(rt.alloc());
+    for part in parts {
+        assert!(rt; all.extend_from_slice(part).is_ok());
+    }
+    all
 }
 
 /// Asserts that these arguments print the messages of the first quote.

@@ -21,7 +21,19 @@ fn arguments_are_those_of_a_command(rt: HostRuntime) {
     assert_status(&rt, &["alone", "--", "x"], 2);
     assert_status(&rt, &["alone", "--version"], 2);
     assert_status(&rt, &["--", "alone"], 2);
-    assert_status(&rt, &["replay"], 2);
+    assert_status(&rt, &["replay", "A", "B"], 2);
+    assert_status(&rt, &["replay", "--", "A", "B"], 2);
+    assert_status(&rt, &["replay", "-x"], 2);
+    assert_status(&rt, &["replay", "--frames=1"], 2);
+    assert_status(&rt, &["replay", "A", "--frames", "--frames"], 2);
+    assert_status(&rt, &["due"], 2);
+    assert_status(&rt, &["due", "--"], 2);
+    assert_status(&rt, &["due", "DLR1", "--frames"], 2);
+    assert_status(&rt, &["due", "DLR1", "DLR2"], 2);
+    assert_status(&rt, &["compare"], 2);
+    assert_status(&rt, &["blotter"], 2);
+    assert_status(&rt, &["day"], 2);
+    assert_status(&rt, &["Alone"], 2);
     assert_status(&rt, &[""], 2);
 }
 

@@ -1,57 +1,18 @@
 //! The texts of help and version, whole.
 use super::*;
-
-/// What stands below the options of each help.
-const READS: &str = "
-Standard input is due text, at most 16,777,216 bytes. Its first two lines are
-  date YYYYMMDD
-  dealer NAME QUOTES EXPOSURE TRADER ..
-and then, in the order in which it happens,
-  shown INVESTOR BOND SIDE QUANTITY DEADLINE TIME [GRID]
-                                                    a request that the dealer is shown
-  say TRADER TIME TYPE BODY                         a message of the dealer's own
-  own TIME FRAME                                    its bytes, with a vertical bar for each SOH
-  lifted N                                          the dealer's quote N is lifted
-  closed N KIND TIME                                the dealer is told how its request N ended:
-                                                    1 hit, 3 expired, 4 cover, 5 done away, 6 passed
-  drop LAST TIME                                    a turn of the cancel of all quotes (298=4) of TIME
-One space divides the parts of a line. Empty lines and lines that begin with # are skipped.
-
-  NAME, INVESTOR  1 to 8 capital letters and digits, the first a letter; not VENUE or CLOCK
-  TRADER          in the dealer's line 1 to 16 names, none twice
-  QUOTES          1 to 4096, how many quotes the dealer may have accepted in the day
-  EXPOSURE        1 to 1000000000000000, how much of it may be live at once
-  BOND            12 capital letters and digits
-  SIDE            1 the investor buys, 2 it sells
-  QUANTITY        1 to 1000000000000
-  GRID            32, 64, 128 or 256, the steps of a point that prices have; without it 256
-  TIME, DEADLINE  HH:MM:SS or HH:MM:SS.sss
-  TYPE            S a quote, Z a cancel, AG a decline
-  BODY            TAG=VALUE|TAG=VALUE|..; the whole frame has at most 4096 bytes
-  N               the dealer's own number, from 1
-  LAST            the own number of the last quote that the cancel of all means
-
-Each message is printed as FIRM MSGSEQNUM TIME TYPE BODY, or with --frames as FIRM FRAME.
-No arguments at all mean `alone`. The status is 0 when done, 1 for a fault, with one line on
-standard error, and 2 for wrong arguments.
-
-Example:
-  date 20250314
-  dealer DLR1 4 10000000 T1
-  shown INV1 BONDA0000001 1 2000000 09:05:00 09:00:00
-  say T1 09:00:10 S 117=a1|131=R1|48=BONDA0000001|22=4|133=99.50390625
-prints
-  DLR1 1 09:00:00.000 R 131=R1|146=1|55=[N/A]|48=BONDA0000001|22=4|54=1|38=2000000|126=20250314-09:05:00.000|453=1|448=INV1|447=D|452=13
-  DLR1 2 09:00:10.000 AI 131=R1|117=a1|297=0
-";
+use crate::help::{DAY, DAYS, DUE_TEXT, READS};
 
 const PROGRAM: &str = "A blind multi-dealer RFQ venue for bonds
 
 Usage: rfq_venue <COMMAND>
 
 Commands:
-  alone  Prints the messages that one dealer is sent, from its due text on standard input
-  help   Print this message or the help of the given subcommand(s)
+  alone    Prints the messages that one dealer is sent, from its due text on standard input
+  replay   Prints the messages of all firms, or of FIRM, on a day of the venue
+  due      Prints the due text of DEALER on a day of the venue
+  compare  Says where two days of the venue differ for DEALER
+  blotter  Prints the blotter of FIRM on a day of the venue
+  help     Print this message or the help of the given subcommand(s)
 
 Options:
   -h, --help     Print help
@@ -68,27 +29,87 @@ Options:
   -h, --help    Print help
 ";
 
-/// Asserts that arguments print this text before the one that each help ends with, and nothing
-/// else.
-fn assert_help<T: Abort + AllocGlobal>(rt: &T, arguments: &[&str], head: &str) {
+const REPLAY: &str = "Prints the messages of all firms, or of FIRM, on a day of the venue
+
+Usage: rfq_venue replay [OPTIONS] [FIRM]
+
+Arguments:
+  [FIRM]  The name of a dealer or of an investor of the configuration
+
+Options:
+      --frames  Prints each message as its whole frame, with a vertical bar for each SOH
+  -h, --help    Print help
+";
+
+const DUE: &str = "Prints the due text of DEALER on a day of the venue
+
+Usage: rfq_venue due <DEALER>
+
+Arguments:
+  <DEALER>  The name of a dealer of the configuration
+
+Options:
+  -h, --help  Print help
+";
+
+const COMPARE: &str = "Says where two days of the venue differ for DEALER
+
+Usage: rfq_venue compare <DEALER>
+
+Arguments:
+  <DEALER>  The name of a dealer of the configuration
+
+Options:
+  -h, --help  Print help
+";
+
+const BLOTTER: &str = "Prints the blotter of FIRM on a day of the venue
+
+Usage: rfq_venue blotter <FIRM>
+
+Arguments:
+  <FIRM>  The name of a dealer or of an investor of the configuration
+
+Options:
+  -h, --help  Print help
+";
+
+/// Asserts that arguments print a text, an empty line and what is read, and nothing else.
+fn assert_help<T: Abort + AllocGlobal>(rt: &T, arguments: &[&str], head: &str, reads: &str) {
     let (status, out, err) = ran(rt, arguments, b"");
+    let wanted = joined(rt, &[head.as_bytes(), b"\n", reads.as_bytes(), b"\n"]);
     assert_eq!(rt; status, 0);
     assert!(rt; err.is_empty());
-    assert_eq!(rt; out.len(), head.len() + READS.len());
-    assert!(rt; out.as_slice().starts_with(head.as_bytes()));
-    assert!(rt; out.as_slice().ends_with(READS.as_bytes()));
+    assert!(rt; out.as_slice() == wanted.as_slice());
 }
 
 #[test]
-fn help_is_whole(rt: HostRuntime) {
-    assert_help(&rt, &["--help"], PROGRAM);
-    assert_help(&rt, &["-h"], PROGRAM);
-    assert_help(&rt, &["help"], PROGRAM);
-    assert_help(&rt, &["--help", "x"], PROGRAM);
-    assert_help(&rt, &["help", "alone"], ALONE);
-    assert_help(&rt, &["alone", "--help"], ALONE);
-    assert_help(&rt, &["alone", "--help", "x", "--frames"], ALONE);
-    assert_help(&rt, &["alone", "--frames", "--help"], ALONE);
+fn help_of_the_program_is_whole(rt: HostRuntime) {
+    assert_help(&rt, &["--help"], PROGRAM, READS);
+    assert_help(&rt, &["-h"], PROGRAM, READS);
+    assert_help(&rt, &["help"], PROGRAM, READS);
+    assert_help(&rt, &["--help", "x"], PROGRAM, READS);
+}
+
+#[test]
+fn help_of_each_command_is_whole(rt: HostRuntime) {
+    assert_help(&rt, &["help", "alone"], ALONE, DUE_TEXT);
+    assert_help(&rt, &["alone", "--help"], ALONE, DUE_TEXT);
+    assert_help(&rt, &["help", "replay"], REPLAY, DAY);
+    assert_help(&rt, &["help", "due"], DUE, DAY);
+    assert_help(&rt, &["help", "compare"], COMPARE, DAYS);
+    assert_help(&rt, &["help", "blotter"], BLOTTER, DAY);
+}
+
+/// What stands behind the first flag of help is not looked at.
+#[test]
+fn help_wins_at_its_first_flag(rt: HostRuntime) {
+    assert_help(&rt, &["alone", "--help", "x", "--frames"], ALONE, DUE_TEXT);
+    assert_help(&rt, &["alone", "--frames", "--help"], ALONE, DUE_TEXT);
+    assert_help(&rt, &["replay", "DLR1", "-h", "x"], REPLAY, DAY);
+    assert_help(&rt, &["due", "--help"], DUE, DAY);
+    assert_help(&rt, &["compare", "-h", "-h"], COMPARE, DAYS);
+    assert_help(&rt, &["blotter", "DLR1", "--help", "--x"], BLOTTER, DAY);
 }
 
 /// Asserts that this argument prints the version.

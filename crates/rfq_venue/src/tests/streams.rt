@@ -160,12 +160,12 @@ fn silent_standard_error_changes_no_status(rt: HostRuntime) {
     assert!(rt; out.is_empty());
 }
 
-/// Asserts the line that an input of so many zeros is told by.
-fn assert_length<T: Abort + AllocGlobal>(rt: &T, length: usize, line: &[u8]) {
+/// Asserts the line that a command tells of an input of so many zeros.
+fn assert_length<T: Abort + AllocGlobal>(rt: &T, argument: &str, length: usize, line: &[u8]) {
     let mut input = Zeros { left: length };
     let mut out = Vec::new(rt.alloc());
     let mut err = Vec::new(rt.alloc());
-    let status = run_program(rt, rt.alloc(), &["alone"], &mut input, &mut out, &mut err);
+    let status = run_program(rt, rt.alloc(), &[argument], &mut input, &mut out, &mut err);
     assert_eq!(rt; status, 1);
     assert!(rt; out.is_empty());
     assert!(rt; err.as_slice() == line);
@@ -173,6 +173,12 @@ fn assert_length<T: Abort + AllocGlobal>(rt: &T, length: usize, line: &[u8]) {
 
 #[test]
 fn longest_input_is_read(rt: HostRuntime) {
-    assert_length(&rt, 16_777_216, b"line 1: form\n");
-    assert_length(&rt, 16_777_217, b"input\n");
+    assert_length(&rt, "alone", 16_777_216, b"line 1: form\n");
+    assert_length(&rt, "alone", 16_777_217, b"input\n");
+}
+
+#[test]
+fn longest_day_is_read(rt: HostRuntime) {
+    assert_length(&rt, "replay", 16_777_216, b"parts\n");
+    assert_length(&rt, "replay", 16_777_217, b"input\n");
 }

@@ -11,11 +11,12 @@ returns c = record {
   version = refl;
   short_version = refl;
   help_as_a_command = refl;
-  help_on_alone = refl;
+  help_on_replay = refl;
   help_first = λ rest. refl;
-  help_on_alone_first = refl;
+  help_on_due_first = refl;
   frames_of_nothing = refl;
   frames_twice = refl;
   one_argument_more = refl;
+  one_argument_less = refl;
   no_command = refl;
 }
