@@ -103,6 +103,21 @@ for day in first-quote replacement cancel-all; do
     refuse_each "$day, alone --frames" "$examples/$day.due" "$work/$day.frames" alone --frames
 done
 refuse_each "busy-morning, no words" "$examples/busy-morning.due" "$examples/busy-morning.out"
+
+# A whole auction, and the same day held against itself.
+refuse_each "auction, replay" "$examples/auction.venue" "$examples/auction.out" replay
+{
+    cat "$examples/auction.venue"
+    echo %%
+    cat "$examples/auction.venue"
+} >"$work/twice"
+for words in "replay DLR1 --frames" "due DLR1" "blotter DLR1" "blotter INV1"; do
+    "$program" $words <"$examples/auction.venue" >"$work/wanted"
+    refuse_each "auction, $words" "$examples/auction.venue" "$work/wanted" $words
+done
+printf 'row equal\ndue equal\nmessages equal\n' >"$work/wanted"
+refuse_each "auction twice, compare DLR1" "$work/twice" "$work/wanted" compare DLR1
+
 "$program" --help </dev/null >"$work/help"
 refuse_each "--help" /dev/null "$work/help" --help
 "$program" --version </dev/null >"$work/version"

@@ -1,0 +1,82 @@
+// A venue's day of auctions: an investor asks two dealers, each quotes and quotes again in the place of its first quote, and
+// the investor hits the second dealer's last quote. Printed as a configuration and step lines for `replay`, or the frames of
+// the same messages parsed by QuickFIX, with its checks of length and sum.
+#include "frames.h"
+
+#include <quickfix/Message.h>
+
+#include <cstdlib>
+#include <string>
+#include <vector>
+
+// A message of a firm: its type, its sender and trader, its number, and the fields behind the header.
+struct Sent {
+    std::string type, firm, trader;
+    int number;
+    std::string fields;
+};
+
+static std::string request(int auction, const std::string& bar) {
+    std::string fields = "131=q" + std::to_string(auction) + bar + "146=1" + bar + "48=BONDA0000001" + bar + "22=4" + bar + "54=1" +
+                         bar + "38=2000000" + bar + "126=20250314-17:00:00" + bar + "453=2";
+    for (const char* dealer : {"DLR1", "DLR2"}) fields += bar + "448=" + dealer + bar + "447=D" + bar + "452=35";
+    return fields;
+}
+
+static std::string quote(int auction, int number, const char* price, const std::string& bar) {
+    return "117=a" + std::to_string(number) + bar + "131=R" + std::to_string(auction) + bar + "48=BONDA0000001" + bar + "22=4" + bar +
+           "133=" + price;
+}
+
+// Each dealer's quotes are shown to the investor as Q1, Q2 .. in the order of their posts: four an auction.
+static std::string hit(int auction, const std::string& bar) {
+    return "693=h" + std::to_string(auction) + bar + "694=1" + bar + "117=Q" + std::to_string(4 * auction);
+}
+
+static std::vector<Sent> auction(int number, const std::string& bar) {
+    std::vector<Sent> sent;
+    sent.push_back({"R", "INV1", "T8", 2 * number - 1, request(number, bar)});
+    for (const char* dealer : {"DLR1", "DLR2"})
+        for (int again = 0; again < 2; ++again)
+            sent.push_back({"S", dealer, dealer[3] == '1' ? "T1" : "T2", 2 * number - 1 + again,
+                            quote(number, 2 * number - 1 + again, again == 0 ? "99.5" : "99.4375", bar)});
+    sent.push_back({"AJ", "INV1", "T8", 2 * number, hit(number, bar)});
+    return sent;
+}
+
+static void print(int auctions) {
+    std::printf("version = 1\ndate = \"20250314\"\n[[bond]]\nid = \"BONDA0000001\"\n");
+    for (int dealer = 1; dealer <= 2; ++dealer)
+        std::printf("[[dealer]]\nname = \"DLR%d\"\ntraders = [\"T%d\"]\nquotes = 4096\nexposure = 1000000000000\n", dealer, dealer);
+    std::printf("[[investor]]\nname = \"INV1\"\ntraders = [\"T8\"]\nrequests = 1024\nopen = 1024\nquantity = 5000000\n%%%%\n");
+    for (int number = 1; number <= auctions; ++number)
+        for (const Sent& one : auction(number, "|")) {
+            std::printf("say %s %s 09:00:10 %s %s\n", one.firm.c_str(), one.trader.c_str(), one.type.c_str(), one.fields.c_str());
+            std::printf("turn %s %d\n", one.firm.c_str(), one.type == "S" ? 2 : 4);
+        }
+}
+
+static std::string frame(const Sent& one) {
+    return framed("35=" + one.type + "\x01" "49=" + one.firm + "\x01" "56=VENUE\x01" "34=" + std::to_string(one.number) +
+                  "\x01" "52=20250314-09:00:10.000\x01" "50=" + one.trader + "\x01" + one.fields + "\x01");
+}
+
+static volatile bool sink;
+
+int main(int count, char** words) {
+    if (count != 3) return 2;  // AUCTIONS ROUNDS: how many there are, and how often QuickFIX parses their messages; 0 prints the day
+    const int auctions = std::atoi(words[1]), rounds = std::atoi(words[2]);
+    if (rounds == 0) {
+        print(auctions);
+        return 0;
+    }
+    std::vector<std::string> frames;
+    for (int number = 1; number <= auctions; ++number)
+        for (const Sent& one : auction(number, "\x01")) frames.push_back(frame(one));
+    for (int round = 1; round < rounds; ++round)
+        for (const std::string& bytes : frames) {
+            FIX::Message message(bytes, true);
+            sink = message.getHeader().isSetField(49);
+        }
+    return 0;
+}

@@ -1,0 +1,41 @@
+#!/bin/bash
+# Instructions and time a message of `replay` on days of 10 to 1,000 auctions, 22 steps each, from the line that is read to
+# the answers that are printed, and of QuickFIX, which parses the frames of the same messages and checks their length and sum
+# alone. Needs g++, libquickfix-dev, valgrind and rt.
+#
+#     bench/venue.sh [PROGRAM]
+set -e
+here=$(cd "$(dirname "$0")" && pwd)
+crate=$here/../crates/rfq_venue
+program=${1:-$crate/out/rfq_venue}
+make=$(mktemp -d)
+trap 'rm -rf "$make"' EXIT
+[ -n "$1" ] || (cd "$crate" && rt run -- alone < ../../examples/first-quote.due > /dev/null 2>&1)
+g++ -std=c++14 -O3 -w -o "$make/venue" "$here/venue.cpp" -lquickfix -lpthread
+instructions() {
+    valgrind --tool=callgrind --callgrind-out-file=/dev/null "$@" 2>&1 > /dev/null | sed -n 's/.*Collected : //p'
+}
+best() {  # the best time of nine runs, in microseconds
+    for run in 1 2 3 4 5 6 7 8 9; do
+        from=$(date +%s%N)
+        "$@" > /dev/null
+        echo $((($(date +%s%N) - from) / 1000))
+    done | sort -n | head -1
+}
+"$make/venue" 0 0 > "$make/none"
+none=$(instructions "$program" replay < "$make/none")
+for auctions in 10 100 1000; do
+    messages=$((6 * auctions))
+    "$make/venue" $auctions 0 > "$make/text"
+    replay=$((($(instructions "$program" replay < "$make/text") - none) / messages))
+    once=$(instructions "$make/venue" $auctions 1)
+    twice=$(instructions "$make/venue" $auctions 2)
+    quickfix=$(((twice - once) / messages))
+    echo "$auctions auctions: replay $replay, QuickFIX $quickfix, $((replay * 100 / quickfix)) of 100"
+done
+"$make/venue" 1000 0 > "$make/text"
+replayed() { "$program" replay < "$make/text"; }
+took=$(best replayed)
+one=$(best "$make/venue" 1000 2)
+eleven=$(best "$make/venue" 1000 12)
+echo "6000 messages: replay $((6000000000 / took)) a second, QuickFIX $((60000000000 / (eleven - one))) a second"
