@@ -1,11 +1,13 @@
 // A venue's day of auctions: an investor asks two dealers, each quotes and quotes again in the place of its first quote, and
 // the investor hits the second dealer's last quote. Printed as a configuration and step lines for `replay`, or the frames of
-// the same messages parsed by QuickFIX, with its checks of length and sum.
+// the same messages parsed by QuickFIX, with its checks of length and sum; and of what the venue sent for them, if it is given.
 #include "frames.h"
 
 #include <quickfix/Message.h>
 
+#include <algorithm>
 #include <cstdlib>
+#include <fstream>
 #include <string>
 #include <vector>
 
@@ -61,10 +63,22 @@ static std::string frame(const Sent& one) {
                   "\x01" "52=20250314-09:00:10.000\x01" "50=" + one.trader + "\x01" + one.fields + "\x01");
 }
 
+// The frames that `replay --frames` printed: each behind the name of its firm and a space, with bars for SOH.
+static void add_printed(const char* path, std::vector<std::string>& frames) {
+    std::ifstream lines(path);
+    for (std::string line; std::getline(lines, line);) {
+        std::string bytes = line.substr(line.find(' ') + 1);
+        std::replace(bytes.begin(), bytes.end(), '|', '\x01');
+        frames.push_back(bytes);
+    }
+}
+
 static volatile bool sink;
 
 int main(int count, char** words) {
-    if (count != 3) return 2;  // AUCTIONS ROUNDS: how many there are, and how often QuickFIX parses their messages; 0 prints the day
+    if (count != 3 && count != 4) return 2;
+    // AUCTIONS ROUNDS [FRAMES]: how many there are, how often QuickFIX parses their messages (0 prints the day), and a file of the
+    // frames that the venue sent for them
     const int auctions = std::atoi(words[1]), rounds = std::atoi(words[2]);
     if (rounds == 0) {
         print(auctions);
@@ -73,6 +87,7 @@ int main(int count, char** words) {
     std::vector<std::string> frames;
     for (int number = 1; number <= auctions; ++number)
         for (const Sent& one : auction(number, "\x01")) frames.push_back(frame(one));
+    if (count == 4) add_printed(words[3], frames);
     for (int round = 1; round < rounds; ++round)
         for (const std::string& bytes : frames) {
             FIX::Message message(bytes, true);

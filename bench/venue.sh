@@ -1,7 +1,7 @@
 #!/bin/bash
 # Instructions and time a message of `replay` on days of 10 to 1,000 auctions, 22 steps each, from the line that is read to
-# the answers that are printed, and of QuickFIX, which parses the frames of the same messages and checks their length and sum
-# alone. Needs g++, libquickfix-dev, valgrind and rt.
+# the answers that are printed, and of QuickFIX, which parses the frames of the same messages, or of these and of all that the
+# venue sends for them, and checks their length and sum alone. Needs g++, libquickfix-dev, valgrind and rt.
 #
 #     bench/venue.sh [PROGRAM]
 set -e
@@ -27,11 +27,20 @@ none=$(instructions "$program" replay < "$make/none")
 for auctions in 10 100 1000; do
     messages=$((6 * auctions))
     "$make/venue" $auctions 0 > "$make/text"
-    replay=$((($(instructions "$program" replay < "$make/text") - none) / messages))
-    once=$(instructions "$make/venue" $auctions 1)
-    twice=$(instructions "$make/venue" $auctions 2)
-    quickfix=$(((twice - once) / messages))
-    echo "$auctions auctions: replay $replay, QuickFIX $quickfix, $((replay * 100 / quickfix)) of 100"
+    day=$(($(instructions "$program" replay < "$make/text") - none))
+    "$program" replay --frames < "$make/text" > "$make/frames"
+    sent=$(wc -l < "$make/frames")
+    parsed() {  # the instructions in which QuickFIX parses the frames of one round
+        once=$(instructions "$make/venue" $auctions 1 "$@")
+        twice=$(instructions "$make/venue" $auctions 2 "$@")
+        echo $((twice - once))
+    }
+    quickfix=$(parsed)
+    echo "$auctions auctions, $messages messages: replay $((day / messages)) each, QuickFIX $((quickfix / messages))," \
+        "$((day * 100 / quickfix)) of 100"
+    quickfix=$(parsed "$make/frames")
+    echo "    and the $sent that are sent for them: replay $((day / (messages + sent))) each," \
+        "QuickFIX $((quickfix / (messages + sent))), $((day * 100 / quickfix)) of 100"
 done
 "$make/venue" 1000 0 > "$make/text"
 replayed() { "$program" replay < "$make/text"; }

@@ -118,6 +118,17 @@ done
 printf 'row equal\ndue equal\nmessages equal\n' >"$work/wanted"
 refuse_each "auction twice, compare DLR1" "$work/twice" "$work/wanted" compare DLR1
 
+# Days of the whole venue: a hit, a quote that is cancelled before it is hit, a pass, an expiry, a cancel of all quotes.
+for day in awarded cancel-in-time passed expired cancel-all; do
+    {
+        cat "$examples/three-dealers.toml"
+        echo %%
+        cat "$root/tests/engines/days/$day.steps"
+    } >"$work/day"
+    "$program" replay <"$work/day" >"$work/wanted"
+    refuse_each "$day, replay" "$work/day" "$work/wanted" replay
+done
+
 "$program" --help </dev/null >"$work/help"
 refuse_each "--help" /dev/null "$work/help" --help
 "$program" --version </dev/null >"$work/version"

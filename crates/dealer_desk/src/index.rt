@@ -223,6 +223,15 @@ impl DealerIndex {
         self.table.lines.as_slice()
     }
 
+    /// The same lines, taken out.
+    pub(crate) fn into_lines(self) -> Vec<QuoteLine>
+        ensures { result.items ≡ lines_of self.book }
+    {
+        let Self { table, .. } = self;
+        let Table { lines, .. } = table;
+        lines
+    }
+
     /// Takes note of a message that used up its number.
     pub(crate) fn came(&mut self)
         requires { self.old.book.used + 1 < 2 ^ 63 }

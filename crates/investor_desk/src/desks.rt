@@ -248,13 +248,20 @@ impl InvestorDesk {
         self.sent.as_slice()
     }
 
-    /// The events and the messages, taken out of the desk. It takes no memory.
-    pub fn into_parts(self) -> (Vec<InvestorEvent>, Vec<SentMessage>)
+    /// The events, the messages and the lines of the blotter, taken out of the desk. It takes no
+    /// memory.
+    pub fn into_parts(self) -> (Vec<InvestorEvent>, Vec<SentMessage>, Vec<RequestLine>)
         ensures events { result.0.items ≡ self.events }
         ensures sent { result.1.items ≡ investor_output self.market self.events }
+        ensures lines { result.2.items ≡ lines_of (book_at self) }
     {
-        let Self { events, sent, .. } = self;
-        (events, sent)
+        let Self {
+            events,
+            sent,
+            index,
+            ..
+        } = self;
+        (events, sent, index.into_lines())
     }
 
     /// The events that came to the desk, the first one first.

@@ -230,6 +230,14 @@ impl InvestorIndex {
         self.lines.as_slice()
     }
 
+    /// The same lines, taken out.
+    pub(crate) fn into_lines(self) -> Vec<RequestLine>
+        ensures { result.items ≡ lines.lines_of self }
+    {
+        let Self { lines, .. } = self;
+        lines
+    }
+
     /// Takes note of a message that used up its number.
     pub(crate) fn came(&mut self)
         requires { self.old.used + 1 < 2 ^ 63 }

@@ -10,8 +10,9 @@ use Rattle.clap.specs.declared.error.kind.ErrorKind.TheVariants.{OutOfMemory}
 use Rattle.clap.specs.Words.{HasKind, IsAmong, Kinds, Text, kind_of}
 use Rattle.venue_text.specs.declared.faults.ProgramFault.TheVariants.{Memory}
 use Rattle.rfq_venue.specs.Arguments.{Command, arguments_fault, command_of, is_help, is_mistake}
-use Rattle.rfq_venue.specs.Arguments.{may_be_help, may_be_mistake}
-use Rattle.rfq_venue.specs.Runs.{EndsAsAsked, EndsBy, EndsInCommand, EndsTold, Streams, Written}
+use Rattle.rfq_venue.specs.Arguments.{live_form, may_be_help, may_be_mistake}
+use Rattle.rfq_venue.specs.Runs.{EndsAsAsked, EndsBy, EndsInCommand, EndsInLive, EndsOf, EndsTold}
+use Rattle.rfq_venue.specs.Runs.{Streams, Written}
 use Rattle.rfq_venue.proofs.LawfulArguments.{lawful_arguments}
 
 first_or : (a b : Bool) → (a || false) ≡ true → (a || b) ≡ true
@@ -51,7 +52,14 @@ ends_by : (asked : Option Command) (kinds : Kinds) (status : ℕ) (streams : Str
     → EndsTold kinds status streams.out streams.err → EndsBy asked kinds status streams
 ends_by None kinds status streams none ends = ends
 ends_by (Some command) kinds status streams none ends =
-    memory_alone command status streams (subst (λ (ks : Kinds). EndsTold ks status streams.out streams.err) (none refl) ends)
+    by_form (live_form command) (memory_alone command status streams
+    (subst (λ (ks : Kinds). EndsTold ks status streams.out streams.err) (none refl) ends))
+  where
+    by_form : (form : Option Bool) → EndsInCommand command status streams → EndsOf form command status streams
+    by_form None (inl done) = inl done
+    by_form None (inr fault) = inr fault
+    by_form (Some with_frames) (inl done) = inl done.0
+    by_form (Some with_frames) (inr fault) = inr fault.0
 
 -- a run whose arguments are no command, or for whose arguments memory was refused
 pub asked_told : {A : Type 0} (text : A → Text) (arguments : List A) (error : Error) (status : ℕ) (streams : Streams) → 0 < length arguments
@@ -65,7 +73,7 @@ asked_told text (argument ∷ arguments) error status streams some is ends =
 
 -- a run of a command
 pub asked_command : (words : List Text) (command : Command) (status : ℕ) (streams : Streams) → command_of words ≡ Some command
-    → EndsInCommand command status streams → EndsAsAsked words status streams
+    → EndsOf (live_form command) command status streams → EndsAsAsked words status streams
 asked_command words command status streams is ends =
     subst (λ (asked : Option Command). EndsBy asked (arguments_fault words) status streams) (sym is) ends
 
@@ -73,3 +81,12 @@ asked_command words command status streams is ends =
 pub some_arguments : {A : Type 0} (arguments : List A) → false ≡ (length arguments == 0) → 0 < length arguments
 some_arguments [] e = absurd (false≢true e)
 some_arguments (argument ∷ arguments) e = omega arith
+
+-- a run of a command that prints one text, and a run of `live`, by the form of the command
+pub in_text : (form : Option Bool) (command : Command) (status : ℕ) (streams : Streams) → None ≡ form
+    → EndsInCommand command status streams → EndsOf form command status streams
+in_text form command status streams none ends = subst (λ (f : Option Bool). EndsOf f command status streams) none ends
+
+pub in_live : (with_frames : Bool) (form : Option Bool) (command : Command) (status : ℕ) (streams : Streams) → Some with_frames ≡ form
+    → EndsInLive status → EndsOf form command status streams
+in_live with_frames form command status streams some ends = subst (λ (f : Option Bool). EndsOf f command status streams) some ends

@@ -87,45 +87,53 @@ above_dashes : (word : Text) (b : Bool)
 above_dashes word true e = refl
 above_dashes word false e = absurd (above_word word (long_of word) e)
 
-abbrev pub Any : Bool → Bool → Bool → Bool → Bool → Type 0
-Any a b c d e = (a ≡ true) ⊎ ((b ≡ true) ⊎ ((c ≡ true) ⊎ ((d ≡ true) ⊎ (e ≡ true))))
+abbrev pub Any : Bool → Bool → Bool → Bool → Bool → Bool → Bool → Type 0
+Any a b c d e f g =
+    (a ≡ true) ⊎ ((b ≡ true) ⊎ ((c ≡ true) ⊎ ((d ≡ true) ⊎ ((e ≡ true) ⊎ ((f ≡ true) ⊎ (g ≡ true))))))
 
 -- the command that the word names
-abbrev met_by : Bool → Bool → Bool → Bool → Bool → Bool → Option Text
-met_by a b c d e h = option_map (λ (s : Text × List Text). s.0)
-    (cond (a || false) (Some (codes "alone", [])) (cond (b || false) (Some (codes "replay", [])) (cond (c || false) (Some (codes "due", []))
-    (cond (d || false) (Some (codes "compare", [])) (cond (e || false) (Some (codes "blotter", [])) (cond (h || false) (Some (codes "help", [])) None))))))
+abbrev met_by : Bool → Bool → Bool → Bool → Bool → Bool → Bool → Bool → Option Text
+met_by a b c d e f g h = option_map (λ (s : Text × List Text). s.0)
+    (cond (a || false) (Some (codes "alone", [])) (cond (b || false) (Some (codes "replay", [])) (cond (c || false) (Some (codes "day", []))
+    (cond (d || false) (Some (codes "due", [])) (cond (e || false) (Some (codes "compare", [])) (cond (f || false) (Some (codes "blotter", []))
+    (cond (g || false) (Some (codes "live", [])) (cond (h || false) (Some (codes "help", [])) None))))))))
 
-first_case : (word : Text) (a b c d e h : Bool)
-    → (let met = subcommand_or_other top_rules (met_by a b c d e h) idle 1 word nothing_held in
-    or_else (other_fault top_shape (met_by a b c d e h) word nothing_held) (step_fault top_shape 1 met.0 met.1)) ≡ []
-    → Any a b c d e ⊎ (word ≡ codes "--")
-first_case word true b c d e h none = inl (inl refl)
-first_case word false true c d e h none = inl (inr (inl refl))
-first_case word false false true d e h none = inl (inr (inr (inl refl)))
-first_case word false false false true e h none = inl (inr (inr (inr (inl refl))))
-first_case word false false false false true h none = inl (inr (inr (inr (inr refl))))
-first_case word false false false false false true none = absurd (never kind.DisplayHelp (kind.InvalidSubcommand ∷ []) none)
-first_case word false false false false false false none =
+first_case : (word : Text) (a b c d e f g h : Bool)
+    → (let met = subcommand_or_other top_rules (met_by a b c d e f g h) idle 1 word nothing_held in
+    or_else (other_fault top_shape (met_by a b c d e f g h) word nothing_held) (step_fault top_shape 1 met.0 met.1)) ≡ []
+    → Any a b c d e f g ⊎ (word ≡ codes "--")
+first_case word true b c d e f g h none = inl (inl refl)
+first_case word false true c d e f g h none = inl (inr (inl refl))
+first_case word false false true d e f g h none = inl (inr (inr (inl refl)))
+first_case word false false false true e f g h none = inl (inr (inr (inr (inl refl))))
+first_case word false false false false true f g h none = inl (inr (inr (inr (inr (inl refl)))))
+first_case word false false false false false true g h none = inl (inr (inr (inr (inr (inr (inl refl))))))
+first_case word false false false false false false true h none = inl (inr (inr (inr (inr (inr (inr refl))))))
+first_case word false false false false false false false true none = absurd (never kind.DisplayHelp (kind.InvalidSubcommand ∷ []) none)
+first_case word false false false false false false false false none =
     inr ((bytes_eq-Decides word (codes "--")).0 (above_dashes word (bytes_eq word (codes "--")) none))
 
 abbrev pub IsName : Text → Type 0
 IsName word = (codes "alone" ≡ word)
-    ⊎ ((codes "replay" ≡ word) ⊎ ((codes "due" ≡ word) ⊎ ((codes "compare" ≡ word) ⊎ (codes "blotter" ≡ word))))
+    ⊎ ((codes "replay" ≡ word) ⊎ ((codes "day" ≡ word) ⊎ ((codes "due" ≡ word)
+    ⊎ ((codes "compare" ≡ word) ⊎ ((codes "blotter" ≡ word) ⊎ (codes "live" ≡ word))))))
 
 names_one : (word : Text)
-    → Any (bytes_eq (codes "alone") word) (bytes_eq (codes "replay") word) (bytes_eq (codes "due") word) (bytes_eq (codes "compare") word) (bytes_eq (codes "blotter") word)
+    → Any (bytes_eq (codes "alone") word) (bytes_eq (codes "replay") word) (bytes_eq (codes "day") word) (bytes_eq (codes "due") word)
+    (bytes_eq (codes "compare") word) (bytes_eq (codes "blotter") word) (bytes_eq (codes "live") word)
     → IsName word
 names_one word (inl is) = inl ((bytes_eq-Decides (codes "alone") word).0 is)
 names_one word (inr (inl is)) = inr (inl ((bytes_eq-Decides (codes "replay") word).0 is))
-names_one word (inr (inr (inl is))) = inr (inr (inl ((bytes_eq-Decides (codes "due") word).0 is)))
-names_one word (inr (inr (inr (inl is)))) = inr (inr (inr (inl ((bytes_eq-Decides (codes "compare") word).0 is))))
-names_one word (inr (inr (inr (inr is)))) = inr (inr (inr (inr ((bytes_eq-Decides (codes "blotter") word).0 is))))
+names_one word (inr (inr (inl is))) = inr (inr (inl ((bytes_eq-Decides (codes "day") word).0 is)))
+names_one word (inr (inr (inr (inl is)))) = inr (inr (inr (inl ((bytes_eq-Decides (codes "due") word).0 is))))
+names_one word (inr (inr (inr (inr (inl is))))) = inr (inr (inr (inr (inl ((bytes_eq-Decides (codes "compare") word).0 is)))))
+names_one word (inr (inr (inr (inr (inr (inl is)))))) = inr (inr (inr (inr (inr (inl ((bytes_eq-Decides (codes "blotter") word).0 is))))))
+names_one word (inr (inr (inr (inr (inr (inr is)))))) = inr (inr (inr (inr (inr (inr ((bytes_eq-Decides (codes "live") word).0 is))))))
 
 first_turn : (word : Text) → turn_fault top_shape top_names start word ≡ [] → IsName word ⊎ (word ≡ codes "--")
 first_turn word none =
-    elim (first_case word (bytes_eq (codes "alone") word) (bytes_eq (codes "replay") word) (bytes_eq (codes "due") word) (bytes_eq (codes "compare") word)
-    (bytes_eq (codes "blotter") word) (bytes_eq (codes "help") word) none) [
+    elim (first_case word (bytes_eq (codes "alone") word) (bytes_eq (codes "replay") word) (bytes_eq (codes "day") word) (bytes_eq (codes "due") word)
+    (bytes_eq (codes "compare") word) (bytes_eq (codes "blotter") word) (bytes_eq (codes "live") word) (bytes_eq (codes "help") word) none) [
       | inl is ↦ inl (names_one word is)
       | inr is ↦ inr is
     ]

@@ -11,7 +11,7 @@ use Rattle.clap.specs.Walk.{Held, Text, Walk, finished, settled}
 use Rattle.clap.specs.Walk.{walked}
 use Rattle.clap.proofs.OnLiterals.{clap_on_literals}
 use Rattle.std.proofs.lemmas.Slice.Eq.{bytes_eq-Decides}
-use Rattle.rfq_venue.specs.Arguments.{Command, alone_by, flags_in, frames_by, is_dashes, is_flag}
+use Rattle.rfq_venue.specs.Arguments.{Command, no_word_by, flags_in, frames_by, is_dashes, is_flag}
 use Rattle.rfq_venue.specs.Arguments.{one_word_by, plain_in, replay_by}
 use Rattle.rfq_venue.proofs.LeafTurns.{Fits, Leaf, Spot, TurnIs, at_frames, at_frames_word, at_none}
 use Rattle.rfq_venue.proofs.LeafTurns.{at_word, at_word_frames, behind, frames_next, held_at, next}
@@ -93,10 +93,10 @@ end_is of_word name (at_frames_word x) fit = absurd fit
 end_is of_word name (at_word_frames x) fit = absurd fit
 
 -- the words of a command of a kind, and its flags, are those of one
-abbrev pub by_leaf : Leaf → (Text → Command) → List Text → List Text → Option Command
-by_leaf of_flag command words flags = alone_by words flags
+abbrev pub by_leaf : Leaf → (Text → Bool → Command) → List Text → List Text → Option Command
+by_leaf of_flag command words flags = no_word_by (command []) words flags
 by_leaf of_both command words flags = replay_by words flags
-by_leaf of_word command words flags = one_word_by command words flags
+by_leaf of_word command words flags = one_word_by (λ word. command word false) words flags
 
 abbrev words_at : Spot → List Text
 words_at at_none = []
@@ -112,7 +112,7 @@ flags_at (at_word word) = []
 flags_at (at_frames_word word) = codes "--frames" ∷ []
 flags_at (at_word_frames word) = codes "--frames" ∷ []
 
-abbrev pub command_at : Leaf → (Text → Command) → Spot → Option Command
+abbrev pub command_at : Leaf → (Text → Bool → Command) → Spot → Option Command
 command_at l command s = by_leaf l command (words_at s) (flags_at s)
 
 abbrev words_left : Bool → List Text → List Text
@@ -124,11 +124,11 @@ flags_left true words = []
 flags_left false words = flags_in words
 
 -- the command of what was read and of the words that are left
-abbrev command_with : Leaf → (Text → Command) → Spot → List Text → List Text → Option Command
+abbrev command_with : Leaf → (Text → Bool → Command) → Spot → List Text → List Text → Option Command
 command_with l command s words flags = by_leaf l command (words_at s ++ words) (flags_at s ++ flags)
 
 -- flags that are none
-wrong_flags : (l : Leaf) (command : Text → Command) (words flags : List Text) → frames_by flags ≡ None → by_leaf l command words flags ≡ None
+wrong_flags : (l : Leaf) (command : Text → Bool → Command) (words flags : List Text) → frames_by flags ≡ None → by_leaf l command words flags ≡ None
 wrong_flags of_flag command [] flags none = ap (option_map _) none
 wrong_flags of_flag command (word ∷ words) flags none = refl
 wrong_flags of_both command [] flags none = ap (option_map _) none
@@ -155,7 +155,7 @@ not_frames_at (at_word x) flag flags other = not_frames flag flags other
 not_frames_at (at_frames_word x) flag flags other = refl
 not_frames_at (at_word_frames x) flag flags other = refl
 
-wrong_with : (l : Leaf) (command : Text → Command) (s : Spot) (words : List Text) (flag : Text) (flags : List Text)
+wrong_with : (l : Leaf) (command : Text → Bool → Command) (s : Spot) (words : List Text) (flag : Text) (flags : List Text)
     → bytes_eq flag (codes "--frames") ≡ false → command_with l command s words (flag ∷ flags) ≡ None
 wrong_with l command s words flag flags other = wrong_flags l command (words_at s ++ words) _ (not_frames_at s flag flags other)
 
@@ -192,11 +192,11 @@ frames_fit of_both (at_word x) fit = tt
 frames_fit of_both (at_frames_word x) fit = tt
 frames_fit of_both (at_word_frames x) fit = tt
 
-abbrev NextIs : Leaf → (Text → Command) → Option Spot → List Text → List Text → Option Command → Type 0
+abbrev NextIs : Leaf → (Text → Bool → Command) → Option Spot → List Text → List Text → Option Command → Type 0
 NextIs l command None words flags result = result ≡ None
 NextIs l command (Some s) words flags result = result ≡ command_with l command s words flags
 
-plain_more : (l : Leaf) (command : Text → Command) (s : Spot) (word : Text) (words flags : List Text) → Fits l s
+plain_more : (l : Leaf) (command : Text → Bool → Command) (s : Spot) (word : Text) (words flags : List Text) → Fits l s
     → NextIs l command (plain_next l s word) words flags (command_with l command s (word ∷ words) flags)
 plain_more of_flag command at_none word words flags fit = refl
 plain_more of_flag command at_frames word words flags fit = refl
@@ -214,7 +214,7 @@ plain_more of_word command at_frames word words flags fit = absurd fit
 plain_more of_word command (at_frames_word x) word words flags fit = absurd fit
 plain_more of_word command (at_word_frames x) word words flags fit = absurd fit
 
-frames_more : (l : Leaf) (command : Text → Command) (s : Spot) (words flags : List Text) → Fits l s
+frames_more : (l : Leaf) (command : Text → Bool → Command) (s : Spot) (words flags : List Text) → Fits l s
     → NextIs l command (frames_next l s) words flags (command_with l command s words (codes "--frames" ∷ flags))
 frames_more of_flag command at_none words flags fit = refl
 frames_more of_flag command at_frames words flags fit = wrong_flags of_flag command words _ refl
@@ -226,19 +226,19 @@ frames_more of_both command at_frames words flags fit = wrong_flags of_both comm
 frames_more of_both command (at_word x) words flags fit = refl
 frames_more of_both command (at_frames_word x) words flags fit = wrong_flags of_both command (x ∷ words) _ refl
 frames_more of_both command (at_word_frames x) words flags fit = wrong_flags of_both command (x ∷ words) _ refl
-frames_more of_word command at_none words flags fit = no_flags command words _ flags
-frames_more of_word command (at_word x) words flags fit = no_flags command (x ∷ words) _ flags
+frames_more of_word command at_none words flags fit = no_flags (λ word. command word false) words _ flags
+frames_more of_word command (at_word x) words flags fit = no_flags (λ word. command word false) (x ∷ words) _ flags
 frames_more of_word command at_frames words flags fit = absurd fit
 frames_more of_word command (at_frames_word x) words flags fit = absurd fit
 frames_more of_word command (at_word_frames x) words flags fit = absurd fit
 
 -- where clap's walk ends is the command that the words ask for
 
-abbrev AskedIs : Leaf → (Text → Command) → List Text → Spot × Bool → Type 0
+abbrev AskedIs : Leaf → (Text → Bool → Command) → List Text → Spot × Bool → Type 0
 AskedIs l command words p =
     command_with l command p.0 (words_left p.1 words) (flags_left p.1 words) ≡ option_and_then (command_at l command) (ended l words p.0 p.1)
 
-nothing_more : (l : Leaf) (command : Text → Command) (s : Spot) (t : Bool) → AskedIs l command [] (s, t)
+nothing_more : (l : Leaf) (command : Text → Bool → Command) (s : Spot) (t : Bool) → AskedIs l command [] (s, t)
 nothing_more l command at_none true = refl
 nothing_more l command at_none false = refl
 nothing_more l command at_frames true = refl
@@ -251,21 +251,21 @@ nothing_more l command (at_word_frames x) true = refl
 nothing_more l command (at_word_frames x) false = refl
 
 -- what a word and the words behind it ask for, by where the word leads
-abbrev LeadsTo : Leaf → (Text → Command) → List Text → Option (Spot × Bool) → Option Command → Type 0
+abbrev LeadsTo : Leaf → (Text → Bool → Command) → List Text → Option (Spot × Bool) → Option Command → Type 0
 LeadsTo l command words o result =
     result ≡ option_and_then (command_at l command) (option_and_then (λ p. ended l words p.0 p.1) o)
 
 -- what the words behind ask for, from each place that fits
-abbrev Others : Leaf → (Text → Command) → List Text → Type 0
+abbrev Others : Leaf → (Text → Bool → Command) → List Text → Type 0
 Others l command words = (s : Spot) (t : Bool) → Fits l s → AskedIs l command words (s, t)
 
-led : (l : Leaf) (command : Text → Command) (words : List Text) (t : Bool) (o : Option Spot) (result : Option Command)
+led : (l : Leaf) (command : Text → Bool → Command) (words : List Text) (t : Bool) (o : Option Spot) (result : Option Command)
     → Others l command words → FitsNext l o → NextIs l command o (words_left t words) (flags_left t words) result
     → LeadsTo l command words (behind t o) result
 led l command words t None result others fits is = is
 led l command words t (Some s) result others fits is = is ∙ others s t fits
 
-module _ (l : Leaf) (command : Text → Command) (s : Spot) (word : Text) (words : List Text) (fit : Fits l s) (others : Others l command words) where
+module _ (l : Leaf) (command : Text → Bool → Command) (s : Spot) (word : Text) (words : List Text) (fit : Fits l s) (others : Others l command words) where
   -- the words and the flags, by what the word is
   abbrev words_by : Bool → Bool → List Text
   words_by dashes flag = if dashes then words else (if flag then plain_in words else word ∷ plain_in words)
@@ -291,7 +291,7 @@ module _ (l : Leaf) (command : Text → Command) (s : Spot) (word : Text) (words
       led l command words false (plain_next l s word) _ others (plain_fit l s word fit)
       (plain_more l command s word (plain_in words) (flags_in words) fit)
 
-pub asked : (l : Leaf) (command : Text → Command) (words : List Text) (s : Spot) (t : Bool) → Fits l s → AskedIs l command words (s, t)
+pub asked : (l : Leaf) (command : Text → Bool → Command) (words : List Text) (s : Spot) (t : Bool) → Fits l s → AskedIs l command words (s, t)
 asked l command [] s t fit = nothing_more l command s t
 asked l command (word ∷ words) s true fit =
     led l command words true (plain_next l s word) _ (asked l command words) (plain_fit l s word fit) (plain_more l command s word words [] fit)

@@ -1,4 +1,5 @@
 -- What readers and writers hold, where they tell it.
+use Rattle.std.proofs.lemmas.Bool.{false≢true}
 use Rattle.std.proofs.Common.{◌≡◌, ◌≢◌, ℕ, ◌-◌, ◌<◌, ◌≤◌, List, [], ◌++◌, length, take, drop, sym}
 use Rattle.std.proofs.Common.{ap, ◌∙◌, subst, refl, arith, Option, Some, None, append_assoc}
 use Rattle.std.proofs.Common.{true, nat_lt, inl, inr, Result, Ok, Err, ◌⊎◌}
@@ -7,13 +8,13 @@ use Rattle.std.proofs.lemmas.List.{append-nil, take-append-drop, take_all, lengt
 use Rattle.std.proofs.lemmas.List.{length-append}
 use Rattle.std.proofs.Math.Seq.{take-append_seam}
 use Rattle.venue_text.specs.declared.lines.TheConstants.{MOST_INPUT}
-use Rattle.rfq_venue.specs.Arguments.{Command, alone, blotter, compare, due, replay}
+use Rattle.rfq_venue.specs.Arguments.{Command, alone, blotter, compare, day, due, live, replay}
 use Rattle.rfq_venue.specs.Runs.{Written, Gains, GainsPart, IsReadOf, HasPrinted, HasPrintedPart}
 use Rattle.rfq_venue.specs.Runs.{FaultLeaves, IsFaultOf, IsTextOf}
 use Rattle.venue_text.specs.declared.faults.ProgramFault.{ProgramFault}
 use Rattle.venue_text.specs.declared.faults.ProgramFault.TheVariants.{Read, Input, Parts, Config, Firm}
 use Rattle.venue_text.specs.declared.faults.ProgramFault.TheVariants.{Form, UnknownFirm, UnknownRoom}
-use Rattle.venue_text.specs.declared.faults.ProgramFault.TheVariants.{Stream, Memory, Write}
+use Rattle.venue_text.specs.declared.faults.ProgramFault.TheVariants.{Stream, Day, Memory, Write}
 use Rattle.std.proofs.lemmas.Bool.{cases_Bool}
 use Rattle.std.proofs.lemmas.Bool.Decides.{nat_tests}
 use Rattle.std.specs.Option.{IfSome}
@@ -68,21 +69,29 @@ long_fault : (command : Command) (input : List ℕ) (fault : ProgramFault) → n
     → Input ≡ fault
 long_fault (alone with_frames) input fault long is = let same : Some Input ≡ Some fault = rw long at is in cc
 long_fault (replay firm with_frames) input fault long is = let same : Err Input ≡ Err fault = rw long at is in cc
+long_fault (day with_frames) input fault long (inl is) = let same : Err Input ≡ Err fault = rw long at is in cc
+long_fault (day with_frames) input fault long (inr unkept) = let lawful = unkept.lawful in absurd (false≢true (rw long at lawful))
+long_fault (live with_frames) input fault long is = absurd is
 long_fault (due dealer) input fault long is = let same : Err Input ≡ Err fault = rw long at is in cc
 long_fault (compare dealer) input fault long is = let same : Err Input ≡ Err fault = rw long at is in cc
 long_fault (blotter firm) input fault long is = let same : Err Input ≡ Err fault = rw long at is in cc
 
-too_long : (command : Command) (input : List ℕ) → nat_lt MOST_INPUT (length input) ≡ true → IsFaultOf command input Input
-too_long (alone with_frames) input long = rw long refl
-too_long (replay firm with_frames) input long = rw long refl
-too_long (due dealer) input long = rw long refl
-too_long (compare dealer) input long = rw long refl
-too_long (blotter firm) input long = rw long refl
+too_long : (command : Command) (input bytes : List ℕ) (fault : ProgramFault) → nat_lt MOST_INPUT (length input) ≡ true → IsFaultOf command bytes fault
+    → IsFaultOf command input Input
+too_long (alone with_frames) input bytes fault long is = rw long refl
+too_long (replay firm with_frames) input bytes fault long is = rw long refl
+too_long (day with_frames) input bytes fault long is = inl (rw long refl)
+too_long (live with_frames) input bytes fault long is = absurd is
+too_long (due dealer) input bytes fault long is = rw long refl
+too_long (compare dealer) input bytes fault long is = rw long refl
+too_long (blotter firm) input bytes fault long is = rw long refl
 
 -- and it has no text
 no_text : (command : Command) (input text : List ℕ) → nat_lt MOST_INPUT (length input) ≡ true → IsTextOf command input text → ⊥
 no_text (alone with_frames) input text long is = let fits = is.fits in grind (arith, nat_tests)
 no_text (replay firm with_frames) input text long is = let same = is.spelled in cc (rw long at same)
+no_text (day with_frames) input text long is = let same = is.spelled in cc (rw long at same)
+no_text (live with_frames) input text long is = absurd is
 no_text (due dealer) input text long is = let same = is.spelled in cc (rw long at same)
 no_text (compare dealer) input text long is = let same = is.spelled in cc (rw long at same)
 no_text (blotter firm) input text long is = let same = is.spelled in cc (rw long at same)
@@ -107,7 +116,7 @@ pub fault_read : (command : Command) (known : Option (List ℕ)) (bytes : List �
     → IsFaultOf command bytes fault → IfSome known (λ all. IsFaultOf command all fault)
 fault_read command None bytes fault read is = tt
 fault_read command (Some all) bytes fault read is = elim (read_whole all bytes read) [
-  | inl long ↦ subst (IsFaultOf command all) (long_fault command bytes fault long.0 is) (too_long command all long.1)
+  | inl long ↦ subst (IsFaultOf command all) (long_fault command bytes fault long.0 is) (too_long command all bytes fault long.1 is)
   | inr same ↦ subst (λ (l : List ℕ). IsFaultOf command l fault) same is
 ]
 
@@ -142,6 +151,7 @@ fault_left command known old bytes (UnknownFirm line) read other is =
     (keeps_same old, fault_read command known bytes (UnknownFirm line) read (is (λ e. cc)))
 fault_left command known old bytes (UnknownRoom line) read other is =
     (keeps_same old, fault_read command known bytes (UnknownRoom line) read (is (λ e. cc)))
+fault_left command known old bytes (Day what) read other is = (keeps_same old, fault_read command known bytes (Day what) read (is (λ e. cc)))
 fault_left command known old bytes (Stream line) read other is = (keeps_same old, fault_read command known bytes (Stream line) read (is (λ e. cc)))
 
 -- ---- a line of a front, a word and a line feed

@@ -23,12 +23,26 @@ pub data Command : Type 0 where
   alone : Bool → Command
   -- all firms' messages of a day, or those of the firm with this name
   replay : Option Text → Bool → Command
+  -- all firms' messages of a day on threads
+  day : Bool → Command
+  -- a day that goes on, line by line
+  live : Bool → Command
   -- the due text of the dealer with this name
   due : Text → Command
   -- what differs for the dealer with this name between two days
   compare : Text → Command
   -- the blotter of the firm with this name
   blotter : Text → Command
+
+-- whether a command is `live`, which answers while it reads, and in which form then
+abbrev pub live_form : Command → Option Bool
+live_form (alone with_frames) = None
+live_form (replay firm with_frames) = None
+live_form (day with_frames) = None
+live_form (live with_frames) = Some with_frames
+live_form (due dealer) = None
+live_form (compare dealer) = None
+live_form (blotter firm) = None
 
 -- The words behind a command's name.
 
@@ -63,10 +77,10 @@ frames_by (flag ∷ more ∷ rest) = None
 
 -- The commands, each by its words and its flags.
 
--- `alone [--frames]`
-abbrev pub alone_by : List Text → List Text → Option Command
-alone_by [] flags = option_map alone (frames_by flags)
-alone_by (word ∷ words) flags = None
+-- a command of no word, as `alone [--frames]`
+abbrev pub no_word_by : (Bool → Command) → List Text → List Text → Option Command
+no_word_by command [] flags = option_map command (frames_by flags)
+no_word_by command (word ∷ words) flags = None
 
 -- `replay [FIRM] [--frames]`
 abbrev pub replay_by : List Text → List Text → Option Command
@@ -82,12 +96,14 @@ one_word_by command words flags = None
 -- the command with a name
 abbrev pub command_by : Text → List Text → List Text → Option Command
 command_by name words flags =
-    if bytes_eq name (codes "alone") then alone_by words flags
+    if bytes_eq name (codes "alone") then no_word_by alone words flags
     else (if bytes_eq name (codes "replay") then replay_by words flags
+    else (if bytes_eq name (codes "day") then no_word_by day words flags
     else (if bytes_eq name (codes "due") then one_word_by due words flags
     else (if bytes_eq name (codes "compare") then one_word_by compare words flags
     else (if bytes_eq name (codes "blotter") then one_word_by blotter words flags
-    else None))))
+    else (if bytes_eq name (codes "live") then no_word_by live words flags
+    else None))))))
 
 -- The command that arguments ask for, where they are those of one. No arguments at all mean
 -- `alone`.
@@ -100,14 +116,18 @@ abbrev pub named_command : Text → Option Text → Bool → Command
 named_command name firm frames =
     if bytes_eq name (codes "alone") then alone frames
     else (if bytes_eq name (codes "replay") then replay firm frames
+    else (if bytes_eq name (codes "day") then day frames
+    else (if bytes_eq name (codes "live") then live frames
     else (if bytes_eq name (codes "due") then due (unwrap_or firm [])
     else (if bytes_eq name (codes "compare") then compare (unwrap_or firm [])
-    else blotter (unwrap_or firm []))))
+    else blotter (unwrap_or firm []))))))
 
 -- the command of the code's type
 abbrev pub meant : VenueCommand → Command
 meant (rust.Alone frames) = alone frames
 meant (rust.Replay firm frames) = replay (option_map (λ word. word.now) firm) frames
+meant (rust.Day frames) = day frames
+meant (rust.Live frames) = live frames
 meant (rust.Due dealer) = due dealer.now
 meant (rust.Compare dealer) = compare dealer.now
 meant (rust.Blotter firm) = blotter firm.now
@@ -134,6 +154,14 @@ alone_app = with_rule (new_app (codes "alone")) frames_flag
 abbrev pub replay_app : App
 replay_app = with_rule (with_rule (new_app (codes "replay")) frames_flag) (firm_word false)
 
+-- `day`
+abbrev pub day_app : App
+day_app = with_rule (new_app (codes "day")) frames_flag
+
+-- `live`
+abbrev pub live_app : App
+live_app = with_rule (new_app (codes "live")) frames_flag
+
 -- a command of one word
 abbrev pub one_word_app : Text → App
 one_word_app name = with_rule (new_app name) (firm_word true)
@@ -147,15 +175,19 @@ settings s = record s { has_version = true; no_binary_name = true; subcommand_re
 abbrev pub program_app : App
 program_app = on_top settings (new_app (codes "rfq_venue"))
 
--- the program with the commands whose messages are printed
+-- the program with the commands that print messages of a list of steps
+abbrev pub stepped_app : App
+stepped_app = with_subcommand (with_subcommand program_app alone_app.top) replay_app.top
+
+-- the program with the commands that print messages
 abbrev pub message_app : App
-message_app = with_subcommand (with_subcommand program_app alone_app.top) replay_app.top
+message_app = with_subcommand stepped_app day_app.top
 
 -- the whole program
 abbrev pub venue_app : App
-venue_app = with_subcommand (with_subcommand (with_subcommand message_app
+venue_app = with_subcommand (with_subcommand (with_subcommand (with_subcommand message_app
     (one_word_app (codes "due")).top) (one_word_app (codes "compare")).top)
-    (one_word_app (codes "blotter")).top
+    (one_word_app (codes "blotter")).top) live_app.top
 
 -- a command that is built is this one, and has no argument that those below it share
 abbrev pub IsAppOf : App → Built → Type 0

@@ -1,5 +1,5 @@
 -- How a run of the program ends.
-use Rattle.std.specs.Prelude.{◌≡◌, ◌<◌, ◌≤◌, ◌⊎◌, ℕ, true, List, [], ◌++◌, length, take}
+use Rattle.std.specs.Prelude.{◌≡◌, ◌<◌, ◌≤◌, ◌⊎◌, ℕ, Bool, true, List, [], ◌++◌, length, take}
 use Rattle.std.specs.Prelude.{Option, Some, None, Result, Ok, Err}
 use Rattle.std.specs.Option.{IfSome}
 use Rattle.std.specs.Io.KnownBytes.{Appends, Keeps}
@@ -16,7 +16,8 @@ use Rattle.venue_text.specs.declared.faults.ProgramFault.{ProgramFault}
 use Rattle.venue_text.specs.declared.faults.ProgramFault.TheVariants.{Read, Memory, Write}
 use Rattle.venue_text.specs.declared.lines.TheConstants.{MOST_INPUT}
 use Rattle.rfq_venue.specs.Arguments.{Command, alone, arguments_fault, blotter, command_of, compare}
-use Rattle.rfq_venue.specs.Arguments.{due, may_be_help, may_be_mistake, replay}
+use Rattle.rfq_venue.specs.Arguments.{day, due, live, live_form, may_be_help, may_be_mistake, replay}
+use Rattle.rfq_venue.specs.ThreadedDays.{IsDay, IsDayFault}
 use Rattle.rfq_venue.specs.declared.process.ArgumentFault.{ArgumentFault}
 use Rattle.rfq_venue.specs.declared.process.ArgumentFault.TheVariants as argument
 
@@ -24,6 +25,8 @@ use Rattle.rfq_venue.specs.declared.process.ArgumentFault.TheVariants as argumen
 abbrev pub IsTextOf : Command → List ℕ → List ℕ → Type 0
 IsTextOf (alone with_frames) input text = IsPrinted with_frames input text
 IsTextOf (replay firm with_frames) input text = IsReplayed firm with_frames input text
+IsTextOf (day with_frames) input text = IsDay with_frames input text
+IsTextOf (live with_frames) input text = ⊥  -- it prints line by line
 IsTextOf (due dealer) input text = IsDueText dealer input text
 IsTextOf (compare dealer) input text = IsCompared dealer input text
 IsTextOf (blotter firm) input text = IsBlotter firm input text
@@ -32,6 +35,8 @@ IsTextOf (blotter firm) input text = IsBlotter firm input text
 abbrev pub IsFaultOf : Command → List ℕ → ProgramFault → Type 0
 IsFaultOf (alone with_frames) input fault = first_fault input ≡ Some fault
 IsFaultOf (replay firm with_frames) input fault = one_day (firms_by firm) input ≡ Err fault
+IsFaultOf (day with_frames) input fault = IsDayFault input fault
+IsFaultOf (live with_frames) input fault = ⊥  -- it tells line by line
 IsFaultOf (due dealer) input fault = one_day (dealer_by dealer) input ≡ Err fault
 IsFaultOf (compare dealer) input fault = two_days (dealer_by dealer) input ≡ Err fault
 IsFaultOf (blotter firm) input fault = one_day (firm_by firm) input ≡ Err fault
@@ -41,6 +46,8 @@ abbrev pub word_of : Command → List ℕ
 word_of (alone with_frames) = []
 word_of (replay None with_frames) = []
 word_of (replay (Some firm) with_frames) = firm
+word_of (day with_frames) = []
+word_of (live with_frames) = []
 word_of (due dealer) = dealer
 word_of (compare dealer) = dealer
 word_of (blotter firm) = firm
@@ -151,9 +158,18 @@ EndsTold kinds status out err =
     ⊎ (((may_be_help kinds ≡ true) × EndsInHelp status out err)
     ⊎ ((may_be_mistake kinds ≡ true) × EndsInMistake status out err))
 
+-- How a run of `live` ends: with status 0 at the end of its input, or with status 1 and a fault.
+abbrev pub EndsInLive : ℕ → Type 0
+EndsInLive status = (status ≡ 0) ⊎ (status ≡ 1)
+
+-- How a run of a command ends, whichever it is.
+abbrev pub EndsOf : Option Bool → Command → ℕ → Streams → Type 0
+EndsOf (Some with_frames) command status streams = EndsInLive status
+EndsOf None command status streams = EndsInCommand command status streams
+
 -- How a run ends, by the command that is asked for, or else by what is wrong with the arguments.
 abbrev pub EndsBy : Option Command → Kinds → ℕ → Streams → Type 0
-EndsBy (Some command) kinds status streams = EndsInCommand command status streams
+EndsBy (Some command) kinds status streams = EndsOf (live_form command) command status streams
 EndsBy None kinds status streams = EndsTold kinds status streams.out streams.err
 
 -- How a run ends, by its arguments.

@@ -5,8 +5,8 @@ ghost use Rattle.clap.specs.Words.{HasKind, kind_of, rule_of};
 ghost use Rattle.rfq_venue.specs.Arguments as spec;
 
 use crate::help::{
-    ABOUT, ALONE, BLOTTER, COMPARE, DAY, DAYS, DEALER, DUE, DUE_TEXT, FIRM, FRAMES, READS, REPLAY,
-    VERSION,
+    ABOUT, ALONE, BLOTTER, COMPARE, DAY, DAYS, DEALER, DUE, DUE_TEXT, FIRM, FRAMES, LIVE, LIVE_DAY,
+    READS, REPLAY, THREADED, THREADS, VERSION,
 };
 use clap::error::ErrorKind;
 use clap::{Arg, ArgAction, Command, Error};
@@ -26,6 +26,16 @@ pub(crate) enum VenueCommand<'a> {
     Replay {
         /// Those of the firm with this name alone.
         firm: Option<&'a str>,
+        /// Each message is printed as its whole frame.
+        frames: bool,
+    },
+    /// All firms' messages of a day on threads.
+    Day {
+        /// Each message is printed as its whole frame.
+        frames: bool,
+    },
+    /// A day that goes on: the messages of each line as it comes.
+    Live {
         /// Each message is printed as its whole frame.
         frames: bool,
     },
@@ -87,6 +97,12 @@ fn command_named<'a>(name: &str, firm: Option<&'a str>, frames: bool) -> VenueCo
     if name == "replay" {
         return VenueCommand::Replay { firm, frames };
     }
+    if name == "day" {
+        return VenueCommand::Day { frames };
+    }
+    if name == "live" {
+        return VenueCommand::Live { frames };
+    }
     let word = firm.unwrap_or("");
     if name == "due" {
         return VenueCommand::Due { dealer: word };
@@ -95,6 +111,21 @@ fn command_named<'a>(name: &str, firm: Option<&'a str>, frames: bool) -> VenueCo
         return VenueCommand::Compare { dealer: word };
     }
     VenueCommand::Blotter { firm: word }
+}
+
+/// Whether a command is `live`, and whether it prints whole frames then.
+pub(crate) fn form_of_live(command: &VenueCommand<'_>) -> Option<bool>
+    ensures { result ≡ spec.live_form (spec.meant command.now) }
+{
+    match command {
+        VenueCommand::Live { frames } => Some(*frames),
+        VenueCommand::Alone { .. } => None,
+        VenueCommand::Replay { .. } => None,
+        VenueCommand::Day { .. } => None,
+        VenueCommand::Due { .. } => None,
+        VenueCommand::Compare { .. } => None,
+        VenueCommand::Blotter { .. } => None,
+    }
 }
 
 /// The flag `--frames`.
@@ -116,6 +147,28 @@ fn alone_command<'a>(alloc: Global) -> Result<Command<'a>, Memory>
     Command::new(alloc, "alone")
         .about(ALONE)
         .after_help(DUE_TEXT)
+        .arg(frames)
+}
+
+/// The command `day`.
+fn day_command<'a>(alloc: Global) -> Result<Command<'a>, Memory>
+    ensures { IfOk result (spec.IsAppOf spec.day_app) }
+{
+    let frames = frames_flag(alloc);
+    Command::new(alloc, "day")
+        .about(THREADED)
+        .after_help(THREADS)
+        .arg(frames)
+}
+
+/// The command `live`.
+fn live_command<'a>(alloc: Global) -> Result<Command<'a>, Memory>
+    ensures { IfOk result (spec.IsAppOf spec.live_app) }
+{
+    let frames = frames_flag(alloc);
+    Command::new(alloc, "live")
+        .about(LIVE)
+        .after_help(LIVE_DAY)
         .arg(frames)
 }
 
@@ -167,14 +220,23 @@ fn program_command<'a>(alloc: Global) -> Result<Command<'a>, Memory>
     Ok(program)
 }
 
-/// The program with the commands that print messages.
-fn message_command<'a>(alloc: Global) -> Result<Command<'a>, Memory>
-    ensures { IfOk result (spec.IsAppOf spec.message_app) }
+/// The program with the commands that print messages of a list of steps.
+fn stepped_command<'a>(alloc: Global) -> Result<Command<'a>, Memory>
+    ensures { IfOk result (spec.IsAppOf spec.stepped_app) }
 {
     let alone = alone_command(alloc)?;
     let replay = replay_command(alloc)?;
     let program = program_command(alloc)?;
     program.subcommand(alone)?.subcommand(replay)
+}
+
+/// The program with the commands that print messages.
+fn message_command<'a>(alloc: Global) -> Result<Command<'a>, Memory>
+    ensures { IfOk result (spec.IsAppOf spec.message_app) }
+{
+    let day = day_command(alloc)?;
+    let stepped = stepped_command(alloc)?;
+    stepped.subcommand(day)
 }
 
 /// The program and its commands.
@@ -184,11 +246,13 @@ fn venue_command<'a>(alloc: Global) -> Result<Command<'a>, Memory>
     let due = one_word_command(alloc, "due", DUE, DAY, "DEALER", DEALER)?;
     let compare = one_word_command(alloc, "compare", COMPARE, DAYS, "DEALER", DEALER)?;
     let blotter = one_word_command(alloc, "blotter", BLOTTER, DAY, "FIRM", FIRM)?;
+    let live = live_command(alloc)?;
     let messages = message_command(alloc)?;
     messages
         .subcommand(due)?
         .subcommand(compare)?
-        .subcommand(blotter)
+        .subcommand(blotter)?
+        .subcommand(live)
 }
 
 /// What an error of the arguments is to tell.
@@ -246,6 +310,6 @@ pub fn arguments_have_these_faults()
         ≡ ErrorKind.UnknownArgument ∷ [] }
     ensures one_argument_less { spec.arguments_fault (codes "due" ∷ [])
         ≡ ErrorKind.MissingRequiredArgument ∷ [] }
-    ensures no_command { spec.arguments_fault (codes "day" ∷ [])
+    ensures no_command { spec.arguments_fault (codes "days" ∷ [])
         ≡ ErrorKind.UnknownArgument ∷ ErrorKind.InvalidSubcommand ∷ [] }
 {}

@@ -10,6 +10,11 @@ pub(crate) const ALONE: &str =
 pub(crate) const REPLAY: &str =
     "Prints the messages of all firms, or of FIRM, on a day of the venue";
 
+pub(crate) const THREADED: &str =
+    "Runs a day of the venue on threads, and prints the messages of all firms";
+
+pub(crate) const LIVE: &str = "Answers each line of a day of the venue as it comes";
+
 pub(crate) const DUE: &str = "Prints the due text of DEALER on a day of the venue";
 
 pub(crate) const COMPARE: &str = "Says where two days of the venue differ for DEALER";
@@ -25,8 +30,9 @@ pub(crate) const DEALER: &str = "The name of a dealer of the configuration";
 
 pub(crate) const READS: &str = "\
 Everything is read from standard input, at most 16,777,216 bytes: due text for `alone`, a day of
-the venue for `replay`, `due` and `blotter`, two days for `compare`. The help of a command tells
-its form. No arguments at all mean `alone`.
+the venue for `replay`, `due` and `blotter`, one without turns for `day`, two days for `compare`;
+for `live` a day of the venue line by line, without this limit. The help of a command tells its
+form. No arguments at all mean `alone`.
 
 The status is 0 when done, 1 for a fault, with one line on standard error, and 2 for wrong
 arguments.";
@@ -110,6 +116,30 @@ Example:
   %%
   say INV1 T8 09:00:00 R 131=A|146=1|48=BONDA0000001|22=4|54=1|38=2000000|126=20250314-09:05:00|453=1|448=DLR1|447=D|452=35
   turn INV1 3";
+
+pub(crate) const THREADS: &str = "\
+Standard input is a day of the venue, at most 16,777,216 bytes: a configuration in TOML, a line %%,
+and lines of steps as the help of `replay` has them, but no `turn`. The lines of a firm with `say`,
+`in` and `piece` are its inbox in their order, and those with `expire` the sweeps of the clock.
+
+The firms take their inboxes at the same time, each on a thread of its own, and each does its duties
+as they come; the clock makes its sweeps on another. So what is printed may be another day on
+another run, where firms race.
+
+A day whose record does not agree with what came is a fault of the venue: `day: Inbox`, `day: Told`
+or `day: Sweep`.";
+
+pub(crate) const LIVE_DAY: &str = "\
+Standard input is a day of the venue as the help of `replay` has it, but without lines `turn`, and
+it is answered line by line: the step of a line is done, then all duties that it left, in order, and
+the messages that are sent for these are printed, in the order in which they are sent, before more
+is read. Nothing is printed of a line for which nothing is sent.
+
+A line of steps at fault is told on standard error, as `line K: form`, and changes nothing: the day
+goes on. A fault of the configuration ends it. No line has more than 16,777,216 bytes.
+
+The status is 0 at the end of the input, 1 for a fault that ends the day before, and 2 for wrong
+arguments.";
 
 pub(crate) const DAYS: &str = "\
 Standard input is two days of the venue, at most 16,777,216 bytes in all: a configuration, a line

@@ -1,9 +1,10 @@
 //! The program of a blind multi-dealer RFQ venue for bonds, with its commands `alone`, `replay`,
-//! `due`, `compare` and `blotter`.
+//! `day`, `live`, `due`, `compare` and `blotter`.
 //!
 //! `replay` reads a day of the venue, a configuration and the steps of the day, and prints every
-//! message that the venue sends; `due` and `blotter` print what was due to one dealer, and a firm's
-//! blotter; `compare` reads two days and says where they differ for one dealer. `alone` reads one
+//! message that the venue sends; `day` runs one on threads, and `live` answers one line by line as
+//! it comes; `due` and `blotter` print what was due to one dealer, and a firm's blotter; `compare`
+//! reads two days and says where they differ for one dealer. `alone` reads one
 //! dealer's day, called due text, and prints every message that the venue sends to that dealer.
 //!
 //! Here are a command's arguments, standard input, output and error, and the status; what lines
@@ -20,8 +21,10 @@
 #![tactic(auto)]
 
 mod command;
+mod days;
 mod help;
 mod input;
+mod live;
 mod output;
 mod process;
 mod program;

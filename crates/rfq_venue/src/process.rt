@@ -8,8 +8,11 @@ use crate::program::{report, run_program};
 use std::alloc::Global;
 use std::env;
 use std::io::{ErrorKind, Read, Write};
+use std::marker::Sync;
 use std::process::ExitCode;
 use std::rt::Env;
+use std::sync::Wait;
+use std::thread::Threads;
 use venue_text::ProgramFault;
 
 /// Why the arguments of the process could not be read.
@@ -53,7 +56,7 @@ fn argument_fault(kind: ErrorKind) -> ArgumentFault {
 }
 
 /// Runs the program with the arguments of the process, and gives the process the status of the run.
-pub(crate) fn run_process<H, R: Read, W: Write, E: Write>(
+pub(crate) fn run_process<H: Threads + Wait + Sync, R: Read, W: Write, E: Write>(
     rt: &H,
     alloc: Global,
     arguments: &Result<Vec<String>, ArgumentFault>,
@@ -73,7 +76,7 @@ pub(crate) fn run_process<H, R: Read, W: Write, E: Write>(
 }
 
 /// The status of a run with these arguments.
-fn run_status<H, R: Read, W: Write, E: Write>(
+fn run_status<H: Threads + Wait + Sync, R: Read, W: Write, E: Write>(
     rt: &H,
     alloc: Global,
     arguments: &Result<Vec<String>, ArgumentFault>,

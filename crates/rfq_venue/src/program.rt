@@ -1,26 +1,30 @@
 //! A run of the program.
-ghost use Rattle.std.specs.Prelude.{◌≡◌, ◌≢◌, ◌++◌, [], ◌∷◌, map, IfOk, IfErr, IfSome, OnOk, OnErr};
+ghost use Rattle.std.specs.Prelude.{◌≡◌, ◌≢◌, ◌++◌, [], ◌∷◌, None, map, IfOk, IfErr, IfSome, OnOk, OnErr};
 ghost use Rattle.std.specs.Io.KnownBytes.{Appends};
 ghost use Rattle.clap.specs.Words.{kind_of};
 ghost use Rattle.venue_text.specs.Faults as faults;
-ghost use Rattle.rfq_venue.specs.Arguments.{meant};
+ghost use Rattle.rfq_venue.specs.Arguments.{live_form, meant};
 ghost use Rattle.rfq_venue.specs.Runs as spec;
 
-use crate::command::{Told, VenueCommand, read_command, told_by};
+use crate::command::{Told, VenueCommand, form_of_live, read_command, told_by};
 use crate::input::read_input;
+use crate::live::run_live;
 use crate::output::write_text;
 use crate::texts::{command_text, command_word};
 use clap::Error;
 use std::alloc::Global;
 use std::convert::AsStr;
 use std::io::{Read, Write};
+use std::marker::Sync;
+use std::sync::Wait;
+use std::thread::Threads;
 use venue_text::{ProgramFault, fault_line};
 
 /// Runs the program: reads what its arguments ask for from `input`, prints it to `out`, and
 /// answers the exit status: 0 is done. A fault is told in one line on `err`, with status 1; wrong
 /// arguments have status 2. No arguments at all mean `alone`.
-pub fn run_program<H, S: AsStr, R: Read, W: Write, E: Write>(
-    _rt: &H,
+pub fn run_program<H: Threads + Wait + Sync, S: AsStr, R: Read, W: Write, E: Write>(
+    rt: &H,
     alloc: Global,
     arguments: &[S],
     input: &mut R,
@@ -35,29 +39,52 @@ pub fn run_program<H, S: AsStr, R: Read, W: Write, E: Write>(
 {
     if arguments.is_empty() {
         let command = VenueCommand::Alone { frames: false };
-        return run_command(alloc, &command, input, out, err);
+        return run_command(rt, alloc, &command, input, out, err);
     }
     match read_command(alloc, arguments) {
-        Ok(command) => run_command(alloc, &command, input, out, err),
+        Ok(command) => run_command(rt, alloc, &command, input, out, err),
         Err(error) => tell(alloc, &error, out, err),
     }
 }
 
 /// Prints what a command asks for, or tells the fault.
-fn run_command<R: Read, W: Write, E: Write>(
+fn run_command<H: Threads + Wait + Sync, R: Read, W: Write, E: Write>(
+    rt: &H,
     alloc: Global,
     command: &VenueCommand<'_>,
     input: &mut R,
     out: &mut W,
     err: &mut E,
 ) -> u8
+    ensures { spec.EndsOf (live_form (meant command.now)) (meant command.now) result (record {
+      input = R.remaining input.old;
+      out = record { before = W.contents out.old; after = W.contents out.new };
+      err = record { before = E.contents err.old; after = E.contents err.new };
+    }) }
+{
+    let Some(frames) = form_of_live(command) else {
+        return run_text_command(rt, alloc, command, input, out, err);
+    };
+    run_live(alloc, frames, input, out, err)
+}
+
+/// The same of a command that prints one text.
+fn run_text_command<H: Threads + Wait + Sync, R: Read, W: Write, E: Write>(
+    rt: &H,
+    alloc: Global,
+    command: &VenueCommand<'_>,
+    input: &mut R,
+    out: &mut W,
+    err: &mut E,
+) -> u8
+    requires { live_form (meant command.now) ≡ None }
     ensures { spec.EndsInCommand (meant command.now) result (record {
       input = R.remaining input.old;
       out = record { before = W.contents out.old; after = W.contents out.new };
       err = record { before = E.contents err.old; after = E.contents err.new };
     }) }
 {
-    let Err(fault) = print_command(alloc, command, input, out) else {
+    let Err(fault) = print_command(rt, alloc, command, input, out) else {
         return 0;
     };
     report(err, command_word(command), &fault)
@@ -92,12 +119,14 @@ fn print_help<W: Write, E: Write>(text: &[u8], out: &mut W, err: &mut E) -> u8
 }
 
 /// Prints what a command asks for.
-fn print_command<R: Read, W: Write>(
+fn print_command<H: Threads + Wait + Sync, R: Read, W: Write>(
+    rt: &H,
     alloc: Global,
     command: &VenueCommand<'_>,
     input: &mut R,
     out: &mut W,
 ) -> Result<(), ProgramFault>
+    requires { live_form (meant command.now) ≡ None }
     ensures ok { OnOk result (IfSome (R.remaining input.old) (λ all. spec.HasPrinted
         (meant command.now) all
         (record { before = W.contents out.old; after = W.contents out.new }))) }
@@ -106,7 +135,7 @@ fn print_command<R: Read, W: Write>(
         (record { before = W.contents out.old; after = W.contents out.new })) }
 {
     let bytes = read_input(alloc, input)?;
-    let text = match command_text(alloc, command, bytes.as_slice()) {
+    let text = match command_text(rt, alloc, command, bytes.as_slice()) {
         Ok(text) => text,
         Err(fault) => return Err(fault),
     };
@@ -114,7 +143,7 @@ fn print_command<R: Read, W: Write>(
 }
 
 /// Prints a text as a whole.
-fn print_text<W: Write>(out: &mut W, text: &[u8]) -> Result<(), ProgramFault>
+pub(crate) fn print_text<W: Write>(out: &mut W, text: &[u8]) -> Result<(), ProgramFault>
     ensures ok { OnOk result (Appends (W.contents out.old) (W.contents out.new) text.now) }
     ensures err { IfErr result (λ fault. fault ≡ ProgramFault.Write) }
     ensures part { OnErr result (spec.GainsPart text.now

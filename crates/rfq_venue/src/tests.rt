@@ -2,11 +2,18 @@
 //! tested in `venue_text_tests`.
 use crate::process::{process_arguments, run_process};
 use crate::run_program;
+use std::marker::Sync;
 use std::process::{Abort, ExitCode};
+use std::sync::Wait;
+use std::thread::Threads;
 
 mod arguments;
+mod auctions;
 mod days;
+mod dealers;
 mod help;
+mod limits;
+mod pairs;
 mod streams;
 
 const FIRST_QUOTE: &[u8] =
@@ -19,7 +26,11 @@ const ACCEPTED_FRAME: &[u8] =
     b"DLR1 8=FIXT.1.1|9=73|35=AI|49=VENUE|56=DLR1|34=2|52=20250314-09:00:10.000|131=R1|117=a1|297=0|10=207|\n";
 
 /// The status of a run over an input, what it printed, and what it told.
-fn ran<T: AllocGlobal>(rt: &T, arguments: &[&str], mut input: &[u8]) -> (u8, Vec<u8>, Vec<u8>) {
+fn ran<T: Threads + Wait + Sync + AllocGlobal>(
+    rt: &T,
+    arguments: &[&str],
+    mut input: &[u8],
+) -> (u8, Vec<u8>, Vec<u8>) {
     let mut out = Vec::new(rt.alloc());
     let mut err = Vec::new(rt.alloc());
     let status = run_program(rt, rt.alloc(), arguments, &mut input, &mut out, &mut err);
@@ -36,7 +47,7 @@ fn joined<T: Abort + AllocGlobal>(rt: &T, parts: &[&[u8]]) -> Vec<u8> {
 }
 
 /// Asserts that these arguments print the messages of the first quote.
-fn assert_messages<T: Abort + AllocGlobal>(rt: &T, arguments: &[&str]) {
+fn assert_messages<T: Threads + Wait + Sync + Abort + AllocGlobal>(rt: &T, arguments: &[&str]) {
     let (status, out, err) = ran(rt, arguments, FIRST_QUOTE);
     assert_eq!(rt; status, 0);
     assert!(rt; out.as_slice() == MESSAGES);

@@ -19,6 +19,8 @@ mod ConditionRooms
 mod ConditionTable
 mod ConditionTurns
 mod CountLemmas
+mod DayDueLemmas
+mod DayViewLemmas
 mod DealerActionLemmas
 mod DueListLemmas
 mod DutyLemmas
@@ -47,8 +49,11 @@ mod KnownLemmas
 mod LiftLemmas
 mod LiftingLemmas
 mod ListEnds
+mod LiveEffects
+mod LiveLemmas
 mod NoticeLemmas
 mod OpeningLemmas
+mod OrderLemmas
 mod OwnerLemmas
 mod PlaceLemmas
 mod PriceLemmas

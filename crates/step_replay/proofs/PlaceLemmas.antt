@@ -68,7 +68,7 @@ investor_grown number facts more = filter_map-append (entry_at_investor number) 
 
 -- Facts of one place say nothing of another.
 
-nothing_of : {A B : Type 0} (of : Fact → Option B) (f : A → Fact) → ((x : A) → of (f x) ≡ None)
+pub nothing_of : {A B : Type 0} (of : Fact → Option B) (f : A → Fact) → ((x : A) → of (f x) ≡ None)
     → (xs : List A) → filter_map of (map f xs) ≡ []
 nothing_of of f none [] = refl
 nothing_of of f none (x ∷ xs) = rw (none x) (nothing_of of f none xs)

@@ -110,7 +110,7 @@ unfolding after_step
 swept config trail room moment = refl
 
 -- a step that has no fault in one place has none in another
-any_place : (config : Configuration) (k : ℕ) (s : Step) → fault_of config k s ≡ None
+pub any_place : (config : Configuration) (k : ℕ) (s : Step) → fault_of config k s ≡ None
     → fault_of config 0 s ≡ None
 any_place config k (step.In firm moment message) none = rw (known_firm config k firm none) refl
 any_place config k (step.Turn (actor.Firm firm)) none = rw (known_firm config k firm none) refl

@@ -138,7 +138,7 @@ days_stand config facts floor stands =
 
 -- A firm's day is read at its place.
 
-get_first : {X : Type 0} (xs ys : List X) (i : ℕ) → i < length xs
+pub get_first : {X : Type 0} (xs ys : List X) (i : ℕ) → i < length xs
     → slice_get (xs ++ ys) i ≡ slice_get xs i
 get_first [] ys i within = absurd (omega arith)
 get_first (x ∷ xs) ys zero within = refl
@@ -146,7 +146,7 @@ get_first (x ∷ xs) ys (suc i) within =
     let inner : i < length xs = omega arith in
     get_first xs ys i inner
 
-get_second : {X : Type 0} (xs ys : List X) (i : ℕ) → length xs ≤ i
+pub get_second : {X : Type 0} (xs ys : List X) (i : ℕ) → length xs ≤ i
     → slice_get (xs ++ ys) i ≡ slice_get ys (i - length xs)
 get_second [] ys i beyond =
     let same : i ≡ i - 0 = omega arith in

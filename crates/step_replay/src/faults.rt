@@ -50,7 +50,7 @@ pub(crate) fn first_fault(config: &VenueConfig, steps: &[Step]) -> Option<Replay
 }
 
 /// The fault of the k-th step, where it has one.
-fn fault_of(config: &VenueConfig, k: usize, step: &Step) -> Option<ReplayFault>
+pub(crate) fn fault_of(config: &VenueConfig, k: usize, step: &Step) -> Option<ReplayFault>
     ensures { result ≡ spec.fault_of config.now k step.now }
 {
     match step {

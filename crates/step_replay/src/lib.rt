@@ -43,6 +43,10 @@
 //!   room that the venue does not have is the fault ([`ReplayFault`]), before any step is done; else
 //!   only memory can be refused.
 //!
+//! - [`LiveVenue`]: a venue that answers step by step. After each step it stands as the audit trail
+//!   of the steps so far, each followed by turns of its actor that leave it none, and what it tells
+//!   are the messages that these added, in their order.
+//!
 //! What follows from the definition stands as laws:
 //!
 //! - [`dealers_are_sent_their_view`]: what a dealer was sent is the dealer view of what was due to
@@ -64,9 +68,23 @@
 //! - [`a_hit_notice_names_the_lifted_quote`]: a notice of a hit names the quote that was lifted.
 //! - [`steps_meet_their_tests`]: a duty's test never fails. The duty that stands first in a queue
 //!   meets the test of its action, and a dealer's message asks a word that the venue has.
+//!
+//! # A day on threads
+//!
+//! A venue that runs on threads leaves a [`DayRecord`]: what each firm was sent, the events at every
+//! desk and in every room with the order in which they came, and what each actor did.
+//!
+//! - [`DayRecord::due`] is what was due to a dealer by the events at its desk, and
+//!   [`recorded_dealers_are_sent_their_view`] the law that what its desk sent is the dealer view of
+//!   that.
+//! - [`weave`] makes a list of steps of a record, which sends every firm what the record says: so
+//!   what is promised of days that are replayed holds of that day.
 #![tactic(auto)]
 
+mod actions;
 mod condition_laws;
+mod day_dues;
+mod day_reading;
 mod dealer_actions;
 mod dealer_view;
 mod due_lists;
@@ -77,26 +95,43 @@ mod floor;
 mod hits;
 mod investor_actions;
 mod laws;
+mod live;
 mod notice_laws;
 mod opening;
+mod order_checks;
 mod prices;
 mod queues;
+mod records;
 mod replay;
 mod room_actions;
+mod sent_checks;
+mod sent_to;
+mod sites;
 mod steps;
+mod weave_checks;
+mod weave_plan;
+mod weave_sort;
+mod weaving;
 mod world;
+mod woven_steps;
 
+pub use actions::{Action, Inbound, Kind, Sweep};
 pub use condition_laws::steps_meet_their_tests;
+pub use day_dues::{events_are_answered_one_by_one, recorded_dealers_are_sent_their_view};
 pub use dealer_view::{alone, equal_lists_have_equal_views};
 pub use dues::Due;
 pub use faults::ReplayFault;
 pub use laws::{
     dealers_are_isolated, dealers_are_sent_their_view, no_quote_is_lifted_and_withdrawn,
 };
+pub use live::LiveVenue;
 pub use notice_laws::{
     a_hit_notice_names_the_lifted_quote, each_named_dealer_is_told_once,
     notices_come_once_after_their_requests, words_are_answered_as_the_view_says,
 };
 pub use prices::price_law;
-pub use steps::{Actor, Step};
+pub use records::{DayRecord, DealerDay, InvestorDay, RoomDay};
+pub use sent_to::SentTo;
+pub use steps::{Actor, MOST_TURNS_BEHIND, Step};
+pub use weaving::{WeaveFault, weave};
 pub use world::{World, due, run};

@@ -61,7 +61,7 @@ impl Replay {
     }
 
     /// Which queue is an actor's.
-    fn index_of(&self, by: Actor) -> Option<usize>
+    pub(crate) fn index_of(&self, by: Actor) -> Option<usize>
         ensures { result ≡ spec.index_in (length self.now.queues.items) by }
     {
         let Actor::Firm(number) = by else {

@@ -13,6 +13,10 @@ pub enum Actor {
     Clock,
 }
 
+/// How many turns of its actor stand behind a step in a day whose steps are answered as they come.
+/// No step leaves as many duties.
+pub const MOST_TURNS_BEHIND: u64 = u64::MAX;
+
 /// One step of the venue. It changes one desk or one room, and asks the word of at most one quote.
 #[derive(Drop)]
 pub enum Step {

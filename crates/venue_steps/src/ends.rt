@@ -161,8 +161,9 @@ fn tell_each(duties: &mut Duties, at: RoomRef, end: &End, dealers: &[u16], momen
     }
 }
 
-/// How a request ended for a dealer.
-fn close_for(end: &End, dealer: u16) -> Close
+/// How a request ended for a dealer, as it is told: it won (QuoteRespType 694=1), its quote is the
+/// cover (4), it was done away (5), the investor passed (6), or the request expired (3).
+pub fn close_for(end: &End, dealer: u16) -> Close
     ensures { result ≡ spec.close_for end.now dealer }
 {
     match end.kind {

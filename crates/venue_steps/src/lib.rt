@@ -39,7 +39,7 @@ mod rooms;
 mod words;
 
 pub use dealers::{do_drop, do_show, do_tell, own_dealer};
-pub use ends::{do_expire, do_hit, do_pass};
+pub use ends::{close_for, do_expire, do_hit, do_pass};
 pub use investors::{do_answer, do_close, do_declined, do_gone, do_relay, own_investor};
 pub use rooms::{do_decline, do_open, do_post, do_ready, do_unpost};
 

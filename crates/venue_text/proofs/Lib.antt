@@ -1,8 +1,10 @@
+pub mod ArrivalLemmas
 pub mod AskedLemmas
 pub mod CompareLemmas
 pub mod CutLemmas
 pub mod DayLemmas
 pub mod FirmLemmas
+pub mod LiveLemmas
 pub mod PartLemmas
 pub mod SpellLemmas
 pub mod StepLemmas

@@ -5,7 +5,15 @@ use Rattle.venue_text.specs.declared.faults.ProgramFault.{ProgramFault}
 use Rattle.venue_text.specs.declared.faults.ProgramFault.TheVariants.{Read, Input, Parts, Config}
 use Rattle.venue_text.specs.declared.faults.ProgramFault.TheVariants.{Firm, Form, UnknownFirm}
 use Rattle.venue_text.specs.declared.faults.ProgramFault.TheVariants.{UnknownRoom, Stream}
-use Rattle.venue_text.specs.declared.faults.ProgramFault.TheVariants.{Memory, Write}
+use Rattle.venue_text.specs.declared.faults.ProgramFault.TheVariants.{Day, Memory, Write}
+use Rattle.venue_text.specs.declared.faults.UnkeptDay.{UnkeptDay}
+use Rattle.venue_text.specs.declared.faults.UnkeptDay.TheVariants as unkept
+
+-- what does not agree after a day on threads, by its name
+abbrev pub unkept_name : UnkeptDay → List ℕ
+unkept_name unkept.Inbox = codes "Inbox"
+unkept_name unkept.Told = codes "Told"
+unkept_name unkept.Sweep = codes "Sweep"
 
 -- a fault as standard error tells it, but for the word of an argument that names no firm
 abbrev pub fault_text : ProgramFault → List ℕ
@@ -18,6 +26,7 @@ fault_text (Form line) = codes "line " ++ decimal line ++ codes ": form"
 fault_text (UnknownFirm line) = codes "line " ++ decimal line ++ codes ": unknown firm"
 fault_text (UnknownRoom line) = codes "line " ++ decimal line ++ codes ": unknown room"
 fault_text (Stream line) = codes "line " ++ decimal line ++ codes ": stream"
+fault_text (Day what) = codes "day: " ++ unkept_name what
 fault_text Memory = codes "memory"
 fault_text Write = codes "write"
 

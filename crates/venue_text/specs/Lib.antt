@@ -1,4 +1,5 @@
 pub mod AloneText
+pub mod ArrivingDays
 pub mod AskedDays
 pub mod BlotterCommand
 pub mod CompareCuts
@@ -9,9 +10,11 @@ pub mod DueLines
 pub mod DueText
 pub mod Faults
 pub mod Lines
+pub mod LiveLines
 pub mod MessageLines
 pub mod OptionSteps
 pub mod PartReading
+pub mod RecordText
 pub mod ReplayText
 pub mod ResultSteps
 pub mod SayLine

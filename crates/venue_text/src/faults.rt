@@ -9,6 +9,31 @@ use std::alloc::{AllocError, AllocFailed};
 use std::fmt;
 use venue_config::ConfigFault;
 
+/// What does not agree after a day on threads: a fault of the venue, and none of its input.
+#[derive(Clone, Copy, Debug, PartialEq, Eq)]
+pub enum UnkeptDay {
+    /// A firm's own messages are not its inbox.
+    Inbox,
+    /// A dealer's closing notices do not agree with how its requests ended.
+    Told,
+    /// A room was not swept as the clock was told.
+    Sweep,
+}
+
+impl UnkeptDay {
+    /// Its name, as the program prints it.
+    pub fn name(self) -> &'static str
+        ensures text { result.now ≡ spec.unkept_name self }
+        ensures short { length result.now ≤ 16 }
+    {
+        match self {
+            UnkeptDay::Inbox => "Inbox",
+            UnkeptDay::Told => "Told",
+            UnkeptDay::Sweep => "Sweep",
+        }
+    }
+}
+
 /// A fault of a run, which ends with status 1 and one line on standard error.
 ///
 /// Where several could be told, the one that comes first here is told, but `memory` wherever it
@@ -48,6 +73,8 @@ pub enum ProgramFault {
         /// Its number.
         line: usize,
     },
+    /// What lies under the locks after a day on threads does not agree.
+    Day(UnkeptDay),
     /// Memory was refused.
     Memory,
     /// Standard output refused the messages, or took only some of them.
@@ -70,6 +97,7 @@ impl fmt::Display for ProgramFault {
             ProgramFault::UnknownFirm { line } => write!(f, "line {line}: unknown firm"),
             ProgramFault::UnknownRoom { line } => write!(f, "line {line}: unknown room"),
             ProgramFault::Stream { line } => write!(f, "line {line}: stream"),
+            ProgramFault::Day(what) => write!(f, "day: {}", what.name()),
             ProgramFault::Memory => write!(f, "memory"),
             ProgramFault::Write => write!(f, "write"),
         }
@@ -108,6 +136,7 @@ pub fn fault_line(fault: &ProgramFault) -> ArrayString<64>
         ProgramFault::UnknownFirm { line } => numbered_line(*line, ": unknown firm"),
         ProgramFault::UnknownRoom { line } => numbered_line(*line, ": unknown room"),
         ProgramFault::Stream { line } => numbered_line(*line, ": stream"),
+        ProgramFault::Day(what) => day_line(what.name()),
         ProgramFault::Memory => short_line("memory\n"),
         ProgramFault::Write => short_line("write\n"),
     }
@@ -130,6 +159,18 @@ fn config_line(name: &str) -> ArrayString<64>
 {
     let mut line = ArrayString::new();
     line.push_str("config: ");
+    line.push_str(name);
+    line.push_str("\n");
+    line
+}
+
+/// The line of what does not agree after a day on threads, with this name.
+fn day_line(name: &str) -> ArrayString<64>
+    requires { length name.now ≤ 16 }
+    ensures { result.bytes ≡ codes "day: " ++ name.now ++ 10 ∷ [] }
+{
+    let mut line = ArrayString::new();
+    line.push_str("day: ");
     line.push_str(name);
     line.push_str("\n");
     line

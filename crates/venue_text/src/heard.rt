@@ -9,6 +9,9 @@ use fix_fields::{Memory, Messages, Splitter, StreamFault};
 use std::alloc::{AllocError, Global};
 use std::marker::Model;
 
+/// How many `say` lines of a firm are counted at most on a day that goes on.
+const MOST_NUMBER: u64 = 1_000_000_000_000_000;
+
 /// What was heard of the firms, each at its number.
 #[derive(Drop)]
 pub(crate) struct Heard {
@@ -64,6 +67,23 @@ impl Heard {
             return;
         };
         *number += 1;
+    }
+
+    /// Counts a `say` line of a firm on a day that goes on. There is a most: behind it the fault is
+    /// [`ProgramFault::Input`].
+    pub(crate) fn count_on(&mut self, firm: u16) -> Result<(), ProgramFault>
+        ensures ok { OnOk result (self.new
+            ≡ spec.with_number self.old firm (spec.number_for self.old (Some firm) + 1)) }
+        ensures err { IfErr result (λ fault. fault ≡ ProgramFault.Input) }
+    {
+        let Some(number) = self.numbers.get_mut(usize::from(firm)) else {
+            return Ok(());
+        };
+        if *number >= MOST_NUMBER {
+            return Err(ProgramFault::Input);
+        }
+        *number += 1;
+        Ok(())
     }
 
     /// The messages that end in a piece of a firm's stream.

@@ -30,6 +30,8 @@
 //!   the venue has, or their first fault.
 //! - [`day_parts`], [`two_days_parts`] and [`read_venue`] give the parts of an input and the
 //!   configuration that one spells, [`asked_firm`] and [`asked_dealer`] whom an argument names.
+//! - [`LiveDay`] answers a day line by line: each answer is what the text of the messages so far has
+//!   gained.
 //! - [`messages_text`] and [`due_lines`] are the lines of their definitions, byte by byte.
 //! - [`Said`] and [`read_received`] read what a firm sends as lines of steps and of due text
 //!   share it, [`SpokenLines`], [`Parts`], [`read_time`] and [`read_side`] what is in a line.
@@ -38,6 +40,7 @@
 //! No call has a condition but those that say so; each returns, and only memory can be refused.
 #![tactic(auto)]
 
+mod arriving_days;
 mod asked_days;
 mod dealer_line;
 mod due_items;
@@ -48,12 +51,14 @@ mod fitting;
 mod heard;
 mod input_parts;
 mod lines;
+mod live_lines;
 mod message_lines;
 mod parts;
 mod printed;
 mod printed_blotter;
 mod printed_comparison;
 mod printed_due;
+mod printed_record;
 mod printed_replay;
 mod received;
 mod said;
@@ -64,17 +69,20 @@ mod step_text;
 mod venue_parts;
 mod written_dues;
 
+pub use arriving_days::{ArrivingDay, read_arriving_day};
 pub use due_text::{DueText, read_due_text};
-pub use faults::{ProgramFault, fault_line};
+pub use faults::{ProgramFault, UnkeptDay, fault_line};
 pub use fields::{Field, read_fields};
 pub use fitting::LONGEST_BODY;
 pub use lines::{MOST_INPUT, Parts, SpokenLines, has_divider, one_past};
+pub use live_lines::{LiveDay, MOST_LINES};
 pub use message_lines::messages_text;
 pub use parts::{cut_part, read_side, read_time, same_text};
 pub use printed::alone_text;
 pub use printed_blotter::blotter_command_text;
 pub use printed_comparison::compare_text;
 pub use printed_due::due_command_text;
+pub use printed_record::record_text;
 pub use printed_replay::replay_text;
 pub use received::read_received;
 pub use said::Said;

@@ -113,7 +113,7 @@ impl<'a> Iterator for SpokenLines<'a> {
 }
 
 /// Whether a line says nothing: it is empty or begins with `#`.
-fn is_skipped(line: &[u8]) -> bool
+pub(crate) fn is_skipped(line: &[u8]) -> bool
     ensures { result ≡ spec.is_skipped line.now }
 {
     match line.first() {

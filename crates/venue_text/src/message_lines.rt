@@ -8,6 +8,7 @@ use fix_fields::{Fields, Memory};
 use itoa::Buffer;
 use quote_messages::SentMessage;
 use std::alloc::Global;
+use step_replay::SentTo;
 use venue_config::Name;
 
 /// How many fields stand in front of those that a message line shows as BODY: MsgType (35),
@@ -89,7 +90,31 @@ fn push_message_line(text: &mut Vec<u8>, firm: &Name, message: &SentMessage) -> 
     ensures { OnOk result (text.new.items
         ≡ text.old.items ++ spec.message_line firm.now message.now) }
 {
-    let mut fields = message.frame().fields();
+    push_fields_line(text, firm, message.frame().fields())
+}
+
+/// The line of a message that a firm of a live venue is sent, in one form or the other.
+pub(crate) fn push_sent_line(
+    text: &mut Vec<u8>,
+    with_frames: bool,
+    firm: &Name,
+    sent: &SentTo,
+) -> Result<(), Memory>
+    ensures { OnOk result (text.new.items
+        ≡ text.old.items ++ spec.line_of with_frames firm.now sent.now.1) }
+{
+    if with_frames {
+        return push_frame_line(text, firm, sent.as_bytes());
+    }
+    push_fields_line(text, firm, sent.frame().fields())
+}
+
+/// `FIRM N TIME TYPE BODY` of these fields.
+fn push_fields_line(text: &mut Vec<u8>, firm: &Name, fields: Fields<'_>) -> Result<(), Memory>
+    ensures { OnOk result (text.new.items
+        ≡ text.old.items ++ spec.fields_line firm.now fields.entry) }
+{
+    let mut fields = fields;
     let header = header_of(&mut fields);
     text.extend_from_slice(firm.as_bytes())?;
     push_header(text, header.as_slice())?;

@@ -103,7 +103,7 @@ fn push_firm(
 }
 
 /// The name of the firm with this number.
-fn firm_name(venue: &VenueConfig, firm: u16) -> Option<&Name>
+pub(crate) fn firm_name(venue: &VenueConfig, firm: u16) -> Option<&Name>
     ensures { option_copied result ≡ slice_get (firm_names venue.now) firm }
 {
     if let Some(row) = venue.dealer(firm) {

@@ -57,6 +57,28 @@ pub(crate) fn push_spelled(
     }
 }
 
+/// Puts the steps of a line behind other steps.
+pub(crate) fn push_steps(steps: &mut Vec<Step>, spelled: Spelled) -> Result<(), Memory>
+    ensures { OnOk result (steps.new.items ≡ steps.old.items ++ spec.steps_in spelled) }
+{
+    match spelled {
+        Spelled::Said(firm, moment, message, _) => {
+            steps.push(Step::In(firm, moment, message))?;
+            Ok(())
+        }
+        Spelled::Came(firm, moment, message) => {
+            steps.push(Step::In(firm, moment, message))?;
+            Ok(())
+        }
+        Spelled::Turns(by, count) => push_turns(steps, by, count),
+        Spelled::Sweep(room, moment) => {
+            steps.push(Step::Expire(room, moment))?;
+            Ok(())
+        }
+        Spelled::Pieces(firm, moment, messages) => push_messages(steps, firm, moment, messages),
+    }
+}
+
 /// Puts so many turns of an actor behind other steps.
 fn push_turns(steps: &mut Vec<Step>, by: Actor, count: u64) -> Result<(), Memory>
     ensures { OnOk result (steps.new.items

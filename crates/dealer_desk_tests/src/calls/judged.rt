@@ -37,8 +37,10 @@ fn a_judged_message_is_taken(rt: HostRuntime) -> Result<(), Fail> {
         let taken = format!(in alloc; "{quote}, {left}")?;
         assert_eq!(rt; taken.as_str(), wanted, "the message {number}");
     }
-    let (events, sent) = desk.into_parts();
+    let shown = desk.lines().len();
+    let (events, sent, lines) = desk.into_parts();
     assert!(rt; events.len() == 6 && sent.len() == 6, "what is given away");
+    assert_eq!(rt; lines.len(), shown);
     Ok(())
 }
 

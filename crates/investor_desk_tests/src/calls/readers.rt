@@ -153,8 +153,8 @@ fn a_desk_is_taken_apart(rt: HostRuntime) -> Result<(), Fail> {
     assert!(rt; desk.date().digits() == b"20250314", "the day");
     desk.take(at(&rt, 7), b"x")?;
     desk.closed(1, at(&rt, 8))?;
-    let (events, sent) = desk.into_parts();
-    assert!(rt; sent.is_empty(), "nothing was sent");
+    let (events, sent, lines) = desk.into_parts();
+    assert!(rt; sent.is_empty() && lines.is_empty(), "nothing was sent");
     assert_eq!(rt; events.len(), 2);
     assert!(rt; is_own(&events[0], 7, b"x"), "the message");
     Ok(())

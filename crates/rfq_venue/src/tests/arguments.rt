@@ -4,7 +4,11 @@ use std::env::FillError;
 use std::rt::Env;
 
 /// Asserts the status of arguments; wrong ones print nothing and are told.
-fn assert_status<T: Abort + AllocGlobal>(rt: &T, arguments: &[&str], wanted: u8) {
+fn assert_status<T: Threads + Wait + Sync + Abort + AllocGlobal>(
+    rt: &T,
+    arguments: &[&str],
+    wanted: u8,
+) {
     let (status, out, err) = ran(rt, arguments, FIRST_QUOTE);
     assert_eq!(rt; status, wanted);
     assert_eq!(rt; out.is_empty(), wanted == 2);
@@ -32,7 +36,7 @@ fn arguments_are_those_of_a_command(rt: HostRuntime) {
     assert_status(&rt, &["due", "DLR1", "DLR2"], 2);
     assert_status(&rt, &["compare"], 2);
     assert_status(&rt, &["blotter"], 2);
-    assert_status(&rt, &["day"], 2);
+    assert_status(&rt, &["days"], 2);
     assert_status(&rt, &["Alone"], 2);
     assert_status(&rt, &[""], 2);
 }
@@ -65,7 +69,10 @@ impl<'a> Env for Process<'a> {
 }
 
 /// The exit code of a process with these arguments, what it printed, and what it told.
-fn ended<T: AllocGlobal>(rt: &T, arguments: &[&[u8]]) -> (ExitCode, Vec<u8>, Vec<u8>) {
+fn ended<T: Threads + Wait + Sync + AllocGlobal>(
+    rt: &T,
+    arguments: &[&[u8]],
+) -> (ExitCode, Vec<u8>, Vec<u8>) {
     let mut input = FIRST_QUOTE;
     let mut out = Vec::new(rt.alloc());
     let mut err = Vec::new(rt.alloc());
@@ -90,7 +97,7 @@ fn process_has_the_code_of_its_run(rt: HostRuntime) {
 }
 
 /// Asserts that a process with this argument ends as after wrong ones.
-fn assert_wrong<T: Abort + AllocGlobal>(rt: &T, argument: &[u8]) {
+fn assert_wrong<T: Threads + Wait + Sync + Abort + AllocGlobal>(rt: &T, argument: &[u8]) {
     let (code, out, err) = ended(rt, &[b"rfq_venue", b"alone", argument]);
     assert!(rt; code == ExitCode::from(2));
     assert!(rt; out.is_empty());

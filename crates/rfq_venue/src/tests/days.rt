@@ -1,7 +1,7 @@
 //! The commands over a day of the venue: one auction, which INV1 opens and in which it hits DLR1.
 use super::*;
 
-const VENUE: &[u8] = b"version = 1
+pub(super) const VENUE: &[u8] = b"version = 1
 date = \"20250314\"
 [[bond]]
 id = \"BONDA0000001\"
@@ -45,9 +45,9 @@ say DLR2 T2 09:00:20 S 117=b1|131=R1|48=BONDA0000001|22=4|133=99.515625
 turn DLR2 2
 ";
 
-const HIT: &[u8] = b"say INV1 T8 09:01:00 AJ 693=h1|117=Q1|694=1\n";
+pub(super) const HIT: &[u8] = b"say INV1 T8 09:01:00 AJ 693=h1|117=Q1|694=1\n";
 
-const CANCEL: &[u8] = b"say DLR1 T1 09:01:01 Z 298=5|117=a1\n";
+pub(super) const CANCEL: &[u8] = b"say DLR1 T1 09:01:01 Z 298=5|117=a1\n";
 
 const DEALERS: &[u8] =
     b"DLR1 1 09:00:00.000 R 131=R1|146=1|55=[N/A]|48=BONDA0000001|22=4|54=1|38=2000000|126=20250314-09:05:00.000|453=1|448=INV1|447=D|452=13
@@ -78,7 +78,12 @@ fn auction<T: Abort + AllocGlobal>(rt: &T) -> Vec<u8> {
 }
 
 /// Asserts that a command prints this over an input, and nothing else.
-fn assert_printed<T: Abort + AllocGlobal>(rt: &T, arguments: &[&str], input: &[u8], wanted: &[u8]) {
+pub(super) fn assert_printed<T: Threads + Wait + Sync + Abort + AllocGlobal>(
+    rt: &T,
+    arguments: &[&str],
+    input: &[u8],
+    wanted: &[u8],
+) {
     let (status, out, err) = ran(rt, arguments, input);
     assert!(rt; out.as_slice() == wanted);
     assert!(rt; err.is_empty());
@@ -86,7 +91,12 @@ fn assert_printed<T: Abort + AllocGlobal>(rt: &T, arguments: &[&str], input: &[u
 }
 
 /// Asserts that a command tells this fault over an input, and prints nothing.
-fn assert_fault<T: Abort + AllocGlobal>(rt: &T, arguments: &[&str], input: &[u8], line: &[u8]) {
+pub(super) fn assert_fault<T: Threads + Wait + Sync + Abort + AllocGlobal>(
+    rt: &T,
+    arguments: &[&str],
+    input: &[u8],
+    line: &[u8],
+) {
     let (status, out, err) = ran(rt, arguments, input);
     assert!(rt; err.as_slice() == line);
     assert!(rt; out.is_empty());
@@ -237,4 +247,30 @@ fn second_day_is_read_behind_the_first(rt: HostRuntime) {
         second.as_slice(),
         b"firm: INV1\n",
     );
+}
+
+const PASSED: &[u8] =
+    b"say INV1 T8 09:00:00 R 131=A|146=1|48=BONDA0000001|22=4|54=1|38=2000000|126=20250314-09:05:00|453=1|448=DLR1|447=D|452=35
+say INV1 T8 09:01:00 AJ 693=p1|694=6|131=A
+";
+
+const PASSED_MESSAGES: &[u8] =
+    b"DLR1 1 09:00:00.000 R 131=R1|146=1|55=[N/A]|48=BONDA0000001|22=4|54=1|38=2000000|126=20250314-09:05:00.000|453=1|448=INV1|447=D|452=13
+DLR1 2 09:01:00.000 AJ 693=N1|131=R1|694=6|55=[N/A]|48=BONDA0000001|22=4|54=1|38=2000000
+INV1 1 09:00:00.000 AI 131=A|297=0
+INV1 2 09:01:00.000 AI 693=p1|131=A|297=11
+";
+
+/// A day on threads needs no turns, and takes none.
+#[test]
+fn day_prints_what_its_threads_send(rt: HostRuntime) {
+    let input = joined(&rt, &[VENUE, b"%%\n", PASSED]);
+    assert_printed(&rt, &["day"], input.as_slice(), PASSED_MESSAGES);
+    let nothing = joined(&rt, &[VENUE, b"%%\n"]);
+    assert_printed(&rt, &["day", "--frames"], nothing.as_slice(), b"");
+    let turns = joined(&rt, &[VENUE, b"%%\nturn INV1 1\n"]);
+    let (status, out, err) = ran(&rt, &["day"], turns.as_slice());
+    assert_eq!(rt; status, 1);
+    assert!(rt; out.is_empty());
+    assert!(rt; err.as_slice().ends_with(b": form\n"));
 }

@@ -161,7 +161,12 @@ fn silent_standard_error_changes_no_status(rt: HostRuntime) {
 }
 
 /// Asserts the line that a command tells of an input of so many zeros.
-fn assert_length<T: Abort + AllocGlobal>(rt: &T, argument: &str, length: usize, line: &[u8]) {
+fn assert_length<T: Threads + Wait + Sync + Abort + AllocGlobal>(
+    rt: &T,
+    argument: &str,
+    length: usize,
+    line: &[u8],
+) {
     let mut input = Zeros { left: length };
     let mut out = Vec::new(rt.alloc());
     let mut err = Vec::new(rt.alloc());

@@ -8,5 +8,7 @@ returns c =
     c.in_ok-subcommand.ensures in
     let two = added_is _ _ c.in_ok-subcommand.field-0 c.in_ok-compare.compare c.in_ok-subcommand-2.field-0 one c.in_ok-compare.ensures
     c.in_ok-subcommand-2.ensures in
-    IfOk-weaker c.subcommand-3.result _ _ (λ r added. added_is _ _ c.in_ok-subcommand-2.field-0 c.in_ok-blotter.blotter r two c.in_ok-blotter.ensures added)
-    c.subcommand-3.ensures
+    let three = added_is _ _ c.in_ok-subcommand-2.field-0 c.in_ok-blotter.blotter c.in_ok-subcommand-3.field-0 two c.in_ok-blotter.ensures
+    c.in_ok-subcommand-3.ensures in
+    IfOk-weaker c.subcommand-4.result _ _ (λ r added. added_is _ _ c.in_ok-subcommand-3.field-0 c.in_ok-live.live r three c.in_ok-live.ensures added)
+    c.subcommand-4.ensures

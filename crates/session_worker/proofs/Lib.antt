@@ -1,0 +1,4 @@
+pub mod CheckLemmas
+pub mod InboxLemmas
+pub mod KeepLemmas
+pub mod LockLemmas

@@ -1,0 +1,10 @@
+use Rattle.std.proofs.Common.{◌≡◌, ◌↔◌, length}
+use Rattle.session_worker.specs.DayChecks.{came_from_dealer}
+use Rattle.session_worker.proofs.day_checks.is_inbox_of_dealer.Given as goal
+
+abbrev pub invariant-loop-event : goal.invariant-loop-event
+invariant-loop-event l =
+    (came_from_dealer l.fn.events ≡ l.fn.inbox) ↔ (came_from_dealer l.events ≡ l.inbox)
+
+abbrev pub decreases-loop-event : goal.decreases-loop-event
+decreases-loop-event l = length l.events

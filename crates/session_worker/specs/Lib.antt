@@ -1,0 +1,4 @@
+pub mod DayChecks
+pub mod Inbox
+pub mod KeptDays
+pub mod Locks

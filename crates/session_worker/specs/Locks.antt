@@ -1,0 +1,94 @@
+-- What lies under the locks of a venue, and what holds of it whenever a lock is free.
+use Rattle.std.specs.Prelude.{◌≡◌, ℕ, ◌+◌, List, ◌∷◌, [], ◌++◌, map, Option, Some, None, All}
+use Rattle.std.specs.List.{filter_map}
+use Rattle.std.specs.Option.{option_map}
+use Rattle.dealer_desk.specs.DealerOutput as dealer
+use Rattle.dealer_desk.specs.DealerOutput.{answered_words, facts_at}
+use Rattle.investor_desk.specs.InvestorOutput as investor
+use Rattle.investor_desk.specs.InvestorOutput.{market_for}
+use Rattle.market_terms.specs.declared.rooms.RoomRef.{RoomRef}
+use Rattle.quote_word.specs.Board.{BoardName, Front}
+use Rattle.quote_word.specs.SettleLog.{entry_of}
+use Rattle.quote_word.specs.declared.settled.Settled.{Settled}
+use Rattle.quote_word.specs.declared.settled.Settlement.{Settlement}
+use Rattle.request_room.specs.declared.events.RoomEvent.{RoomEvent}
+use Rattle.request_room.specs.declared.events.RoomEvent.TheVariants as in_room
+use Rattle.step_replay.specs.Actions.{dealer_of, first_word}
+use Rattle.step_replay.specs.Records.{ActionRef}
+use Rattle.venue_config.specs.Rows.{Configuration, dealer_numbered}
+use Rattle.venue_steps.specs.Words.{word_of}
+
+-- Answers.
+
+-- a word that was asked, and what it was answered
+abbrev pub Answer : Type 0
+Answer = ℕ × Settled
+
+-- an answer is the word's entry in a log
+abbrev pub StandsIn : List Settlement → Answer → Type 0
+StandsIn log answer = entry_of answer.0 log ≡ Some answer.1
+
+-- the answer by the venue's number of the word, where the dealer's first word is this one
+abbrev pub by_word : ℕ → Answer → Answer
+by_word first answer = (word_of first answer.0, answer.1)
+
+-- the words that were asked at a dealer's desk, with their answers
+abbrev pub answers_at : ℕ → dealer.DeskEvents → List Answer
+answers_at first desk = map (by_word first) (answered_words (facts_at desk))
+
+-- the word that a hit asked in a room, with its answer
+abbrev pub answered_hit : RoomEvent → Option Answer
+answered_hit (in_room.Hit word moment answer) = option_map (λ settled. (word, settled)) answer
+answered_hit other = None
+
+-- the words that were asked in a room, with their answers
+abbrev pub answers_in : List RoomEvent → List Answer
+answers_in events = filter_map answered_hit events
+
+-- Locks.
+
+-- what lies under the lock of a dealer: which dealer it is, the word of its first quote, its desk,
+-- what was seen of the board, and the order of the actions
+pub record DealerUnderLock : Type 0 where
+  pub firm : ℕ
+  pub first : ℕ
+  pub desk : dealer.DeskEvents
+  pub seen : Front
+  pub order : List ActionRef
+
+-- what lies under the lock of an investor
+pub record InvestorUnderLock : Type 0 where
+  pub desk : investor.DeskEvents
+  pub order : List ActionRef
+
+-- what lies under the lock of a room: which room it is, what was tried in it, what was seen of the
+-- board, and the order of the actions
+pub record RoomUnderLock : Type 0 where
+  pub at : RoomRef
+  pub events : List RoomEvent
+  pub seen : Front
+  pub order : List ActionRef
+
+-- Under the lock of a dealer lies the desk of a dealer of the configuration. The token is one of the
+-- venue's board, and each word that was asked at the desk is in its log what it was answered.
+pub record KeepsDealer (board : BoardName) (config : Configuration) (firm first : ℕ)
+    (desk : dealer.DeskEvents) (seen : Front) : Type 0 where
+  pub of_board : seen.board ≡ board
+  pub day_is : desk.date ≡ config.date
+  pub row_is : dealer_numbered config firm ≡ Some desk.row
+  pub first_is : first ≡ first_word config (dealer_of firm desk.row)
+  pub answers_stand : All (StandsIn seen.log) (answers_at first desk)
+
+-- under the lock of an investor lies the desk of an investor of the configuration
+abbrev pub KeepsInvestor : Configuration → investor.DeskEvents → Type 0
+KeepsInvestor config desk = market_for config desk.market.firm ≡ Some desk.market
+
+-- Under the lock of a room the token is one of the venue's board, and each word that was hit in the
+-- room is in its log what the hit was answered.
+pub record KeepsRoom (board : BoardName) (events : List RoomEvent) (seen : Front) : Type 0 where
+  pub of_board : seen.board ≡ board
+  pub answers_stand : All (StandsIn seen.log) (answers_in events)
+
+-- the order of the actions at a place after one more
+abbrev pub with_action : List ActionRef → ActionRef → List ActionRef
+with_action order action = order ++ action ∷ []

@@ -1,0 +1,187 @@
+//! The sessions of firms and the clock.
+ghost use Rattle.std.specs.Prelude.{◌≡◌};
+
+use crate::done::Done;
+use crate::gates::{Gate, Point};
+use crate::naming::Naming;
+use crate::venue::SharedVenue;
+use crate::watched::Acting;
+use fix_fields::{Memory, Moment};
+use market_terms::Duty;
+use std::collections::VecDeque;
+use std::sync::Wait;
+use step_replay::{Action, Actor, Inbound, Kind, Sweep};
+
+/// An actor at work: what it shares with the others, its queue of duties and what it did.
+#[derive(Drop)]
+struct Shift<'v, J: Naming, R: Wait, G: Gate> {
+    rt: &'v R,
+    venue: &'v SharedVenue<J>,
+    gate: &'v G,
+    by: Actor,
+    queue: VecDeque<Duty>,
+    actions: Vec<Action>,
+}
+
+impl<'v, J: Naming, R: Wait, G: Gate> Shift<'v, J, R, G> {
+    /// An actor before its first action.
+    fn new(rt: &'v R, venue: &'v SharedVenue<J>, gate: &'v G, by: Actor) -> Self {
+        Shift {
+            rt,
+            venue,
+            gate,
+            by,
+            queue: VecDeque::new(venue.alloc),
+            actions: Vec::new(venue.alloc),
+        }
+    }
+
+    /// What its next action needs besides the place.
+    fn acting(&self) -> Acting<'v, G>
+        ensures { result.board.now ≡ J.board }
+    {
+        Acting {
+            by: self.by,
+            number: self.actions.len() as u64 + 1,
+            board: &self.venue.board,
+            gate: self.gate,
+        }
+    }
+
+    /// Notes an action that was done, and leaves its duties at the end of the queue.
+    fn note(&mut self, kind: Kind, moment: Moment, done: Done) -> Result<(), Memory> {
+        self.gate.at(Point::After(self.by, kind));
+        let Done { duties, word } = done;
+        self.actions.push(Action { kind, moment, word })?;
+        for duty in duties {
+            self.queue.push_back(duty)?;
+        }
+        Ok(())
+    }
+
+    /// A message of the firm comes.
+    fn come(&mut self, inbound: &Inbound) -> Result<(), Memory> {
+        self.gate.at(Point::Before(self.by, Kind::In));
+        let acting = self.acting();
+        let bytes = inbound.bytes.as_bytes();
+        let done = self.venue.say(self.rt, &acting, inbound.moment, bytes)?;
+        self.note(Kind::In, inbound.moment, done)?;
+        Ok(())
+    }
+
+    /// The clock sweeps a room.
+    fn sweep(&mut self, sweep: Sweep) -> Result<(), Memory> {
+        self.gate.at(Point::Before(self.by, Kind::Expire));
+        let acting = self.acting();
+        let action = (acting.by, acting.number);
+        let done = self
+            .venue
+            .expire(self.rt, action, sweep.room, sweep.moment)?;
+        self.note(Kind::Expire, sweep.moment, done)?;
+        Ok(())
+    }
+
+    /// Does one duty.
+    fn turn(&mut self, duty: Duty) -> Result<(), Memory> {
+        let kind = Kind::of(&duty);
+        let moment = moment_of(&duty);
+        self.gate.at(Point::Before(self.by, kind));
+        let acting = self.acting();
+        let done = self.venue.act(self.rt, &acting, duty)?;
+        self.note(kind, moment, done)?;
+        Ok(())
+    }
+
+    /// Does all pending duties, and those that follow from them.
+    fn turns(&mut self) -> Result<(), Memory> {
+        for _ in self.rt.forever() {
+            let Some(duty) = self.queue.pop_front() else {
+                return Ok(());
+            };
+            self.turn(duty)?;
+        }
+        unreachable!()
+    }
+}
+
+/// The moment that a duty bears.
+fn moment_of(duty: &Duty) -> Moment {
+    match duty {
+        Duty::Open { moment, .. } => *moment,
+        Duty::Show { moment, .. } => *moment,
+        Duty::Ready { moment, .. } => *moment,
+        Duty::Post { moment, .. } => *moment,
+        Duty::Relay { moment, .. } => *moment,
+        Duty::Unpost { moment, .. } => *moment,
+        Duty::Gone { moment, .. } => *moment,
+        Duty::Decline { moment, .. } => *moment,
+        Duty::Declined { moment, .. } => *moment,
+        Duty::Hit { moment, .. } => *moment,
+        Duty::Pass { moment, .. } => *moment,
+        Duty::Answer { moment, .. } => *moment,
+        Duty::Close { moment, .. } => *moment,
+        Duty::Tell { moment, .. } => *moment,
+        Duty::Drop { moment, .. } => *moment,
+    }
+}
+
+/// The session of a firm: its messages in their order, and after each all pending duties. It
+/// answers what the firm did.
+pub(crate) fn session_actions<J: Naming, R: Wait, G: Gate>(
+    rt: &R,
+    venue: &SharedVenue<J>,
+    firm: u16,
+    inbox: &[Inbound],
+    gate: &G,
+) -> Result<Vec<Action>, Memory> {
+    let mut shift = Shift::new(rt, venue, gate, Actor::Firm(firm));
+    for inbound in inbox {
+        shift.come(inbound)?;
+        shift.turns()?;
+    }
+    let Shift { actions, .. } = shift;
+    Ok(actions)
+}
+
+/// The clock: its sweeps in their order, and after each all pending duties. It answers what the
+/// clock did.
+pub(crate) fn clock_actions<J: Naming, R: Wait, G: Gate>(
+    rt: &R,
+    venue: &SharedVenue<J>,
+    sweeps: &[Sweep],
+    gate: &G,
+) -> Result<Vec<Action>, Memory> {
+    let mut shift = Shift::new(rt, venue, gate, Actor::Clock);
+    for sweep in sweeps {
+        shift.sweep(*sweep)?;
+        shift.turns()?;
+    }
+    let Shift { actions, .. } = shift;
+    Ok(actions)
+}
+
+/// Runs the session of a firm: takes its messages in their order, and does all pending duties after
+/// each. The queue of duties is the session's own. It stops at the action for which memory is
+/// refused; the actions before it stand.
+pub fn session<J: Naming, R: Wait, G: Gate>(
+    rt: &R,
+    venue: &SharedVenue<J>,
+    firm: u16,
+    inbox: Vec<Inbound>,
+    gate: &G,
+) -> Result<(), Memory> {
+    session_actions(rt, venue, firm, inbox.as_slice(), gate)?;
+    Ok(())
+}
+
+/// Runs the clock: makes the sweeps in their order, and does all pending duties after each. It
+/// stops at the action for which memory is refused; the actions before it stand.
+pub fn clock<J: Naming, R: Wait, G: Gate>(
+    rt: &R,
+    venue: &SharedVenue<J>,
+    sweeps: Vec<Sweep>,
+    gate: &G,
+) -> Result<(), Memory> {
+    clock_actions(rt, venue, sweeps.as_slice(), gate)?;
+    Ok(())
+}

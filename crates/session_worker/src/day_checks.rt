@@ -1,0 +1,288 @@
+//! What is checked of a day once its threads have ended: that each firm's own messages are its
+//! inbox, that each dealer was told how its requests ended, and that each room was swept as the
+//! clock was told.
+ghost use Rattle.std.specs.Prelude.{◌≡◌, ◌≤◌, ◌↔◌, [], ◌∷◌, count_by, find, length, not};
+ghost use Rattle.std.specs.Prelude.{IsTrue, IfOk, MatchOption};
+ghost use Rattle.std.specs.List.{list_all, list_any};
+ghost use Rattle.std.specs.Option.{option_copied};
+ghost use Rattle.std.specs.Str.{bytes_eq};
+ghost use Rattle.session_worker.specs.DayChecks as spec;
+
+use crate::day_rooms::DayRoom;
+use crate::notices::{Notice, notices_told};
+use dealer_desk::DealerEvent;
+use fix_fields::{Memory, Moment};
+use investor_desk::InvestorEvent;
+use market_terms::{Close, RoomRef};
+use quote_messages::Message;
+use request_room::RoomEvent;
+use std::alloc::Global;
+use step_replay::{DealerDay, Inbound, Sweep};
+use venue_config::VenueConfig;
+use venue_steps::close_for;
+
+/// Whether the messages that came from a dealer, by the events at its desk, are this inbox: all of
+/// it, in its order, and each message once.
+pub(crate) fn is_inbox_of_dealer(events: &[DealerEvent], inbox: &[Inbound]) -> bool
+    ensures { IsTrue result ↔ (spec.came_from_dealer events.now ≡ inbox.now) }
+{
+    let mut events = events;
+    let mut inbox = inbox;
+    while let Some((event, later)) = events.split_first() {
+        events = later;
+        let DealerEvent::Own {
+            moment,
+            message,
+            ..
+        } = event
+        else {
+            continue;
+        };
+        let Some((first, rest)) = inbox.split_first() else {
+            return false;
+        };
+        if !is_message(first, *moment, message) {
+            return false;
+        }
+        inbox = rest;
+    }
+    inbox.is_empty()
+}
+
+/// The same of an investor.
+pub(crate) fn is_inbox_of_investor(events: &[InvestorEvent], inbox: &[Inbound]) -> bool
+    ensures { IsTrue result ↔ (spec.came_from_investor events.now ≡ inbox.now) }
+{
+    let mut events = events;
+    let mut inbox = inbox;
+    while let Some((event, later)) = events.split_first() {
+        events = later;
+        let InvestorEvent::Own { moment, message } = event else {
+            continue;
+        };
+        let Some((first, rest)) = inbox.split_first() else {
+            return false;
+        };
+        if !is_message(first, *moment, message) {
+            return false;
+        }
+        inbox = rest;
+    }
+    inbox.is_empty()
+}
+
+/// Whether a message is the one with these bytes at this moment.
+fn is_message(inbound: &Inbound, moment: Moment, message: &Message) -> bool
+    ensures { IsTrue result ↔ (inbound.now ≡ record { moment = moment; bytes = message.now }) }
+{
+    if inbound.moment != moment {
+        return false;
+    }
+    inbound.bytes.as_bytes() == message.as_bytes()
+}
+
+/// The first dealer, in the order of their numbers, that was not told what it is to be told: of
+/// each room that ended and names it once how it ended, and nothing else. The rooms are those of
+/// the day, each once. It fails for memory alone.
+pub(crate) fn told_fault(
+    alloc: Global,
+    dealers: &[DealerDay],
+    rooms: &[DayRoom],
+) -> Result<Option<u16>, Memory>
+    requires { length dealers.now ≤ VenueConfig.MOST_DEALERS }
+    ensures { IfOk result (λ fault. fault ≡ spec.first_untold rooms.now dealers.now) }
+{
+    let mut number = 0;
+    let mut rest = dealers;
+    while let Some((dealer, later)) = rest.split_first() {
+        if !is_told(alloc, &dealer.events, number, rooms)? {
+            return Ok(Some(number));
+        }
+        number += 1;
+        rest = later;
+    }
+    Ok(None)
+}
+
+/// Whether a dealer was told what it is to be told, by the events at its desk.
+fn is_told(
+    alloc: Global,
+    events: &[DealerEvent],
+    dealer: u16,
+    rooms: &[DayRoom],
+) -> Result<bool, Memory>
+    ensures { IfOk result (λ told. told ≡ spec.is_told rooms.now dealer events.now) }
+{
+    let notices = notices_told(alloc, events)?;
+    let told = are_due(&notices, dealer, rooms);
+    Ok(told)
+}
+
+/// Whether these closing notices are what a dealer is to be told.
+fn are_due(notices: &[Notice], dealer: u16, rooms: &[DayRoom]) -> bool
+    ensures { result ≡ spec.are_due notices.now dealer rooms.now }
+{
+    if notices.len() != count_due(dealer, rooms) {
+        return false;
+    }
+    are_settled(notices, dealer, rooms)
+}
+
+/// How many of these rooms a dealer is to be told the end of.
+fn count_due(dealer: u16, rooms: &[DayRoom]) -> usize
+    ensures { result ≡ count_by (spec.owes dealer) rooms.now }
+{
+    rooms
+        .iter()
+        .filter(|room| close_due(dealer, room).is_some())
+        .count()
+}
+
+/// Whether the dealer was told once of each of these rooms whose end it is to be told.
+fn are_settled(notices: &[Notice], dealer: u16, rooms: &[DayRoom]) -> bool
+    ensures { result ≡ list_all
+        (λ room. spec.is_settled notices.now room.at (spec.close_due dealer room)) rooms.now }
+{
+    rooms.iter().all(|room| is_settled(notices, dealer, room))
+}
+
+/// Whether the dealer was told once how this room ended for it, where it is to be told.
+fn is_settled(notices: &[Notice], dealer: u16, room: &DayRoom) -> bool
+    ensures { result
+        ≡ spec.is_settled notices.now room.now.at (spec.close_due dealer room.now) }
+{
+    is_told_of(notices, room.at(), close_due(dealer, room))
+}
+
+/// Whether the dealer was told once that a room ended so for it, where it is to be told.
+fn is_told_of(notices: &[Notice], room: RoomRef, due: Option<Close>) -> bool
+    ensures { result ≡ spec.is_settled notices.now room due }
+{
+    let Some(close) = due else {
+        return true;
+    };
+    is_told_once(notices, room, close)
+}
+
+/// Whether exactly one notice is of this room, and it says this.
+fn is_told_once(notices: &[Notice], room: RoomRef, close: Close) -> bool
+    ensures { result ≡ spec.is_told_once notices.now room close }
+{
+    if count_of(notices, room) != 1 {
+        return false;
+    }
+    any_says(notices, room, close)
+}
+
+/// How many notices are of this room.
+fn count_of(notices: &[Notice], room: RoomRef) -> usize
+    ensures { result ≡ count_by (spec.is_of room) notices.now }
+{
+    notices.iter().filter(|notice| is_of(room, notice)).count()
+}
+
+/// Whether some notice says that this room ended so for the dealer.
+fn any_says(notices: &[Notice], room: RoomRef, close: Close) -> bool
+    ensures { result ≡ list_any (spec.says room close) notices.now }
+{
+    notices.iter().any(|notice| says(room, close, notice))
+}
+
+/// Whether a notice is of this room.
+fn is_of(room: RoomRef, notice: &Notice) -> bool
+    ensures { result ≡ spec.is_of room notice.now }
+{
+    let Some(other) = notice.room else {
+        return false;
+    };
+    is_same_room(room, other)
+}
+
+/// Whether two rooms are the same.
+fn is_same_room(room: RoomRef, other: RoomRef) -> bool
+    ensures { result ≡ spec.same_room room other }
+{
+    room.investor == other.investor && room.n == other.n
+}
+
+/// Whether a notice says that this room ended so for the dealer.
+fn says(room: RoomRef, close: Close, notice: &Notice) -> bool
+    ensures { result ≡ spec.says room close notice.now }
+{
+    if !is_of(room, notice) {
+        return false;
+    }
+    notice.close.code() == close.code()
+}
+
+/// How a room ended for a dealer, where it ended and its request names the dealer.
+fn close_due(dealer: u16, room: &DayRoom) -> Option<Close>
+    ensures { result ≡ spec.close_due dealer room.now }
+{
+    if !room.named(dealer) {
+        return None;
+    }
+    let end = room.end()?;
+    Some(close_for(&end, dealer))
+}
+
+/// The first room, in the order of the list, that was not swept as the clock was told: the moments
+/// of its sweeps, by its events, are not those of the sweeps of that room, in their order.
+pub(crate) fn sweep_fault(rooms: &[DayRoom], sweeps: &[Sweep]) -> Option<RoomRef>
+    ensures { result ≡ spec.first_unswept sweeps.now rooms.now }
+{
+    let room = first_unswept(rooms, sweeps)?;
+    Some(room.at())
+}
+
+/// The same as the room itself.
+fn first_unswept<'a>(rooms: &'a [DayRoom], sweeps: &[Sweep]) -> Option<&'a DayRoom>
+    ensures { option_copied result
+        ≡ find (λ room. not (spec.is_swept sweeps.now room)) rooms.entry.now }
+{
+    rooms.iter().find(|room| !is_swept(room, sweeps))
+}
+
+/// Whether a room was swept as the clock was told.
+fn is_swept(room: &DayRoom, sweeps: &[Sweep]) -> bool
+    ensures { result ≡ spec.is_swept sweeps.now room.now }
+{
+    is_swept_at(room.events(), room.at(), sweeps)
+}
+
+/// Whether the moments of the sweeps among these events of a room are those of its sweeps.
+fn is_swept_at(events: &[RoomEvent], at: RoomRef, sweeps: &[Sweep]) -> bool
+    ensures { result ≡ bytes_eq (spec.times_swept events.now) (spec.times_for at sweeps.now) }
+{
+    let mut events = events;
+    let mut sweeps = sweeps;
+    while let Some((sweep, later)) = sweeps.split_first() {
+        sweeps = later;
+        if !is_same_room(at, sweep.room) {
+            continue;
+        }
+        let Some((moment, behind)) = next_sweep(events) else {
+            return false;
+        };
+        if moment != sweep.moment {
+            return false;
+        }
+        events = behind;
+    }
+    next_sweep(events).is_none()
+}
+
+/// The moment of the first sweep among some events, and the events behind it.
+fn next_sweep(events: &[RoomEvent]) -> Option<(Moment, &[RoomEvent])>
+    ensures { MatchOption result (spec.times_swept events.now ≡ [])
+        (λ next. spec.times_swept events.now ≡ next.0 ∷ spec.times_swept next.1.now) }
+{
+    let mut rest = events;
+    while let Some((event, later)) = rest.split_first() {
+        if let RoomEvent::Expire { moment } = event {
+            return Some((*moment, later));
+        }
+        rest = later;
+    }
+    None
+}

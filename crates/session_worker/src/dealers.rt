@@ -1,0 +1,227 @@
+//! What lies under the lock of a dealer's desk.
+ghost use Rattle.std.specs.Prelude.{◌≡◌, Some, All, IfOk, OnOk};
+ghost use Rattle.dealer_desk.specs.DealerOutput.{book_at, dealer_output, number_in, rooms_at};
+ghost use Rattle.dealer_desk.specs.DealerOutput.{with_notice_in};
+ghost use Rattle.dealer_desk.specs.QuoteLines.{lines_of};
+ghost use Rattle.quote_word.specs.SettleLog.{entry_of, IsLegal};
+ghost use Rattle.session_worker.specs.KeptDays.{DealerKeeps};
+ghost use Rattle.session_worker.specs.Locks.{StandsIn, answers_at, with_action};
+ghost use Rattle.step_replay.specs.Actions as actions;
+ghost use Rattle.step_replay.specs.Actions.{dealer_of};
+ghost use Rattle.venue_config.specs.Rows.{dealer_numbered};
+ghost use Rattle.venue_steps.specs.DealerSteps as steps;
+ghost use Rattle.venue_steps.specs.Words.{answer_in, has_word};
+
+use crate::day_checks::is_inbox_of_dealer;
+use crate::done::Done;
+use crate::faults::DayFault;
+use crate::gates::Gate;
+use crate::joined::{Session, firm_number};
+use crate::naming::Naming;
+use crate::watched::{Acting, WatchedWords};
+use dealer_desk::{DealerDesk, words_are_asked_event_by_event};
+use fix_fields::{Memory, Moment};
+use market_terms::{Ask, Close, RoomRef};
+use quote_word::BoardSeen;
+use std::alloc::Global;
+use std::marker::{Model, PhantomData};
+use step_replay::{Actor, DealerDay};
+use venue_config::{DealerRow, VenueConfig};
+use venue_steps::{do_drop, do_show, do_tell, own_dealer};
+
+/// A dealer's desk, the token that has seen what its words were answered, and the order of the
+/// actions on it.
+#[derive(Drop)]
+pub(crate) struct LockedDealer<J: Naming> {
+    firm: u16,
+    first_word: u32,
+    desk: DealerDesk,
+    seen: BoardSeen,
+    order: Vec<(Actor, u64)>,
+    of: PhantomData<J>,
+}
+
+impl<J: Naming> Model for LockedDealer<J> {
+    ghost use Rattle.session_worker.specs.Locks.{DealerUnderLock, KeepsDealer};
+
+    ghost Value = { DealerUnderLock };
+
+    ghost view = { λ locked. record {
+      firm = locked.firm;
+      first = locked.first_word;
+      desk = locked.desk;
+      seen = locked.seen;
+      order = locked.order.items;
+    } };
+
+    ghost invariant = { λ locked.
+        KeepsDealer J.board J.config locked.firm locked.first_word locked.desk locked.seen };
+}
+
+impl<J: Naming> LockedDealer<J> {
+    /// The desk of a dealer at the start of the day, whose first word is `first_word`.
+    pub(crate) fn new(
+        alloc: Global,
+        config: &VenueConfig,
+        firm: u16,
+        row: &DealerRow,
+        first_word: u32,
+        seen: BoardSeen,
+    ) -> Result<Self, Memory>
+        requires config { config.now ≡ J.config }
+        requires row { dealer_numbered J.config firm ≡ Some row.now }
+        requires first { first_word ≡ actions.first_word J.config (dealer_of firm row.now) }
+        requires seen { seen.board ≡ J.board }
+    {
+        let desk = DealerDesk::new(alloc, *config.date(), row.copy())?;
+        Ok(LockedDealer {
+            firm,
+            first_word,
+            desk,
+            seen,
+            order: Vec::new(alloc),
+            of: PhantomData,
+        })
+    }
+
+    /// A message of the dealer comes.
+    pub(crate) fn own<G: Gate>(
+        &mut self,
+        acting: &Acting<'_, G>,
+        moment: Moment,
+        bytes: &[u8],
+    ) -> Result<Done, Memory>
+        requires { acting.now.board.now ≡ J.board }
+        ensures desk { OnOk result (self.new.desk ≡ steps.desk_after_own
+            self.old.desk moment bytes.now
+            (has_word J.board.words (steps.own_word self.old.first self.old.desk moment bytes.now))
+            (answer_in (λ word. entry_of word self.new.seen.log)
+            (steps.own_word self.old.first self.old.desk moment bytes.now))) }
+        ensures order { OnOk result
+            (self.new.order ≡ with_action self.old.order (acting.now.by, acting.now.number)) }
+    {
+        words_are_asked_event_by_event();
+        self.order.reserve(1)?;
+        let mut words = WatchedWords::new(acting, self.seen.again());
+        let done = own_dealer(&mut self.desk, &mut words, self.first_word, moment, bytes);
+        let (seen, word) = words.into_parts();
+        self.seen = seen;
+        let duties = done?;
+        self.order.push((acting.by, acting.number))?;
+        Ok(Done { duties, word })
+    }
+
+    /// The next quote of a cancel of all is dropped, of those up to `last`.
+    pub(crate) fn drop_next<G: Gate>(
+        &mut self,
+        acting: &Acting<'_, G>,
+        last: u32,
+        moment: Moment,
+    ) -> Result<Done, Memory>
+        requires { acting.now.board.now ≡ J.board }
+        ensures desk { OnOk result (self.new.desk ≡ steps.desk_after_drop
+            self.old.desk last moment
+            (has_word J.board.words (steps.drop_word self.old.first self.old.desk last))
+            (answer_in (λ word. entry_of word self.new.seen.log)
+            (steps.drop_word self.old.first self.old.desk last))) }
+        ensures order { OnOk result
+            (self.new.order ≡ with_action self.old.order (acting.now.by, acting.now.number)) }
+    {
+        words_are_asked_event_by_event();
+        self.order.reserve(1)?;
+        let mut words = WatchedWords::new(acting, self.seen.again());
+        let done = do_drop(&mut self.desk, &mut words, self.first_word, last, moment);
+        let (seen, word) = words.into_parts();
+        self.seen = seen;
+        let duties = done?;
+        self.order.push((acting.by, acting.number))?;
+        Ok(Done { duties, word })
+    }
+
+    /// The dealer is shown a request.
+    pub(crate) fn show(
+        &mut self,
+        action: (Actor, u64),
+        room: RoomRef,
+        ask: Ask,
+        moment: Moment,
+    ) -> Result<Done, Memory>
+        ensures desk { OnOk result
+            (self.new.desk ≡ steps.desk_after_show self.old.desk room ask moment) }
+        ensures order { OnOk result (self.new.order ≡ with_action self.old.order action) }
+    {
+        words_are_asked_event_by_event();
+        self.order.reserve(1)?;
+        let duties = do_show(&mut self.desk, room, ask, moment)?;
+        self.order.push(action)?;
+        Ok(Done::unasked(duties))
+    }
+
+    /// The dealer is told how a request ended for it.
+    pub(crate) fn tell(
+        &mut self,
+        action: (Actor, u64),
+        room: RoomRef,
+        close: Close,
+        moment: Moment,
+    ) -> Result<Done, Memory>
+        ensures desk { OnOk result (self.new.desk ≡ with_notice_in self.old.desk
+            (number_in (rooms_at self.old.desk) room) close moment) }
+        ensures order { OnOk result (self.new.order ≡ with_action self.old.order action) }
+    {
+        words_are_asked_event_by_event();
+        self.order.reserve(1)?;
+        let duties = do_tell(&mut self.desk, room, close, moment)?;
+        self.order.push(action)?;
+        Ok(Done::unasked(duties))
+    }
+
+    /// A copy of the token.
+    pub(crate) fn seen(&self) -> BoardSeen
+        ensures seen { result ≡ self.now.seen }
+        ensures ours { result.board ≡ J.board }
+        ensures answers { All (StandsIn result.log) (answers_at self.now.first self.now.desk) }
+    {
+        self.seen.again()
+    }
+
+    /// The day of the dealer at this place among the dealers, of whose session this is left. The
+    /// fault is that the desk is another dealer's, or that its own events are not its inbox.
+    pub(crate) fn day_at(self, place: usize, session: Session) -> Result<DealerDay, DayFault>
+        ensures { IfOk result (λ day. DealerKeeps J.config place day) }
+    {
+        if usize::from(self.firm) != place {
+            return Err(DayFault::Inbox(firm_number(place)));
+        }
+        if !is_inbox_of_dealer(self.desk.events(), session.inbox.as_slice()) {
+            return Err(DayFault::Inbox(self.firm));
+        }
+        let day = self.into_day(session);
+        Ok(day)
+    }
+
+    /// The day of the dealer, of whose session this is left.
+    fn into_day(self, session: Session) -> DealerDay
+        ensures row { dealer_numbered J.config self.firm ≡ Some self.desk.row }
+        ensures day { result ≡ record {
+          sent = dealer_output J.config.date self.desk.row self.desk.events;
+          lines = lines_of (book_at self.desk);
+          events = self.desk.events;
+          order = self.order;
+          inbox = session.inbox.items;
+          actions = session.actions.items;
+        } }
+    {
+        let Self { desk, order, .. } = self;
+        let (events, sent, lines) = desk.into_parts();
+        let Session { inbox, actions } = session;
+        DealerDay {
+            sent,
+            lines,
+            events,
+            order,
+            inbox,
+            actions,
+        }
+    }
+}

@@ -1,0 +1,23 @@
+//! What an action left.
+use market_terms::Duty;
+use quote_word::Settled;
+use venue_steps::Duties;
+
+/// What an action left: the duties that follow, and the word that it asked, with its answer.
+#[derive(Drop)]
+pub(crate) struct Done {
+    pub(crate) duties: Duties,
+    pub(crate) word: Option<(u32, Settled)>,
+}
+
+impl Done {
+    /// An action that asked no word.
+    pub(crate) fn unasked(duties: Duties) -> Self {
+        Done { duties, word: None }
+    }
+
+    /// An action at a place that the venue does not have.
+    pub(crate) fn nothing() -> Self {
+        Done::unasked(Duties::new())
+    }
+}

@@ -1,0 +1,201 @@
+//! What lies under the lock of an investor's desk.
+ghost use Rattle.std.specs.Prelude.{◌≡◌, true, Some, is_some, OnOk};
+ghost use Rattle.investor_desk.specs.InvestorOutput.{book_at, investor_output, market_for};
+ghost use Rattle.investor_desk.specs.RequestLines.{lines_of};
+ghost use Rattle.session_worker.specs.Locks.{with_action};
+ghost use Rattle.venue_config.specs.Rows.{investor_numbered};
+ghost use Rattle.venue_steps.specs.InvestorSteps as steps;
+
+use crate::done::Done;
+use crate::joined::Session;
+use crate::naming::Naming;
+use fix_fields::{Memory, Moment};
+use investor_desk::{InvestorDesk, InvestorEvent};
+use market_terms::{Offer, Reply, ResponseRef};
+use std::alloc::Global;
+use std::marker::{Model, PhantomData};
+use step_replay::{Actor, InvestorDay, RoomDay};
+use venue_config::{Name, VenueConfig};
+use venue_steps::{do_answer, do_close, do_declined, do_gone, do_relay, own_investor};
+
+/// An investor's desk, and the order of the actions on it. No action there asks a word, so no token
+/// lies beside it.
+#[derive(Drop)]
+pub(crate) struct LockedInvestor<J: Naming> {
+    desk: InvestorDesk,
+    order: Vec<(Actor, u64)>,
+    of: PhantomData<J>,
+}
+
+impl<J: Naming> Model for LockedInvestor<J> {
+    ghost use Rattle.session_worker.specs.Locks.{InvestorUnderLock, KeepsInvestor};
+
+    ghost Value = { InvestorUnderLock };
+
+    ghost view = { λ locked. record { desk = locked.desk; order = locked.order.items } };
+
+    ghost invariant = { λ locked. KeepsInvestor J.config locked.desk };
+}
+
+impl<J: Naming> LockedInvestor<J> {
+    /// The desk of an investor at the start of the day.
+    pub(crate) fn new(alloc: Global, config: &VenueConfig, firm: u16) -> Result<Self, Memory>
+        requires config { config.now ≡ J.config }
+        requires investor { is_some (investor_numbered J.config firm) ≡ true }
+    {
+        let desk = InvestorDesk::new(alloc, config, firm)?;
+        Ok(LockedInvestor {
+            desk,
+            order: Vec::new(alloc),
+            of: PhantomData,
+        })
+    }
+
+    /// A message of the investor comes.
+    pub(crate) fn own(
+        &mut self,
+        action: (Actor, u64),
+        moment: Moment,
+        bytes: &[u8],
+    ) -> Result<Done, Memory>
+        ensures desk { OnOk result
+            (self.new.desk ≡ steps.desk_after_own self.old.desk moment bytes.now) }
+        ensures order { OnOk result (self.new.order ≡ with_action self.old.order action) }
+    {
+        self.order.reserve(1)?;
+        let duties = own_investor(&mut self.desk, moment, bytes)?;
+        self.order.push(action)?;
+        Ok(Done::unasked(duties))
+    }
+
+    /// The investor is shown a quote on its request with this number.
+    pub(crate) fn relay(
+        &mut self,
+        action: (Actor, u64),
+        request: u32,
+        offer: &Offer,
+        moment: Moment,
+    ) -> Result<Done, Memory>
+        ensures desk { OnOk result
+            (self.new.desk ≡ steps.desk_after_relay self.old.desk request offer.now moment) }
+        ensures order { OnOk result (self.new.order ≡ with_action self.old.order action) }
+    {
+        self.order.reserve(1)?;
+        let duties = do_relay(&mut self.desk, request, offer, moment)?;
+        self.order.push(action)?;
+        Ok(Done::unasked(duties))
+    }
+
+    /// The investor is told that a quote on its request is gone.
+    pub(crate) fn gone(
+        &mut self,
+        action: (Actor, u64),
+        request: u32,
+        word: u32,
+        moment: Moment,
+    ) -> Result<Done, Memory>
+        ensures desk { OnOk result
+            (self.new.desk ≡ steps.desk_after_gone self.old.desk request word moment) }
+        ensures order { OnOk result (self.new.order ≡ with_action self.old.order action) }
+    {
+        self.order.reserve(1)?;
+        let duties = do_gone(&mut self.desk, request, word, moment)?;
+        self.order.push(action)?;
+        Ok(Done::unasked(duties))
+    }
+
+    /// The investor is told that a dealer declined its request.
+    pub(crate) fn declined(
+        &mut self,
+        action: (Actor, u64),
+        request: u32,
+        dealer: Name,
+        moment: Moment,
+    ) -> Result<Done, Memory>
+        ensures desk { OnOk result
+            (self.new.desk ≡ steps.desk_after_declined self.old.desk request dealer moment) }
+        ensures order { OnOk result (self.new.order ≡ with_action self.old.order action) }
+    {
+        self.order.reserve(1)?;
+        let duties = do_declined(&mut self.desk, request, dealer, moment)?;
+        self.order.push(action)?;
+        Ok(Done::unasked(duties))
+    }
+
+    /// The investor is answered to a hit or a pass of its request.
+    pub(crate) fn answer(
+        &mut self,
+        action: (Actor, u64),
+        request: u32,
+        response: &ResponseRef,
+        reply: Reply,
+        moment: Moment,
+    ) -> Result<Done, Memory>
+        ensures desk { OnOk result
+            (self.new.desk ≡ steps.desk_after_answer self.old.desk request response.now reply moment) }
+        ensures order { OnOk result (self.new.order ≡ with_action self.old.order action) }
+    {
+        self.order.reserve(1)?;
+        let duties = do_answer(&mut self.desk, request, response, reply, moment)?;
+        self.order.push(action)?;
+        Ok(Done::unasked(duties))
+    }
+
+    /// The investor is told that its request expired.
+    pub(crate) fn close(
+        &mut self,
+        action: (Actor, u64),
+        request: u32,
+        moment: Moment,
+    ) -> Result<Done, Memory>
+        ensures desk { OnOk result
+            (self.new.desk ≡ steps.desk_after_close self.old.desk request moment) }
+        ensures order { OnOk result (self.new.order ≡ with_action self.old.order action) }
+    {
+        self.order.reserve(1)?;
+        let duties = do_close(&mut self.desk, request, moment)?;
+        self.order.push(action)?;
+        Ok(Done::unasked(duties))
+    }
+
+    /// The number of the investor among the firms.
+    pub(crate) fn firm(&self) -> u16
+        ensures { result ≡ self.now.desk.market.firm }
+    {
+        self.desk.firm()
+    }
+
+    /// The events at the desk.
+    pub(crate) fn events(&self) -> &[InvestorEvent]
+        ensures { result.now ≡ self.now.desk.events }
+    {
+        self.desk.events()
+    }
+
+    /// The day of the investor, of whose session this is left, with its rooms.
+    pub(crate) fn into_day(self, session: Session, rooms: Vec<RoomDay>) -> InvestorDay
+        ensures market { market_for J.config self.desk.market.firm ≡ Some self.desk.market }
+        ensures day { result ≡ record {
+          sent = investor_output self.desk.market self.desk.events;
+          lines = lines_of (book_at self.desk);
+          events = self.desk.events;
+          order = self.order;
+          inbox = session.inbox.items;
+          actions = session.actions.items;
+          rooms = rooms.items;
+        } }
+    {
+        let Self { desk, order, .. } = self;
+        let (events, sent, lines) = desk.into_parts();
+        let Session { inbox, actions } = session;
+        InvestorDay {
+            sent,
+            lines,
+            events,
+            order,
+            inbox,
+            actions,
+            rooms,
+        }
+    }
+}

@@ -1,0 +1,235 @@
+//! What lies under the lock of a room.
+ghost use Rattle.std.specs.Prelude.{◌≡◌, [], ◌∷◌, ◌++◌, All, OnOk};
+ghost use Rattle.quote_word.specs.SettleLog.{entry_of};
+ghost use Rattle.request_room.specs.Book.{room_after};
+ghost use Rattle.request_room.specs.RoomFacts.{hears, is_opening};
+ghost use Rattle.request_room.specs.declared.events.RoomEvent.TheVariants as event;
+ghost use Rattle.session_worker.specs.Locks.{StandsIn, answers_in, with_action};
+ghost use Rattle.venue_steps.specs.RoomSteps as steps;
+ghost use Rattle.venue_steps.specs.Words.{answer_in, has_word};
+
+use crate::day_rooms::DayRoom;
+use crate::done::Done;
+use crate::gates::Gate;
+use crate::naming::Naming;
+use crate::watched::{Acting, WatchedWords};
+use fix_fields::{Memory, Moment};
+use market_terms::{Ask, AskedDealers, Offer, ResponseRef, RoomRef};
+use quote_word::BoardSeen;
+use request_room::Room;
+use std::alloc::Global;
+use std::marker::{Model, PhantomData};
+use step_replay::Actor;
+use venue_steps::{do_decline, do_expire, do_hit, do_open, do_pass, do_post, do_ready, do_unpost};
+
+/// A room, the token that has seen what the words hit there were answered, and the order of the
+/// actions on it.
+#[derive(Drop)]
+pub(crate) struct LockedRoom<J: Naming> {
+    at: RoomRef,
+    room: Room,
+    seen: BoardSeen,
+    order: Vec<(Actor, u64)>,
+    of: PhantomData<J>,
+}
+
+impl<J: Naming> Model for LockedRoom<J> {
+    ghost use Rattle.session_worker.specs.Locks.{KeepsRoom, RoomUnderLock};
+
+    ghost Value = { RoomUnderLock };
+
+    ghost view = { λ locked. record {
+      at = locked.at;
+      events = locked.room;
+      seen = locked.seen;
+      order = locked.order.items;
+    } };
+
+    ghost invariant = { λ locked. KeepsRoom J.board locked.room locked.seen };
+}
+
+impl<J: Naming> LockedRoom<J> {
+    /// A vacant room.
+    pub(crate) fn vacant(alloc: Global, at: RoomRef, seen: BoardSeen) -> Self
+        requires { seen.board ≡ J.board }
+    {
+        LockedRoom {
+            at,
+            room: Room::vacant(alloc),
+            seen,
+            order: Vec::new(alloc),
+            of: PhantomData,
+        }
+    }
+
+    /// The room is opened for its request.
+    pub(crate) fn open(
+        &mut self,
+        action: (Actor, u64),
+        ask: Ask,
+        dealers: AskedDealers,
+        moment: Moment,
+    ) -> Result<Done, Memory>
+        ensures room { OnOk result (self.new.events
+            ≡ steps.room_after_open self.old.events ask dealers) }
+        ensures order { OnOk result
+            (self.new.order ≡ with_action self.old.order action) }
+    {
+        self.order.reserve(1)?;
+        let duties = do_open(&mut self.room, self.at, ask, dealers, moment)?;
+        self.order.push(action)?;
+        Ok(Done::unasked(duties))
+    }
+
+    /// Each named dealer was shown the request.
+    pub(crate) fn ready(&mut self, action: (Actor, u64)) -> Result<Done, Memory>
+        ensures room { OnOk result (self.new.events
+            ≡ steps.where_done (is_opening (room_after self.old.events)) self.old.events
+            event.Ready) }
+        ensures order { OnOk result
+            (self.new.order ≡ with_action self.old.order action) }
+    {
+        self.order.reserve(1)?;
+        let duties = do_ready(&mut self.room)?;
+        self.order.push(action)?;
+        Ok(Done::unasked(duties))
+    }
+
+    /// A quote of a dealer is posted.
+    pub(crate) fn post(
+        &mut self,
+        action: (Actor, u64),
+        dealer: u16,
+        offer: Offer,
+        moment: Moment,
+    ) -> Result<Done, Memory>
+        ensures room { OnOk result (self.new.events
+            ≡ steps.where_done (hears (room_after self.old.events) dealer) self.old.events
+            (event.Post dealer offer.word offer.price offer.valid_until)) }
+        ensures order { OnOk result
+            (self.new.order ≡ with_action self.old.order action) }
+    {
+        self.order.reserve(1)?;
+        let duties = do_post(&mut self.room, self.at, dealer, offer, moment)?;
+        self.order.push(action)?;
+        Ok(Done::unasked(duties))
+    }
+
+    /// A quote of a dealer is taken out.
+    pub(crate) fn unpost(
+        &mut self,
+        action: (Actor, u64),
+        dealer: u16,
+        word: u32,
+        moment: Moment,
+    ) -> Result<Done, Memory>
+        ensures room { OnOk result (self.new.events
+            ≡ steps.where_done (hears (room_after self.old.events) dealer) self.old.events
+            (event.Unpost dealer word)) }
+        ensures order { OnOk result
+            (self.new.order ≡ with_action self.old.order action) }
+    {
+        self.order.reserve(1)?;
+        let duties = do_unpost(&mut self.room, self.at, dealer, word, moment)?;
+        self.order.push(action)?;
+        Ok(Done::unasked(duties))
+    }
+
+    /// A dealer declines.
+    pub(crate) fn decline(
+        &mut self,
+        action: (Actor, u64),
+        dealer: u16,
+        moment: Moment,
+    ) -> Result<Done, Memory>
+        ensures room { OnOk result (self.new.events
+            ≡ steps.where_done (hears (room_after self.old.events) dealer) self.old.events
+            (event.Decline dealer)) }
+        ensures order { OnOk result
+            (self.new.order ≡ with_action self.old.order action) }
+    {
+        self.order.reserve(1)?;
+        let duties = do_decline(&mut self.room, self.at, dealer, moment)?;
+        self.order.push(action)?;
+        Ok(Done::unasked(duties))
+    }
+
+    /// The investor hits the quote with this word.
+    pub(crate) fn hit<G: Gate>(
+        &mut self,
+        acting: &Acting<'_, G>,
+        response: ResponseRef,
+        word: u32,
+        moment: Moment,
+    ) -> Result<Done, Memory>
+        requires { acting.now.board.now ≡ J.board }
+        ensures room { OnOk result (self.new.events
+            ≡ steps.where_done (has_word J.board.words
+            (steps.hit_word (room_after self.old.events) word moment)) self.old.events
+            (event.Hit word moment (answer_in (λ w. entry_of w self.new.seen.log)
+            (steps.hit_word (room_after self.old.events) word moment)))) }
+        ensures order { OnOk result
+            (self.new.order ≡ with_action self.old.order (acting.now.by, acting.now.number)) }
+    {
+        self.order.reserve(1)?;
+        let mut words = WatchedWords::new(acting, self.seen.again());
+        let done = do_hit(&mut self.room, &mut words, self.at, response, word, moment);
+        let (seen, asked) = words.into_parts();
+        self.seen = seen;
+        let duties = done?;
+        self.order.push((acting.by, acting.number))?;
+        Ok(Done {
+            duties,
+            word: asked,
+        })
+    }
+
+    /// The investor passes its request.
+    pub(crate) fn pass(
+        &mut self,
+        action: (Actor, u64),
+        response: ResponseRef,
+        moment: Moment,
+    ) -> Result<Done, Memory>
+        ensures room { OnOk result (self.new.events
+            ≡ self.old.events ++ event.Pass moment ∷ []) }
+        ensures order { OnOk result
+            (self.new.order ≡ with_action self.old.order action) }
+    {
+        self.order.reserve(1)?;
+        let duties = do_pass(&mut self.room, self.at, response, moment)?;
+        self.order.push(action)?;
+        Ok(Done::unasked(duties))
+    }
+
+    /// A sweep comes.
+    pub(crate) fn expire(&mut self, action: (Actor, u64), moment: Moment) -> Result<Done, Memory>
+        ensures room { OnOk result (self.new.events
+            ≡ self.old.events ++ event.Expire moment ∷ []) }
+        ensures order { OnOk result
+            (self.new.order ≡ with_action self.old.order action) }
+    {
+        self.order.reserve(1)?;
+        let duties = do_expire(&mut self.room, self.at, moment)?;
+        self.order.push(action)?;
+        Ok(Done::unasked(duties))
+    }
+
+    /// A copy of the token.
+    pub(crate) fn seen(&self) -> BoardSeen
+        ensures seen { result ≡ self.now.seen }
+        ensures ours { result.board ≡ J.board }
+        ensures answers { All (StandsIn result.log) (answers_in self.now.events) }
+    {
+        self.seen.again()
+    }
+
+    /// The room and the actions in it, as that of the request with this name.
+    pub(crate) fn into_day(self, at: RoomRef) -> DayRoom
+        ensures { result
+            ≡ record { at = at; day = record { events = self.events; order = self.order } } }
+    {
+        let Self { room, order, .. } = self;
+        DayRoom::new(at, room, order)
+    }
+}

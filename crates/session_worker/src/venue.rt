@@ -1,0 +1,169 @@
+//! The venue that threads share.
+ghost use Rattle.std.specs.Prelude.{◌≡◌, length, IfOk};
+
+use crate::dealers::LockedDealer;
+use crate::investors::LockedInvestor;
+use crate::naming::Naming;
+use crate::rooms::LockedRoom;
+use fix_fields::Memory;
+use market_terms::RoomRef;
+use quote_word::{Board, BoardSeen};
+use std::alloc::Global;
+use std::marker::Model;
+use std::sync::Mutex;
+use venue_config::VenueConfig;
+
+/// The place of a dealer.
+#[derive(Drop)]
+pub(crate) struct DealerPlace<J: Naming> {
+    /// The word of its first quote.
+    pub(crate) first_word: u32,
+    /// Its desk.
+    pub(crate) desk: Mutex<LockedDealer<J>>,
+}
+
+/// The place of an investor.
+#[derive(Drop)]
+pub(crate) struct InvestorPlace<J: Naming> {
+    /// Its desk.
+    pub(crate) desk: Mutex<LockedInvestor<J>>,
+    /// The rooms of its requests, as many as it may make in its day.
+    pub(crate) rooms: Vec<Mutex<LockedRoom<J>>>,
+}
+
+/// The venue that the sessions and the clock of a day share: a lock for each desk and for each
+/// room, and the board. There is no other lock.
+#[derive(Drop)]
+pub struct SharedVenue<J: Naming> {
+    pub(crate) alloc: Global,
+    pub(crate) config: VenueConfig,
+    pub(crate) board: Board,
+    pub(crate) dealers: Vec<DealerPlace<J>>,
+    pub(crate) investors: Vec<InvestorPlace<J>>,
+    pub(crate) ghost board_is: { board ≡ J.board },
+    pub(crate) ghost config_is: { config ≡ J.config },
+}
+
+impl<J: Naming> SharedVenue<J> {
+    /// The venue at the start of the day: every desk without an event, every room vacant. The board
+    /// has a word for each quote of the configuration, and the token is one of it. It fails for
+    /// memory alone.
+    pub fn new(
+        alloc: Global,
+        config: VenueConfig,
+        board: Board,
+        seen: BoardSeen,
+    ) -> Result<Self, Memory>
+        requires board { board ≡ J.board }
+        requires seen { seen.board ≡ J.board }
+        requires config { config ≡ J.config }
+    {
+        let dealers = dealers_at_start(alloc, &config, &seen)?;
+        let investors = investors_at_start(alloc, &config, &seen)?;
+        Ok(SharedVenue {
+            alloc,
+            config,
+            board,
+            dealers,
+            investors,
+        })
+    }
+
+    /// The lock of a room, where the venue has it.
+    pub(crate) fn room(&self, room: RoomRef) -> Option<&Mutex<LockedRoom<J>>> {
+        let investor = self.investor(room.investor)?;
+        let index = (room.n as usize).checked_sub(1)?;
+        investor.rooms.get(index)
+    }
+
+    /// The place of the investor with this number among the firms.
+    pub(crate) fn investor(&self, firm: u16) -> Option<&InvestorPlace<J>> {
+        let index = usize::from(firm).checked_sub(self.dealers.len())?;
+        self.investors.get(index)
+    }
+
+    /// The word of a quote of a dealer, where the board has it.
+    pub(crate) fn word_of(&self, dealer: u16, quote: u32) -> Option<u32> {
+        let place = self.dealers.get(usize::from(dealer))?;
+        let word = self.word_at(place.first_word, quote)?;
+        Some(word)
+    }
+
+    /// The same of a dealer with this first word.
+    fn word_at(&self, first_word: u32, quote: u32) -> Option<u32> {
+        let word = u64::from(first_word) + u64::from(quote.saturating_sub(1));
+        if word >= u64::from(self.board.len()) {
+            return None;
+        }
+        Some(word as u32)
+    }
+}
+
+/// The dealers' desks without an event, each with the word of its first quote.
+fn dealers_at_start<J: Naming>(
+    alloc: Global,
+    config: &VenueConfig,
+    seen: &BoardSeen,
+) -> Result<Vec<DealerPlace<J>>, Memory>
+    requires seen { seen.now.board ≡ J.board }
+    requires config { config.now ≡ J.config }
+    ensures { IfOk result (λ places. length places.items ≡ length J.config.dealers) }
+{
+    let mut places = Vec::with_capacity(alloc, config.dealers().len())?;
+    let mut firm = 0u16;
+    let mut first_word = 0;
+    for row in config.dealers() {
+        let desk = LockedDealer::new(alloc, config, firm, row, first_word, seen.again())?;
+        places.push(DealerPlace {
+            first_word,
+            desk: Mutex::new(desk),
+        })?;
+        firm += 1;
+        first_word += row.quotes;
+    }
+    Ok(places)
+}
+
+/// The investors' desks without an event, each with its rooms.
+fn investors_at_start<J: Naming>(
+    alloc: Global,
+    config: &VenueConfig,
+    seen: &BoardSeen,
+) -> Result<Vec<InvestorPlace<J>>, Memory>
+    requires seen { seen.now.board ≡ J.board }
+    requires config { config.now ≡ J.config }
+    ensures { IfOk result (λ places. length places.items ≡ length J.config.investors) }
+{
+    let mut places = Vec::with_capacity(alloc, config.investors().len())?;
+    let mut firm = config.dealer_count();
+    for row in config.investors() {
+        let desk = LockedInvestor::new(alloc, config, firm)?;
+        let rooms = vacant_rooms(alloc, firm, row.requests, seen)?;
+        places.push(InvestorPlace {
+            desk: Mutex::new(desk),
+            rooms,
+        })?;
+        firm += 1;
+    }
+    Ok(places)
+}
+
+/// So many vacant rooms of an investor.
+fn vacant_rooms<J: Naming>(
+    alloc: Global,
+    investor: u16,
+    count: u32,
+    seen: &BoardSeen,
+) -> Result<Vec<Mutex<LockedRoom<J>>>, Memory>
+    requires { seen.now.board ≡ J.board }
+{
+    let mut rooms = Vec::with_capacity(alloc, count as usize)?;
+    for index in 0..count {
+        let at = RoomRef {
+            investor,
+            n: index + 1,
+        };
+        rooms.push(Mutex::new(LockedRoom::vacant(alloc, at, seen.again())))?;
+    }
+    Ok(rooms)
+}

@@ -1,0 +1,23 @@
+-- The name of a duty.
+use Rattle.market_terms.specs.declared.duties.Duty.{Duty}
+use Rattle.market_terms.specs.declared.duties.Duty.TheVariants as duty
+use Rattle.step_replay.specs.declared.actions.Kind.{Kind}
+use Rattle.step_replay.specs.declared.actions.Kind.TheVariants as kind
+
+-- the name of a duty
+abbrev pub kind_of : Duty → Kind
+kind_of (duty.Open room ask dealers moment) = kind.Open
+kind_of (duty.Show dealer room ask moment) = kind.Show
+kind_of (duty.Ready room moment) = kind.Ready
+kind_of (duty.Post room quote price valid_until moment) = kind.Post
+kind_of (duty.Relay room offer moment) = kind.Relay
+kind_of (duty.Unpost room quote moment) = kind.Unpost
+kind_of (duty.Gone room word moment) = kind.Gone
+kind_of (duty.Decline room moment) = kind.Decline
+kind_of (duty.Declined room moment) = kind.Declined
+kind_of (duty.Hit room response word moment) = kind.Hit
+kind_of (duty.Pass room response moment) = kind.Pass
+kind_of (duty.Answer room response reply moment) = kind.Answer
+kind_of (duty.Close room moment) = kind.Close
+kind_of (duty.Tell dealer room close moment) = kind.Tell
+kind_of (duty.Drop last moment) = kind.Drop

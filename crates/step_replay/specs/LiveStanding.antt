@@ -1,0 +1,130 @@
+-- Where a venue stands that answers as steps come. `IsAt` and `Answers` are for callers, who need
+-- not know what they are made of; the rest are words of private functions alone.
+use Rattle.std.specs.Prelude.{◌≡◌, ℕ, List, [], ◌∷◌, ◌++◌, length, drop, map, Option, Some, None}
+use Rattle.std.specs.Prelude.{slice_get, fold, replicate, true}
+use Rattle.std.specs.Option.{option_map, option_and_then}
+use Rattle.market_terms.specs.declared.duties.Duty.{Duty}
+use Rattle.market_terms.specs.declared.duties.Duty.TheVariants as duty
+use Rattle.venue_config.specs.Rows.{Configuration}
+use Rattle.step_replay.specs.AuditTrail.{AuditTrail, after_step, pending}
+use Rattle.step_replay.specs.FirmDays.{FirmDay}
+use Rattle.step_replay.specs.FloorDays.{days_of_floor}
+use Rattle.step_replay.specs.Following.{ReplayStands, duties_in, index_in}
+use Rattle.step_replay.specs.LiveDays.{Sent, actor_of, live_messages, live_trail, messages_in}
+use Rattle.step_replay.specs.Queues.{is_known}
+use Rattle.step_replay.specs.StepFaults.{fault_of}
+use Rattle.step_replay.specs.declared.floor.Floor.{Floor}
+use Rattle.step_replay.specs.declared.live.LiveVenue.{LiveVenue}
+use Rattle.step_replay.specs.declared.replay.Replay.{Replay}
+use Rattle.step_replay.specs.declared.steps.Actor.{Actor}
+use Rattle.step_replay.specs.declared.steps.Actor.TheVariants as actor
+use Rattle.step_replay.specs.declared.steps.Step.{Step}
+use Rattle.step_replay.specs.declared.steps.Step.TheVariants as step
+use Rattle.step_replay.specs.declared.steps.TheConstants.{MOST_TURNS_BEHIND}
+
+-- a venue stands where these steps, which came one by one, have brought it
+abbrev pub IsAt : Configuration → List Step → LiveVenue → Type 0
+IsAt config steps live = ReplayStands config (live_trail config steps) live.replay
+
+-- what one step more brings: the venue stands behind it, its actor has no duty left, and what was
+-- told are the messages that were sent with it
+pub record Answers (config : Configuration) (steps : List Step) (next : Step) (after : LiveVenue)
+    (told : List Sent) : Type 0 where
+  pub stands : IsAt config (steps ++ next ∷ []) after
+  pub told_is : live_messages config (steps ++ next ∷ []) ≡ live_messages config steps ++ told
+  pub none_left : pending (actor_of next) (live_trail config (steps ++ next ∷ [])) ≡ []
+
+-- The desk at which a step may send messages: there is one at most.
+
+-- the firm that an actor is
+abbrev pub firm_of : Actor → Option ℕ
+firm_of (actor.Firm number) = Some number
+firm_of actor.Clock = None
+
+-- that at which a duty may
+abbrev pub desk_of_duty : Actor → Duty → Option ℕ
+desk_of_duty by (duty.Open room ask dealers moment) = None
+desk_of_duty by (duty.Show dealer room ask moment) = Some dealer
+desk_of_duty by (duty.Ready room moment) = None
+desk_of_duty by (duty.Post room quote price valid_until moment) = None
+desk_of_duty by (duty.Relay room offer moment) = Some room.investor
+desk_of_duty by (duty.Unpost room quote moment) = None
+desk_of_duty by (duty.Gone room word moment) = Some room.investor
+desk_of_duty by (duty.Decline room moment) = None
+desk_of_duty by (duty.Declined room moment) = Some room.investor
+desk_of_duty by (duty.Hit room response word moment) = None
+desk_of_duty by (duty.Pass room response moment) = None
+desk_of_duty by (duty.Answer room response reply moment) = Some room.investor
+desk_of_duty by (duty.Close room moment) = Some room.investor
+desk_of_duty by (duty.Tell dealer room close moment) = Some dealer
+desk_of_duty by (duty.Drop last moment) = firm_of by
+
+-- the duty that stands first in a queue
+abbrev pub first_in : List Duty → Option Duty
+first_in [] = None
+first_in (duty ∷ later) = Some duty
+
+-- the duty that an actor's next turn does
+abbrev pub next_duty : Replay → Actor → Option Duty
+next_duty replay by = option_and_then first_in
+    (option_and_then (slice_get (duties_in replay)) (index_in (length replay.queues.items) by))
+
+-- the desk at which a step may send, where its actor has these duties to do
+abbrev pub desk_of_step : Step → Option Duty → Option ℕ
+desk_of_step (step.In firm moment message) next = Some firm
+desk_of_step (step.Turn by) next = option_and_then (desk_of_duty by) next
+desk_of_step (step.Expire room moment) next = None
+
+-- what the code keeps of the messages of a firm
+abbrev pub sent_on_day : Option FirmDay → List (List ℕ)
+sent_on_day None = []
+sent_on_day (Some day) = day.sent
+
+abbrev pub sent_on_floor : Floor → ℕ → List (List ℕ)
+sent_on_floor floor firm = sent_on_day (slice_get (days_of_floor floor) firm)
+
+-- the messages at a desk behind so many
+abbrev pub sent_behind : Floor → Option ℕ → ℕ → List Sent
+sent_behind floor None from = []
+sent_behind floor (Some firm) from = map (λ message. (firm, message)) (drop from (sent_on_floor floor firm))
+
+-- how many messages there are at a desk
+abbrev pub count_at : Floor → Option ℕ → ℕ
+count_at floor None = 0
+count_at floor (Some firm) = length (sent_on_floor floor firm)
+
+-- A step is done and what it sent is told, wherever the day stood and whatever was told before.
+pub record TellsOf (config : Configuration) (trail : AuditTrail) (after : Replay)
+    (told : List Sent) : Type 0 where
+  pub stands : ReplayStands config trail after
+  pub told_is : messages_in config trail.facts ≡ told
+
+abbrev pub Tells : (Configuration → Type 0) → (Configuration → AuditTrail → AuditTrail) → Replay
+    → Replay → List Sent → List Sent → Type 0
+Tells may next before after old new = (config : Configuration) (trail : AuditTrail)
+    (start : List Sent) → may config → ReplayStands config trail before
+    → messages_in config trail.facts ≡ start ++ old
+    → TellsOf config (next config trail) after (start ++ new)
+
+-- the day after so many turns of an actor
+unfoldable pub after_turns : Configuration → Actor → ℕ → AuditTrail → AuditTrail
+after_turns config by count trail = fold (after_step config) trail (replicate count (step.Turn by))
+
+-- all duties of an actor are done: as many turns as stand behind a step leave it none
+pub record TellsAllOf (config : Configuration) (by : Actor) (trail : AuditTrail) (after : Replay)
+    (told : List Sent) : Type 0 where
+  pub tells : TellsOf config (after_turns config by MOST_TURNS_BEHIND trail) after told
+  pub none_left : pending by (after_turns config by MOST_TURNS_BEHIND trail) ≡ []
+
+abbrev pub TellsDuties : Actor → Replay → Replay → List Sent → List Sent → Type 0
+TellsDuties by before after old new = (config : Configuration) (trail : AuditTrail)
+    (start : List Sent) → is_known config by ≡ true → ReplayStands config trail before
+    → messages_in config trail.facts ≡ start ++ old
+    → TellsAllOf config by trail after (start ++ new)
+
+-- a step, and the duties of its actor behind it
+abbrev pub TellsAll : Step → Replay → Replay → List Sent → Type 0
+TellsAll next before after told = (config : Configuration) (trail : AuditTrail)
+    → fault_of config 0 next ≡ None → ReplayStands config trail before
+    → TellsAllOf config (actor_of next) (after_step config trail next) after
+    (messages_in config trail.facts ++ told)

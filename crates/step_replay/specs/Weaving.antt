@@ -1,0 +1,85 @@
+-- A recorded day, woven into steps.
+use Rattle.std.specs.Prelude.{◌≡◌, ◌<◌, ℕ, List, slice_get, Option, Some}
+use Rattle.std.specs.List.{AllZip}
+use Rattle.std.specs.Option.{option_map}
+use Rattle.venue_config.specs.Rows.{Configuration}
+use Rattle.step_replay.specs.AuditTrail.{audit_trail}
+use Rattle.step_replay.specs.FirmDays.{FirmDay, firm_days}
+use Rattle.step_replay.specs.Records.{FirmLists, RecordedDay, firm_in}
+use Rattle.step_replay.specs.StepFaults.{firms_of}
+use Rattle.market_terms.specs.declared.rooms.RoomRef.{RoomRef}
+use Rattle.step_replay.specs.DayOrder.{IsCircle, KeepsOrder, action_in}
+use Rattle.step_replay.specs.declared.actions.Action.{Action}
+use Rattle.step_replay.specs.declared.actions.Kind.{Kind}
+use Rattle.step_replay.specs.declared.actions.Kind.TheVariants as kind
+use Rattle.step_replay.specs.declared.sites.Site.TheVariants as site
+use Rattle.step_replay.specs.declared.steps.Actor.TheVariants as actor
+use Rattle.step_replay.specs.declared.steps.Step.TheVariants as step
+use Rattle.step_replay.specs.declared.weave_plan.Slot.{Slot}
+use Rattle.step_replay.specs.declared.steps.Step.{Step}
+use Rattle.step_replay.specs.declared.weaving.WeaveFault.{WeaveFault}
+use Rattle.step_replay.specs.declared.weaving.WeaveFault.TheVariants as fault
+
+-- what the firm with this number was sent in these days of the firms
+abbrev pub sent_in : List FirmDay → ℕ → Option (List (List ℕ))
+sent_in days firm = option_map (λ (day : FirmDay). day.sent) (slice_get days firm)
+
+-- what it was sent by a record
+abbrev pub sent_by_record : RecordedDay → ℕ → Option (List (List ℕ))
+sent_by_record day firm = option_map (λ (lists : FirmLists). lists.sent) (firm_in day firm)
+
+-- what the firm with this number is sent in these steps
+abbrev pub sent_by_steps : Configuration → List Step → ℕ → Option (List (List ℕ))
+sent_by_steps config steps firm =
+    sent_in (firm_days config (audit_trail config steps).facts) firm
+
+-- each firm is sent in these steps what a record says
+abbrev pub SendAsRecorded : Configuration → RecordedDay → List Step → Type 0
+SendAsRecorded config day steps = (firm : ℕ) → firm < firms_of config
+    → sent_by_steps config steps firm ≡ sent_by_record day firm
+
+-- a firm is sent something else
+abbrev pub SendsElse : Configuration → RecordedDay → List Step → ℕ → Type 0
+SendsElse config day steps firm =
+    sent_by_steps config steps firm ≡ sent_by_record day firm → ⊥
+
+-- a message of the firm that acts comes
+pub record IsMessage (slot : Slot) (moment : ℕ) (now : Step) : Type 0 where
+  pub firm : ℕ
+  pub message : List ℕ
+  pub firm_is : slot.action.0 ≡ actor.Firm firm
+  pub step_is : now ≡ step.In firm moment message
+
+-- the room that the action came to is swept
+pub record IsSweep (slot : Slot) (moment : ℕ) (now : Step) : Type 0 where
+  pub room : RoomRef
+  pub room_is : slot.site ≡ site.Room room
+  pub step_is : now ≡ step.Expire room moment
+
+-- the step of an action of a kind: one of these, or its actor does the oldest of its duties
+abbrev pub IsStepOfKind : Kind → Slot → ℕ → Step → Type 0
+IsStepOfKind kind.In slot moment now = IsMessage slot moment now
+IsStepOfKind kind.Expire slot moment now = IsSweep slot moment now
+IsStepOfKind other slot moment now = now ≡ step.Turn slot.action.0
+
+-- a step is that of an action of an order, at the moment of the action
+pub record IsStepOf (day : RecordedDay) (slot : Slot) (now : Step) : Type 0 where
+  pub action : Action
+  pub action_is : action_in day slot.action ≡ Some action
+  pub step_is : IsStepOfKind action.kind slot action.moment now
+
+-- steps are those of the actions of a day, each once, in an order that keeps what is directly before
+-- what
+pub record AreWoven (config : Configuration) (day : RecordedDay) (steps : List Step) : Type 0 where
+  pub order : List Slot
+  pub keeps : KeepsOrder config day order
+  pub are_steps : AllZip (IsStepOf day) order steps
+
+-- Why a day is not woven: the list of a cycle is one, and a firm that differs is sent something else
+-- in steps of such an order.
+abbrev pub FaultIsTrue : Configuration → RecordedDay → WeaveFault → Type 0
+FaultIsTrue config day fault.Malformed = Unit {0}
+FaultIsTrue config day (fault.Cycle actions) = IsCircle day actions.items
+FaultIsTrue config day (fault.Differs firm) =
+    (steps : List Step) × AreWoven config day steps × SendsElse config day steps firm
+FaultIsTrue config day fault.Memory = Unit {0}

@@ -1,0 +1,259 @@
+//! A venue that answers as steps come.
+ghost use Rattle.std.specs.Prelude.{◌≡◌, ◌++◌, List, [], None, Err, map, drop};
+ghost use Rattle.std.specs.Prelude.{slice_get, IfOk, IfErr, IfSome, OnOk};
+ghost use Rattle.std.specs.Option.{option_copied, option_map};
+ghost use Rattle.step_replay.specs.AuditTrail as venue;
+ghost use Rattle.step_replay.specs.FirmDays.{FirmDay};
+ghost use Rattle.step_replay.specs.FloorDays.{days_of_floor};
+ghost use Rattle.step_replay.specs.LiveDays as live;
+ghost use Rattle.step_replay.specs.LiveStanding as spec;
+ghost use Rattle.step_replay.specs.LiveStanding.{Answers, IsAt, Tells, TellsAll, TellsDuties};
+ghost use Rattle.step_replay.specs.StepFaults as faults;
+ghost use Rattle.step_replay.specs.declared.steps.Step.{Step};
+
+use crate::faults::{ReplayFault, fault_of};
+use crate::floor::Floor;
+use crate::replay::Replay;
+use crate::sent_to::SentTo;
+use crate::steps::{Actor, MOST_TURNS_BEHIND, Step};
+use fix_fields::Memory;
+use market_terms::Duty;
+use quote_messages::SentMessage;
+use std::alloc::{AllocError, Global};
+use venue_config::VenueConfig;
+
+/// A venue that answers each step before the next one comes: behind the step its actor does all
+/// duties that it has, one by one. Once memory was refused nothing is known of it any more.
+#[derive(Drop)]
+pub struct LiveVenue {
+    pub(crate) replay: Replay,
+}
+
+impl LiveVenue {
+    /// A venue before its first step.
+    pub fn open(alloc: Global, config: &VenueConfig) -> Result<Self, Memory>
+        ensures { IfOk result (IsAt config.now []) }
+    {
+        let replay = Replay::new(alloc, config)?;
+        Ok(LiveVenue { replay })
+    }
+
+    /// Takes a step, does it and then the duties of its actor, the oldest first, until it has none,
+    /// and tells the messages that were sent with that, in their order. A step that names what the
+    /// venue does not have is the fault, and changes nothing.
+    pub fn take(
+        &mut self,
+        alloc: Global,
+        config: &VenueConfig,
+        step: &Step,
+    ) -> Result<Vec<SentTo>, ReplayFault>
+        ensures known { IfSome (faults.fault_of config.now 1 step.now)
+            (λ fault. (result ≡ Err fault) × (self.new ≡ self.old)) }
+        ensures ok { IfOk result (λ told. (steps : List Step) → IsAt config.now steps self.old
+            → Answers config.now steps step.now self.new told.items) }
+        ensures err { IfErr result (λ fault. faults.IsFirstOrMemory fault
+            (faults.fault_of config.now 1 step.now)) }
+    {
+        if let Some(fault) = fault_of(config, 1, step) {
+            return Err(fault);
+        }
+        let told = answer(alloc, &mut self.replay, step)?;
+        Ok(told)
+    }
+}
+
+/// A step and the duties behind it are done, and what is sent with them is told.
+fn answer(alloc: Global, replay: &mut Replay, step: &Step) -> Result<Vec<SentTo>, Memory>
+    ensures { IfOk result (λ told. TellsAll step.now replay.old replay.new told.items) }
+{
+    let mut told = Vec::new(alloc);
+    tell_step(alloc, replay, step, &mut told)?;
+    tell_duties(alloc, replay, actor_of(step), &mut told)?;
+    Ok(told)
+}
+
+/// The actor whose duties are done behind a step.
+fn actor_of(step: &Step) -> Actor
+    ensures { result ≡ live.actor_of step.now }
+{
+    match step {
+        Step::In(firm, _, _) => Actor::Firm(*firm),
+        Step::Turn(by) => *by,
+        Step::Expire(_, _) => Actor::Clock,
+    }
+}
+
+/// An actor does its duties, one by one until none is left, and what is sent is told. It can't
+/// have as many as are refused here.
+fn tell_duties(
+    alloc: Global,
+    replay: &mut Replay,
+    by: Actor,
+    told: &mut Vec<SentTo>,
+) -> Result<(), Memory>
+    ensures { OnOk result (TellsDuties by replay.old replay.new told.old.items told.new.items) }
+{
+    for _ in 0..MOST_TURNS_BEHIND {
+        let Some(_) = next_duty(replay, by) else {
+            return Ok(());
+        };
+        let turn = Step::Turn(by);
+        tell_step(alloc, replay, &turn, told)?;
+    }
+    Err(AllocError)
+}
+
+/// A step is done, and what is sent with it told.
+fn tell_step(
+    alloc: Global,
+    replay: &mut Replay,
+    step: &Step,
+    told: &mut Vec<SentTo>,
+) -> Result<(), Memory>
+    ensures { OnOk result (Tells (λ config. faults.fault_of config 0 step.now ≡ None)
+        (λ config trail. venue.after_step config trail step.now)
+        replay.old replay.new told.old.items told.new.items) }
+{
+    let desk = desk_of(replay, step);
+    let count = count_at(&replay.floor, desk);
+    replay.step(step)?;
+    push_behind(alloc, told, &replay.floor, desk, count)?;
+    Ok(())
+}
+
+/// The desk at which a step may send messages.
+fn desk_of(replay: &Replay, step: &Step) -> Option<u16>
+    ensures { result ≡ spec.desk_of_step step.now
+        (spec.next_duty replay.now (live.actor_of step.now)) }
+{
+    match step {
+        Step::In(firm, _, _) => Some(*firm),
+        Step::Turn(by) => {
+            let duty = next_duty(replay, *by)?;
+            desk_of_duty(*by, duty)
+        }
+        Step::Expire(_, _) => None,
+    }
+}
+
+/// The duty that an actor's next turn does.
+fn next_duty(replay: &Replay, by: Actor) -> Option<&Duty>
+    ensures { option_copied result ≡ spec.next_duty replay.now by }
+{
+    let index = replay.index_of(by)?;
+    let queue = replay.queues.get(index)?;
+    queue.front()
+}
+
+/// The desk at which a duty may send messages.
+fn desk_of_duty(by: Actor, duty: &Duty) -> Option<u16>
+    ensures { result ≡ spec.desk_of_duty by duty.now }
+{
+    match duty {
+        Duty::Show { dealer, .. } => Some(*dealer),
+        Duty::Tell { dealer, .. } => Some(*dealer),
+        Duty::Relay { room, .. } => Some(room.investor),
+        Duty::Gone { room, .. } => Some(room.investor),
+        Duty::Declined { room, .. } => Some(room.investor),
+        Duty::Answer { room, .. } => Some(room.investor),
+        Duty::Close { room, .. } => Some(room.investor),
+        Duty::Drop { .. } => firm_of(by),
+        Duty::Open { .. } => None,
+        Duty::Ready { .. } => None,
+        Duty::Post { .. } => None,
+        Duty::Unpost { .. } => None,
+        Duty::Decline { .. } => None,
+        Duty::Hit { .. } => None,
+        Duty::Pass { .. } => None,
+    }
+}
+
+/// The firm that an actor is.
+fn firm_of(by: Actor) -> Option<u16>
+    ensures { result ≡ spec.firm_of by }
+{
+    let Actor::Firm(firm) = by else {
+        return None;
+    };
+    Some(firm)
+}
+
+/// The messages that the firm with this number was sent, or none where no firm has it.
+fn sent_on(floor: &Floor, firm: u16) -> Option<&[SentMessage]>
+    ensures { option_copied result ≡ option_map (λ (day : FirmDay). day.sent)
+        (slice_get (days_of_floor floor.now) firm) }
+{
+    let Some(index) = usize::from(firm).checked_sub(floor.dealers.len()) else {
+        let place = floor.dealers.get(usize::from(firm))?;
+        return Some(place.desk.sent());
+    };
+    let place = floor.investors.get(index)?;
+    Some(place.desk.sent())
+}
+
+/// How many messages there are at a desk.
+fn count_at(floor: &Floor, desk: Option<u16>) -> usize
+    ensures { result ≡ spec.count_at floor.now desk }
+{
+    let Some(firm) = desk else {
+        return 0;
+    };
+    let Some(messages) = sent_on(floor, firm) else {
+        return 0;
+    };
+    messages.len()
+}
+
+/// Tells the messages at a desk behind so many.
+fn push_behind(
+    alloc: Global,
+    told: &mut Vec<SentTo>,
+    floor: &Floor,
+    desk: Option<u16>,
+    count: usize,
+) -> Result<(), Memory>
+    ensures { OnOk result (told.new.items
+        ≡ told.old.items ++ spec.sent_behind floor.now desk count) }
+{
+    let Some(firm) = desk else {
+        return Ok(());
+    };
+    let Some(messages) = sent_on(floor, firm) else {
+        return Ok(());
+    };
+    push_from(alloc, told, firm, messages, count)
+}
+
+/// Tells the messages of a firm behind so many.
+fn push_from(
+    alloc: Global,
+    told: &mut Vec<SentTo>,
+    firm: u16,
+    messages: &[SentMessage],
+    count: usize,
+) -> Result<(), Memory>
+    ensures { OnOk result (told.new.items
+        ≡ told.old.items ++ map (λ message. (firm, message)) (drop count messages.now)) }
+{
+    if count > messages.len() {
+        return Ok(());
+    }
+    push_all(alloc, told, firm, &messages[count..])?;
+    Ok(())
+}
+
+/// Tells these messages of a firm.
+fn push_all(
+    alloc: Global,
+    told: &mut Vec<SentTo>,
+    firm: u16,
+    messages: &[SentMessage],
+) -> Result<(), Memory>
+    ensures { OnOk result (told.new.items
+        ≡ told.old.items ++ map (λ message. (firm, message)) messages.now) }
+{
+    for message in messages {
+        told.push(SentTo::new(alloc, firm, message)?)?;
+    }
+    Ok(())
+}

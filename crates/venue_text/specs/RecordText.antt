@@ -1,0 +1,19 @@
+-- The messages of a recorded day as text.
+use Rattle.std.specs.Prelude.{ℕ, Bool, List, None, map}
+use Rattle.venue_config.specs.Rows.{Configuration}
+use Rattle.step_replay.specs.FirmDays.{FirmDay}
+use Rattle.step_replay.specs.Records.{FirmLists, RecordedDay, firms_in}
+use Rattle.venue_text.specs.ReplayText.{days_text, named_days}
+
+-- what a record has of the day of a firm
+abbrev pub recorded_day : FirmLists → FirmDay
+recorded_day firm = record { sent = firm.sent; lines = firm.lines }
+
+-- what a record has of the day of each firm
+abbrev pub recorded_days : RecordedDay → List FirmDay
+recorded_days day = map recorded_day (firms_in day)
+
+-- the messages that the firms were sent on a recorded day, firm by firm
+abbrev pub record_text : Bool → Configuration → RecordedDay → List ℕ
+record_text with_frames config day =
+    days_text with_frames None (named_days config (recorded_days day))

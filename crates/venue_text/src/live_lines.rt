@@ -1,0 +1,200 @@
+//! A day that is read line by line, and what is printed for each line.
+ghost use Rattle.std.specs.Prelude.{◌≡◌, ◌≢◌, ◌++◌, [], Bool, List, true, false};
+ghost use Rattle.std.specs.Prelude.{Ok, Err, IfOk, IfErr, OnOk};
+ghost use Rattle.step_replay.specs.LiveStanding.{IsAt};
+ghost use Rattle.step_replay.specs.declared.steps.Step.{Step};
+ghost use Rattle.venue_config.specs.Rows.{Configuration, values_of};
+ghost use Rattle.venue_text.specs.Lines.{is_skipped};
+ghost use Rattle.venue_text.specs.LiveLines as spec;
+ghost use Rattle.venue_text.specs.StepLines as lines;
+ghost use Rattle.venue_text.specs.StepReading.{counted};
+ghost use Rattle.venue_text.specs.VenueParts.{venue_of};
+
+use crate::faults::ProgramFault;
+use crate::heard::Heard;
+use crate::lines::is_skipped;
+use crate::message_lines::push_sent_line;
+use crate::parts::{cut_part, same_text};
+use crate::printed_replay::firm_name;
+use crate::spelled::{Spelled, push_steps};
+use crate::step_lines::read_line;
+use crate::venue_parts::read_venue;
+use fix_fields::Memory;
+use std::alloc::{AllocError, Global};
+use step_replay::{LiveVenue, SentTo, Step};
+use venue_config::VenueConfig;
+
+/// How many lines an input of a day that goes on has at most.
+pub const MOST_LINES: usize = 1_000_000_000_000_000;
+
+/// A day of a venue that goes on, line by line.
+#[derive(Drop)]
+pub struct LiveDay {
+    pub(crate) with_frames: bool,
+    pub(crate) config: VenueConfig,
+    pub(crate) venue: LiveVenue,
+    pub(crate) heard: Heard,
+}
+
+impl LiveDay {
+    /// The day of the venue that a configuration spells, before its first line of steps; or the
+    /// configuration's first fault, which is a [`ProgramFault::Config`]. Each message will be
+    /// printed as its whole frame, or as a line of its fields. Memory may be refused at any point.
+    pub fn open(alloc: Global, with_frames: bool, text: &[u8]) -> Result<Self, ProgramFault>
+        ensures ok { IfOk result (spec.Opens with_frames text.now) }
+        ensures err { IfErr result (λ fault. fault ≢ ProgramFault.Memory
+            → venue_of text.now ≡ Err fault) }
+    {
+        let config = read_venue(alloc, text)?;
+        let venue = LiveVenue::open(alloc, &config)?;
+        let firms = config.dealers().len() + config.investors().len();
+        let heard = Heard::nothing(alloc, firms)?;
+        Ok(LiveDay {
+            with_frames,
+            config,
+            venue,
+            heard,
+        })
+    }
+
+    /// The line with this number comes: its steps are done, each with all duties that it leaves,
+    /// and the messages that are sent for them are answered, a line each in their order. A line at
+    /// fault ([`ProgramFault::Form`], [`ProgramFault::UnknownFirm`], [`ProgramFault::UnknownRoom`]
+    /// or [`ProgramFault::Stream`]) changes nothing but that a stream at fault is over, and the day
+    /// goes on. After [`ProgramFault::Memory`] it can't.
+    pub fn answer(
+        &mut self,
+        alloc: Global,
+        line: usize,
+        text: &[u8],
+    ) -> Result<Vec<u8>, ProgramFault>
+        // An empty line and a comment say nothing.
+        ensures skipped { is_skipped text.now ≡ true
+            → IfOk result (λ answer. (answer.items ≡ []) × (self.new ≡ self.old)) }
+        ensures ok { is_skipped text.now ≡ false → IfOk result (λ answer. (with_frames : Bool)
+            (config : Configuration) (taken : List Step) (heard : lines.Heard)
+            → spec.Goes with_frames config taken heard self.old
+            → spec.LineIsAnswered with_frames config taken heard line text.now self.new
+            answer.items) }
+        ensures err { IfErr result (λ fault. fault ≢ ProgramFault.Memory
+            → fault ≢ ProgramFault.Input → (with_frames : Bool) (config : Configuration)
+            (taken : List Step) (heard : lines.Heard)
+            → spec.Goes with_frames config taken heard self.old
+            → spec.LineIsRefused with_frames config taken heard line text.now fault self.new) }
+    {
+        if is_skipped(text) {
+            return Ok(Vec::new(alloc));
+        }
+        let steps = match read_live_line(alloc, &self.config, &mut self.heard, line, text) {
+            Ok(steps) => steps,
+            Err(fault) => return Err(fault),
+        };
+        let answer = answered(
+            alloc,
+            self.with_frames,
+            &self.config,
+            &mut self.venue,
+            steps.as_slice(),
+        )?;
+        Ok(answer)
+    }
+}
+
+/// The steps of a line. Turns are none of a day that goes on: they follow of themselves.
+fn read_live_line(
+    alloc: Global,
+    config: &VenueConfig,
+    heard: &mut Heard,
+    line: usize,
+    text: &[u8],
+) -> Result<Vec<Step>, ProgramFault>
+    ensures ok { IfOk result (λ steps. spec.live_steps_of (values_of config.now) heard.old line
+        text.now ≡ Ok (steps.items, heard.new)) }
+    ensures err { IfErr result (λ fault. fault ≢ ProgramFault.Memory → fault ≢ ProgramFault.Input
+        → spec.live_steps_of (values_of config.now) heard.old line text.now ≡ Err fault) }
+    ensures unwritten { IfErr result (λ fault. fault ≢ ProgramFault.Write) }
+{
+    let (keyword, _) = cut_part(text);
+    if same_text(keyword, b"turn") {
+        return Err(ProgramFault::Form { line });
+    }
+    let spelled = read_line(alloc, config, heard, line, text)?;
+    count_line(heard, &spelled)?;
+    let mut steps = Vec::new(alloc);
+    push_steps(&mut steps, spelled)?;
+    Ok(steps)
+}
+
+/// Counts a line whose number was written for it.
+fn count_line(heard: &mut Heard, spelled: &Spelled) -> Result<(), ProgramFault>
+    ensures ok { OnOk result (heard.new ≡ counted spelled.now heard.old) }
+    ensures err { IfErr result (λ fault. fault ≡ ProgramFault.Input) }
+{
+    match spelled {
+        Spelled::Said(firm, _, _, is_counted) => {
+            if !*is_counted {
+                return Ok(());
+            }
+            heard.count_on(*firm)
+        }
+        Spelled::Came(_, _, _) => Ok(()),
+        Spelled::Turns(_, _) => Ok(()),
+        Spelled::Sweep(_, _) => Ok(()),
+        Spelled::Pieces(_, _, _) => Ok(()),
+    }
+}
+
+/// Steps are done, each with all duties that it leaves, and the messages that are sent for them are
+/// the answer. Each step names what the venue has.
+fn answered(
+    alloc: Global,
+    with_frames: bool,
+    config: &VenueConfig,
+    venue: &mut LiveVenue,
+    steps: &[Step],
+) -> Result<Vec<u8>, Memory>
+    ensures { IfOk result (λ text. (taken : List Step) → IsAt config.now taken venue.old
+        → spec.IsAnswered with_frames config.now taken steps.now venue.new text.items) }
+{
+    let mut text = Vec::new(alloc);
+    for step in steps {
+        let Ok(sent) = venue.take(alloc, config, step) else {
+            return Err(AllocError);
+        };
+        push_sent(&mut text, with_frames, config, sent.as_slice())?;
+    }
+    Ok(text)
+}
+
+/// Puts the lines of messages behind a text.
+fn push_sent(
+    text: &mut Vec<u8>,
+    with_frames: bool,
+    config: &VenueConfig,
+    sent: &[SentTo],
+) -> Result<(), Memory>
+    ensures { OnOk result (text.new.items
+        ≡ text.old.items ++ spec.sent_text with_frames config.now sent.now) }
+{
+    for message in sent {
+        push_one(text, with_frames, config, message)?;
+    }
+    Ok(())
+}
+
+/// Puts the line of a message behind a text.
+fn push_one(
+    text: &mut Vec<u8>,
+    with_frames: bool,
+    config: &VenueConfig,
+    sent: &SentTo,
+) -> Result<(), Memory>
+    ensures { OnOk result (text.new.items
+        ≡ text.old.items ++ spec.sent_line with_frames config.now sent.now) }
+{
+    let Some(name) = firm_name(config, sent.firm()) else {
+        return Ok(());
+    };
+    push_sent_line(text, with_frames, name, sent)?;
+    Ok(())
+}
