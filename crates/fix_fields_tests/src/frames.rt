@@ -113,10 +113,16 @@ fn each_change_of_one_byte_is_refused(rt: HostRuntime) {
     }
 }
 
+/// A front that does not reach behind `9=` has no start; any longer one ends too early.
 #[test]
 fn each_proper_prefix_is_refused(rt: HostRuntime) {
     for len in 0..133usize {
-        assert!(rt; fault_of(&QUOTE[..len]).is_some());
+        let wanted = if len < 13 {
+            Garbled::Start
+        } else {
+            Garbled::Length
+        };
+        assert!(rt; fault_of(&QUOTE[..len]) == Some(wanted));
     }
 }
 

@@ -6,3 +6,4 @@ pub mod CoverLemmas
 pub mod EndLemmas
 pub mod RankLemmas
 pub mod KeptRoomLemmas
+pub mod LiftLemmas

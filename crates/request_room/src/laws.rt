@@ -1,8 +1,10 @@
 //! Laws over the definitions of a room, each the contract of a function that does nothing.
 ghost use Rattle.std.specs.Prelude.{◌≡◌, ◌≢◌, ◌≤◌, ◌↔◌, ℕ, List, [], ◌∷◌, ◌++◌, length, filter};
-ghost use Rattle.std.specs.Prelude.{AllPairs, IfSome, IsTrue};
+ghost use Rattle.std.specs.Prelude.{AllPairs, Contains, IfSome, IsTrue};
 ghost use Rattle.market_terms.specs.declared.asks.Side.{Side};
+ghost use Rattle.quote_word.specs.declared.settled.Settled.TheVariants.{Lifted};
 ghost use Rattle.request_room.specs.declared.events.RoomEvent.{RoomEvent};
+ghost use Rattle.request_room.specs.declared.events.RoomEvent.TheVariants as event;
 ghost use Rattle.request_room.specs.declared.quotes.StandingQuote.{StandingQuote};
 ghost use Rattle.request_room.specs.RoomFacts.{RoomFact, end_of, is_award, is_ended, is_ending};
 ghost use Rattle.request_room.specs.Book.{IsBest, IsEndOf, book_of, cover_of, event_facts, others};
@@ -52,4 +54,12 @@ pub fn a_dealer_has_one_quote()
 pub fn only_an_award_has_a_winner()
     ensures { (events : List RoomEvent)
         → IfSome (end_of (room_after events)) (λ end. IsEndOf end.kind end.winner end.cover) }
+{}
+
+/// A room is awarded by a hit alone: where it has a winner, one of its events is a hit of the
+/// winner's word that was answered lifted.
+pub fn an_awarded_word_was_lifted()
+    ensures { (events : List RoomEvent)
+        → IfSome (end_of (room_after events)) (λ end. IfSome end.winner
+        (λ winner. (moment : ℕ) × Contains events (event.Hit winner.1 moment (Some Lifted)))) }
 {}

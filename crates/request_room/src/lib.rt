@@ -44,6 +44,7 @@
 //!   posted. There is one exactly where another dealer's quote stands
 //!   ([`the_cover_is_the_best_other_quote`]).
 //! - Only an award has a winner, and a cover is another dealer ([`only_an_award_has_a_winner`]).
+//!   The winner's word was hit and answered lifted ([`an_awarded_word_was_lifted`]).
 //!
 //! - The facts after one event more are those before and what `event_facts` says of it
 //!   ([`facts_after_one_event_more`]).
@@ -65,8 +66,9 @@ mod rooms;
 pub use ends::{End, EndKind};
 pub use events::RoomEvent;
 pub use laws::{
-    a_dealer_has_one_quote, a_room_ends_once, an_ended_room_changes_no_more,
-    facts_after_one_event_more, only_an_award_has_a_winner, the_cover_is_the_best_other_quote,
+    a_dealer_has_one_quote, a_room_ends_once, an_awarded_word_was_lifted,
+    an_ended_room_changes_no_more, facts_after_one_event_more, only_an_award_has_a_winner,
+    the_cover_is_the_best_other_quote,
 };
 pub use quotes::StandingQuote;
 pub use requests::RoomRequest;
