@@ -20,6 +20,7 @@ mod ConditionTable
 mod ConditionTurns
 mod CountLemmas
 mod DayDueLemmas
+mod DayFormLemmas
 mod DayViewLemmas
 mod DealerActionLemmas
 mod DueListLemmas
@@ -51,11 +52,14 @@ mod LiftingLemmas
 mod ListEnds
 mod LiveEffects
 mod LiveLemmas
+mod MessageLemmas
 mod NoticeLemmas
 mod OpeningLemmas
+mod OrderLawLemmas
 mod OrderLemmas
 mod OwnerLemmas
 mod PlaceLemmas
+mod PlaceNotes
 mod PriceLemmas
 mod PricedFields
 mod PricedMessages

@@ -1,10 +1,9 @@
 -- What is counted of an order that keeps what is directly before what.
-use Rattle.std.proofs.Common.{◌≡◌, ◌≢◌, ◌<◌, ◌≤◌, ℕ, ◌+◌, ◌-◌, ◌==◌, Bool, true, false, ◌&&◌}
+use Rattle.std.proofs.Common.{◌≡◌, ◌<◌, ◌≤◌, ℕ, ◌+◌, ◌-◌, ◌==◌, Bool, true, false, ◌&&◌}
 use Rattle.std.proofs.Common.{◌||◌, not, nat_le, List, [], ◌∷◌, ◌++◌, length, take, Option, Some}
 use Rattle.std.proofs.Common.{None, arith, slice_get, slice_index_or, refl, sym, ap, subst, ◌∙◌}
 use Rattle.std.proofs.lemmas.List.{take_all, take_more}
 use Rattle.std.proofs.lemmas.Option.{get_or_from_slice_get, slice_get_within}
-use Rattle.venue_config.specs.Rows.{Configuration}
 use Rattle.std.specs.List.{AllZip, count_by, list_any}
 use Rattle.std.specs.Option.{option_map_or}
 use borrow.Author.Count.{below_more}
@@ -14,7 +13,6 @@ use Rattle.quote_word.specs.declared.settled.Settled.{Settled}
 use Rattle.step_replay.specs.DayOrder.{ComesInTurn, IsBehind, IsNextAtSite, StandsAt, action_in}
 use Rattle.step_replay.specs.DayOrder.{KeepsOrder, grants, is_as_wished, is_by, is_granted, is_refused, refuses}
 use Rattle.step_replay.specs.OrderCounts.{AreOfActors, Counts, SetsCount, count_in, key_of}
-use Rattle.step_replay.specs.Queues.{is_known}
 use Rattle.step_replay.specs.Records.{ActionRef, RecordedDay, actions_of}
 use Rattle.step_replay.specs.declared.steps.Actor.{Actor}
 use Rattle.step_replay.specs.declared.actions.Action.{Action}
@@ -146,21 +144,20 @@ taken_more slots place now is =
     ∙ ap (λ (found : Slot). take place slots ++ found ∷ []) (got slots place now is)
 
 -- all have come
-pub keeps_whole : (config : Configuration) (day : RecordedDay) (slots : List Slot)
-    (counts : Counts) (place : ℕ) → length slots ≤ place
+pub keeps_whole : (day : RecordedDay) (slots : List Slot) (counts : Counts) (place : ℕ) → length slots ≤ place
     → ((earlier : ℕ) (one : Slot) → earlier < place → slice_get slots earlier ≡ Some one
     → ComesInTurn day (take earlier slots) one)
     → AreOfActors counts (take place slots)
-    → ((actor : Actor) (actions : List Action) → is_known config actor ≡ true
-    → actions_of day actor ≡ Some actions → count_in counts (key_of actor) ≡ length actions)
-    → KeepsOrder config day slots
-keeps_whole config day slots counts place done turns stand whole = record {
+    → ((actor : Actor) (actions : List Action) → actions_of day actor ≡ Some actions
+    → count_in counts (key_of actor) ≡ length actions)
+    → KeepsOrder day slots
+keeps_whole day slots counts place done turns stand whole = record {
   turns = λ at_it one there.
       let within : at_it < length slots = slice_get_within slots at_it one there in
       turns at_it one (omega arith) there;
-  whole = λ actor actions known are.
+  whole = λ actor actions are.
       sym (stand actor ∙ ap (λ (l : List Slot). count_by (is_by actor) l) (take_all place slots done))
-      ∙ whole actor actions known are;
+      ∙ whole actor actions are;
 }
 
 -- Steps.

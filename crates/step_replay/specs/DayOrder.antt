@@ -7,9 +7,7 @@ use Rattle.std.specs.List.{list_any}
 use Rattle.std.specs.Option.{option_map, option_map_or}
 use Rattle.quote_word.specs.declared.settled.Settled.{Settled}
 use Rattle.quote_word.specs.declared.settled.Settled.TheVariants as settled
-use Rattle.venue_config.specs.Rows.{Configuration}
 use Rattle.step_replay.specs.AuditTrail.{is_same_actor}
-use Rattle.step_replay.specs.Queues.{is_known}
 use Rattle.step_replay.specs.Records.{ActionRef, FirmLists, RecordedDay, RoomLists, actions_of}
 use Rattle.step_replay.specs.Records.{firm_in, room_in}
 use Rattle.step_replay.specs.declared.actions.Action.{Action}
@@ -149,9 +147,10 @@ pub record ComesInTurn (day : RecordedDay) (before : List Slot) (now : Slot) : T
       → list_any (is_refused day word) before ≡ false
 
 -- An order keeps what is directly before what: each action comes in its turn, and all actions of
--- each actor have come. So each stands in it once, behind all that are directly before it.
-pub record KeepsOrder (config : Configuration) (day : RecordedDay) (slots : List Slot) : Type 0 where
+-- each actor have come. So each stands in it once, behind all that are directly before it, as the
+-- laws of orders say.
+pub record KeepsOrder (day : RecordedDay) (slots : List Slot) : Type 0 where
   pub turns : (place : ℕ) (now : Slot) → slice_get slots place ≡ Some now
       → ComesInTurn day (take place slots) now
-  pub whole : (actor : Actor) (actions : List Action) → is_known config actor ≡ true
-      → actions_of day actor ≡ Some actions → count_by (is_by actor) slots ≡ length actions
+  pub whole : (actor : Actor) (actions : List Action) → actions_of day actor ≡ Some actions
+      → count_by (is_by actor) slots ≡ length actions

@@ -1,4 +1,5 @@
--- The name of a duty.
+-- The name of a duty, and the kinds of action that are none.
+use Rattle.std.specs.Prelude.{Bool, true, false}
 use Rattle.market_terms.specs.declared.duties.Duty.{Duty}
 use Rattle.market_terms.specs.declared.duties.Duty.TheVariants as duty
 use Rattle.step_replay.specs.declared.actions.Kind.{Kind}
@@ -21,3 +22,13 @@ kind_of (duty.Answer room response reply moment) = kind.Answer
 kind_of (duty.Close room moment) = kind.Close
 kind_of (duty.Tell dealer room close moment) = kind.Tell
 kind_of (duty.Drop last moment) = kind.Drop
+
+-- whether a kind is that of a message which comes to a desk
+abbrev pub is_in : Kind → Bool
+is_in kind.In = true
+is_in other = false
+
+-- whether it is that of a sweep
+abbrev pub is_expire : Kind → Bool
+is_expire kind.Expire = true
+is_expire other = false

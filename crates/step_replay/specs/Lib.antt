@@ -3,6 +3,7 @@ pub mod Answers
 pub mod AuditTrail
 pub mod Conditions
 pub mod DayDues
+pub mod DayForm
 pub mod DayOrder
 pub mod DealerTrail
 pub mod DealerView
@@ -18,6 +19,8 @@ pub mod LiveStanding
 pub mod Notices
 pub mod Openings
 pub mod OrderCounts
+pub mod OrderLaws
+pub mod OrderPlaces
 pub mod PriceAlike
 pub mod Queues
 pub mod Records

@@ -1,5 +1,5 @@
 -- A recorded day, woven into steps.
-use Rattle.std.specs.Prelude.{◌≡◌, ◌<◌, ℕ, List, slice_get, Option, Some}
+use Rattle.std.specs.Prelude.{◌≡◌, ◌<◌, ℕ, ◌-◌, List, take, count_by, slice_get, Option, Some}
 use Rattle.std.specs.List.{AllZip}
 use Rattle.std.specs.Option.{option_map}
 use Rattle.venue_config.specs.Rows.{Configuration}
@@ -8,8 +8,10 @@ use Rattle.step_replay.specs.FirmDays.{FirmDay, firm_days}
 use Rattle.step_replay.specs.Records.{FirmLists, RecordedDay, firm_in}
 use Rattle.step_replay.specs.StepFaults.{firms_of}
 use Rattle.market_terms.specs.declared.rooms.RoomRef.{RoomRef}
+use Rattle.step_replay.specs.DayForm.{IsMalformed, IsWellFormed, takes_message}
 use Rattle.step_replay.specs.DayOrder.{IsCircle, KeepsOrder, action_in}
 use Rattle.step_replay.specs.declared.actions.Action.{Action}
+use Rattle.step_replay.specs.declared.actions.Inbound.{Inbound}
 use Rattle.step_replay.specs.declared.actions.Kind.{Kind}
 use Rattle.step_replay.specs.declared.actions.Kind.TheVariants as kind
 use Rattle.step_replay.specs.declared.sites.Site.TheVariants as site
@@ -43,12 +45,21 @@ abbrev pub SendsElse : Configuration → RecordedDay → List Step → ℕ → T
 SendsElse config day steps firm =
     sent_by_steps config steps firm ≡ sent_by_record day firm → ⊥
 
--- a message of the firm that acts comes
-pub record IsMessage (slot : Slot) (moment : ℕ) (now : Step) : Type 0 where
+-- the message of the inbox of a firm that comes with its action of this number, which is that of
+-- the same place among those that come from it
+abbrev pub message_with : FirmLists → ℕ → Option Inbound
+message_with lists number =
+    slice_get lists.inbox (count_by takes_message (take (number - 1) lists.actions))
+
+-- the message of the inbox of the firm that acts comes, which is that of this action
+pub record IsMessage (day : RecordedDay) (slot : Slot) (now : Step) : Type 0 where
   pub firm : ℕ
-  pub message : List ℕ
-  pub firm_is : slot.action.0 ≡ actor.Firm firm
-  pub step_is : now ≡ step.In firm moment message
+  pub lists : FirmLists
+  pub inbound : Inbound
+  pub by_firm : slot.action.0 ≡ actor.Firm firm
+  pub lists_are : firm_in day firm ≡ Some lists
+  pub is_its : message_with lists slot.action.1 ≡ Some inbound
+  pub step_is : now ≡ step.In firm inbound.moment inbound.bytes
 
 -- the room that the action came to is swept
 pub record IsSweep (slot : Slot) (moment : ℕ) (now : Step) : Type 0 where
@@ -57,29 +68,32 @@ pub record IsSweep (slot : Slot) (moment : ℕ) (now : Step) : Type 0 where
   pub step_is : now ≡ step.Expire room moment
 
 -- the step of an action of a kind: one of these, or its actor does the oldest of its duties
-abbrev pub IsStepOfKind : Kind → Slot → ℕ → Step → Type 0
-IsStepOfKind kind.In slot moment now = IsMessage slot moment now
-IsStepOfKind kind.Expire slot moment now = IsSweep slot moment now
-IsStepOfKind other slot moment now = now ≡ step.Turn slot.action.0
+abbrev pub IsStepOfKind : RecordedDay → Kind → Slot → ℕ → Step → Type 0
+IsStepOfKind day kind.In slot moment now = IsMessage day slot now
+IsStepOfKind day kind.Expire slot moment now = IsSweep slot moment now
+IsStepOfKind day other slot moment now = now ≡ step.Turn slot.action.0
 
--- a step is that of an action of an order, at the moment of the action
+-- A step is that of an action of an order: a message as it came, at its moment; a sweep at the
+-- moment of the action; or a turn.
 pub record IsStepOf (day : RecordedDay) (slot : Slot) (now : Step) : Type 0 where
   pub action : Action
   pub action_is : action_in day slot.action ≡ Some action
-  pub step_is : IsStepOfKind action.kind slot action.moment now
+  pub step_is : IsStepOfKind day action.kind slot action.moment now
 
--- steps are those of the actions of a day, each once, in an order that keeps what is directly before
--- what
+-- steps are those of the actions of a day of the venue, each once, in an order that keeps what is
+-- directly before what
 pub record AreWoven (config : Configuration) (day : RecordedDay) (steps : List Step) : Type 0 where
+  pub well_formed : IsWellFormed config day
   pub order : List Slot
-  pub keeps : KeepsOrder config day order
+  pub keeps : KeepsOrder day order
   pub are_steps : AllZip (IsStepOf day) order steps
 
--- Why a day is not woven: the list of a cycle is one, and a firm that differs is sent something else
--- in steps of such an order.
+-- Why a day is not woven: a malformed record is malformed; else the list of a cycle is one, and a
+-- firm that differs is sent something else in steps of an order that is kept.
 abbrev pub FaultIsTrue : Configuration → RecordedDay → WeaveFault → Type 0
-FaultIsTrue config day fault.Malformed = Unit {0}
-FaultIsTrue config day (fault.Cycle actions) = IsCircle day actions.items
+FaultIsTrue config day fault.Malformed = IsMalformed config day
+FaultIsTrue config day (fault.Cycle actions) =
+    IsWellFormed config day × IsCircle day actions.items
 FaultIsTrue config day (fault.Differs firm) =
     (steps : List Step) × AreWoven config day steps × SendsElse config day steps firm
 FaultIsTrue config day fault.Memory = Unit {0}

@@ -1,5 +1,5 @@
 //! What a record says of one action, and of two.
-ghost use Rattle.std.specs.Prelude.{◌≡◌, true, List, map, option_and_then, slice_get};
+ghost use Rattle.std.specs.Prelude.{◌≡◌, true, false, List, map, option_and_then, slice_get};
 ghost use Rattle.std.specs.Option.{option_copied};
 ghost use Rattle.step_replay.specs.AuditTrail as venue;
 ghost use Rattle.step_replay.specs.DayOrder as spec;
@@ -133,8 +133,9 @@ fn is_at_one_site(day: &DayRecord, one: &Slot, other: &Slot) -> bool
 }
 
 /// Whether two places are one.
-fn is_same_site(one: Site, other: Site) -> bool
-    ensures { result ≡ true → one ≡ other }
+pub(crate) fn is_same_site(one: Site, other: Site) -> bool
+    ensures yes { result ≡ true → one ≡ other }
+    ensures no { result ≡ false → one ≡ other → ⊥ }
 {
     match one {
         Site::Desk(firm) => match other {

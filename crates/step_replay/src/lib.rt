@@ -78,12 +78,15 @@
 //!   [`recorded_dealers_are_sent_their_view`] the law that what its desk sent is the dealer view of
 //!   that.
 //! - [`weave`] makes a list of steps of a record, which sends every firm what the record says: so
-//!   what is promised of days that are replayed holds of that day.
+//!   what is promised of days that are replayed holds of that day. The order of these steps keeps
+//!   what came before what ([`orders_keep_what_is_before`]), and a record that is of no day is
+//!   refused as malformed, exactly then ([`well_formed_days_are_not_malformed`]).
 #![tactic(auto)]
 
 mod actions;
 mod condition_laws;
 mod day_dues;
+mod day_form;
 mod day_reading;
 mod dealer_actions;
 mod dealer_view;
@@ -96,9 +99,11 @@ mod hits;
 mod investor_actions;
 mod laws;
 mod live;
+mod name_checks;
 mod notice_laws;
 mod opening;
 mod order_checks;
+mod order_laws;
 mod prices;
 mod queues;
 mod records;
@@ -108,8 +113,9 @@ mod sent_checks;
 mod sent_to;
 mod sites;
 mod steps;
-mod weave_checks;
+mod weave_circle;
 mod weave_plan;
+mod weave_search;
 mod weave_sort;
 mod weaving;
 mod world;
@@ -129,6 +135,7 @@ pub use notice_laws::{
     a_hit_notice_names_the_lifted_quote, each_named_dealer_is_told_once,
     notices_come_once_after_their_requests, words_are_answered_as_the_view_says,
 };
+pub use order_laws::{orders_keep_what_is_before, well_formed_days_are_not_malformed};
 pub use prices::price_law;
 pub use records::{DayRecord, DealerDay, InvestorDay, RoomDay};
 pub use sent_to::SentTo;

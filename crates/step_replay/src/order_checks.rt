@@ -1,9 +1,9 @@
 //! Whether an order of a day keeps what is directly before what.
 ghost use Rattle.std.specs.Prelude.{◌≡◌, ℕ, ◌+◌, true, false, List, ◌∷◌, [], ◌++◌, Some, IfOk, OnOk};
 ghost use Rattle.std.specs.Prelude.{length};
+ghost use Rattle.step_replay.specs.DayForm as form;
 ghost use Rattle.step_replay.specs.DayOrder as spec;
 ghost use Rattle.step_replay.specs.OrderCounts as kept;
-ghost use Rattle.step_replay.specs.Queues.{is_known};
 ghost use Rattle.step_replay.specs.Records.{actions_of};
 ghost use Rattle.step_replay.specs.declared.actions.Action.{Action};
 ghost use Rattle.step_replay.specs.declared.steps.Actor.{Actor};
@@ -26,8 +26,8 @@ pub(crate) fn keeps_order(
     day: &DayRecord,
     slots: &[Slot],
 ) -> Result<bool, Memory>
-    ensures { IfOk result (λ keeps. keeps ≡ true
-        → spec.KeepsOrder config.now day.now slots.now) }
+    requires { form.HasFirmsOf config.now day.now }
+    ensures { IfOk result (λ keeps. keeps ≡ true → spec.KeepsOrder day.now slots.now) }
 {
     let mut of_actors = HashMap::new(alloc);
     let mut refused = HashMap::new(alloc);
@@ -127,8 +127,9 @@ fn put_word(refused: &mut HashMap<u64, u64>, action: &Action) -> Result<bool, Me
 
 /// Whether all actions of each actor are counted.
 fn is_whole(config: &VenueConfig, day: &DayRecord, of_actors: &HashMap<u64, u64>) -> bool
+    requires { form.HasFirmsOf config.now day.now }
     ensures { result ≡ true → (actor : Actor) (actions : List Action)
-        → is_known config.now actor ≡ true → actions_of day.now actor ≡ Some actions
+        → actions_of day.now actor ≡ Some actions
         → kept.count_in of_actors.now (kept.key_of actor) ≡ length actions }
 {
     for firm in 0..firms_of(config) {
@@ -151,7 +152,7 @@ fn is_counted(day: &DayRecord, of_actors: &HashMap<u64, u64>, actor: Actor) -> b
 }
 
 /// A number for each actor.
-fn key_of(actor: Actor) -> u64
+pub(crate) fn key_of(actor: Actor) -> u64
     ensures { result ≡ kept.key_of actor }
 {
     match actor {

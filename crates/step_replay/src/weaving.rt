@@ -1,15 +1,16 @@
 //! A recorded day woven into steps.
 ghost use Rattle.std.specs.Prelude.{◌≡◌, map, IfOk, IfErr};
+ghost use Rattle.step_replay.specs.DayForm as form;
 ghost use Rattle.step_replay.specs.Weaving as spec;
 ghost use Rattle.step_replay.specs.declared.weave_plan.Slot.{Slot};
 ghost use Rattle.step_replay.specs.declared.weaving.WeaveFault.TheVariants.{Memory};
 
+use crate::day_form::is_well_formed;
 use crate::day_reading::is_circle;
 use crate::order_checks::keeps_order;
 use crate::records::DayRecord;
 use crate::sent_checks::sent_elsewise;
 use crate::steps::{Actor, Step};
-use crate::weave_checks::{has_lawful_kinds, names_once};
 use crate::weave_plan::{Plan, Slot, firms_of};
 use crate::weave_sort::{Found, order_of};
 use crate::world::run;
@@ -24,7 +25,8 @@ pub enum WeaveFault {
     /// The record is not that of a day of the venue: the orders of its desks and rooms do not name
     /// each of its actions exactly once and nothing else; or the inbox of a firm has not one message
     /// for each that came; or the clock has a message, a firm a sweep or a desk a sweep; or it has a
-    /// firm or a room that the venue does not have, or lacks a firm of the venue.
+    /// firm or a room that the venue does not have, or lacks a firm of the venue. It is told exactly
+    /// where that is so, memory aside.
     Malformed,
     /// No order keeps what came before what: of these actions each has one of them directly before
     /// it. An action goes by its actor, and its number among the actions of that actor, from 1.
@@ -53,25 +55,23 @@ impl<T: Drop> From<AllocFailed<T>> for WeaveFault {
 
 /// The steps of a recorded day, in an order in which each action stands behind all that are directly
 /// before it: the earlier ones of its actor, of its desk or its room, and where a word refused it
-/// those that the word was granted. What each firm is sent in them is what the record says. It takes
-/// time that grows with the number of actions, and no faster.
+/// those that the word was granted. A message is that of its firm's inbox which has the place that
+/// the action has among those of its firm that are messages. What each firm is sent in these steps
+/// is what the record says. It takes time that grows with the number of actions, and no faster.
 pub fn weave(alloc: Global, config: &VenueConfig, day: &DayRecord) -> Result<Vec<Step>, WeaveFault>
     ensures woven { IfOk result (λ steps. spec.AreWoven config.now day.now steps.items) }
     ensures sent { IfOk result (λ steps. spec.SendAsRecorded config.now day.now steps.items) }
     ensures fault { IfErr result (spec.FaultIsTrue config.now day.now) }
 {
-    if !day.has_firms_of(config) || !has_lawful_kinds(config, day) {
+    let well_formed = is_well_formed(alloc, config, day)?;
+    if !well_formed {
         return Err(WeaveFault::Malformed);
     }
     let plan = Plan::of(alloc, config, day)?;
     match order_of(alloc, &plan)? {
-        Found::Misnamed(by, number) => {
-            if names_once(&plan, by, number) {
-                return Err(WeaveFault::Memory);
-            }
-            Err(WeaveFault::Malformed)
-        }
         Found::Circle(slots) => {
+            // Nothing is claimed of the search: what it finds is checked. It finds no other list
+            // than a circle, so this refusal never comes; no clause says so.
             if !is_circle(day, slots.as_slice()) {
                 return Err(WeaveFault::Memory);
             }
@@ -92,11 +92,15 @@ fn replayed_as_recorded(
     day: &DayRecord,
     slots: &[Slot],
 ) -> Result<Vec<Step>, WeaveFault>
+    requires { form.IsWellFormed config.now day.now }
     ensures woven { IfOk result (λ steps. spec.AreWoven config.now day.now steps.items) }
     ensures sent { IfOk result (λ steps. spec.SendAsRecorded config.now day.now steps.items) }
     ensures fault { IfErr result (spec.FaultIsTrue config.now day.now) }
 {
-    if !keeps_order(alloc, config, day, slots)? {
+    // Nothing is claimed of the search: what it finds is checked. It finds no other order, so these
+    // refusals never come; no clause says so.
+    let keeps = keeps_order(alloc, config, day, slots)?;
+    if !keeps {
         return Err(WeaveFault::Memory);
     }
     let Some(steps) = steps_of(alloc, day, slots)? else {

@@ -1,11 +1,14 @@
 //! The steps of an order of a recorded day.
-ghost use Rattle.std.specs.Prelude.{◌≡◌, ◌∷◌, [], ◌++◌, true, IfOk, IfSome};
+ghost use Rattle.std.specs.Prelude.{◌≡◌, List, ◌∷◌, [], ◌++◌, true, IfOk, IfSome};
+ghost use Rattle.std.specs.Option.{option_copied};
 ghost use Rattle.std.specs.List.{AllZip};
+ghost use Rattle.step_replay.specs.DayOrder as order;
+ghost use Rattle.step_replay.specs.OrderCounts as kept;
 ghost use Rattle.step_replay.specs.Weaving as spec;
-ghost use Rattle.step_replay.specs.declared.actions.Kind.TheVariants as kind;
 ghost use Rattle.step_replay.specs.declared.steps.Step.{Step};
+ghost use Rattle.step_replay.specs.declared.weave_plan.Slot.{Slot};
 
-use crate::actions::Kind;
+use crate::actions::{Inbound, Kind};
 use crate::day_reading::{action_in, slot_at};
 use crate::order_checks::{count_of, put_count};
 use crate::records::DayRecord;
@@ -17,12 +20,13 @@ use quote_messages::Message;
 use std::alloc::Global;
 use std::collections::HashMap;
 
-/// The steps of an order, or none where an action of it is none of the day, or has no message.
+/// The steps of an order, or none where an action of it has no message, or sweeps no room.
 pub(crate) fn steps_of(
     alloc: Global,
     day: &DayRecord,
     slots: &[Slot],
 ) -> Result<Option<Vec<Step>>, Memory>
+    requires { order.KeepsOrder day.now slots.now }
     ensures { IfOk result (λ steps. IfSome steps (λ list.
         AllZip (spec.IsStepOf day.now) slots.now list.items)) }
 {
@@ -48,16 +52,20 @@ fn put_step(
     steps: &mut Vec<Step>,
     slot: &Slot,
 ) -> Result<bool, Memory>
-    ensures { IfOk result (λ put. put ≡ true → (now : Step)
-        × (steps.new.items ≡ steps.old.items ++ now ∷ [])
+    ensures step { IfOk result (λ put. put ≡ true → (before : List Slot)
+        → kept.AreOfInboxes day.now came.old before → kept.IsNext before slot.now
+        → (now : Step) × (steps.new.items ≡ steps.old.items ++ now ∷ [])
         × spec.IsStepOf day.now slot.now now) }
+    ensures came { IfOk result (λ put. put ≡ true → (before : List Slot)
+        → kept.AreOfInboxes day.now came.old before → kept.IsNext before slot.now
+        → kept.AreOfInboxes day.now came.new (before ++ slot.now ∷ [])) }
 {
     let Some(action) = action_in(day, slot.action) else {
         return Ok(false);
     };
     match action.kind {
         Kind::In => {
-            let put = put_message(alloc, day, came, steps, slot, action.moment)?;
+            let put = put_message(alloc, day, came, steps, slot)?;
             Ok(put)
         }
         Kind::Expire => {
@@ -84,35 +92,37 @@ fn put_sweep(steps: &mut Vec<Step>, slot: &Slot, moment: Moment) -> Result<bool,
     Ok(true)
 }
 
-/// Puts the next message of the inbox of a firm, of which so many came.
+/// Puts the next message of the inbox of a firm, behind as many as came from it.
 fn put_message(
     alloc: Global,
     day: &DayRecord,
     came: &mut HashMap<u64, u64>,
     steps: &mut Vec<Step>,
     slot: &Slot,
-    moment: Moment,
 ) -> Result<bool, Memory>
-    ensures { IfOk result (λ put. put ≡ true → (now : Step)
-        × (steps.new.items ≡ steps.old.items ++ now ∷ [])
-        × spec.IsMessage slot.now moment now) }
+    ensures { IfOk result (λ put. put ≡ true → kept.TakesNext day.now slot.now came.old came.new
+        steps.old.items steps.new.items) }
 {
     let Actor::Firm(firm) = slot.action.0 else {
         return Ok(false);
     };
     let count = count_of(came, u64::from(firm));
-    let Some(message) = message_at(day, firm, count as usize) else {
+    let Some(inbound) = inbound_at(day, firm, count as usize) else {
         return Ok(false);
     };
-    let message = Message::copy_of(alloc, message.as_bytes())?;
-    put_count(came, u64::from(firm), count.saturating_add(1))?;
-    steps.push(Step::In(firm, moment, message))?;
+    let Some(next) = count.checked_add(1) else {
+        return Ok(false);
+    };
+    let message = Message::copy_of(alloc, inbound.bytes.as_bytes())?;
+    put_count(came, u64::from(firm), next)?;
+    steps.push(Step::In(firm, inbound.moment, message))?;
     Ok(true)
 }
 
 /// A message of the inbox of a firm.
-fn message_at(day: &DayRecord, firm: u16, index: usize) -> Option<&Message> {
+fn inbound_at(day: &DayRecord, firm: u16, index: usize) -> Option<&Inbound>
+    ensures { option_copied result ≡ kept.inbound_at day.now firm index }
+{
     let inbox = day.inbox(firm)?;
-    let inbound = inbox.get(index)?;
-    Some(&inbound.bytes)
+    inbox.get(index)
 }

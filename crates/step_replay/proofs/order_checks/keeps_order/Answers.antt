@@ -23,6 +23,6 @@ loop-index-preserved c =
 
 pub returns : goal.returns
 returns c told =
-    keeps_whole c.args.config.now c.args.day.now c.args.slots.now c.loop-index.of_actors
+    keeps_whole c.args.day.now c.args.slots.now c.loop-index.of_actors
     c.loop-index.index (omega arith) c.loop-index.invariant.turns c.loop-index.invariant.actors
     (c.is_whole-whole.ensures told)
