@@ -1,18 +1,38 @@
 -- The days of the firms behind the joins, one after the other.
-use Rattle.std.proofs.Common.{◌≡◌, ◌∙◌, sym, ap, subst, refl, ℕ, zero, suc, List, [], ◌∷◌, ◌++◌, length}
-use Rattle.std.proofs.Common.{Option, Some, None}
+use Rattle.std.proofs.Common.{◌≡◌, ◌∙◌, sym, ap, subst, refl, ℕ, zero, suc, List, [], ◌∷◌, ◌++◌}
+use Rattle.std.proofs.Common.{All, Some, None, length, map, slice_index_or, ◌+◌}
+use Rattle.std.proofs.lemmas.List.{length-map, map-append}
+use Rattle.std.proofs.lemmas.List.Elements.{All-push}
 use Rattle.std.specs.Prelude.{slice_get}
+use mathlib.Core.List.{IsPrefix}
 use Rattle.dealer_desk.specs.DealerOutput.{DeskEvents, book_at, dealer_output}
 use Rattle.dealer_desk.specs.QuoteLines.{lines_of}
 use Rattle.dealer_desk.specs.declared.events.DealerEvent.{DealerEvent}
+use Rattle.investor_desk.specs.InvestorOutput.{DeskEvents as InvestorEvents, investor_output}
+use Rattle.investor_desk.specs.InvestorOutput.{book_at as investor_book, market_for}
+use Rattle.investor_desk.specs.RequestLines.{lines_of as request_lines}
+use Rattle.quote_word.specs.Board.{BoardName, Front}
+use Rattle.quote_word.specs.SettleLog.{IsLegal, SettleLog}
+use Rattle.quote_word.specs.SettleLogLaws.{entry_stays_later}
 use Rattle.venue_config.specs.Rows.{Configuration, dealer_numbered}
 use Rattle.venue_config.specs.declared.dealer_rows.DealerRow.{DealerRow}
-use Rattle.step_replay.specs.Records.{ActionRef, DealerLists}
+use Rattle.step_replay.specs.Actions.{dealer_of, first_word}
+use Rattle.step_replay.specs.Records.{ActionRef, DealerLists, FirmLists, InvestorLists, RecordedDay}
+use Rattle.step_replay.specs.Records.{RoomLists, of_dealer, of_investor}
 use Rattle.step_replay.specs.declared.actions.Action.{Action}
 use Rattle.step_replay.specs.declared.actions.Inbound.{Inbound}
-use Rattle.session_worker.specs.DayChecks.{came_from_dealer}
-use Rattle.session_worker.specs.KeptDays.{DealerKeeps, DealersKeep}
-use Rattle.session_worker.proofs.LockLemmas.{some_is_none, some_same}
+use Rattle.step_replay.specs.declared.actions.Sweep.{Sweep}
+use Rattle.session_worker.specs.DayChecks.{DayRoom, came_from_dealer, came_from_investor}
+use Rattle.session_worker.specs.DayChecks.{first_unswept, first_untold}
+use Rattle.session_worker.specs.KeptDays.{DealerKeeps, DealersKeep, DealerStands}
+use Rattle.session_worker.specs.KeptDays.{DealersStand, InvestorKeeps, InvestorsKeep, KeepsDay}
+use Rattle.session_worker.specs.KeptDays.{RoomStands, RoomsStand, answers_to, names_of, rooms_in}
+use Rattle.session_worker.specs.KeptDays.{rooms_of, rooms_of_venue, without_rooms}
+use Rattle.session_worker.specs.Locks.{KeepsDealer, StandsIn, answers_at, answers_in}
+use Rattle.session_worker.proofs.AwardLemmas.{awards_stand}
+use Rattle.session_worker.proofs.DealerLockLemmas.{SentTheirView, view_is_seen}
+use Rattle.session_worker.proofs.LockLemmas.{answers_stay, some_is_none, some_same}
+use Rattle.session_worker.proofs.RoomLemmas.{each_like, inboxes_like}
 
 -- what holds of each item of a list, and of one item more behind them
 pub each_more : {X : Type 0} (P : ℕ → X → Type 0) (xs : List X) (x : X)
@@ -32,9 +52,10 @@ dealers_grow config days day keep more firm dealer found =
     each_more (DealerKeeps config) days day keep more firm dealer found
 
 -- the day of the dealer at its own place
-pub day_keeps : (config : Configuration) (firm place : ℕ) (desk : DeskEvents)
-    (order : List ActionRef) (inbox : List Inbound) (actions : List Action) (day : DealerLists)
-    → dealer_numbered config firm ≡ Some desk.row → firm ≡ place
+pub day_keeps : SentTheirView → (board : BoardName) (config : Configuration)
+    (firm first place : ℕ) (desk : DeskEvents) (seen : Front) (order : List ActionRef)
+    (inbox : List Inbound) (actions : List Action) (day : DealerLists)
+    → KeepsDealer board config firm first desk seen → firm ≡ place
     → day ≡ record {
       sent = dealer_output config.date desk.row desk.events;
       lines = lines_of (book_at desk);
@@ -43,7 +64,7 @@ pub day_keeps : (config : Configuration) (firm place : ℕ) (desk : DeskEvents)
       inbox = inbox;
       actions = actions;
     } → came_from_dealer desk.events ≡ inbox → DealerKeeps config place day
-day_keeps config firm place desk order inbox actions day row_is here is own =
+day_keeps law board config firm first place desk seen order inbox actions day kept here is own =
     let keeps : DealerKeeps config place (record {
       sent = dealer_output config.date desk.row desk.events;
       lines = lines_of (book_at desk);
@@ -53,8 +74,214 @@ day_keeps config firm place desk order inbox actions day row_is here is own =
       actions = actions;
     }) = record {
       row = desk.row;
-      row_is = subst (λ n. dealer_numbered config n ≡ Some desk.row) here row_is;
+      row_is = subst (λ n. dealer_numbered config n ≡ Some desk.row) here kept.row_is;
       sent_is = refl;
+      lines_is = ap (λ date. lines_of (book_at
+          (record { date = date; row = desk.row; events = desk.events }))) kept.day_is;
+      view_is = view_is_seen law board config firm first desk seen kept;
       own_is = own;
     } in
     subst (DealerKeeps config place) (sym is) keeps
+
+-- Investors.
+
+-- the day of the investor with this number
+pub investor_day_keeps : (config : Configuration) (firm : ℕ) (desk : InvestorEvents)
+    (order : List ActionRef) (inbox : List Inbound) (actions : List Action)
+    (rooms : List RoomLists) (day : InvestorLists)
+    → market_for config desk.market.firm ≡ Some desk.market → desk.market.firm ≡ firm
+    → day ≡ record {
+      sent = investor_output desk.market desk.events;
+      lines = request_lines (investor_book desk);
+      events = desk.events;
+      order = order;
+      inbox = inbox;
+      actions = actions;
+      rooms = rooms;
+    } → came_from_investor desk.events ≡ inbox → InvestorKeeps config firm day
+investor_day_keeps config firm desk order inbox actions rooms day market here is own =
+    let keeps : InvestorKeeps config firm (record {
+      sent = investor_output desk.market desk.events;
+      lines = request_lines (investor_book desk);
+      events = desk.events;
+      order = order;
+      inbox = inbox;
+      actions = actions;
+      rooms = rooms;
+    }) = record {
+      market = desk.market;
+      market_is = subst (λ n. market_for config n ≡ Some desk.market) here market;
+      sent_is = refl;
+      lines_is = refl;
+      own_is = own;
+    } in
+    subst (InvestorKeeps config firm) (sym is) keeps
+
+-- the days of investors, and one more
+pub investors_grow : (config : Configuration) (days : List InvestorLists) (day : InvestorLists)
+    → InvestorsKeep config days
+    → InvestorKeeps config (length config.dealers + length days) day
+    → InvestorsKeep config (days ++ day ∷ [])
+investors_grow config days day keep more k investor found =
+    each_more (λ n. InvestorKeeps config (length config.dealers + n)) days day keep more k investor
+    found
+
+-- what is recorded of an investor does not depend on its rooms
+pub keeps_alike : (config : Configuration) (firm : ℕ) (x y : InvestorLists)
+    → without_rooms x ≡ without_rooms y → InvestorKeeps config firm y → InvestorKeeps config firm x
+keeps_alike config firm x y same keeps =
+    let sent : x.sent ≡ y.sent = ap (λ (day : InvestorLists). day.sent) same in
+    let lines : x.lines ≡ y.lines = ap (λ (day : InvestorLists). day.lines) same in
+    let events : x.events ≡ y.events = ap (λ (day : InvestorLists). day.events) same in
+    let inbox : x.inbox ≡ y.inbox = ap (λ (day : InvestorLists). day.inbox) same in
+    record {
+      market = keeps.market;
+      market_is = keeps.market_is;
+      sent_is = sent ∙ keeps.sent_is ∙ ap (investor_output keeps.market) (sym events);
+      lines_is = lines ∙ keeps.lines_is ∙ ap (λ own. request_lines (investor_book
+          (record { market = keeps.market; events = own }))) (sym events);
+      own_is = ap came_from_investor events ∙ keeps.own_is ∙ sym inbox;
+    }
+
+-- Answers.
+
+-- the desk of a dealer
+abbrev desk_of : List ℕ → DealerRow → List DealerEvent → DeskEvents
+desk_of date row events = record { date = date; row = row; events = events }
+
+-- the answers at a desk stand in what its lock has seen
+pub dealer_stands : (board : BoardName) (config : Configuration) (firm first place : ℕ)
+    (desk : DeskEvents) (seen : Front) (day : DealerLists)
+    → KeepsDealer board config firm first desk seen → firm ≡ place → day.events ≡ desk.events
+    → DealerStands config seen.log place day
+dealer_stands board config firm first place desk seen day keeps here events row row_is =
+    let same : desk.row ≡ row = some_same desk.row row
+    (sym keeps.row_is ∙ ap (dealer_numbered config) here ∙ row_is) in
+    let first_is : first ≡ first_word config (dealer_of place row) = keeps.first_is
+    ∙ ap (λ n. first_word config (dealer_of n desk.row)) here
+    ∙ ap (λ own. first_word config (dealer_of place own)) same in
+    let desk_is : desk ≡ desk_of config.date row day.events =
+    ap (λ date. desk_of date desk.row desk.events) keeps.day_is
+    ∙ ap (λ own. desk_of config.date own desk.events) same
+    ∙ ap (desk_of config.date row) (sym events) in
+    let answers : answers_at first desk ≡ answers_to config place row day.events =
+    ap (λ n. answers_at n desk) first_is
+    ∙ ap (answers_at (first_word config (dealer_of place row))) desk_is in
+    subst (All (StandsIn seen.log)) answers keeps.answers_stand
+
+module _ (log later : SettleLog) (more : IsPrefix log later) where
+  -- answers that stand in a log stand in each that goes on from it
+  pub dealer_later : (config : Configuration) (firm : ℕ) (dealer : DealerLists)
+      → DealerStands config log firm dealer → DealerStands config later firm dealer
+  dealer_later config firm dealer stands row row_is =
+      answers_stay log later (λ w was e. entry_stays_later log later w was more e)
+      (answers_to config firm row dealer.events) (stands row row_is)
+
+  pub dealers_later : (config : Configuration) (dealers : List DealerLists)
+      → DealersStand config log dealers → DealersStand config later dealers
+  dealers_later config dealers stand firm dealer found =
+      dealer_later config firm dealer (stand firm dealer found)
+
+  pub rooms_later : (rooms : List DayRoom) → RoomsStand log rooms → RoomsStand later rooms
+  rooms_later rooms stand k d below =
+      answers_stay log later (λ w was e. entry_stays_later log later w was more e)
+      (answers_in (slice_index_or rooms k d).day.events) (stand k d below)
+
+  pub room_later : (room : DayRoom) → RoomStands log room → RoomStands later room
+  room_later room stands =
+      answers_stay log later (λ w was e. entry_stays_later log later w was more e)
+      (answers_in room.day.events) stands
+
+-- one dealer more
+pub dealers_stand_more : (config : Configuration) (log : SettleLog) (days : List DealerLists)
+    (day : DealerLists) → DealersStand config log days
+    → DealerStands config log (length days) day → DealersStand config log (days ++ day ∷ [])
+dealers_stand_more config log days day stand more firm dealer found =
+    each_more (DealerStands config log) days day stand more firm dealer found
+
+-- one room more
+pub rooms_stand_more : (log : SettleLog) (rooms : List DayRoom) (room : DayRoom)
+    → RoomsStand log rooms → RoomStands log room → RoomsStand log (rooms ++ room ∷ [])
+rooms_stand_more log rooms room stand more = All-push (RoomStands log) rooms room stand more
+
+-- The whole day.
+
+-- the messages that came from dealers and from investors
+abbrev pub dealer_inboxes : List DealerLists → List (List Inbound)
+dealer_inboxes days = map (λ (day : DealerLists). day.inbox) days
+
+abbrev pub investor_inboxes : List InvestorLists → List (List Inbound)
+investor_inboxes days = map (λ (day : InvestorLists). day.inbox) days
+
+firm_inboxes : (dealers : List DealerLists)
+    → map (λ (firm : FirmLists). firm.inbox) (map of_dealer dealers) ≡ dealer_inboxes dealers
+firm_inboxes [] = refl
+firm_inboxes (dealer ∷ later) = ap (λ rest. dealer.inbox ∷ rest) (firm_inboxes later)
+
+firm_inboxes_behind : (investors : List InvestorLists)
+    → map (λ (firm : FirmLists). firm.inbox) (map of_investor investors)
+    ≡ investor_inboxes investors
+firm_inboxes_behind [] = refl
+firm_inboxes_behind (investor ∷ later) =
+    ap (λ rest. investor.inbox ∷ rest) (firm_inboxes_behind later)
+
+-- what stands behind the joins and the checks
+pub record Joined (config : Configuration) (inboxes : List (List Inbound)) (sweeps : List Sweep)
+    (dealers : List DealerLists) (bare whole : List InvestorLists) (rooms : List DayRoom)
+    (log later : SettleLog) : Type 0 where
+  pub dealers_are : length dealers ≡ length config.dealers
+  pub investors_are : length bare ≡ length config.investors
+  pub rooms_are : names_of rooms ≡ rooms_of_venue config
+  pub alike : map without_rooms whole ≡ map without_rooms bare
+  pub rooms_in_whole : rooms_of (length config.dealers) whole ≡ rooms
+  pub inboxes_are : dealer_inboxes dealers ++ investor_inboxes bare ≡ inboxes
+  pub dealers_keep : DealersKeep config dealers
+  pub investors_keep : InvestorsKeep config bare
+  pub told : first_untold rooms dealers ≡ None
+  pub swept : first_unswept sweeps rooms ≡ None
+  pub dealers_stand : DealersStand config log dealers
+  pub rooms_stand : RoomsStand later rooms
+  pub goes_on : IsPrefix log later
+  pub legal : IsLegal later
+
+module _ (config : Configuration) (inboxes : List (List Inbound)) (sweeps : List Sweep)
+    (dealers : List DealerLists) (bare whole : List InvestorLists) (clock : List Action)
+    (rooms : List DayRoom) (log later : SettleLog)
+    (joined : Joined config inboxes sweeps dealers bare whole rooms log later) where
+  -- the record of it
+  abbrev day_of : RecordedDay
+  day_of = record { dealers = dealers; investors = whole; clock = clock }
+
+  same_rooms : rooms ≡ rooms_in day_of
+  same_rooms = sym joined.rooms_in_whole
+      ∙ ap (λ n. rooms_of n whole) (sym joined.dealers_are)
+
+  pub day_is_kept : KeepsDay config inboxes sweeps day_of
+  day_is_kept = record {
+    dealers_are = joined.dealers_are;
+    investors_are = sym (length-map whole without_rooms) ∙ ap length joined.alike
+        ∙ length-map bare without_rooms ∙ joined.investors_are;
+    rooms_are = subst (λ own. names_of own ≡ rooms_of_venue config) same_rooms joined.rooms_are;
+    inboxes_are = map-append (λ (firm : FirmLists). firm.inbox) (map of_dealer dealers)
+        (map of_investor whole)
+        ∙ ap (λ first. first ++ map (λ (firm : FirmLists). firm.inbox) (map of_investor whole))
+        (firm_inboxes dealers)
+        ∙ ap (λ behind. dealer_inboxes dealers ++ behind)
+        (firm_inboxes_behind whole ∙ inboxes_like whole bare joined.alike)
+        ∙ joined.inboxes_are;
+    dealers_keep = joined.dealers_keep;
+    investors_keep =
+        each_like (λ k. InvestorKeeps config (length config.dealers + k))
+        (λ k. keeps_alike config (length config.dealers + k)) whole bare joined.alike
+        joined.investors_keep;
+    told = subst (λ own. first_untold own dealers ≡ None) same_rooms joined.told;
+    swept = subst (λ own. first_unswept sweeps own ≡ None) same_rooms joined.swept;
+    answers_agree = record {
+      log = later;
+      legal = joined.legal;
+      at_desks = dealers_later log later joined.goes_on config dealers joined.dealers_stand;
+      in_rooms = subst (RoomsStand later) same_rooms joined.rooms_stand;
+      awards = awards_stand later (rooms_in day_of)
+          (subst (RoomsStand later) same_rooms joined.rooms_stand);
+    };
+  }

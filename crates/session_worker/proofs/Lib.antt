@@ -1,4 +1,9 @@
+pub mod AwardLemmas
 pub mod CheckLemmas
+pub mod DealerLockLemmas
 pub mod InboxLemmas
 pub mod KeepLemmas
 pub mod LockLemmas
+pub mod RoomLemmas
+pub mod ToldLemmas
+pub mod ViewLemmas

@@ -2,3 +2,4 @@ pub mod DayChecks
 pub mod Inbox
 pub mod KeptDays
 pub mod Locks
+pub mod ToldRooms

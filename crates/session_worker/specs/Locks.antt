@@ -1,5 +1,5 @@
 -- What lies under the locks of a venue, and what holds of it whenever a lock is free.
-use Rattle.std.specs.Prelude.{◌≡◌, ℕ, ◌+◌, List, ◌∷◌, [], ◌++◌, map, Option, Some, None, All}
+use Rattle.std.specs.Prelude.{◌≡◌, ℕ, List, ◌∷◌, [], ◌++◌, map, Option, Some, None, All}
 use Rattle.std.specs.List.{filter_map}
 use Rattle.std.specs.Option.{option_map}
 use Rattle.dealer_desk.specs.DealerOutput as dealer
@@ -14,6 +14,7 @@ use Rattle.quote_word.specs.declared.settled.Settlement.{Settlement}
 use Rattle.request_room.specs.declared.events.RoomEvent.{RoomEvent}
 use Rattle.request_room.specs.declared.events.RoomEvent.TheVariants as in_room
 use Rattle.step_replay.specs.Actions.{dealer_of, first_word}
+use Rattle.step_replay.specs.DayDues.{AreAnswered}
 use Rattle.step_replay.specs.Records.{ActionRef}
 use Rattle.venue_config.specs.Rows.{Configuration, dealer_numbered}
 use Rattle.venue_steps.specs.Words.{word_of}
@@ -69,14 +70,16 @@ pub record RoomUnderLock : Type 0 where
   pub seen : Front
   pub order : List ActionRef
 
--- Under the lock of a dealer lies the desk of a dealer of the configuration. The token is one of the
--- venue's board, and each word that was asked at the desk is in its log what it was answered.
+-- Under the lock of a dealer lies the desk of a dealer of the configuration. Each of its events had
+-- an answer exactly where it asked a word. The token is one of the venue's board, and each word that
+-- was asked at the desk is in its log what it was answered.
 pub record KeepsDealer (board : BoardName) (config : Configuration) (firm first : ℕ)
     (desk : dealer.DeskEvents) (seen : Front) : Type 0 where
   pub of_board : seen.board ≡ board
   pub day_is : desk.date ≡ config.date
   pub row_is : dealer_numbered config firm ≡ Some desk.row
   pub first_is : first ≡ first_word config (dealer_of firm desk.row)
+  pub answered : AreAnswered desk
   pub answers_stand : All (StandsIn seen.log) (answers_at first desk)
 
 -- under the lock of an investor lies the desk of an investor of the configuration

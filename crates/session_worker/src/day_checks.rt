@@ -3,13 +3,17 @@
 //! clock was told.
 ghost use Rattle.std.specs.Prelude.{◌≡◌, ◌≤◌, ◌↔◌, [], ◌∷◌, count_by, find, length, not};
 ghost use Rattle.std.specs.Prelude.{IsTrue, IfOk, MatchOption};
-ghost use Rattle.std.specs.List.{list_all, list_any};
+ghost use Rattle.std.specs.BTreeMap.{get};
+ghost use Rattle.std.specs.List.{list_all};
 ghost use Rattle.std.specs.Option.{option_copied};
 ghost use Rattle.std.specs.Str.{bytes_eq};
 ghost use Rattle.session_worker.specs.DayChecks as spec;
+ghost use Rattle.session_worker.specs.ToldRooms as kept;
+ghost use Rattle.session_worker.specs.ToldRooms.{room_cmp};
 
 use crate::day_rooms::DayRoom;
 use crate::notices::{Notice, notices_told};
+use crate::told_rooms::{Told, by_room, is_once};
 use dealer_desk::DealerEvent;
 use fix_fields::{Memory, Moment};
 use investor_desk::InvestorEvent;
@@ -17,6 +21,7 @@ use market_terms::{Close, RoomRef};
 use quote_messages::Message;
 use request_room::RoomEvent;
 use std::alloc::Global;
+use std::collections::BTreeMap;
 use step_replay::{DealerDay, Inbound, Sweep};
 use venue_config::VenueConfig;
 use venue_steps::close_for;
@@ -114,18 +119,26 @@ fn is_told(
     ensures { IfOk result (λ told. told ≡ spec.is_told rooms.now dealer events.now) }
 {
     let notices = notices_told(alloc, events)?;
-    let told = are_due(&notices, dealer, rooms);
+    let told = are_due(alloc, &notices, dealer, rooms)?;
     Ok(told)
 }
 
-/// Whether these closing notices are what a dealer is to be told.
-fn are_due(notices: &[Notice], dealer: u16, rooms: &[DayRoom]) -> bool
-    ensures { result ≡ spec.are_due notices.now dealer rooms.now }
+/// Whether these closing notices are what a dealer is to be told. Each room looks for its own by
+/// the room's name.
+fn are_due(
+    alloc: Global,
+    notices: &[Notice],
+    dealer: u16,
+    rooms: &[DayRoom],
+) -> Result<bool, Memory>
+    ensures { IfOk result (λ due. due ≡ spec.are_due notices.now dealer rooms.now) }
 {
     if notices.len() != count_due(dealer, rooms) {
-        return false;
+        return Ok(false);
     }
-    are_settled(notices, dealer, rooms)
+    let by_room = by_room(alloc, notices)?;
+    let settled = are_settled(&by_room, dealer, rooms);
+    Ok(settled)
 }
 
 /// How many of these rooms a dealer is to be told the end of.
@@ -139,63 +152,29 @@ fn count_due(dealer: u16, rooms: &[DayRoom]) -> usize
 }
 
 /// Whether the dealer was told once of each of these rooms whose end it is to be told.
-fn are_settled(notices: &[Notice], dealer: u16, rooms: &[DayRoom]) -> bool
-    ensures { result ≡ list_all
-        (λ room. spec.is_settled notices.now room.at (spec.close_due dealer room)) rooms.now }
+fn are_settled(by_room: &BTreeMap<RoomRef, Told>, dealer: u16, rooms: &[DayRoom]) -> bool
+    ensures { result ≡ list_all (λ room. kept.is_settled_by
+        (get room_cmp by_room.now room.at) (spec.close_due dealer room)) rooms.now }
 {
-    rooms.iter().all(|room| is_settled(notices, dealer, room))
+    rooms.iter().all(|room| is_settled(by_room, dealer, room))
 }
 
 /// Whether the dealer was told once how this room ended for it, where it is to be told.
-fn is_settled(notices: &[Notice], dealer: u16, room: &DayRoom) -> bool
-    ensures { result
-        ≡ spec.is_settled notices.now room.now.at (spec.close_due dealer room.now) }
+fn is_settled(by_room: &BTreeMap<RoomRef, Told>, dealer: u16, room: &DayRoom) -> bool
+    ensures { result ≡ kept.is_settled_by
+        (get room_cmp by_room.now room.now.at) (spec.close_due dealer room.now) }
 {
-    is_told_of(notices, room.at(), close_due(dealer, room))
+    is_told_of(by_room, room.at(), close_due(dealer, room))
 }
 
 /// Whether the dealer was told once that a room ended so for it, where it is to be told.
-fn is_told_of(notices: &[Notice], room: RoomRef, due: Option<Close>) -> bool
-    ensures { result ≡ spec.is_settled notices.now room due }
+fn is_told_of(by_room: &BTreeMap<RoomRef, Told>, room: RoomRef, due: Option<Close>) -> bool
+    ensures { result ≡ kept.is_settled_by (get room_cmp by_room.now room) due }
 {
     let Some(close) = due else {
         return true;
     };
-    is_told_once(notices, room, close)
-}
-
-/// Whether exactly one notice is of this room, and it says this.
-fn is_told_once(notices: &[Notice], room: RoomRef, close: Close) -> bool
-    ensures { result ≡ spec.is_told_once notices.now room close }
-{
-    if count_of(notices, room) != 1 {
-        return false;
-    }
-    any_says(notices, room, close)
-}
-
-/// How many notices are of this room.
-fn count_of(notices: &[Notice], room: RoomRef) -> usize
-    ensures { result ≡ count_by (spec.is_of room) notices.now }
-{
-    notices.iter().filter(|notice| is_of(room, notice)).count()
-}
-
-/// Whether some notice says that this room ended so for the dealer.
-fn any_says(notices: &[Notice], room: RoomRef, close: Close) -> bool
-    ensures { result ≡ list_any (spec.says room close) notices.now }
-{
-    notices.iter().any(|notice| says(room, close, notice))
-}
-
-/// Whether a notice is of this room.
-fn is_of(room: RoomRef, notice: &Notice) -> bool
-    ensures { result ≡ spec.is_of room notice.now }
-{
-    let Some(other) = notice.room else {
-        return false;
-    };
-    is_same_room(room, other)
+    is_once(by_room, room, close)
 }
 
 /// Whether two rooms are the same.
@@ -203,16 +182,6 @@ fn is_same_room(room: RoomRef, other: RoomRef) -> bool
     ensures { result ≡ spec.same_room room other }
 {
     room.investor == other.investor && room.n == other.n
-}
-
-/// Whether a notice says that this room ended so for the dealer.
-fn says(room: RoomRef, close: Close, notice: &Notice) -> bool
-    ensures { result ≡ spec.says room close notice.now }
-{
-    if !is_of(room, notice) {
-        return false;
-    }
-    notice.close.code() == close.code()
 }
 
 /// How a room ended for a dealer, where it ended and its request names the dealer.

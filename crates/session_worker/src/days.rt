@@ -1,6 +1,8 @@
 //! A day on threads, from the configuration to the record.
-ghost use Rattle.std.specs.Prelude.{◌≡◌, IfOk};
-ghost use Rattle.session_worker.specs.KeptDays.{DealersKeep};
+ghost use Rattle.std.specs.Prelude.{◌≡◌, ◌+◌, length, map, IfOk};
+ghost use Rattle.quote_word.specs.SettleLog.{IsLegal};
+ghost use Rattle.session_worker.specs.KeptDays.{KeepsDay};
+ghost use Rattle.step_replay.specs.Actions as actions;
 
 use crate::day_checks::{sweep_fault, told_fault};
 use crate::faults::DayFault;
@@ -29,7 +31,8 @@ pub fn run_day<R: Threads + Wait + Sync, G: Gate>(
     sweeps: Vec<Sweep>,
     gate: &G,
 ) -> Result<DayRecord, DayFault>
-    ensures dealers { IfOk result (λ day. DealersKeep config day.dealers) }
+    ensures { IfOk result (λ day.
+        KeepsDay config (map (λ inbox. inbox.items) inboxes.items) sweeps.items day) }
 {
     let firms = config.dealers().len() + config.investors().len();
     if inboxes.len() != firms {
@@ -41,10 +44,12 @@ pub fn run_day<R: Threads + Wait + Sync, G: Gate>(
 }
 
 /// How many words a venue has: one for each quote that its dealers may have in a day.
-fn words_of(config: &VenueConfig) -> u32 {
-    let mut words = 0u32;
+fn words_of(config: &VenueConfig) -> u32
+    ensures { result ≡ actions.words_of config.now }
+{
+    let mut words = 0;
     for row in config.dealers() {
-        words = row.quotes.saturating_add(words);
+        words += row.quotes;
     }
     words
 }
@@ -63,7 +68,11 @@ fn run_named<J: Naming + Send + Sync, R: Threads + Wait + Sync, G: Gate>(
     requires board { board ≡ J.board }
     requires seen { seen.board ≡ J.board }
     requires config { config ≡ J.config }
-    ensures dealers { IfOk result (λ day. DealersKeep J.config day.dealers) }
+    requires words { board.words ≡ actions.words_of J.config }
+    requires inboxes { length inboxes.items
+        ≡ length J.config.dealers + length J.config.investors }
+    ensures { IfOk result (λ day.
+        KeepsDay J.config (map (λ inbox. inbox.items) inboxes.items) sweeps.items day) }
 {
     let venue = SharedVenue::<J>::new(alloc, config, board, seen.again())?;
     let done = work(
@@ -84,7 +93,11 @@ fn sessions_left(
     alloc: Global,
     inboxes: Vec<Vec<Inbound>>,
     works: Vec<Vec<Action>>,
-) -> Result<Vec<Session>, Memory> {
+) -> Result<Vec<Session>, Memory>
+    requires { length works.items ≡ length inboxes.items }
+    ensures { IfOk result (λ sessions. map (λ session. session.inbox.items) sessions.items
+        ≡ map (λ inbox. inbox.items) inboxes.items) }
+{
     let mut sessions = Vec::with_capacity(alloc, inboxes.len())?;
     for (inbox, actions) in inboxes.into_iter().zip(works) {
         sessions.push(Session { inbox, actions })?;
@@ -100,8 +113,12 @@ fn recorded<J: Naming>(
     clock: Vec<Action>,
     sweeps: &[Sweep],
 ) -> Result<DayRecord, DayFault>
-    requires { seen.board ≡ J.board }
-    ensures dealers { IfOk result (λ day. DealersKeep J.config day.dealers) }
+    requires seen { seen.board ≡ J.board }
+    requires legal { IsLegal seen.log }
+    requires sessions { length sessions.items
+        ≡ length J.config.dealers + length J.config.investors }
+    ensures { IfOk result (λ day. KeepsDay J.config
+        (map (λ session. session.inbox.items) sessions.items) sweeps.now day) }
 {
     let SharedVenue {
         alloc,
@@ -112,13 +129,10 @@ fn recorded<J: Naming>(
         ..
     } = venue;
     let first = config.dealer_count();
-    let behind = sessions.split_off(usize::from(first).min(sessions.len()))?;
+    let behind = sessions.split_off(usize::from(first))?;
     let (dealers, seen) = dealer_days(alloc, &board, seen, dealers, sessions)?;
-    if dealers.len() != usize::from(first) {
-        return Err(DayFault::Inbox(first));
-    }
     let mut rooms = Vec::new(alloc);
-    let (investors, _seen) = investor_days(
+    let (investors, seen) = investor_days(
         alloc, &board, seen, first, investors, behind, &mut rooms,
     )?;
     if let Some(dealer) = told_fault(alloc, dealers.as_slice(), rooms.as_slice())? {

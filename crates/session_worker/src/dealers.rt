@@ -4,8 +4,8 @@ ghost use Rattle.dealer_desk.specs.DealerOutput.{book_at, dealer_output, number_
 ghost use Rattle.dealer_desk.specs.DealerOutput.{with_notice_in};
 ghost use Rattle.dealer_desk.specs.QuoteLines.{lines_of};
 ghost use Rattle.quote_word.specs.SettleLog.{entry_of, IsLegal};
-ghost use Rattle.session_worker.specs.KeptDays.{DealerKeeps};
-ghost use Rattle.session_worker.specs.Locks.{StandsIn, answers_at, with_action};
+ghost use Rattle.session_worker.specs.KeptDays.{DealerKeeps, DealerStands};
+ghost use Rattle.session_worker.specs.Locks.{KeepsDealer, StandsIn, answers_at, with_action};
 ghost use Rattle.step_replay.specs.Actions as actions;
 ghost use Rattle.step_replay.specs.Actions.{dealer_of};
 ghost use Rattle.venue_config.specs.Rows.{dealer_numbered};
@@ -25,7 +25,9 @@ use market_terms::{Ask, Close, RoomRef};
 use quote_word::BoardSeen;
 use std::alloc::Global;
 use std::marker::{Model, PhantomData};
-use step_replay::{Actor, DealerDay};
+use step_replay::{
+    Actor, DealerDay, events_are_answered_one_by_one, recorded_dealers_are_sent_their_view,
+};
 use venue_config::{DealerRow, VenueConfig};
 use venue_steps::{do_drop, do_show, do_tell, own_dealer};
 
@@ -101,6 +103,7 @@ impl<J: Naming> LockedDealer<J> {
             (self.new.order ≡ with_action self.old.order (acting.now.by, acting.now.number)) }
     {
         words_are_asked_event_by_event();
+        events_are_answered_one_by_one();
         self.order.reserve(1)?;
         let mut words = WatchedWords::new(acting, self.seen.again());
         let done = own_dealer(&mut self.desk, &mut words, self.first_word, moment, bytes);
@@ -128,6 +131,7 @@ impl<J: Naming> LockedDealer<J> {
             (self.new.order ≡ with_action self.old.order (acting.now.by, acting.now.number)) }
     {
         words_are_asked_event_by_event();
+        events_are_answered_one_by_one();
         self.order.reserve(1)?;
         let mut words = WatchedWords::new(acting, self.seen.again());
         let done = do_drop(&mut self.desk, &mut words, self.first_word, last, moment);
@@ -151,6 +155,7 @@ impl<J: Naming> LockedDealer<J> {
         ensures order { OnOk result (self.new.order ≡ with_action self.old.order action) }
     {
         words_are_asked_event_by_event();
+        events_are_answered_one_by_one();
         self.order.reserve(1)?;
         let duties = do_show(&mut self.desk, room, ask, moment)?;
         self.order.push(action)?;
@@ -170,6 +175,7 @@ impl<J: Naming> LockedDealer<J> {
         ensures order { OnOk result (self.new.order ≡ with_action self.old.order action) }
     {
         words_are_asked_event_by_event();
+        events_are_answered_one_by_one();
         self.order.reserve(1)?;
         let duties = do_tell(&mut self.desk, room, close, moment)?;
         self.order.push(action)?;
@@ -188,8 +194,11 @@ impl<J: Naming> LockedDealer<J> {
     /// The day of the dealer at this place among the dealers, of whose session this is left. The
     /// fault is that the desk is another dealer's, or that its own events are not its inbox.
     pub(crate) fn day_at(self, place: usize, session: Session) -> Result<DealerDay, DayFault>
-        ensures { IfOk result (λ day. DealerKeeps J.config place day) }
+        ensures keeps { IfOk result (λ day. DealerKeeps J.config place day) }
+        ensures stands { IfOk result (λ day. DealerStands J.config self.seen.log place day) }
+        ensures inbox { IfOk result (λ day. day.inbox ≡ session.inbox.items) }
     {
+        recorded_dealers_are_sent_their_view();
         if usize::from(self.firm) != place {
             return Err(DayFault::Inbox(firm_number(place)));
         }
@@ -202,7 +211,8 @@ impl<J: Naming> LockedDealer<J> {
 
     /// The day of the dealer, of whose session this is left.
     fn into_day(self, session: Session) -> DealerDay
-        ensures row { dealer_numbered J.config self.firm ≡ Some self.desk.row }
+        ensures kept { KeepsDealer
+            J.board J.config self.firm self.first self.desk self.seen }
         ensures day { result ≡ record {
           sent = dealer_output J.config.date self.desk.row self.desk.events;
           lines = lines_of (book_at self.desk);

@@ -1,16 +1,19 @@
 //! What lies under the lock of an investor's desk.
-ghost use Rattle.std.specs.Prelude.{◌≡◌, true, Some, is_some, OnOk};
+ghost use Rattle.std.specs.Prelude.{◌≡◌, true, Some, is_some, IfOk, OnOk};
 ghost use Rattle.investor_desk.specs.InvestorOutput.{book_at, investor_output, market_for};
 ghost use Rattle.investor_desk.specs.RequestLines.{lines_of};
+ghost use Rattle.session_worker.specs.KeptDays.{InvestorKeeps};
 ghost use Rattle.session_worker.specs.Locks.{with_action};
 ghost use Rattle.venue_config.specs.Rows.{investor_numbered};
 ghost use Rattle.venue_steps.specs.InvestorSteps as steps;
 
+use crate::day_checks::is_inbox_of_investor;
 use crate::done::Done;
+use crate::faults::DayFault;
 use crate::joined::Session;
 use crate::naming::Naming;
 use fix_fields::{Memory, Moment};
-use investor_desk::{InvestorDesk, InvestorEvent};
+use investor_desk::InvestorDesk;
 use market_terms::{Offer, Reply, ResponseRef};
 use std::alloc::Global;
 use std::marker::{Model, PhantomData};
@@ -131,8 +134,8 @@ impl<J: Naming> LockedInvestor<J> {
         reply: Reply,
         moment: Moment,
     ) -> Result<Done, Memory>
-        ensures desk { OnOk result
-            (self.new.desk ≡ steps.desk_after_answer self.old.desk request response.now reply moment) }
+        ensures desk { OnOk result (self.new.desk
+            ≡ steps.desk_after_answer self.old.desk request response.now reply moment) }
         ensures order { OnOk result (self.new.order ≡ with_action self.old.order action) }
     {
         self.order.reserve(1)?;
@@ -158,22 +161,30 @@ impl<J: Naming> LockedInvestor<J> {
         Ok(Done::unasked(duties))
     }
 
-    /// The number of the investor among the firms.
-    pub(crate) fn firm(&self) -> u16
-        ensures { result ≡ self.now.desk.market.firm }
+    /// The day of the investor with this number among the firms, of whose session this is left,
+    /// still without its rooms. The fault is that the desk is another investor's, or that its own
+    /// events are not its inbox.
+    pub(crate) fn day_at(
+        self,
+        alloc: Global,
+        firm: u16,
+        session: Session,
+    ) -> Result<InvestorDay, DayFault>
+        ensures keeps { IfOk result (λ day. InvestorKeeps J.config firm day) }
+        ensures inbox { IfOk result (λ day. day.inbox ≡ session.inbox.items) }
     {
-        self.desk.firm()
+        if self.desk.firm() != firm {
+            return Err(DayFault::Inbox(firm));
+        }
+        if !is_inbox_of_investor(self.desk.events(), session.inbox.as_slice()) {
+            return Err(DayFault::Inbox(firm));
+        }
+        let day = self.into_day(session, Vec::new(alloc));
+        Ok(day)
     }
 
-    /// The events at the desk.
-    pub(crate) fn events(&self) -> &[InvestorEvent]
-        ensures { result.now ≡ self.now.desk.events }
-    {
-        self.desk.events()
-    }
-
-    /// The day of the investor, of whose session this is left, with its rooms.
-    pub(crate) fn into_day(self, session: Session, rooms: Vec<RoomDay>) -> InvestorDay
+    /// The day of the investor, of whose session this is left, with these rooms.
+    fn into_day(self, session: Session, rooms: Vec<RoomDay>) -> InvestorDay
         ensures market { market_for J.config self.desk.market.firm ≡ Some self.desk.market }
         ensures day { result ≡ record {
           sent = investor_output self.desk.market self.desk.events;

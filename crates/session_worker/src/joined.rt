@@ -1,8 +1,13 @@
 //! What lies under the locks after the joins, as the record of the day has it.
-ghost use Rattle.std.specs.Prelude.{◌≡◌, IfOk};
-ghost use Rattle.session_worker.specs.KeptDays.{DealersKeep};
+ghost use Rattle.std.specs.Prelude.{◌≡◌, ◌<◌, ◌+◌, ◌^◌, [], ◌++◌, drop, length, map, take};
+ghost use Rattle.std.specs.Prelude.{IfOk, OnOk};
+ghost use Rattle.std.specs.Vec.Iter.{into_iter_items};
+ghost use mathlib.Core.List.{IsPrefix};
+ghost use Rattle.quote_word.specs.SettleLog.{IsLegal};
+ghost use Rattle.session_worker.specs.KeptDays.{DealersKeep, DealersStand, InvestorsKeep};
+ghost use Rattle.session_worker.specs.KeptDays.{RoomsStand, names_by, names_from, names_of};
+ghost use Rattle.session_worker.specs.KeptDays.{rooms_of, rooms_of_venue, without_rooms};
 
-use crate::day_checks::is_inbox_of_investor;
 use crate::day_rooms::DayRoom;
 use crate::faults::DayFault;
 use crate::naming::Naming;
@@ -13,7 +18,8 @@ use market_terms::RoomRef;
 use quote_word::{Board, BoardSeen};
 use std::alloc::Global;
 use std::sync::Mutex;
-use step_replay::{Action, DealerDay, Inbound, InvestorDay};
+use std::vec;
+use step_replay::{Action, DealerDay, Inbound, InvestorDay, RoomDay};
 use venue_config::VenueConfig;
 
 /// What a session leaves: the messages that came to it, and what the firm did.
@@ -29,7 +35,7 @@ pub(crate) fn firm_number(place: usize) -> u16 {
 }
 
 /// The days of the dealers, and a token that is later than those of all their locks. The fault is
-/// the first dealer whose desk is another's.
+/// the first dealer whose desk is another's, or whose own events are not its inbox.
 pub(crate) fn dealer_days<J: Naming>(
     alloc: Global,
     board: &Board,
@@ -39,8 +45,14 @@ pub(crate) fn dealer_days<J: Naming>(
 ) -> Result<(Vec<DealerDay>, BoardSeen), DayFault>
     requires board { board.now ≡ J.board }
     requires seen { seen.board ≡ J.board }
+    requires legal { IsLegal seen.log }
+    requires sessions { length sessions.items ≡ length places.items }
     ensures seen { IfOk result (λ days. days.1.board ≡ J.board) }
+    ensures legal { IfOk result (λ days. IsLegal days.1.log) }
     ensures keep { IfOk result (λ days. DealersKeep J.config days.0.items) }
+    ensures stand { IfOk result (λ days. DealersStand J.config days.1.log days.0.items) }
+    ensures inboxes { IfOk result (λ days. map (λ day. day.inbox) days.0.items
+        ≡ map (λ session. session.inbox.items) sessions.items) }
 {
     let mut days = Vec::with_capacity(alloc, places.len())?;
     let mut seen = seen;
@@ -68,22 +80,28 @@ pub(crate) fn investor_days<J: Naming>(
 ) -> Result<(Vec<InvestorDay>, BoardSeen), DayFault>
     requires board { board.now ≡ J.board }
     requires seen { seen.board ≡ J.board }
-    ensures { IfOk result (λ days. days.1.board ≡ J.board) }
+    requires legal { IsLegal seen.log }
+    requires first { first ≡ length J.config.dealers }
+    requires numbers { first + length places.items < 2 ^ 16 }
+    requires sessions { length sessions.items ≡ length places.items }
+    requires none { all.old.items ≡ [] }
+    ensures later { IfOk result (λ days. IsPrefix seen.log days.1.log) }
+    ensures legal { IfOk result (λ days. IsLegal days.1.log) }
+    ensures keep { IfOk result (λ days. InvestorsKeep J.config days.0.items) }
+    ensures rooms { OnOk result (names_of all.new.items
+        ≡ names_by first (map (λ place. length place.rooms.items) places.items)) }
+    ensures stand { IfOk result (λ days. RoomsStand days.1.log all.new.items) }
+    ensures inboxes { IfOk result (λ days. map (λ day. day.inbox) days.0.items
+        ≡ map (λ session. session.inbox.items) sessions.items) }
 {
     let mut days = Vec::with_capacity(alloc, places.len())?;
     let mut seen = seen;
     for (place, session) in places.into_iter().zip(sessions) {
-        let InvestorPlace { desk, rooms } = place;
-        let locked = desk.into_inner();
-        let firm = firm_number(usize::from(first) + days.len());
-        if locked.firm() != firm {
-            return Err(DayFault::Inbox(firm));
-        }
-        if !is_inbox_of_investor(locked.events(), session.inbox.as_slice()) {
-            return Err(DayFault::Inbox(firm));
-        }
+        let InvestorPlace { desk, rooms, .. } = place;
+        let firm = first + days.len() as u16;
+        let day = desk.into_inner().day_at(alloc, firm, session)?;
         seen = put_rooms(board, seen, firm, rooms, all)?;
-        days.push(locked.into_day(session, Vec::new(alloc)))?;
+        days.push(day)?;
     }
     Ok((days, seen))
 }
@@ -99,14 +117,22 @@ fn put_rooms<J: Naming>(
 ) -> Result<BoardSeen, Memory>
     requires board { board.now ≡ J.board }
     requires seen { seen.board ≡ J.board }
-    ensures { IfOk result (λ seen. seen.board ≡ J.board) }
+    requires legal { IsLegal seen.log }
+    requires numbers { length rooms.items < 2 ^ 32 }
+    requires stand { RoomsStand seen.log all.old.items }
+    ensures seen { IfOk result (λ later. later.board ≡ J.board) }
+    ensures later { IfOk result (λ later. IsPrefix seen.log later.log) }
+    ensures legal { IfOk result (λ later. IsLegal later.log) }
+    ensures rooms { OnOk result (names_of all.new.items
+        ≡ names_of all.old.items ++ names_from investor 1 (length rooms.items)) }
+    ensures stand { IfOk result (λ later. RoomsStand later.log all.new.items) }
 {
     let mut seen = seen;
     let mut n = 0u32;
     for room in rooms {
         let locked = room.into_inner();
         seen = board.both(seen, locked.seen());
-        n = n.saturating_add(1);
+        n += 1;
         all.push(locked.into_day(RoomRef { investor, n }))?;
     }
     Ok(seen)
@@ -119,19 +145,41 @@ pub(crate) fn with_rooms(
     config: &VenueConfig,
     days: Vec<InvestorDay>,
     rooms: Vec<DayRoom>,
-) -> Result<Vec<InvestorDay>, Memory> {
+) -> Result<Vec<InvestorDay>, Memory>
+    requires days { length days.items ≡ length config.now.investors }
+    requires rooms { names_of rooms.items ≡ rooms_of_venue config.now }
+    ensures days { IfOk result (λ whole. map without_rooms whole.items
+        ≡ map without_rooms days.items) }
+    ensures rooms { IfOk result (λ whole.
+        rooms_of (length config.now.dealers) whole.items ≡ rooms.items) }
+{
     let mut whole = Vec::with_capacity(alloc, days.len())?;
     let mut rooms = rooms.into_iter();
     for (day, row) in days.into_iter().zip(config.investors()) {
-        let mut own = Vec::with_capacity(alloc, row.requests as usize)?;
-        for _ in 0..row.requests {
-            if let Some(room) = rooms.next() {
-                own.push(room.into_day())?;
-            }
-        }
         let mut day = day;
-        day.rooms = own;
+        day.rooms = next_rooms(alloc, &mut rooms, row.requests as usize)?;
         whole.push(day)?;
     }
     Ok(whole)
+}
+
+/// The next rooms of a list, so many, as they are recorded.
+fn next_rooms(
+    alloc: Global,
+    rooms: &mut vec::IntoIter<DayRoom>,
+    count: usize,
+) -> Result<Vec<RoomDay>, Memory>
+    ensures own { IfOk result (λ own. own.items
+        ≡ map (λ room. room.day) (take count (into_iter_items rooms.old))) }
+    ensures rest { OnOk result (into_iter_items rooms.new
+        ≡ drop count (into_iter_items rooms.old)) }
+{
+    let mut own = Vec::with_capacity(alloc, count)?;
+    for _ in 0..count {
+        match rooms.next() {
+            Some(room) => own.push(room.into_day())?,
+            None => return Ok(own),
+        }
+    }
+    Ok(own)
 }

@@ -1,4 +1,6 @@
 //! A thread for each firm and one for the clock.
+ghost use Rattle.std.specs.Prelude.{◌≡◌, length, IfOk};
+
 use crate::actors::{clock_actions, session_actions};
 use crate::gates::Gate;
 use crate::naming::Naming;
@@ -7,7 +9,7 @@ use fix_fields::Memory;
 use std::alloc::Global;
 use std::sync::Wait;
 use std::thread;
-use std::thread::{JoinHandle, Threads};
+use std::thread::{JoinHandle, Scope, Threads};
 use step_replay::{Action, Inbound, Sweep};
 
 /// What an actor did, or that memory was refused to it.
@@ -49,29 +51,46 @@ pub(crate) fn work<J: Naming + Send + Sync, R: Threads + Wait + Sync, G: Gate>(
     inboxes: &[Vec<Inbound>],
     sweeps: &[Sweep],
     gate: &G,
-) -> Result<DayWork, Memory> {
+) -> Result<DayWork, Memory>
+    ensures { IfOk result (λ work. length work.firms.items ≡ length inboxes.now) }
+{
     thread::scope(thread::scope_env(), rt, |scope| {
-        let mut workers = Vec::with_capacity(alloc, inboxes.len())?;
-        let mut firm = 0u16;
-        for inbox in inboxes {
-            let inbox = inbox.as_slice();
-            let started = scope.spawn(move || session_actions(rt, venue, firm, inbox, gate));
-            let worker = match started {
-                Ok(handle) => Worker::Running(handle),
-                Err(refused) => Worker::Done((refused.value)()),
-            };
-            workers.push(worker)?;
-            firm = firm.wrapping_add(1);
-        }
-        let started = scope.spawn(move || clock_actions(rt, venue, sweeps, gate));
-        let clock = match started {
+        worked(scope, rt, alloc, venue, inboxes, sweeps, gate)
+    })
+}
+
+/// The same in a scope of threads.
+fn worked<'s, E, J: Naming + Send + Sync, R: Threads + Wait + Sync, G: Gate>(
+    scope: &'s Scope<'s, E>,
+    rt: &'s R,
+    alloc: Global,
+    venue: &'s SharedVenue<J>,
+    inboxes: &'s [Vec<Inbound>],
+    sweeps: &'s [Sweep],
+    gate: &'s G,
+) -> Result<DayWork, Memory>
+    ensures { IfOk result (λ work. length work.firms.items ≡ length inboxes.now) }
+{
+    let mut workers = Vec::with_capacity(alloc, inboxes.len())?;
+    let mut firm = 0u16;
+    for inbox in inboxes {
+        let inbox = inbox.as_slice();
+        let started = scope.spawn(move || session_actions(rt, venue, firm, inbox, gate));
+        let worker = match started {
             Ok(handle) => Worker::Running(handle),
             Err(refused) => Worker::Done((refused.value)()),
         };
-        let firms = joined(rt, alloc, workers)?;
-        let clock = clock.join(rt)?;
-        Ok(DayWork { firms, clock })
-    })
+        workers.push(worker)?;
+        firm = firm.wrapping_add(1);
+    }
+    let started = scope.spawn(move || clock_actions(rt, venue, sweeps, gate));
+    let clock = match started {
+        Ok(handle) => Worker::Running(handle),
+        Err(refused) => Worker::Done((refused.value)()),
+    };
+    let firms = joined(rt, alloc, workers)?;
+    let clock = clock.join(rt)?;
+    Ok(DayWork { firms, clock })
 }
 
 /// What the workers did, in their order, once all have ended.
@@ -79,7 +98,9 @@ fn joined<R: Threads>(
     rt: &R,
     alloc: Global,
     workers: Vec<Worker>,
-) -> Result<Vec<Vec<Action>>, Memory> {
+) -> Result<Vec<Vec<Action>>, Memory>
+    ensures { IfOk result (λ works. length works.items ≡ length workers.items) }
+{
     let mut works = Vec::with_capacity(alloc, workers.len())?;
     for worker in workers {
         works.push(worker.join(rt)?)?;

@@ -1,5 +1,7 @@
 //! The venue that threads share.
-ghost use Rattle.std.specs.Prelude.{◌≡◌, length, IfOk};
+ghost use Rattle.std.specs.Prelude.{◌≡◌, ◌<◌, ◌^◌, length, map, IfOk};
+ghost use Rattle.session_worker.specs.KeptDays.{requests_of};
+ghost use Rattle.step_replay.specs.Actions.{words_of};
 
 use crate::dealers::LockedDealer;
 use crate::investors::LockedInvestor;
@@ -29,6 +31,7 @@ pub(crate) struct InvestorPlace<J: Naming> {
     pub(crate) desk: Mutex<LockedInvestor<J>>,
     /// The rooms of its requests, as many as it may make in its day.
     pub(crate) rooms: Vec<Mutex<LockedRoom<J>>>,
+    pub(crate) ghost few: { length rooms.items < 2 ^ 32 },
 }
 
 /// The venue that the sessions and the clock of a day share: a lock for each desk and for each
@@ -42,6 +45,9 @@ pub struct SharedVenue<J: Naming> {
     pub(crate) investors: Vec<InvestorPlace<J>>,
     pub(crate) ghost board_is: { board ≡ J.board },
     pub(crate) ghost config_is: { config ≡ J.config },
+    pub(crate) ghost dealers_are: { length dealers.items ≡ length J.config.dealers },
+    pub(crate) ghost rooms_are: { map (λ place. length place.rooms.items) investors.items
+        ≡ requests_of J.config.investors },
 }
 
 impl<J: Naming> SharedVenue<J> {
@@ -55,6 +61,7 @@ impl<J: Naming> SharedVenue<J> {
         seen: BoardSeen,
     ) -> Result<Self, Memory>
         requires board { board ≡ J.board }
+        requires words { board.words ≡ words_of config }
         requires seen { seen.board ≡ J.board }
         requires config { config ≡ J.config }
     {
@@ -132,7 +139,8 @@ fn investors_at_start<J: Naming>(
 ) -> Result<Vec<InvestorPlace<J>>, Memory>
     requires seen { seen.now.board ≡ J.board }
     requires config { config.now ≡ J.config }
-    ensures { IfOk result (λ places. length places.items ≡ length J.config.investors) }
+    ensures { IfOk result (λ places. map (λ place. length place.rooms.items) places.items
+        ≡ requests_of J.config.investors) }
 {
     let mut places = Vec::with_capacity(alloc, config.investors().len())?;
     let mut firm = config.dealer_count();
@@ -156,6 +164,7 @@ fn vacant_rooms<J: Naming>(
     seen: &BoardSeen,
 ) -> Result<Vec<Mutex<LockedRoom<J>>>, Memory>
     requires { seen.now.board ≡ J.board }
+    ensures { IfOk result (λ rooms. length rooms.items ≡ count) }
 {
     let mut rooms = Vec::with_capacity(alloc, count as usize)?;
     for index in 0..count {

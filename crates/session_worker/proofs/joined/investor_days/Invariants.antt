@@ -1,7 +1,29 @@
-use Rattle.std.proofs.Common.{◌≡◌}
+use Rattle.std.proofs.Common.{◌≡◌, ◌+◌, ◌++◌, length, map}
+use Rattle.std.specs.Iterator.Adapters.{zip_first, zip_second}
+use Rattle.std.specs.Vec.Iter.{into_iter_items}
+use mathlib.Core.List.{IsPrefix}
+use Rattle.quote_word.specs.SettleLog.{IsLegal}
+use Rattle.session_worker.specs.KeptDays.{InvestorsKeep, RoomsStand, names_by, names_of}
+use Rattle.session_worker.proofs.KeepLemmas.{investor_inboxes}
 use Rattle.session_worker.proofs.joined.investor_days.Given as goal
 
 abbrev pub invariant-loop-place : goal.invariant-loop-place
-invariant-loop-place g l = (goal.iterator-loop-place g).can_next l.place-iterator
-    × (goal.iterator-loop-place g).is_finite l.place-iterator
-    × (l.seen.board ≡ g.J.Naming.board)
+invariant-loop-place g l = record {
+  next : (goal.iterator-loop-place g).can_next l.place-iterator;
+  ends : (goal.iterator-loop-place g).is_finite l.place-iterator;
+  ours : l.seen.board ≡ g.J.Naming.board;
+  legal : IsLegal l.seen.log;
+  later : IsPrefix l.fn.seen.log l.seen.log;
+  keep : InvestorsKeep g.J.Naming.config l.days.items;
+  stand : RoomsStand l.seen.log l.all.items;
+  paired : length (into_iter_items (zip_second l.place-iterator))
+      ≡ length (into_iter_items (zip_first l.place-iterator));
+  counted : length l.days.items + length (into_iter_items (zip_first l.place-iterator))
+      ≡ length l.fn.places.items;
+  names : names_of l.all.items ++ names_by (l.first + length l.days.items)
+      (map (λ place. length place.rooms.items) (into_iter_items (zip_first l.place-iterator)))
+      ≡ names_by l.first (map (λ place. length place.rooms.items) l.fn.places.items);
+  inboxes : investor_inboxes l.days.items
+      ++ map (λ session. session.inbox.items) (into_iter_items (zip_second l.place-iterator))
+      ≡ map (λ session. session.inbox.items) l.fn.sessions.items;
+}

@@ -1,9 +1,9 @@
 use Rattle.std.proofs.Common.{◌∙◌, sym, subst}
 use Rattle.quote_word.specs.declared.settled.Settled.TheVariants.{Withdrawn}
 use Rattle.venue_steps.specs.DealerSteps.{drop_word}
-use Rattle.venue_steps.specs.Words.{has_word, word_to_ask}
+use Rattle.venue_steps.specs.Words.{word_to_ask}
 use Rattle.session_worker.specs.Locks.{KeepsDealer}
-use Rattle.session_worker.proofs.LockLemmas.{drop_kept, refused_kept}
+use Rattle.session_worker.proofs.DealerLockLemmas.{DeskLaws, drop_kept, refused_kept}
 use Rattle.session_worker.proofs.dealers.LockedDealer.drop_next.Goals as goal
 
 -- the desk is as before, and the token later
@@ -22,12 +22,16 @@ invariant_of-self-in_err-duties g c =
 -- the answer of the word that is asked is its entry in the log of the later token
 pub invariant_of-self-2 : goal.invariant_of-self-2
 invariant_of-self-2 g c =
+    let laws : DeskLaws = record {
+      asks = c.words_are_asked_event_by_event.ensures;
+      answered = c.events_are_answered_one_by_one.ensures.more;
+    } in
     let i = c.self.inside in
     let word = drop_word i.first_word i.desk c.args.last in
     let count = c.new-words.result.board.words in
     subst (λ seen. KeepsDealer g.J.Naming.board g.J.Naming.config i.firm i.first_word
     c.do_drop-done.new.desk seen) (sym c.into_parts-seen.ensures)
-    (drop_kept c.words_are_asked_event_by_event.ensures g.J.Naming.board g.J.Naming.config i.firm
+    (drop_kept laws g.J.Naming.board g.J.Naming.config i.firm
     i.first_word i.desk c.do_drop-done.new.desk i.seen c.new-words.result c.do_drop-done.new.words c.args.last c.args.moment
-    (word_to_ask count word) (has_word count word) c.self.invariant
+    count c.self.invariant
     (c.new-words.ensures ∙ c.again.ensures.same) c.do_drop-done.ensures.words c.in_ok-duties.ensures.ok)

@@ -1,4 +1,4 @@
-use Rattle.session_worker.proofs.LockLemmas.{opening_keeps}
+use Rattle.session_worker.proofs.DealerLockLemmas.{opening_keeps}
 use Rattle.session_worker.proofs.dealers.LockedDealer.new.Goals as goal
 
 -- no word was asked yet

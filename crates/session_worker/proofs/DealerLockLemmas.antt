@@ -1,0 +1,305 @@
+-- What the lock of a dealer's desk keeps through an action there.
+use Rattle.std.proofs.Common.{◌≡◌, refl, ◌∙◌, sym, ap, subst, ℕ, Bool, true, false, List, [], ◌∷◌, ◌++◌, map}
+use Rattle.std.proofs.Common.{Option, Some, None, All, is_some, if◌then◌else◌}
+use Rattle.std.proofs.lemmas.List.{map-append}
+use Rattle.std.proofs.lemmas.List.Elements.{All-append, All-cons, All-head, All-nil, All-tail}
+use Rattle.std.specs.Option.{option_map}
+use Rattle.dealer_desk.specs.DealerFacts.{book_of, number_to_drop}
+use Rattle.dealer_desk.specs.DealerOutput.{DeskEvents, answered_words, asked_by, asked_word, book_at}
+use Rattle.dealer_desk.specs.DealerOutput.{dealer_output, desk_after, facts_at, may_close, verdict_at}
+use Rattle.dealer_desk.specs.DealerOutput.{with_event, with_notice_in, word_asked}
+use Rattle.dealer_desk.specs.declared.events.DealerEvent.{DealerEvent}
+use Rattle.dealer_desk.specs.declared.events.DealerEvent.TheVariants as event
+use Rattle.market_terms.specs.declared.asks.Ask.{Ask}
+use Rattle.market_terms.specs.declared.closes.Close.{Close}
+use Rattle.market_terms.specs.declared.rooms.RoomRef.{RoomRef}
+use Rattle.quote_word.specs.Board.{BoardName, Front, SettlesOnBoard}
+use Rattle.quote_word.specs.SettleLog.{entry_of}
+use Rattle.quote_word.specs.declared.settled.Settled.{Settled}
+use Rattle.quote_word.specs.declared.settled.Settled.TheVariants.{Withdrawn}
+use Rattle.quote_word.specs.declared.settled.Settlement.{Settlement}
+use Rattle.step_replay.specs.Actions.{dealer_of, first_word}
+use Rattle.step_replay.specs.DayDues.{AnswersAre, AreAnswered, IsAnswered, day_due_list}
+use Rattle.step_replay.specs.DealerView.{dealer_view}
+use Rattle.venue_config.specs.Rows.{Configuration, dealer_numbered}
+use Rattle.venue_config.specs.declared.dealer_rows.DealerRow.{DealerRow}
+use Rattle.venue_steps.specs.DealerSteps.{desk_after_drop, desk_after_own, drop_word, own_word}
+use Rattle.venue_steps.specs.Words.{AsksAtMost, SettlesSo, answer_in, has_word, word_of, word_to_ask}
+use Rattle.session_worker.specs.Locks.{KeepsDealer, StandsIn, answers_at, by_word}
+use Rattle.session_worker.proofs.LockLemmas.{IsLater, answers_stay, as_late, asks_later, entry_seen}
+
+-- Laws of the layers below.
+
+-- the words that were asked grow event by event
+abbrev pub AsksEventByEvent : Type 0
+AsksEventByEvent = (date : List ℕ) (row : DealerRow) (events : List DealerEvent) (more : DealerEvent)
+    → answered_words (desk_after date row (events ++ more ∷ [])).facts
+    ≡ answered_words (desk_after date row events).facts
+    ++ asked_by date row (book_of (desk_after date row events).facts) more
+
+-- an answer exactly where a word is asked, event by event
+abbrev pub AnsweredOneByOne : Type 0
+AnsweredOneByOne = (desk : DeskEvents) (now : DealerEvent)
+    → AreAnswered desk → IsAnswered desk now → AreAnswered (with_event desk now)
+
+-- both
+pub record DeskLaws : Type 0 where
+  pub asks : AsksEventByEvent
+  pub answered : AnsweredOneByOne
+
+-- what a desk sent is the dealer view of what was due by its events
+abbrev pub SentTheirView : Type 0
+SentTheirView = (date : List ℕ) (row : DealerRow) (events : List DealerEvent)
+    (word_is : ℕ → Option Settled)
+    → AreAnswered (record { date = date; row = row; events = events })
+    → AnswersAre word_is (record { date = date; row = row; events = events })
+    → dealer_output date row events ≡ dealer_view date row (day_due_list date row events)
+
+-- Answers.
+
+-- the answer of the word that is asked stands in the log from which it is taken
+pub answer_stands : (first quote : ℕ) (log : List Settlement) (found : Option Settled)
+    → entry_of (word_of first quote) log ≡ found
+    → All (StandsIn log) (map (by_word first) (asked_word (Some quote) found))
+answer_stands first quote log None is = All-nil (StandsIn log)
+answer_stands first quote log (Some settled) is =
+    All-cons (StandsIn log) (word_of first quote, settled) [] is (All-nil (StandsIn log))
+
+-- the same where a word is asked or none
+pub asked_stands : (first : ℕ) (log : List Settlement) (quote : Option ℕ)
+    → All (StandsIn log) (map (by_word first)
+    (asked_word quote (answer_in (λ w. entry_of w log) (option_map (word_of first) quote))))
+asked_stands first log None = All-nil (StandsIn log)
+asked_stands first log (Some quote) =
+    answer_stands first quote log (entry_of (word_of first quote) log) refl
+
+-- an exchange leaves an entry
+pub exchange_answers : (seen : Front) (word : ℕ) (wish : Settled) (answer : Option Settled)
+    (later : Front) → SettlesSo SettlesOnBoard seen word wish answer later → is_some answer ≡ true
+exchange_answers seen word wish (Some answer) later e = refl
+exchange_answers seen word wish None later e = elim e [ ]
+
+-- there is an answer where a word is asked that the board has, and else none
+pub asked_answers : (first : ℕ) (seen later : Front) (count : ℕ) (wish : Settled) (quote : Option ℕ)
+    → has_word count (option_map (word_of first) quote) ≡ true
+    → AsksAtMost SettlesOnBoard entry_seen seen
+    (word_to_ask count (option_map (word_of first) quote)) wish later
+    → is_some (answer_in (entry_seen later) (option_map (word_of first) quote)) ≡ is_some quote
+asked_answers first seen later count wish None has asks = refl
+asked_answers first seen later count wish (Some quote) has asks =
+    let word = word_of first quote in
+    let asked : word_to_ask count (Some word) ≡ Some word =
+    ap (λ so. if so then Some word else None) has in
+    exchange_answers seen word wish (entry_seen later word) later
+    (subst (λ w. AsksAtMost SettlesOnBoard entry_seen seen w wish later) asked asks)
+
+-- the answers by the own numbers of the quotes
+pub answers_by_quote : (first : ℕ) (log : List Settlement) (answers : List (ℕ × Settled))
+    → All (StandsIn log) (map (by_word first) answers)
+    → All (λ (asked : ℕ × Settled). entry_of (word_of first asked.0) log ≡ Some asked.1) answers
+answers_by_quote first log [] stand =
+    All-nil (λ (asked : ℕ × Settled). entry_of (word_of first asked.0) log ≡ Some asked.1)
+answers_by_quote first log (answer ∷ later) stand =
+    All-cons (λ (asked : ℕ × Settled). entry_of (word_of first asked.0) log ≡ Some asked.1) answer
+    later (All-head (StandsIn log) (by_word first answer) (map (by_word first) later) stand)
+    (answers_by_quote first log later
+    (All-tail (StandsIn log) (by_word first answer) (map (by_word first) later) stand))
+
+-- Events.
+
+-- a desk that is as before, with a later token
+pub keeps_later : (board : BoardName) (config : Configuration) (firm first : ℕ) (desk : DeskEvents)
+    (seen later : Front) → KeepsDealer board config firm first desk seen → IsLater seen later
+    → KeepsDealer board config firm first desk later
+keeps_later board config firm first desk seen later keeps is = record {
+  of_board = is.0 ∙ keeps.of_board;
+  day_is = keeps.day_is;
+  row_is = keeps.row_is;
+  first_is = keeps.first_is;
+  answered = keeps.answered;
+  answers_stand = answers_stay seen.log later.log is.1 (answers_at first desk) keeps.answers_stand;
+}
+
+-- a desk with one event more, whose answer is there where it asks a word and stands in the log of a
+-- later token
+pub keeps_event : DeskLaws → (board : BoardName) (config : Configuration) (firm first : ℕ)
+    (desk : DeskEvents) (seen later : Front) (more : DealerEvent)
+    → KeepsDealer board config firm first desk seen → IsLater seen later → IsAnswered desk more
+    → All (StandsIn later.log)
+    (map (by_word first) (asked_by desk.date desk.row (book_at desk) more))
+    → KeepsDealer board config firm first (with_event desk more) later
+keeps_event laws board config firm first desk seen later more keeps is answered stands =
+    let before : All (StandsIn later.log) (answers_at first desk) =
+    answers_stay seen.log later.log is.1 (answers_at first desk) keeps.answers_stand in
+    let both : All (StandsIn later.log) (answers_at first desk
+    ++ map (by_word first) (asked_by desk.date desk.row (book_at desk) more)) =
+    All-append (StandsIn later.log) (answers_at first desk)
+    (map (by_word first) (asked_by desk.date desk.row (book_at desk) more)) before stands in
+    let answers : answers_at first (with_event desk more)
+    ≡ answers_at first desk ++ map (by_word first) (asked_by desk.date desk.row (book_at desk) more) =
+    ap (map (by_word first)) (laws.asks desk.date desk.row desk.events more)
+    ∙ map-append (by_word first) (answered_words (facts_at desk))
+    (asked_by desk.date desk.row (book_at desk) more) in
+    record {
+      of_board = is.0 ∙ keeps.of_board;
+      day_is = keeps.day_is;
+      row_is = keeps.row_is;
+      first_is = keeps.first_is;
+      answered = laws.answered desk more keeps.answered answered;
+      answers_stand = subst (All (StandsIn later.log)) (sym answers) both;
+    }
+
+-- the desk after a message, where its word was asked
+pub own_keeps : DeskLaws → (board : BoardName) (config : Configuration) (firm first : ℕ)
+    (desk : DeskEvents) (seen later : Front) (moment : ℕ) (bytes : List ℕ) (count : ℕ) (has : Bool)
+    → has_word count (own_word first desk moment bytes) ≡ has
+    → KeepsDealer board config firm first desk seen
+    → AsksAtMost SettlesOnBoard entry_seen seen
+    (word_to_ask count (own_word first desk moment bytes)) Withdrawn later
+    → KeepsDealer board config firm first (desk_after_own desk moment bytes has
+    (answer_in (entry_seen later) (own_word first desk moment bytes))) later
+own_keeps laws board config firm first desk seen later moment bytes count true has keeps asks =
+    keeps_event laws board config firm first desk seen later
+    (event.Own moment bytes (answer_in (entry_seen later) (own_word first desk moment bytes))) keeps
+    (asks_later seen (word_to_ask count (own_word first desk moment bytes)) Withdrawn later asks)
+    (asked_answers first seen later count Withdrawn (word_asked (verdict_at desk moment bytes)) has
+    asks)
+    (asked_stands first later.log (word_asked (verdict_at desk moment bytes)))
+own_keeps laws board config firm first desk seen later moment bytes count false has keeps asks =
+    keeps_later board config firm first desk seen later keeps
+    (asks_later seen (word_to_ask count (own_word first desk moment bytes)) Withdrawn later asks)
+
+-- the desk after a drop, where its word was asked
+pub drop_keeps : DeskLaws → (board : BoardName) (config : Configuration) (firm first : ℕ)
+    (desk : DeskEvents) (seen later : Front) (last moment : ℕ) (count : ℕ) (has : Bool)
+    → has_word count (drop_word first desk last) ≡ has
+    → KeepsDealer board config firm first desk seen
+    → AsksAtMost SettlesOnBoard entry_seen seen (word_to_ask count (drop_word first desk last))
+    Withdrawn later
+    → KeepsDealer board config firm first (desk_after_drop desk last moment has
+    (answer_in (entry_seen later) (drop_word first desk last))) later
+drop_keeps laws board config firm first desk seen later last moment count true has keeps asks =
+    keeps_event laws board config firm first desk seen later
+    (event.Drop last moment (answer_in (entry_seen later) (drop_word first desk last))) keeps
+    (asks_later seen (word_to_ask count (drop_word first desk last)) Withdrawn later asks)
+    (asked_answers first seen later count Withdrawn (number_to_drop (book_at desk) last) has asks)
+    (asked_stands first later.log (number_to_drop (book_at desk) last))
+drop_keeps laws board config firm first desk seen later last moment count false has keeps asks =
+    keeps_later board config firm first desk seen later keeps
+    (asks_later seen (word_to_ask count (drop_word first desk last)) Withdrawn later asks)
+
+-- the desk after a request is shown
+pub show_keeps_if : DeskLaws → (board : BoardName) (config : Configuration)
+    (firm first : ℕ) (desk : DeskEvents) (seen : Front) (room : RoomRef) (ask : Ask) (moment : ℕ)
+    (was : Bool) → KeepsDealer board config firm first desk seen
+    → KeepsDealer board config firm first
+    (if was then desk else with_event desk (event.Shown room ask moment)) seen
+show_keeps_if laws board config firm first desk seen room ask moment true keeps = keeps
+show_keeps_if laws board config firm first desk seen room ask moment false keeps =
+    keeps_event laws board config firm first desk seen seen (event.Shown room ask moment) keeps
+    (as_late seen) refl (All-nil (StandsIn seen.log))
+
+-- the desk after a notice
+pub notice_keeps_if : DeskLaws → (board : BoardName) (config : Configuration)
+    (firm first : ℕ) (desk : DeskEvents) (seen : Front) (request : ℕ) (close : Close) (moment : ℕ)
+    (may : Bool) → KeepsDealer board config firm first desk seen
+    → KeepsDealer board config firm first
+    (if may then with_event desk (event.Told request close moment) else desk) seen
+notice_keeps_if laws board config firm first desk seen request close moment true keeps =
+    keeps_event laws board config firm first desk seen seen (event.Told request close moment) keeps
+    (as_late seen) refl (All-nil (StandsIn seen.log))
+notice_keeps_if laws board config firm first desk seen request close moment false keeps = keeps
+
+-- the same by the number that the request has there
+pub notice_keeps : DeskLaws → (board : BoardName) (config : Configuration)
+    (firm first : ℕ) (desk : DeskEvents) (seen : Front) (number : Option ℕ) (close : Close)
+    (moment : ℕ) → KeepsDealer board config firm first desk seen
+    → KeepsDealer board config firm first (with_notice_in desk number close moment) seen
+notice_keeps laws board config firm first desk seen None close moment keeps = keeps
+notice_keeps laws board config firm first desk seen (Some request) close moment keeps =
+    notice_keeps_if laws board config firm first desk seen request close moment
+    (may_close desk request) keeps
+
+-- Locks.
+
+-- a desk without an event
+pub opening_keeps : (board : BoardName) (config given : Configuration) (firm first : ℕ)
+    (desk : DeskEvents) (day : List ℕ) (row own : DealerRow) (seen : Front)
+    → desk ≡ record { date = day; row = own; events = [] } → day ≡ given.date → own ≡ row
+    → given ≡ config → dealer_numbered config firm ≡ Some row
+    → first ≡ first_word config (dealer_of firm row) → seen.board ≡ board
+    → KeepsDealer board config firm first desk seen
+unfolding desk_after
+opening_keeps board config given firm first desk day row own seen desk_is day_is own_is given_is is first_is ours =
+    let keeps : KeepsDealer board config firm first
+    (record { date = config.date; row = row; events = [] }) seen = record {
+      of_board = ours;
+      day_is = refl;
+      row_is = is;
+      first_is = first_is;
+      answered = tt;
+      answers_stand = All-nil (StandsIn seen.log);
+    } in
+    let same : desk ≡ record { date = config.date; row = row; events = [] } =
+    rw (desk_is, day_is, own_is, given_is) refl in
+    subst (λ d. KeepsDealer board config firm first d seen) (sym same) keeps
+
+-- the desk and the token after a message
+pub own_kept : DeskLaws → (board : BoardName) (config : Configuration) (firm first : ℕ)
+    (desk after : DeskEvents) (held seen later : Front) (moment : ℕ) (bytes : List ℕ) (count : ℕ)
+    → KeepsDealer board config firm first desk held → seen ≡ held
+    → AsksAtMost SettlesOnBoard entry_seen seen
+    (word_to_ask count (own_word first desk moment bytes)) Withdrawn later
+    → after ≡ desk_after_own desk moment bytes (has_word count (own_word first desk moment bytes))
+    (answer_in (entry_seen later) (own_word first desk moment bytes))
+    → KeepsDealer board config firm first after later
+own_kept laws board config firm first desk after held seen later moment bytes count keeps same asks is =
+    let kept : KeepsDealer board config firm first desk seen =
+    subst (KeepsDealer board config firm first desk) (sym same) keeps in
+    subst (λ d. KeepsDealer board config firm first d later) (sym is)
+    (own_keeps laws board config firm first desk seen later moment bytes count
+    (has_word count (own_word first desk moment bytes)) refl kept asks)
+
+-- the desk and the token after a drop
+pub drop_kept : DeskLaws → (board : BoardName) (config : Configuration) (firm first : ℕ)
+    (desk after : DeskEvents) (held seen later : Front) (last moment : ℕ) (count : ℕ)
+    → KeepsDealer board config firm first desk held → seen ≡ held
+    → AsksAtMost SettlesOnBoard entry_seen seen (word_to_ask count (drop_word first desk last))
+    Withdrawn later
+    → after ≡ desk_after_drop desk last moment (has_word count (drop_word first desk last))
+    (answer_in (entry_seen later) (drop_word first desk last))
+    → KeepsDealer board config firm first after later
+drop_kept laws board config firm first desk after held seen later last moment count keeps same asks is =
+    let kept : KeepsDealer board config firm first desk seen =
+    subst (KeepsDealer board config firm first desk) (sym same) keeps in
+    subst (λ d. KeepsDealer board config firm first d later) (sym is)
+    (drop_keeps laws board config firm first desk seen later last moment count
+    (has_word count (drop_word first desk last)) refl kept asks)
+
+-- the desk as it was, and the token after a word was asked
+pub refused_kept : (board : BoardName) (config : Configuration) (firm first : ℕ)
+    (desk after : DeskEvents) (held seen later : Front) (word : Option ℕ) (wish : Settled)
+    → KeepsDealer board config firm first desk held → seen ≡ held
+    → AsksAtMost SettlesOnBoard entry_seen seen word wish later → after ≡ desk
+    → KeepsDealer board config firm first after later
+refused_kept board config firm first desk after held seen later word wish keeps same asks is =
+    let kept : KeepsDealer board config firm first desk seen =
+    subst (KeepsDealer board config firm first desk) (sym same) keeps in
+    subst (λ d. KeepsDealer board config firm first d later) (sym is)
+    (keeps_later board config firm first desk seen later kept (asks_later seen word wish later asks))
+
+-- Days.
+
+-- what the desk sent is the dealer view of what was due by its events
+pub view_is_seen : SentTheirView → (board : BoardName) (config : Configuration) (firm first : ℕ)
+    (desk : DeskEvents) (seen : Front) → KeepsDealer board config firm first desk seen
+    → dealer_output config.date desk.row desk.events
+    ≡ dealer_view config.date desk.row (day_due_list config.date desk.row desk.events)
+view_is_seen law board config firm first desk seen keeps =
+    let word_is : ℕ → Option Settled = λ quote. entry_of (word_of first quote) seen.log in
+    law config.date desk.row desk.events word_is
+    (subst (λ date. AreAnswered (record { date = date; row = desk.row; events = desk.events }))
+    keeps.day_is keeps.answered)
+    (subst (λ date. AnswersAre word_is (record { date = date; row = desk.row; events = desk.events }))
+    keeps.day_is (answers_by_quote first seen.log (answered_words (facts_at desk))
+    keeps.answers_stand))
