@@ -8,11 +8,16 @@ use Rattle.clap.specs.declared.error.Error.{Error}
 use Rattle.clap.specs.declared.error.kind.ErrorKind.{ErrorKind}
 use Rattle.clap.specs.declared.error.kind.ErrorKind.TheVariants.{OutOfMemory}
 use Rattle.clap.specs.Words.{HasKind, IsAmong, Kinds, Text, kind_of}
+use Rattle.std.specs.Option.{IfSome}
+use Rattle.venue_text.specs.Lines.{lines_of}
 use Rattle.venue_text.specs.declared.faults.ProgramFault.TheVariants.{Memory}
 use Rattle.rfq_venue.specs.Arguments.{Command, arguments_fault, command_of, is_help, is_mistake}
 use Rattle.rfq_venue.specs.Arguments.{live_form, may_be_help, may_be_mistake}
-use Rattle.rfq_venue.specs.Runs.{EndsAsAsked, EndsBy, EndsInCommand, EndsInLive, EndsOf, EndsTold}
-use Rattle.rfq_venue.specs.Runs.{Streams, Written}
+use Rattle.rfq_venue.specs.LiveRuns.{EndsInLive, EndsOver}
+use Rattle.rfq_venue.specs.Runs.{EndsAsAsked, EndsBy, EndsInCommand, EndsInMemory, EndsOf, EndsTold}
+use Rattle.rfq_venue.specs.Runs.{Streams}
+use Rattle.rfq_venue.specs.Written.{Written}
+use Rattle.rfq_venue.proofs.StreamLemmas.{keeps_same}
 use Rattle.rfq_venue.proofs.LawfulArguments.{lawful_arguments}
 
 first_or : (a b : Bool) → (a || false) ≡ true → (a || b) ≡ true
@@ -43,23 +48,43 @@ told_of kinds k status out err (inr is) (inr (inl help)) = inr (inl (any_among i
 told_of kinds k status out err (inr is) (inr (inr mistake)) = inr (inr (any_among is_mistake k kinds is mistake.0, mistake.1))
 
 -- memory alone is refused of arguments that are a command
-memory_alone : (command : Command) (status : ℕ) (streams : Streams) → EndsTold [] status streams.out streams.err → EndsInCommand command status streams
-memory_alone command status streams (inl memory) = inr (memory.0, record { fault = Memory; left = memory.1; told = memory.2 })
-memory_alone command status streams (inr (inl help)) = absurd (false≢true help.0)
-memory_alone command status streams (inr (inr mistake)) = absurd (false≢true mistake.0)
+memory_alone : (status : ℕ) (streams : Streams) → EndsTold [] status streams.out streams.err → EndsInMemory status streams.out streams.err
+memory_alone status streams (inl memory) = memory
+memory_alone status streams (inr (inl help)) = absurd (false≢true help.0)
+memory_alone status streams (inr (inr mistake)) = absurd (false≢true mistake.0)
+
+-- no line was answered then
+before_lines : (with_frames : Bool) (known : Option (List ℕ)) (status : ℕ) (out err : Written) → EndsInMemory status out err
+    → IfSome known (λ all. EndsOver with_frames all status out err)
+before_lines with_frames None status out err memory = tt
+before_lines with_frames (Some all) status out err memory = inr (
+  memory.0,
+  record {
+    fault = Memory;
+    mid = err.before;
+    ends = record {
+      is_fault = tt;
+      lines = [];
+      rest = lines_of all;
+      split = refl;
+      left = inl (record { undivided = refl; left = memory.1; untold = keeps_same err.before });
+    };
+    told = memory.2;
+  },
+)
+
+of_memory : (form : Option Bool) (command : Command) (status : ℕ) (streams : Streams) → EndsInMemory status streams.out streams.err
+    → EndsOf form command status streams
+of_memory None command status streams memory = inr (memory.0, record { fault = Memory; left = memory.1; told = memory.2 })
+of_memory (Some with_frames) command status streams memory =
+    (inr memory.0, before_lines with_frames streams.input status streams.out streams.err memory)
 
 ends_by : (asked : Option Command) (kinds : Kinds) (status : ℕ) (streams : Streams) → (is_some asked ≡ true → kinds ≡ [])
     → EndsTold kinds status streams.out streams.err → EndsBy asked kinds status streams
 ends_by None kinds status streams none ends = ends
 ends_by (Some command) kinds status streams none ends =
-    by_form (live_form command) (memory_alone command status streams
+    of_memory (live_form command) command status streams (memory_alone status streams
     (subst (λ (ks : Kinds). EndsTold ks status streams.out streams.err) (none refl) ends))
-  where
-    by_form : (form : Option Bool) → EndsInCommand command status streams → EndsOf form command status streams
-    by_form None (inl done) = inl done
-    by_form None (inr fault) = inr fault
-    by_form (Some with_frames) (inl done) = inl done.0
-    by_form (Some with_frames) (inr fault) = inr fault.0
 
 -- a run whose arguments are no command, or for whose arguments memory was refused
 pub asked_told : {A : Type 0} (text : A → Text) (arguments : List A) (error : Error) (status : ℕ) (streams : Streams) → 0 < length arguments
@@ -88,5 +113,5 @@ pub in_text : (form : Option Bool) (command : Command) (status : ℕ) (streams :
 in_text form command status streams none ends = subst (λ (f : Option Bool). EndsOf f command status streams) none ends
 
 pub in_live : (with_frames : Bool) (form : Option Bool) (command : Command) (status : ℕ) (streams : Streams) → Some with_frames ≡ form
-    → EndsInLive status → EndsOf form command status streams
+    → EndsInLive with_frames status streams.input streams.out streams.err → EndsOf form command status streams
 in_live with_frames form command status streams some ends = subst (λ (f : Option Bool). EndsOf f command status streams) some ends

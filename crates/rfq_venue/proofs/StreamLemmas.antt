@@ -9,12 +9,12 @@ use Rattle.std.proofs.lemmas.List.{length-append}
 use Rattle.std.proofs.Math.Seq.{take-append_seam}
 use Rattle.venue_text.specs.declared.lines.TheConstants.{MOST_INPUT}
 use Rattle.rfq_venue.specs.Arguments.{Command, alone, blotter, compare, day, due, live, replay}
-use Rattle.rfq_venue.specs.Runs.{Written, Gains, GainsPart, IsReadOf, HasPrinted, HasPrintedPart}
-use Rattle.rfq_venue.specs.Runs.{FaultLeaves, IsFaultOf, IsTextOf}
+use Rattle.rfq_venue.specs.Runs.{FaultLeaves, HasPrinted, HasPrintedPart, IsFaultOf, IsReadOf, IsTextOf}
+use Rattle.rfq_venue.specs.Written.{Gains, GainsPart, Written}
 use Rattle.venue_text.specs.declared.faults.ProgramFault.{ProgramFault}
 use Rattle.venue_text.specs.declared.faults.ProgramFault.TheVariants.{Read, Input, Parts, Config, Firm}
 use Rattle.venue_text.specs.declared.faults.ProgramFault.TheVariants.{Form, UnknownFirm, UnknownRoom}
-use Rattle.venue_text.specs.declared.faults.ProgramFault.TheVariants.{Stream, Day, Memory, Write}
+use Rattle.venue_text.specs.declared.faults.ProgramFault.TheVariants.{Stream, Day, Weave, Memory, Write}
 use Rattle.std.proofs.lemmas.Bool.{cases_Bool}
 use Rattle.std.proofs.lemmas.Bool.Decides.{nat_tests}
 use Rattle.std.specs.Option.{IfSome}
@@ -69,8 +69,9 @@ long_fault : (command : Command) (input : List ℕ) (fault : ProgramFault) → n
     → Input ≡ fault
 long_fault (alone with_frames) input fault long is = let same : Some Input ≡ Some fault = rw long at is in cc
 long_fault (replay firm with_frames) input fault long is = let same : Err Input ≡ Err fault = rw long at is in cc
-long_fault (day with_frames) input fault long (inl is) = let same : Err Input ≡ Err fault = rw long at is in cc
-long_fault (day with_frames) input fault long (inr unkept) = let lawful = unkept.lawful in absurd (false≢true (rw long at lawful))
+long_fault (day with_frames woven) input fault long (inl is) = let same : Err Input ≡ Err fault = rw long at is in cc
+long_fault (day with_frames woven) input fault long (inr (inl unkept)) = let lawful = unkept.lawful in absurd (false≢true (rw long at lawful))
+long_fault (day with_frames woven) input fault long (inr (inr unwoven)) = let same = unwoven.recorded.spelled in cc (rw long at same)
 long_fault (live with_frames) input fault long is = absurd is
 long_fault (due dealer) input fault long is = let same : Err Input ≡ Err fault = rw long at is in cc
 long_fault (compare dealer) input fault long is = let same : Err Input ≡ Err fault = rw long at is in cc
@@ -80,7 +81,7 @@ too_long : (command : Command) (input bytes : List ℕ) (fault : ProgramFault) �
     → IsFaultOf command input Input
 too_long (alone with_frames) input bytes fault long is = rw long refl
 too_long (replay firm with_frames) input bytes fault long is = rw long refl
-too_long (day with_frames) input bytes fault long is = inl (rw long refl)
+too_long (day with_frames woven) input bytes fault long is = inl (rw long refl)
 too_long (live with_frames) input bytes fault long is = absurd is
 too_long (due dealer) input bytes fault long is = rw long refl
 too_long (compare dealer) input bytes fault long is = rw long refl
@@ -90,7 +91,7 @@ too_long (blotter firm) input bytes fault long is = rw long refl
 no_text : (command : Command) (input text : List ℕ) → nat_lt MOST_INPUT (length input) ≡ true → IsTextOf command input text → ⊥
 no_text (alone with_frames) input text long is = let fits = is.fits in grind (arith, nat_tests)
 no_text (replay firm with_frames) input text long is = let same = is.spelled in cc (rw long at same)
-no_text (day with_frames) input text long is = let same = is.spelled in cc (rw long at same)
+no_text (day with_frames woven) input text long is = let same = is.recorded.spelled in cc (rw long at same)
 no_text (live with_frames) input text long is = absurd is
 no_text (due dealer) input text long is = let same = is.spelled in cc (rw long at same)
 no_text (compare dealer) input text long is = let same = is.spelled in cc (rw long at same)
@@ -152,6 +153,7 @@ fault_left command known old bytes (UnknownFirm line) read other is =
 fault_left command known old bytes (UnknownRoom line) read other is =
     (keeps_same old, fault_read command known bytes (UnknownRoom line) read (is (λ e. cc)))
 fault_left command known old bytes (Day what) read other is = (keeps_same old, fault_read command known bytes (Day what) read (is (λ e. cc)))
+fault_left command known old bytes (Weave why) read other is = (keeps_same old, fault_read command known bytes (Weave why) read (is (λ e. cc)))
 fault_left command known old bytes (Stream line) read other is = (keeps_same old, fault_read command known bytes (Stream line) read (is (λ e. cc)))
 
 -- ---- a line of a front, a word and a line feed

@@ -32,7 +32,7 @@ both_false : (a b : Bool) → (a || b) ≡ false → (a ≡ false) × (b ≡ fal
 both_false true b e = cc
 both_false false b e = (refl, e)
 
--- ---- what `--frames` looks like
+-- ---- what a long flag looks like
 
 before_all : (text : Text) → has_byte 61 text ≡ false → before_first (λ x. x == 61) text ≡ text
 before_all [] e = refl
@@ -45,9 +45,9 @@ no_value : (b : Bool) (text : Text) → ◌≡◌ {A = Option Text} (if b then S
 no_value true text e = cc
 no_value false text e = refl
 
--- the rest behind two hyphens is `frames` where its name is, and it has no value
-rest_is : (x : ℕ) (xs : Text) → (name_and_value (x ∷ xs)).0 ≡ codes "frames" → (name_and_value (x ∷ xs)).1 ≡ None → x ∷ xs ≡ codes "frames"
-rest_is x xs name value = sym (before_all (x ∷ xs) (no_value (has_byte 61 (x ∷ xs)) _ value)) ∙ name
+-- the rest behind two hyphens is a flag where its name is, and it has no value
+rest_is : (flag : Text) (x : ℕ) (xs : Text) → (name_and_value (x ∷ xs)).0 ≡ flag → (name_and_value (x ∷ xs)).1 ≡ None → x ∷ xs ≡ flag
+rest_is flag x xs name value = sym (before_all (x ∷ xs) (no_value (has_byte 61 (x ∷ xs)) _ value)) ∙ name
 
 -- ---- the form of a word
 
@@ -61,10 +61,12 @@ not_same a b other = go (bytes_eq a b) refl
 abbrev pub IsLong : Text → Text × Option Text → Type 0
 IsLong word p = (long_of word ≡ Some p) × (is_dashes word ≡ false) × (is_flag word ≡ true)
     × (bytes_eq word (codes "--frames") ≡ (bytes_eq (codes "frames") p.0 && not (is_some p.1)))
+    × (bytes_eq word (codes "--woven") ≡ (bytes_eq (codes "woven") p.0 && not (is_some p.1)))
 
 abbrev pub IsShort : Text → Text → Type 0
 IsShort word flags = (0 < length flags) × (long_of word ≡ None) × (short_of word ≡ Some flags) × (is_dashes word ≡ false)
     × (is_flag word ≡ is_some (slice_get (chars flags) 0)) × (bytes_eq word (codes "--frames") ≡ false)
+    × (bytes_eq word (codes "--woven") ≡ false)
 
 abbrev pub IsPlain : Text → Type 0
 IsPlain word = (long_of word ≡ None) × (short_of word ≡ None) × (is_dashes word ≡ false) × (is_flag word ≡ false)
@@ -115,20 +117,25 @@ one_hyphen y ys e = (
   not_same (45 ∷ y ∷ ys) (codes "--") (λ same. false≢true (sym e ∙ ap second_is same)),
   refl,
   not_same (45 ∷ y ∷ ys) (codes "--frames") (λ same. false≢true (sym e ∙ ap second_is same)),
+  not_same (45 ∷ y ∷ ys) (codes "--woven") (λ same. false≢true (sym e ∙ ap second_is same)),
 )
 
-frames_is : (z : ℕ) (zs : Text) (a : Bool) (v : Option Text) → bytes_eq (codes "frames") (name_and_value (z ∷ zs)).0 ≡ a
-    → (name_and_value (z ∷ zs)).1 ≡ v → bytes_eq (45 ∷ 45 ∷ z ∷ zs) (codes "--frames") ≡ (a && not (is_some v))
-frames_is z zs true None named none =
-    let name = sym ((bytes_eq-Decides (codes "frames") (name_and_value (z ∷ zs)).0).0 named) in
-    ap (λ (l : Text). bytes_eq (45 ∷ 45 ∷ l) (codes "--frames")) (rest_is z zs name none)
-frames_is z zs true (Some x) named some =
-    not_same (45 ∷ 45 ∷ z ∷ zs) (codes "--frames") (λ same. some_none x (sym some ∙ ap (λ (l : Text). (name_and_value (behind_two l)).1) same))
-  where
-    some_none : (x : Text) → ◌≡◌ {A = Option Text} (Some x) None → ⊥
-    some_none x e = cc
-frames_is z zs false v named value =
-    not_same (45 ∷ 45 ∷ z ∷ zs) (codes "--frames") (λ same. false≢true (sym named ∙ ap (λ (l : Text). bytes_eq (codes "frames") (name_and_value (behind_two l)).0) same))
+some_none : (x : Text) → ◌≡◌ {A = Option Text} (Some x) None → ⊥
+some_none x e = cc
+
+-- a flag whose own text has no value
+module _ (flag : Text) (own : bytes_eq flag (name_and_value flag).0 ≡ true) (bare : (name_and_value flag).1 ≡ None) where
+  flag_is : (z : ℕ) (zs : Text) (a : Bool) (v : Option Text) → bytes_eq flag (name_and_value (z ∷ zs)).0 ≡ a
+      → (name_and_value (z ∷ zs)).1 ≡ v → bytes_eq (45 ∷ 45 ∷ z ∷ zs) (45 ∷ 45 ∷ flag) ≡ (a && not (is_some v))
+  flag_is z zs true None named none =
+      let name = sym ((bytes_eq-Decides flag (name_and_value (z ∷ zs)).0).0 named) in
+      (bytes_eq-Decides (45 ∷ 45 ∷ z ∷ zs) (45 ∷ 45 ∷ flag)).1 (ap (λ (l : Text). 45 ∷ 45 ∷ l) (rest_is flag z zs name none))
+  flag_is z zs true (Some x) named some =
+      not_same (45 ∷ 45 ∷ z ∷ zs) (45 ∷ 45 ∷ flag)
+      (λ same. some_none x (sym some ∙ ap (λ (l : Text). (name_and_value (behind_two l)).1) same ∙ bare))
+  flag_is z zs false v named value =
+      not_same (45 ∷ 45 ∷ z ∷ zs) (45 ∷ 45 ∷ flag)
+      (λ same. false≢true (sym named ∙ ap (λ (l : Text). bytes_eq flag (name_and_value (behind_two l)).0) same ∙ own))
 
 hyphen_is : (zs : Text) → is_flag (45 ∷ 45 ∷ zs) ≡ true
 unfolding chars
@@ -140,7 +147,8 @@ two_hyphens z zs = (
   refl,
   not_same (45 ∷ 45 ∷ z ∷ zs) (codes "--") (λ same. false≢true (sym (ap has_third same))),
   hyphen_is (z ∷ zs),
-  frames_is z zs (bytes_eq (codes "frames") (name_and_value (z ∷ zs)).0) (name_and_value (z ∷ zs)).1 refl refl,
+  flag_is (codes "frames") refl refl z zs (bytes_eq (codes "frames") (name_and_value (z ∷ zs)).0) (name_and_value (z ∷ zs)).1 refl refl,
+  flag_is (codes "woven") refl refl z zs (bytes_eq (codes "woven") (name_and_value (z ∷ zs)).0) (name_and_value (z ∷ zs)).1 refl refl,
 )
 
 behind_hyphens : (zs : Text) → HasForm (45 ∷ 45 ∷ zs)

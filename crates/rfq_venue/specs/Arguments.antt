@@ -1,5 +1,5 @@
 -- The arguments of the program's commands, and what is wrong with arguments that are no command.
-use Rattle.std.specs.Prelude.{◌≡◌, ◌<◌, ◌==◌, ◌&&◌, Bool, true, false, List, [], ◌∷◌}
+use Rattle.std.specs.Prelude.{◌≡◌, ◌<◌, ◌==◌, ◌&&◌, ◌||◌, Bool, true, false, List, [], ◌∷◌}
 use Rattle.std.specs.Prelude.{Option, Some, None, length, codes}
 use Rattle.std.specs.Prelude.{string_bytes, if◌then◌else◌, is_some, option_map, slice_get, unwrap_or}
 use Rattle.std.specs.List.{list_any}
@@ -23,8 +23,9 @@ pub data Command : Type 0 where
   alone : Bool → Command
   -- all firms' messages of a day, or those of the firm with this name
   replay : Option Text → Bool → Command
-  -- all firms' messages of a day on threads
-  day : Bool → Command
+  -- all firms' messages of a day on threads, and with the second flag the number of the steps into
+  -- which it is woven
+  day : Bool → Bool → Command
   -- a day that goes on, line by line
   live : Bool → Command
   -- the due text of the dealer with this name
@@ -38,7 +39,7 @@ pub data Command : Type 0 where
 abbrev pub live_form : Command → Option Bool
 live_form (alone with_frames) = None
 live_form (replay firm with_frames) = None
-live_form (day with_frames) = None
+live_form (day with_frames woven) = None
 live_form (live with_frames) = Some with_frames
 live_form (due dealer) = None
 live_form (compare dealer) = None
@@ -69,11 +70,29 @@ plain_in (word ∷ rest) =
     if is_dashes word then rest
     else (if is_flag word then plain_in rest else word ∷ plain_in rest)
 
--- whether flags ask for whole frames; there is one flag, and it is given once at most
+-- the flags
+abbrev pub is_frames : Text → Bool
+is_frames flag = bytes_eq flag (codes "--frames")
+
+abbrev pub is_woven : Text → Bool
+is_woven flag = bytes_eq flag (codes "--woven")
+
+-- whether flags ask for whole frames, where there is no other flag; it is given once at most
 abbrev pub frames_by : List Text → Option Bool
 frames_by [] = Some false
-frames_by (flag ∷ []) = if bytes_eq flag (codes "--frames") then Some true else None
+frames_by (flag ∷ []) = if is_frames flag then Some true else None
 frames_by (flag ∷ more ∷ rest) = None
+
+-- whether flags ask for whole frames, and whether for weaving; each is given once at most
+abbrev pub both_by : List Text → Option (Bool × Bool)
+both_by [] = Some (false, false)
+both_by (flag ∷ []) =
+    if is_frames flag then Some (true, false)
+    else (if is_woven flag then Some (false, true) else None)
+both_by (one ∷ other ∷ []) =
+    if (is_frames one && is_woven other) || (is_woven one && is_frames other)
+    then Some (true, true) else None
+both_by (one ∷ other ∷ more ∷ rest) = None
 
 -- The commands, each by its words and its flags.
 
@@ -88,6 +107,11 @@ replay_by [] flags = option_map (replay None) (frames_by flags)
 replay_by (firm ∷ []) flags = option_map (replay (Some firm)) (frames_by flags)
 replay_by (firm ∷ more ∷ words) flags = None
 
+-- `day [--frames] [--woven]`
+abbrev pub day_by : List Text → List Text → Option Command
+day_by [] flags = option_map (λ given. day given.0 given.1) (both_by flags)
+day_by (word ∷ words) flags = None
+
 -- a command of one word and no flag, as `due DEALER`
 abbrev pub one_word_by : (Text → Command) → List Text → List Text → Option Command
 one_word_by command (word ∷ []) [] = Some (command word)
@@ -98,7 +122,7 @@ abbrev pub command_by : Text → List Text → List Text → Option Command
 command_by name words flags =
     if bytes_eq name (codes "alone") then no_word_by alone words flags
     else (if bytes_eq name (codes "replay") then replay_by words flags
-    else (if bytes_eq name (codes "day") then no_word_by day words flags
+    else (if bytes_eq name (codes "day") then day_by words flags
     else (if bytes_eq name (codes "due") then one_word_by due words flags
     else (if bytes_eq name (codes "compare") then one_word_by compare words flags
     else (if bytes_eq name (codes "blotter") then one_word_by blotter words flags
@@ -111,12 +135,12 @@ abbrev pub command_of : List Text → Option Command
 command_of [] = Some (alone false)
 command_of (name ∷ rest) = command_by name (plain_in rest) (flags_in rest)
 
--- a command by its name, the word that was found for it, and whether the flag was
-abbrev pub named_command : Text → Option Text → Bool → Command
-named_command name firm frames =
+-- a command by its name, the word that was found for it, and whether each of the flags was
+abbrev pub named_command : Text → Option Text → Bool → Bool → Command
+named_command name firm frames woven =
     if bytes_eq name (codes "alone") then alone frames
     else (if bytes_eq name (codes "replay") then replay firm frames
-    else (if bytes_eq name (codes "day") then day frames
+    else (if bytes_eq name (codes "day") then day frames woven
     else (if bytes_eq name (codes "live") then live frames
     else (if bytes_eq name (codes "due") then due (unwrap_or firm [])
     else (if bytes_eq name (codes "compare") then compare (unwrap_or firm [])
@@ -126,7 +150,7 @@ named_command name firm frames =
 abbrev pub meant : VenueCommand → Command
 meant (rust.Alone frames) = alone frames
 meant (rust.Replay firm frames) = replay (option_map (λ word. word.now) firm) frames
-meant (rust.Day frames) = day frames
+meant (rust.Day frames woven) = day frames woven
 meant (rust.Live frames) = live frames
 meant (rust.Due dealer) = due dealer.now
 meant (rust.Compare dealer) = compare dealer.now
@@ -138,6 +162,13 @@ meant (rust.Blotter firm) = blotter firm.now
 abbrev pub frames_flag : Rule
 frames_flag = record (new_rule (codes "frames")) {
   long = Some (codes "frames");
+  action = Some SetTrue;
+}
+
+-- the flag `--woven`
+abbrev pub woven_flag : Rule
+woven_flag = record (new_rule (codes "woven")) {
+  long = Some (codes "woven");
   action = Some SetTrue;
 }
 
@@ -156,7 +187,7 @@ replay_app = with_rule (with_rule (new_app (codes "replay")) frames_flag) (firm_
 
 -- `day`
 abbrev pub day_app : App
-day_app = with_rule (new_app (codes "day")) frames_flag
+day_app = with_rule (with_rule (new_app (codes "day")) frames_flag) woven_flag
 
 -- `live`
 abbrev pub live_app : App

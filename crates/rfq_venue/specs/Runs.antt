@@ -2,7 +2,6 @@
 use Rattle.std.specs.Prelude.{◌≡◌, ◌<◌, ◌≤◌, ◌⊎◌, ℕ, Bool, true, List, [], ◌++◌, length, take}
 use Rattle.std.specs.Prelude.{Option, Some, None, Result, Ok, Err}
 use Rattle.std.specs.Option.{IfSome}
-use Rattle.std.specs.Io.KnownBytes.{Appends, Keeps}
 use Rattle.clap.specs.Kinds.{Kinds}
 use Rattle.clap.specs.Walk.{Text}
 use Rattle.venue_text.specs.AloneText.{IsPrinted, first_fault}
@@ -17,7 +16,9 @@ use Rattle.venue_text.specs.declared.faults.ProgramFault.TheVariants.{Read, Memo
 use Rattle.venue_text.specs.declared.lines.TheConstants.{MOST_INPUT}
 use Rattle.rfq_venue.specs.Arguments.{Command, alone, arguments_fault, blotter, command_of, compare}
 use Rattle.rfq_venue.specs.Arguments.{day, due, live, live_form, may_be_help, may_be_mistake, replay}
+use Rattle.rfq_venue.specs.LiveRuns.{EndsInLive}
 use Rattle.rfq_venue.specs.ThreadedDays.{IsDay, IsDayFault}
+use Rattle.rfq_venue.specs.Written.{Written, Gains, GainsPart, IsUntouched}
 use Rattle.rfq_venue.specs.declared.process.ArgumentFault.{ArgumentFault}
 use Rattle.rfq_venue.specs.declared.process.ArgumentFault.TheVariants as argument
 
@@ -25,7 +26,7 @@ use Rattle.rfq_venue.specs.declared.process.ArgumentFault.TheVariants as argumen
 abbrev pub IsTextOf : Command → List ℕ → List ℕ → Type 0
 IsTextOf (alone with_frames) input text = IsPrinted with_frames input text
 IsTextOf (replay firm with_frames) input text = IsReplayed firm with_frames input text
-IsTextOf (day with_frames) input text = IsDay with_frames input text
+IsTextOf (day with_frames woven) input text = IsDay with_frames woven input text
 IsTextOf (live with_frames) input text = ⊥  -- it prints line by line
 IsTextOf (due dealer) input text = IsDueText dealer input text
 IsTextOf (compare dealer) input text = IsCompared dealer input text
@@ -35,7 +36,7 @@ IsTextOf (blotter firm) input text = IsBlotter firm input text
 abbrev pub IsFaultOf : Command → List ℕ → ProgramFault → Type 0
 IsFaultOf (alone with_frames) input fault = first_fault input ≡ Some fault
 IsFaultOf (replay firm with_frames) input fault = one_day (firms_by firm) input ≡ Err fault
-IsFaultOf (day with_frames) input fault = IsDayFault input fault
+IsFaultOf (day with_frames woven) input fault = IsDayFault woven input fault
 IsFaultOf (live with_frames) input fault = ⊥  -- it tells line by line
 IsFaultOf (due dealer) input fault = one_day (dealer_by dealer) input ≡ Err fault
 IsFaultOf (compare dealer) input fault = two_days (dealer_by dealer) input ≡ Err fault
@@ -46,16 +47,11 @@ abbrev pub word_of : Command → List ℕ
 word_of (alone with_frames) = []
 word_of (replay None with_frames) = []
 word_of (replay (Some firm) with_frames) = firm
-word_of (day with_frames) = []
+word_of (day with_frames woven) = []
 word_of (live with_frames) = []
 word_of (due dealer) = dealer
 word_of (compare dealer) = dealer
 word_of (blotter firm) = firm
-
--- What a writer held before a run and after it, where it tells.
-pub record Written : Type 0 where
-  pub before : Option (List ℕ)
-  pub after : Option (List ℕ)
 
 -- The streams of a run: what standard input had to give, where it tells, and what was written to
 -- standard output and to standard error.
@@ -63,19 +59,6 @@ pub record Streams : Type 0 where
   pub input : Option (List ℕ)
   pub out : Written
   pub err : Written
-
--- nothing was written
-abbrev pub IsUntouched : Written → Type 0
-IsUntouched written = Keeps written.before written.after
-
--- a text was written, and nothing else
-abbrev pub Gains : List ℕ → Written → Type 0
-Gains text written = Appends written.before written.after text
-
--- a part of a text was written, from its front, as where the writer refused
-pub record GainsPart (text : List ℕ) (written : Written) : Type 0 where
-  pub taken : ℕ
-  pub gained : Gains (take taken text) written
 
 -- What was read of all bytes: their front, and all of them unless there are more than an input has.
 pub record IsReadOf (all bytes : List ℕ) : Type 0 where
@@ -158,13 +141,10 @@ EndsTold kinds status out err =
     ⊎ (((may_be_help kinds ≡ true) × EndsInHelp status out err)
     ⊎ ((may_be_mistake kinds ≡ true) × EndsInMistake status out err))
 
--- How a run of `live` ends: with status 0 at the end of its input, or with status 1 and a fault.
-abbrev pub EndsInLive : ℕ → Type 0
-EndsInLive status = (status ≡ 0) ⊎ (status ≡ 1)
-
 -- How a run of a command ends, whichever it is.
 abbrev pub EndsOf : Option Bool → Command → ℕ → Streams → Type 0
-EndsOf (Some with_frames) command status streams = EndsInLive status
+EndsOf (Some with_frames) command status streams =
+    EndsInLive with_frames status streams.input streams.out streams.err
 EndsOf None command status streams = EndsInCommand command status streams
 
 -- How a run ends, by the command that is asked for, or else by what is wrong with the arguments.

@@ -6,7 +6,7 @@ ghost use Rattle.rfq_venue.specs.Arguments as spec;
 
 use crate::help::{
     ABOUT, ALONE, BLOTTER, COMPARE, DAY, DAYS, DEALER, DUE, DUE_TEXT, FIRM, FRAMES, LIVE, LIVE_DAY,
-    READS, REPLAY, THREADED, THREADS, VERSION,
+    READS, REPLAY, THREADED, THREADS, VERSION, WOVEN,
 };
 use clap::error::ErrorKind;
 use clap::{Arg, ArgAction, Command, Error};
@@ -33,6 +33,8 @@ pub(crate) enum VenueCommand<'a> {
     Day {
         /// Each message is printed as its whole frame.
         frames: bool,
+        /// Behind them stands into how many steps the day is woven.
+        woven: bool,
     },
     /// A day that goes on: the messages of each line as it comes.
     Live {
@@ -82,14 +84,21 @@ pub(crate) fn read_command<'a, S: AsStr>(
     let Some((name, words)) = matches.subcommand() else {
         return Ok(VenueCommand::Alone { frames: false });
     };
-    let command = command_named(name, words.get_str("firm"), words.get_flag("frames"));
+    let frames = words.get_flag("frames");
+    let woven = words.get_flag("woven");
+    let command = command_named(name, words.get_str("firm"), frames, woven);
     Ok(command)
 }
 
-/// The command with this name, by the word that was found for it, and whether the flag was.
-fn command_named<'a>(name: &str, firm: Option<&'a str>, frames: bool) -> VenueCommand<'a>
+/// The command with this name, by the word that was found for it, and whether each flag was.
+fn command_named<'a>(
+    name: &str,
+    firm: Option<&'a str>,
+    frames: bool,
+    woven: bool,
+) -> VenueCommand<'a>
     ensures { spec.meant result
-        ≡ spec.named_command name.now (option_map (λ word. word.now) firm.entry) frames }
+        ≡ spec.named_command name.now (option_map (λ word. word.now) firm.entry) frames woven }
 {
     if name == "alone" {
         return VenueCommand::Alone { frames };
@@ -98,7 +107,7 @@ fn command_named<'a>(name: &str, firm: Option<&'a str>, frames: bool) -> VenueCo
         return VenueCommand::Replay { firm, frames };
     }
     if name == "day" {
-        return VenueCommand::Day { frames };
+        return VenueCommand::Day { frames, woven };
     }
     if name == "live" {
         return VenueCommand::Live { frames };
@@ -139,6 +148,17 @@ fn frames_flag<'a>(alloc: Global) -> Arg<'a>
         .help(FRAMES)
 }
 
+/// The flag `--woven`.
+fn woven_flag<'a>(alloc: Global) -> Arg<'a>
+    ensures rule { rule_of result ≡ spec.woven_flag }
+    ensures own { result.global ≡ false }
+{
+    Arg::new(alloc, "woven")
+        .long("woven")
+        .action(ArgAction::SetTrue)
+        .help(WOVEN)
+}
+
 /// The command `alone`.
 fn alone_command<'a>(alloc: Global) -> Result<Command<'a>, Memory>
     ensures { IfOk result (spec.IsAppOf spec.alone_app) }
@@ -155,10 +175,12 @@ fn day_command<'a>(alloc: Global) -> Result<Command<'a>, Memory>
     ensures { IfOk result (spec.IsAppOf spec.day_app) }
 {
     let frames = frames_flag(alloc);
-    Command::new(alloc, "day")
+    let woven = woven_flag(alloc);
+    let framed = Command::new(alloc, "day")
         .about(THREADED)
         .after_help(THREADS)
-        .arg(frames)
+        .arg(frames)?;
+    framed.arg(woven)
 }
 
 /// The command `live`.
@@ -306,6 +328,12 @@ pub fn arguments_have_these_faults()
     ensures frames_twice { spec.arguments_fault
         (codes "replay" ∷ codes "--frames" ∷ codes "--frames" ∷ [])
         ≡ ErrorKind.ArgumentConflict ∷ [] }
+    ensures both_flags { spec.arguments_fault
+        (codes "day" ∷ codes "--woven" ∷ codes "--frames" ∷ []) ≡ [] }
+    ensures woven_twice { spec.arguments_fault
+        (codes "day" ∷ codes "--woven" ∷ codes "--woven" ∷ []) ≡ ErrorKind.ArgumentConflict ∷ [] }
+    ensures woven_replay { spec.arguments_fault (codes "replay" ∷ codes "--woven" ∷ [])
+        ≡ ErrorKind.UnknownArgument ∷ [] }
     ensures one_argument_more { spec.arguments_fault (codes "alone" ∷ codes "x" ∷ [])
         ≡ ErrorKind.UnknownArgument ∷ [] }
     ensures one_argument_less { spec.arguments_fault (codes "due" ∷ [])

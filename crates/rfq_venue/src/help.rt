@@ -24,6 +24,9 @@ pub(crate) const BLOTTER: &str = "Prints the blotter of FIRM on a day of the ven
 pub(crate) const FRAMES: &str =
     "Prints each message as its whole frame, with a vertical bar for each SOH";
 
+pub(crate) const WOVEN: &str =
+    "Prints behind the messages `woven N`: N steps in a row send every firm the same";
+
 pub(crate) const FIRM: &str = "The name of a dealer or of an investor of the configuration";
 
 pub(crate) const DEALER: &str = "The name of a dealer of the configuration";
@@ -126,8 +129,12 @@ The firms take their inboxes at the same time, each on a thread of its own, and 
 as they come; the clock makes its sweeps on another. So what is printed may be another day on
 another run, where firms race.
 
+With --woven the actions of all threads are put into one list of steps, in an order in which each
+stands behind those that came before it, and the list is replayed. Where it sends every firm the
+same messages, `woven N` is printed behind them, N the number of the steps.
+
 A day whose record does not agree with what came is a fault of the venue: `day: Inbox`, `day: Told`
-or `day: Sweep`.";
+or `day: Sweep`; one that is not woven is `weave: Malformed`, `weave: Cycle` or `weave: Differs`.";
 
 pub(crate) const LIVE_DAY: &str = "\
 Standard input is a day of the venue as the help of `replay` has it, but without lines `turn`, and

@@ -1,7 +1,7 @@
 //! Writing to standard output and standard error.
 ghost use Rattle.std.specs.Io.KnownBytes.{Appends};
 ghost use Rattle.std.specs.Bool.{OnTrue};
-ghost use Rattle.rfq_venue.specs.Runs.{GainsPart};
+ghost use Rattle.rfq_venue.specs.Written.{GainsPart};
 
 use std::io::Write;
 

@@ -5,6 +5,7 @@ ghost use Rattle.clap.specs.Words.{kind_of};
 ghost use Rattle.venue_text.specs.Faults as faults;
 ghost use Rattle.rfq_venue.specs.Arguments.{live_form, meant};
 ghost use Rattle.rfq_venue.specs.Runs as spec;
+ghost use Rattle.rfq_venue.specs.Written.{GainsPart};
 
 use crate::command::{Told, VenueCommand, form_of_live, read_command, told_by};
 use crate::input::read_input;
@@ -146,7 +147,7 @@ fn print_command<H: Threads + Wait + Sync, R: Read, W: Write>(
 pub(crate) fn print_text<W: Write>(out: &mut W, text: &[u8]) -> Result<(), ProgramFault>
     ensures ok { OnOk result (Appends (W.contents out.old) (W.contents out.new) text.now) }
     ensures err { IfErr result (λ fault. fault ≡ ProgramFault.Write) }
-    ensures part { OnErr result (spec.GainsPart text.now
+    ensures part { OnErr result (GainsPart text.now
         (record { before = W.contents out.old; after = W.contents out.new })) }
 {
     if !write_text(out, text) {
@@ -163,7 +164,7 @@ pub(crate) fn print_text<W: Write>(out: &mut W, text: &[u8]) -> Result<(), Progr
 /// the one of the arguments that names a firm.
 pub(crate) fn report<E: Write>(err: &mut E, word: &[u8], fault: &ProgramFault) -> u8
     ensures status { result ≡ 1 }
-    ensures told { spec.GainsPart (faults.told_line word.now fault.now)
+    ensures told { GainsPart (faults.told_line word.now fault.now)
         (record { before = E.contents err.old; after = E.contents err.new }) }
 {
     let line = fault_line(fault);
@@ -177,7 +178,7 @@ pub(crate) fn report<E: Write>(err: &mut E, word: &[u8], fault: &ProgramFault) -
 
 /// Writes a line: its front, and the word that it ends with.
 fn write_named<E: Write>(err: &mut E, front: &[u8], word: &[u8])
-    ensures { spec.GainsPart (front.now ++ word.now ++ 10 ∷ [])
+    ensures { GainsPart (front.now ++ word.now ++ 10 ∷ [])
         (record { before = E.contents err.old; after = E.contents err.new }) }
 {
     if !write_text(err, front) {

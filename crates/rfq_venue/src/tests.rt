@@ -13,6 +13,7 @@ mod days;
 mod dealers;
 mod help;
 mod limits;
+mod live;
 mod pairs;
 mod streams;
 

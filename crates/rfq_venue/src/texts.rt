@@ -33,7 +33,7 @@ pub(crate) fn command_text<H: Threads + Wait + Sync>(
             let only = word_bytes(*firm);
             replay_text(alloc, only, *frames, input)
         }
-        VenueCommand::Day { frames } => day_text(rt, alloc, *frames, input),
+        VenueCommand::Day { frames, woven } => day_text(rt, alloc, *frames, *woven, input),
         VenueCommand::Live { .. } => unreachable!(),
         VenueCommand::Due { dealer } => due_command_text(alloc, dealer.as_bytes(), input),
         VenueCommand::Compare { dealer } => compare_text(alloc, dealer.as_bytes(), input),

@@ -81,17 +81,16 @@ pub line_refused : (with_frames : Bool) (config : Configuration) (taken : List S
     → Goes with_frames config taken heard before
     → live_steps_of (values_of before.config) before.heard k line ≡ Err fault
     → after.with_frames ≡ before.with_frames → after.config ≡ before.config
-    → after.venue ≡ before.venue
+    → after.venue ≡ before.venue → after.heard ≡ before.heard
     → LineIsRefused with_frames config taken heard k line fault after
-line_refused with_frames config taken heard k line before after fault goes told form same venue =
+line_refused with_frames config taken heard k line before after fault goes told form same venue unheard =
     record {
       told = ap₂ (λ (v : Configuration) (h : Heard). live_steps_of (values_of v) h k line)
           (sym goes.config_is) (sym goes.heard_is) ∙ told;
-      heard_then = after.heard;
       goes = record {
         form_is = form ∙ goes.form_is;
         config_is = same ∙ goes.config_is;
         stands = subst (λ (v : LiveVenue). IsAt config taken v) (sym venue) goes.stands;
-        heard_is = refl;
+        heard_is = unheard ∙ goes.heard_is;
       };
     }

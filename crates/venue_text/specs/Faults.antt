@@ -5,15 +5,23 @@ use Rattle.venue_text.specs.declared.faults.ProgramFault.{ProgramFault}
 use Rattle.venue_text.specs.declared.faults.ProgramFault.TheVariants.{Read, Input, Parts, Config}
 use Rattle.venue_text.specs.declared.faults.ProgramFault.TheVariants.{Firm, Form, UnknownFirm}
 use Rattle.venue_text.specs.declared.faults.ProgramFault.TheVariants.{UnknownRoom, Stream}
-use Rattle.venue_text.specs.declared.faults.ProgramFault.TheVariants.{Day, Memory, Write}
+use Rattle.venue_text.specs.declared.faults.ProgramFault.TheVariants.{Day, Weave, Memory, Write}
 use Rattle.venue_text.specs.declared.faults.UnkeptDay.{UnkeptDay}
 use Rattle.venue_text.specs.declared.faults.UnkeptDay.TheVariants as unkept
+use Rattle.venue_text.specs.declared.faults.UnwovenDay.{UnwovenDay}
+use Rattle.venue_text.specs.declared.faults.UnwovenDay.TheVariants as unwoven
 
 -- what does not agree after a day on threads, by its name
 abbrev pub unkept_name : UnkeptDay → List ℕ
 unkept_name unkept.Inbox = codes "Inbox"
 unkept_name unkept.Told = codes "Told"
 unkept_name unkept.Sweep = codes "Sweep"
+
+-- why a day on threads is not woven into steps, by its name
+abbrev pub unwoven_name : UnwovenDay → List ℕ
+unwoven_name unwoven.Malformed = codes "Malformed"
+unwoven_name unwoven.Cycle = codes "Cycle"
+unwoven_name unwoven.Differs = codes "Differs"
 
 -- a fault as standard error tells it, but for the word of an argument that names no firm
 abbrev pub fault_text : ProgramFault → List ℕ
@@ -27,6 +35,7 @@ fault_text (UnknownFirm line) = codes "line " ++ decimal line ++ codes ": unknow
 fault_text (UnknownRoom line) = codes "line " ++ decimal line ++ codes ": unknown room"
 fault_text (Stream line) = codes "line " ++ decimal line ++ codes ": stream"
 fault_text (Day what) = codes "day: " ++ unkept_name what
+fault_text (Weave why) = codes "weave: " ++ unwoven_name why
 fault_text Memory = codes "memory"
 fault_text Write = codes "write"
 

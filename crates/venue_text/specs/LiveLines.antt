@@ -1,5 +1,5 @@
 -- A day that goes on, line by line: what a line spells, and what it is answered.
-use Rattle.std.specs.Prelude.{◌≡◌, ℕ, Bool, List, [], ◌++◌, codes, length, slice_get, Ok, Err}
+use Rattle.std.specs.Prelude.{◌≡◌, ◌≤◌, ℕ, All, Bool, List, [], ◌++◌, codes, length, slice_get, Ok, Err}
 use Rattle.std.specs.Prelude.{if◌then◌else◌}
 use Rattle.std.specs.List.{flat_map}
 use Rattle.std.specs.Option.{option_to_list}
@@ -53,6 +53,10 @@ pub record Goes (with_frames : Bool) (config : Configuration) (taken : List Step
   pub stands : IsAt config taken day.venue
   pub heard_is : day.heard ≡ heard
 
+-- No firm's next `say` line has a greater number. It is for callers, as `Goes` is.
+abbrev pub HasHeardFew : ℕ → LiveDay → Type 0
+HasHeardFew most day = All (λ number. number ≤ most) day.heard.numbers
+
 -- what a lawful line brings
 pub record LineIsAnswered (with_frames : Bool) (config : Configuration) (taken : List Step)
     (heard : Heard) (k : ℕ) (line : List ℕ) (after : LiveDay) (answer : List ℕ) : Type 0 where
@@ -69,9 +73,8 @@ pub record Opens (with_frames : Bool) (text : List ℕ) (day : LiveDay) : Type 0
   pub spelled : venue_of text ≡ Ok (values_of config)
   pub goes : Goes with_frames config [] (nothing_heard (length (names_of_firms (values_of config)))) day
 
--- what a line at fault brings: no step is done. What was heard of the firms is not said here.
+-- what a line at fault brings: no step is done, and nothing was heard of the firms
 pub record LineIsRefused (with_frames : Bool) (config : Configuration) (taken : List Step)
     (heard : Heard) (k : ℕ) (line : List ℕ) (fault : ProgramFault) (after : LiveDay) : Type 0 where
   pub told : live_steps_of (values_of config) heard k line ≡ Err fault
-  pub heard_then : Heard
-  pub goes : Goes with_frames config taken heard_then after
+  pub goes : Goes with_frames config taken heard after

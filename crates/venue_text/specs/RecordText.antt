@@ -1,5 +1,5 @@
--- The messages of a recorded day as text.
-use Rattle.std.specs.Prelude.{ℕ, Bool, List, None, map}
+-- The messages of a recorded day as text, and the line that says into how many steps it was woven.
+use Rattle.std.specs.Prelude.{ℕ, Bool, List, [], ◌∷◌, ◌++◌, None, map, codes, decimal}
 use Rattle.venue_config.specs.Rows.{Configuration}
 use Rattle.step_replay.specs.FirmDays.{FirmDay}
 use Rattle.step_replay.specs.Records.{FirmLists, RecordedDay, firms_in}
@@ -17,3 +17,7 @@ recorded_days day = map recorded_day (firms_in day)
 abbrev pub record_text : Bool → Configuration → RecordedDay → List ℕ
 record_text with_frames config day =
     days_text with_frames None (named_days config (recorded_days day))
+
+-- the line behind the messages of a day that was woven into so many steps
+abbrev pub woven_line : ℕ → List ℕ
+woven_line steps = codes "woven " ++ decimal steps ++ 10 ∷ []

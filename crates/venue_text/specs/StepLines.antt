@@ -3,7 +3,7 @@ use Rattle.std.specs.Prelude.{ℕ, ◌+◌, ◌-◌, Bool, false, ◌==◌, ◌&
 use Rattle.std.specs.Prelude.{map, nat_le, codes, position, replicate, slice_get, slice_index}
 use Rattle.std.specs.Prelude.{slice_set, Option, Some, None, Result, Ok, Err, if◌then◌else◌}
 use Rattle.std.specs.Option.{option_and_then, option_map}
-use Rattle.fix_fields.specs.Envelope.{cut_behind}
+use Rattle.fix_fields.specs.Envelope.{envelopes_of}
 use Rattle.fix_fields.specs.declared.fault.StreamFault.{StreamFault}
 use Rattle.venue_config.specs.Rows.{ConfigValues, DealerValues, InvestorValues}
 use Rattle.venue_config.specs.Texts.{same_text, text_if}
@@ -66,11 +66,11 @@ is_room config firm n = is_request_of (investor_numbered config firm) n
 -- whose BODY has none, and the bytes of its pieces behind the last message that they end.
 pub record Heard : Type 0 where
   pub numbers : List ℕ
-  pub streams : List (Result (List ℕ) StreamFault)
+  pub streams : List (List ℕ)
 
 -- nothing of so many firms
 abbrev pub nothing_heard : ℕ → Heard
-nothing_heard firms = record { numbers = replicate firms 1; streams = replicate firms (Ok []) }
+nothing_heard firms = record { numbers = replicate firms 1; streams = replicate firms [] }
 
 -- the number of a firm's next `say` line; that of a word that names no firm would be the first
 abbrev pub number_for : Heard → Option ℕ → ℕ
@@ -94,7 +94,7 @@ with_said heard firm said =
 abbrev pub with_stream : Heard → ℕ → List ℕ → Heard
 with_stream heard firm rest = record {
   numbers = heard.numbers;
-  streams = slice_set heard.streams firm (Ok rest);
+  streams = slice_set heard.streams firm rest;
 }
 
 -- The parts of lines.
@@ -188,11 +188,12 @@ expire_step config heard k text = do
 abbrev pub in_steps : ℕ → ℕ → List (List ℕ) → List Step
 in_steps firm moment messages = map (λ message. step.In firm moment message) messages
 
--- the messages that end in a piece of a firm's stream, and what was heard with it
+-- the messages that end in a piece of a firm's stream, and what was heard with it: what was kept of
+-- the stream and the piece are cut as one, since no message ends in what is kept
 abbrev pub cut_for : Heard → ℕ → ℕ → List ℕ → Result (List (List ℕ) × Heard) ProgramFault
 cut_for heard k firm piece = do
   before ← of_known k (slice_get heard.streams firm)
-  let cut = cut_behind before piece
+  let cut = envelopes_of (before ++ piece)
   rest ← unbroken k cut.rest
   Ok (cut.messages, with_stream heard firm rest)
 

@@ -51,3 +51,12 @@ messages_if (Err fault) messages = None
 
 abbrev pub whole_messages : Cutting → Option (List (List ℕ))
 whole_messages cut = messages_if cut.rest cut.messages
+
+-- and the bytes behind them
+abbrev pub whole_if : Result (List ℕ) StreamFault → List (List ℕ)
+    → Option (List (List ℕ) × List ℕ)
+whole_if (Ok rest) messages = Some (messages, rest)
+whole_if (Err fault) messages = None
+
+abbrev pub whole_cut : Cutting → Option (List (List ℕ) × List ℕ)
+whole_cut cut = whole_if cut.rest cut.messages

@@ -34,6 +34,31 @@ impl UnkeptDay {
     }
 }
 
+/// Why a day on threads is not woven into steps: a fault of the venue, and none of its input.
+#[derive(Clone, Copy, Debug, PartialEq, Eq)]
+pub enum UnwovenDay {
+    /// The record is not that of a day of the venue.
+    Malformed,
+    /// No order keeps what came before what.
+    Cycle,
+    /// A firm was sent other messages than the steps send it.
+    Differs,
+}
+
+impl UnwovenDay {
+    /// Its name, as the program prints it.
+    pub fn name(self) -> &'static str
+        ensures text { result.now ≡ spec.unwoven_name self }
+        ensures short { length result.now ≤ 16 }
+    {
+        match self {
+            UnwovenDay::Malformed => "Malformed",
+            UnwovenDay::Cycle => "Cycle",
+            UnwovenDay::Differs => "Differs",
+        }
+    }
+}
+
 /// A fault of a run, which ends with status 1 and one line on standard error.
 ///
 /// Where several could be told, the one that comes first here is told, but `memory` wherever it
@@ -75,6 +100,8 @@ pub enum ProgramFault {
     },
     /// What lies under the locks after a day on threads does not agree.
     Day(UnkeptDay),
+    /// The record of a day on threads is not woven into steps.
+    Weave(UnwovenDay),
     /// Memory was refused.
     Memory,
     /// Standard output refused the messages, or took only some of them.
@@ -98,6 +125,7 @@ impl fmt::Display for ProgramFault {
             ProgramFault::UnknownRoom { line } => write!(f, "line {line}: unknown room"),
             ProgramFault::Stream { line } => write!(f, "line {line}: stream"),
             ProgramFault::Day(what) => write!(f, "day: {}", what.name()),
+            ProgramFault::Weave(why) => write!(f, "weave: {}", why.name()),
             ProgramFault::Memory => write!(f, "memory"),
             ProgramFault::Write => write!(f, "write"),
         }
@@ -130,13 +158,14 @@ pub fn fault_line(fault: &ProgramFault) -> ArrayString<64>
         ProgramFault::Read => short_line("read\n"),
         ProgramFault::Input => short_line("input\n"),
         ProgramFault::Parts => short_line("parts\n"),
-        ProgramFault::Config(fault) => config_line(fault.name()),
+        ProgramFault::Config(fault) => named_line("config: ", fault.name()),
         ProgramFault::Firm => short_line("firm: "),
         ProgramFault::Form { line } => numbered_line(*line, ": form"),
         ProgramFault::UnknownFirm { line } => numbered_line(*line, ": unknown firm"),
         ProgramFault::UnknownRoom { line } => numbered_line(*line, ": unknown room"),
         ProgramFault::Stream { line } => numbered_line(*line, ": stream"),
-        ProgramFault::Day(what) => day_line(what.name()),
+        ProgramFault::Day(what) => named_line("day: ", what.name()),
+        ProgramFault::Weave(why) => named_line("weave: ", why.name()),
         ProgramFault::Memory => short_line("memory\n"),
         ProgramFault::Write => short_line("write\n"),
     }
@@ -152,25 +181,14 @@ fn short_line(text: &str) -> ArrayString<64>
     line
 }
 
-/// The line of a fault of a configuration with this name.
-fn config_line(name: &str) -> ArrayString<64>
-    requires { length name.now ≤ 16 }
-    ensures { result.bytes ≡ codes "config: " ++ name.now ++ 10 ∷ [] }
+/// The line of a fault with this name, of a kind that stands in front of it.
+fn named_line(kind: &str, name: &str) -> ArrayString<64>
+    requires kind { length kind.now ≤ 16 }
+    requires name { length name.now ≤ 16 }
+    ensures { result.bytes ≡ (kind.now ++ name.now) ++ 10 ∷ [] }
 {
     let mut line = ArrayString::new();
-    line.push_str("config: ");
-    line.push_str(name);
-    line.push_str("\n");
-    line
-}
-
-/// The line of what does not agree after a day on threads, with this name.
-fn day_line(name: &str) -> ArrayString<64>
-    requires { length name.now ≤ 16 }
-    ensures { result.bytes ≡ codes "day: " ++ name.now ++ 10 ∷ [] }
-{
-    let mut line = ArrayString::new();
-    line.push_str("day: ");
+    line.push_str(kind);
     line.push_str(name);
     line.push_str("\n");
     line

@@ -1,6 +1,6 @@
 //! A day that is read line by line, and what is printed for each line.
-ghost use Rattle.std.specs.Prelude.{◌≡◌, ◌≢◌, ◌++◌, [], Bool, List, true, false};
-ghost use Rattle.std.specs.Prelude.{Ok, Err, IfOk, IfErr, OnOk};
+ghost use Rattle.std.specs.Prelude.{◌≡◌, ◌≢◌, ◌≤◌, ◌+◌, ◌++◌, [], ℕ, All, Bool, List, true, false};
+ghost use Rattle.std.specs.Prelude.{Ok, Err, IfOk, IfErr, IsOkAnd, OnOk};
 ghost use Rattle.step_replay.specs.LiveStanding.{IsAt};
 ghost use Rattle.step_replay.specs.declared.steps.Step.{Step};
 ghost use Rattle.venue_config.specs.Rows.{Configuration, values_of};
@@ -24,7 +24,7 @@ use std::alloc::{AllocError, Global};
 use step_replay::{LiveVenue, SentTo, Step};
 use venue_config::VenueConfig;
 
-/// How many lines an input of a day that goes on has at most.
+/// The greatest number of a line of a day that goes on.
 pub const MOST_LINES: usize = 1_000_000_000_000_000;
 
 /// A day of a venue that goes on, line by line.
@@ -42,8 +42,10 @@ impl LiveDay {
     /// printed as its whole frame, or as a line of its fields. Memory may be refused at any point.
     pub fn open(alloc: Global, with_frames: bool, text: &[u8]) -> Result<Self, ProgramFault>
         ensures ok { IfOk result (spec.Opens with_frames text.now) }
+        ensures few { IfOk result (spec.HasHeardFew 1) }
         ensures err { IfErr result (λ fault. fault ≢ ProgramFault.Memory
             → venue_of text.now ≡ Err fault) }
+        ensures unwritten { IfErr result (λ fault. fault ≢ ProgramFault.Write) }
     {
         let config = read_venue(alloc, text)?;
         let venue = LiveVenue::open(alloc, &config)?;
@@ -60,27 +62,30 @@ impl LiveDay {
     /// The line with this number comes: its steps are done, each with all duties that it leaves,
     /// and the messages that are sent for them are answered, a line each in their order. A line at
     /// fault ([`ProgramFault::Form`], [`ProgramFault::UnknownFirm`], [`ProgramFault::UnknownRoom`]
-    /// or [`ProgramFault::Stream`]) changes nothing but that a stream at fault is over, and the day
-    /// goes on. After [`ProgramFault::Memory`] it can't.
+    /// or [`ProgramFault::Stream`]) changes nothing, and the day goes on. After
+    /// [`ProgramFault::Memory`] it can't.
     pub fn answer(
         &mut self,
         alloc: Global,
         line: usize,
         text: &[u8],
     ) -> Result<Vec<u8>, ProgramFault>
+        // A line has a number, so no firm has spoken more often than lines have one.
+        requires few { spec.HasHeardFew MOST_LINES self.old }
         // An empty line and a comment say nothing.
         ensures skipped { is_skipped text.now ≡ true
-            → IfOk result (λ answer. (answer.items ≡ []) × (self.new ≡ self.old)) }
+            → IsOkAnd result (λ answer. (answer.items ≡ []) × (self.new ≡ self.old)) }
         ensures ok { is_skipped text.now ≡ false → IfOk result (λ answer. (with_frames : Bool)
             (config : Configuration) (taken : List Step) (heard : lines.Heard)
             → spec.Goes with_frames config taken heard self.old
             → spec.LineIsAnswered with_frames config taken heard line text.now self.new
             answer.items) }
         ensures err { IfErr result (λ fault. fault ≢ ProgramFault.Memory
-            → fault ≢ ProgramFault.Input → (with_frames : Bool) (config : Configuration)
-            (taken : List Step) (heard : lines.Heard)
-            → spec.Goes with_frames config taken heard self.old
+            → (with_frames : Bool) (config : Configuration) (taken : List Step)
+            (heard : lines.Heard) → spec.Goes with_frames config taken heard self.old
             → spec.LineIsRefused with_frames config taken heard line text.now fault self.new) }
+        ensures few { (most : ℕ) → spec.HasHeardFew most self.old
+            → spec.HasHeardFew (most + 1) self.new }
     {
         if is_skipped(text) {
             return Ok(Vec::new(alloc));
@@ -108,40 +113,39 @@ fn read_live_line(
     line: usize,
     text: &[u8],
 ) -> Result<Vec<Step>, ProgramFault>
+    requires few { All (λ number. number ≤ MOST_LINES) heard.old.numbers }
     ensures ok { IfOk result (λ steps. spec.live_steps_of (values_of config.now) heard.old line
         text.now ≡ Ok (steps.items, heard.new)) }
-    ensures err { IfErr result (λ fault. fault ≢ ProgramFault.Memory → fault ≢ ProgramFault.Input
+    ensures err { IfErr result (λ fault. fault ≢ ProgramFault.Memory
         → spec.live_steps_of (values_of config.now) heard.old line text.now ≡ Err fault) }
+    ensures unheard { IfErr result (λ fault. fault ≢ ProgramFault.Memory
+        → heard.new ≡ heard.old) }
     ensures unwritten { IfErr result (λ fault. fault ≢ ProgramFault.Write) }
+    ensures few { (most : ℕ) → All (λ number. number ≤ most) heard.old.numbers
+        → All (λ number. number ≤ most + 1) heard.new.numbers }
 {
     let (keyword, _) = cut_part(text);
     if same_text(keyword, b"turn") {
         return Err(ProgramFault::Form { line });
     }
     let spelled = read_line(alloc, config, heard, line, text)?;
-    count_line(heard, &spelled)?;
+    count_line(heard, &spelled);
     let mut steps = Vec::new(alloc);
     push_steps(&mut steps, spelled)?;
     Ok(steps)
 }
 
 /// Counts a line whose number was written for it.
-fn count_line(heard: &mut Heard, spelled: &Spelled) -> Result<(), ProgramFault>
-    ensures ok { OnOk result (heard.new ≡ counted spelled.now heard.old) }
-    ensures err { IfErr result (λ fault. fault ≡ ProgramFault.Input) }
+fn count_line(heard: &mut Heard, spelled: &Spelled)
+    requires { All (λ number. number ≤ MOST_LINES) heard.old.numbers }
+    ensures ok { heard.new ≡ counted spelled.now heard.old }
+    ensures few { (most : ℕ) → All (λ number. number ≤ most) heard.old.numbers
+        → All (λ number. number ≤ most + 1) heard.new.numbers }
 {
-    match spelled {
-        Spelled::Said(firm, _, _, is_counted) => {
-            if !*is_counted {
-                return Ok(());
-            }
-            heard.count_on(*firm)
-        }
-        Spelled::Came(_, _, _) => Ok(()),
-        Spelled::Turns(_, _) => Ok(()),
-        Spelled::Sweep(_, _) => Ok(()),
-        Spelled::Pieces(_, _, _) => Ok(()),
-    }
+    let Spelled::Said(firm, _, _, true) = spelled else {
+        return;
+    };
+    heard.count(*firm);
 }
 
 /// Steps are done, each with all duties that it leaves, and the messages that are sent for them are

@@ -1,4 +1,4 @@
-//! The messages of a recorded day.
+//! The messages of a recorded day, and the line behind those of one that was woven.
 ghost use Rattle.std.specs.Prelude.{◌≡◌, ◌++◌, IfOk, OnOk};
 ghost use Rattle.std.specs.List.{flat_map};
 ghost use Rattle.venue_text.specs.RecordText as spec;
@@ -6,7 +6,9 @@ ghost use Rattle.venue_text.specs.ReplayText.{firm_text, named_days, one_at};
 
 use crate::message_lines::push_messages;
 use crate::printed_replay::firm_name;
+use arrayvec::ArrayString;
 use fix_fields::Memory;
+use itoa::Buffer;
 use std::alloc::Global;
 use step_replay::DayRecord;
 use venue_config::VenueConfig;
@@ -50,4 +52,17 @@ fn push_firm(
     };
     push_messages(text, with_frames, name, messages)?;
     Ok(())
+}
+
+/// The line behind the messages of a day that was woven into so many steps: `woven N`, with its line
+/// feed. It takes no memory.
+pub fn woven_line(steps: usize) -> ArrayString<32>
+    ensures { result.bytes ≡ spec.woven_line steps }
+{
+    let mut digits = Buffer::new();
+    let mut line = ArrayString::new();
+    line.push_str("woven ");
+    line.push_str(digits.format(steps));
+    line.push_str("\n");
+    line
 }

@@ -1,5 +1,5 @@
 //! The lines of steps: what each spells.
-ghost use Rattle.std.specs.Prelude.{◌≡◌, ◌≢◌, true, Ok, Err, IfOk, IfErr, IfSome, OnOk};
+ghost use Rattle.std.specs.Prelude.{◌≡◌, ◌≢◌, true, Ok, Err, IfOk, IfErr, IfSome, OnOk, OnErr};
 ghost use Rattle.quote_messages.specs.Texts.{number_of};
 ghost use Rattle.venue_config.specs.Rows.{values_of};
 ghost use Rattle.venue_text.specs.StepLines as spec;
@@ -34,6 +34,7 @@ pub(crate) fn read_line(
         → spec.steps_of_line (values_of config.now) heard.old line text.now ≡ Err fault) }
     ensures unwritten { IfErr result (λ fault. fault ≢ ProgramFault.Write) }
     ensures known { IfOk result (λ spelled. is_known config.now spelled ≡ true) }
+    ensures unheard { OnErr result (heard.new ≡ heard.old) }
     ensures numbers { OnOk result (heard.new.numbers ≡ heard.old.numbers) }
 {
     let (keyword, text) = cut_part(text);
@@ -217,6 +218,7 @@ fn read_piece(
         → spec.piece_steps (values_of config.now) heard.old line text.now ≡ Err fault) }
     ensures unwritten { IfErr result (λ fault. fault ≢ ProgramFault.Write) }
     ensures known { IfOk result (λ spelled. is_known config.now spelled ≡ true) }
+    ensures unheard { OnErr result (heard.new ≡ heard.old) }
     ensures numbers { OnOk result (heard.new.numbers ≡ heard.old.numbers) }
 {
     let (word, rest) = cut_part(text);

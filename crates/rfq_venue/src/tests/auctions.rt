@@ -1,6 +1,7 @@
 //! Worked days of the venue, with each message of each firm. Each value was written down before
 //! there was a program.
 use super::days::{HIT, VENUE, assert_fault, assert_printed};
+use super::live::assert_same_live;
 use super::pairs::VENUE_WITH_GRIDS;
 use super::*;
 
@@ -72,6 +73,20 @@ fn assert_day_of<T: Threads + Wait + Sync + Abort + AllocGlobal>(
 
 /// The same of the venue of most days, whichever version its configuration has.
 fn assert_day<T: Threads + Wait + Sync + Abort + AllocGlobal>(
+    rt: &T,
+    steps: &[&[u8]],
+    dealer: &[&[u8]],
+    others: &[&[u8]],
+) {
+    assert_raced_day(rt, steps, dealer, others);
+    let steps = joined(rt, steps);
+    let input = joined(rt, &[VENUE, b"%%\n", steps.as_slice()]);
+    assert_same_live(rt, input.as_slice());
+}
+
+/// The same of a day in which firms act before others have done their duties, as none does in a day
+/// that is answered line by line.
+fn assert_raced_day<T: Threads + Wait + Sync + Abort + AllocGlobal>(
     rt: &T,
     steps: &[&[u8]],
     dealer: &[&[u8]],
@@ -159,7 +174,7 @@ say DLR1 T1 09:01:02 Z 298=5|117=a1\n";
 
 #[test]
 fn cancel_behind_the_exchange_is_too_late(rt: HostRuntime) {
-    assert_day(
+    assert_raced_day(
         &rt,
         &[ASKS_TWO, TURNS, QUOTES, HIT, LATE_CANCELS],
         &[
@@ -200,7 +215,7 @@ INV1 6 09:01:10.000 AI 693=h2|131=A|117=Q2|297=0\n";
 
 #[test]
 fn quote_is_withdrawn_before_the_hit(rt: HostRuntime) {
-    assert_day(
+    assert_raced_day(
         &rt,
         &[ASKS_TWO, TURNS, QUOTES, CANCELS, HIT, WITHDRAWN],
         &[DLR1_REQUEST, DLR1_QUOTED, WITHDRAWN_OF_DLR1],

@@ -261,6 +261,20 @@ INV1 1 09:00:00.000 AI 131=A|297=0
 INV1 2 09:01:00.000 AI 693=p1|131=A|297=11
 ";
 
+/// One firm acts: its two messages, the opening, the request that DLR1 is shown, that the room is
+/// ready, the pass, its answer and the notice.
+#[test]
+fn day_is_woven_into_its_actions(rt: HostRuntime) {
+    let input = joined(&rt, &[VENUE, b"%%\n", PASSED]);
+    let wanted = joined(&rt, &[PASSED_MESSAGES, b"woven 8\n"]);
+    assert_printed(
+        &rt,
+        &["day", "--woven"],
+        input.as_slice(),
+        wanted.as_slice(),
+    );
+}
+
 /// A day on threads needs no turns, and takes none.
 #[test]
 fn day_prints_what_its_threads_send(rt: HostRuntime) {
@@ -268,6 +282,8 @@ fn day_prints_what_its_threads_send(rt: HostRuntime) {
     assert_printed(&rt, &["day"], input.as_slice(), PASSED_MESSAGES);
     let nothing = joined(&rt, &[VENUE, b"%%\n"]);
     assert_printed(&rt, &["day", "--frames"], nothing.as_slice(), b"");
+    let twice = ["day", "--woven", "--frames"];
+    assert_printed(&rt, &twice, nothing.as_slice(), b"woven 0\n");
     let turns = joined(&rt, &[VENUE, b"%%\nturn INV1 1\n"]);
     let (status, out, err) = ran(&rt, &["day"], turns.as_slice());
     assert_eq!(rt; status, 1);

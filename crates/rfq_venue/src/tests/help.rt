@@ -58,6 +58,7 @@ Usage: rfq_venue day [OPTIONS]
 
 Options:
       --frames  Prints each message as its whole frame, with a vertical bar for each SOH
+      --woven   Prints behind the messages `woven N`: N steps in a row send every firm the same
   -h, --help    Print help
 ";
 

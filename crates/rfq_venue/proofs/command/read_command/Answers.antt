@@ -51,8 +51,9 @@ returns-clause-ok g c =
     let name_is = c.in-Some.ensures.name ∙ names_alike _ ∙ ap (option_map (λ (p : Text × List Row). p.0)) met in
     let rows_are = c.in-Some.ensures.rows ∙ ap (option_map (λ (p : Text × List Row). p.1)) met in
     let read = arguments_read g.S.AsStr.text c.args.arguments.now c.requires none (c.in-Some.name.now, rows_of found)
-    (found_both (subcommand_of venue_app words) c.in-Some.name.now (rows_of found) name_is rows_are) c.get_flag.result
-    (λ e. c.get_flag.ensures.value (one_text-rows found (codes "frames") ∙ e), λ e. c.get_flag.ensures.other (one_text-rows found (codes "frames") ∙ e)) in
+    (found_both (subcommand_of venue_app words) c.in-Some.name.now (rows_of found) name_is rows_are) c.get_flag-frames.result c.get_flag-woven.result
+    (λ e. c.get_flag-frames.ensures.value (one_text-rows found (codes "frames") ∙ e), λ e. c.get_flag-frames.ensures.other (one_text-rows found (codes "frames") ∙ e))
+    (λ e. c.get_flag-woven.ensures.value (one_text-rows found (codes "woven") ∙ e), λ e. c.get_flag-woven.ensures.other (one_text-rows found (codes "woven") ∙ e)) in
     let firm = c.get_str.ensures ∙ first_value-rows found (codes "firm") in
-    read ∙ ap (λ firm_word. Some (named_command c.in-Some.name.now firm_word c.get_flag.result)) (sym firm)
+    read ∙ ap (λ firm_word. Some (named_command c.in-Some.name.now firm_word c.get_flag-frames.result c.get_flag-woven.result)) (sym firm)
     ∙ ap (λ command. Some command) (sym c.command_named-command.ensures)

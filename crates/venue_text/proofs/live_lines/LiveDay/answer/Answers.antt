@@ -13,6 +13,7 @@ returns-clause-ok c lawful with_frames config taken heard goes =
     c.as_slice.ensures.value (c.in_ok-answer.ensures taken at)) refl refl
 
 pub returns-in-Err-clause-err : goal.returns-in-Err-clause-err
-returns-in-Err-clause-err c not_memory not_input with_frames config taken heard goes =
+returns-in-Err-clause-err c not_memory with_frames config taken heard goes =
     line_refused with_frames config taken heard c.args.line c.args.text.now c.args.self.now _
-    c.in-Err.fault goes (c.in-Err.ensures.err not_memory not_input) refl refl refl
+    c.in-Err.fault goes (c.in-Err.ensures.err not_memory) refl refl refl
+    (c.in-Err.ensures.unheard not_memory)

@@ -1,0 +1,210 @@
+-- Lines of an input as they come: their parts, and what one line more brings.
+use Rattle.std.proofs.Common.{◌≡◌, ℕ, ◌+◌, ◌-◌, ◌<◌, ◌≤◌, ◌==◌, ◌||◌, Bool, true, false, List, [], ◌∷◌, ◌++◌, length, take, drop, suc, fold}
+use Rattle.std.proofs.Common.{Ok, Err, refl, sym, ap, ap₂, ◌∙◌, arith, inl, inr, append_assoc, add-one, nat_lt}
+use Rattle.std.proofs.Math.Nat.{add_comm}
+use Rattle.std.specs.List.{list_any, before_first, after_first, position_or_len, onto_first}
+use Rattle.std.proofs.lemmas.Bool.{cases_Bool, false≢true}
+use Rattle.std.proofs.lemmas.Bool.Decides.{nat_tests}
+use Rattle.std.proofs.lemmas.List.{length-append, append-nil}
+use Rattle.std.proofs.lemmas.Grind.{flat_map-append, fold-append}
+use Rattle.std.proofs.lemmas.List.Folds.{list_any-append}
+use Rattle.venue_config.specs.Rows.{Configuration, values_of}
+use Rattle.venue_text.specs.DueText.{Lines}
+use Rattle.venue_text.specs.Lines.{is_skipped, lines_of, parts_of, spoken_from}
+use Rattle.venue_text.specs.LiveInput.{Taken, are_divided, configuration_in, nothing_taken, steps_in, taken_in, taken_of, with_line}
+use Rattle.venue_text.specs.VenueParts.{is_divider, text_of_lines}
+
+-- The first element of a list that passes a test.
+
+stop_here : {X : Type 0} (p : X → Bool) (x : X) (xs : List X) → p x ≡ true → position_or_len p (x ∷ xs) ≡ 0
+stop_here p x xs here = rw here refl
+
+skip_one : {X : Type 0} (p : X → Bool) (x : X) (xs : List X) → p x ≡ false → position_or_len p (x ∷ xs) ≡ suc (position_or_len p xs)
+skip_one p x xs other = rw other (add_comm 1 (position_or_len p xs) ∙ add-one (position_or_len p xs))
+
+before_here : {X : Type 0} (p : X → Bool) (x : X) (xs : List X) → p x ≡ true → before_first p (x ∷ xs) ≡ []
+before_here p x xs here = ap (λ n. take n (x ∷ xs)) (stop_here p x xs here)
+
+after_here : {X : Type 0} (p : X → Bool) (x : X) (xs : List X) → p x ≡ true → after_first p (x ∷ xs) ≡ xs
+after_here p x xs here = ap (λ n. drop (n + 1) (x ∷ xs)) (stop_here p x xs here)
+
+before_skip : {X : Type 0} (p : X → Bool) (x : X) (xs : List X) → p x ≡ false → before_first p (x ∷ xs) ≡ x ∷ before_first p xs
+before_skip p x xs other = ap (λ n. take n (x ∷ xs)) (skip_one p x xs other)
+
+after_skip : {X : Type 0} (p : X → Bool) (x : X) (xs : List X) → p x ≡ false → after_first p (x ∷ xs) ≡ after_first p xs
+after_skip p x xs other =
+    let n = position_or_len p xs in
+    let place : position_or_len p (x ∷ xs) + 1 ≡ suc (n + 1) = ap (λ m. m + 1) (skip_one p x xs other) ∙ omega arith in
+    ap (λ m. drop m (x ∷ xs)) place
+
+-- more elements behind a list that has one
+pub record PartsStay {X : Type 0} (p : X → Bool) (xs more : List X) : Type 0 where
+  pub before : before_first p (xs ++ more) ≡ before_first p xs
+  pub after : after_first p (xs ++ more) ≡ after_first p xs ++ more
+  pub any : list_any p (xs ++ more) ≡ true
+  pub count : length xs ≡ length (before_first p xs) + 1 + length (after_first p xs)
+
+pub parts_stay : {X : Type 0} (p : X → Bool) (xs more : List X) → list_any p xs ≡ true → PartsStay p xs more
+parts_stay p [] more some = absurd (false≢true some)
+parts_stay p (x ∷ xs) more some =
+    elim (cases_Bool (p x)) [
+      | inl here ↦ record {
+        before = before_here p x (xs ++ more) here ∙ sym (before_here p x xs here);
+        after = after_here p x (xs ++ more) here ∙ ap (λ l. l ++ more) (sym (after_here p x xs here));
+        any = rw here refl;
+        count = rw (before_here p x xs here, after_here p x xs here) (omega arith);
+      }
+      | inr other ↦
+          (let behind = parts_stay p xs more (rw other at some) in
+          record {
+            before = before_skip p x (xs ++ more) other ∙ ap (λ l. x ∷ l) behind.before ∙ sym (before_skip p x xs other);
+            after = after_skip p x (xs ++ more) other ∙ behind.after ∙ ap (λ l. l ++ more) (sym (after_skip p x xs other));
+            any = rw other behind.any;
+            count = rw (before_skip p x xs other, after_skip p x xs other) (omega (arith, behind.count));
+          })
+    ]
+
+-- elements behind those of which none passes
+pub before_more : {X : Type 0} (p : X → Bool) (xs more : List X) → list_any p xs ≡ false → before_first p (xs ++ more) ≡ xs ++ before_first p more
+before_more p [] more none = refl
+before_more p (x ∷ xs) more none =
+    elim (cases_Bool (p x)) [
+      | inl here ↦ (let never : true ≡ false = rw here at none in cc)
+      | inr other ↦ before_skip p x (xs ++ more) other ∙ ap (λ l. x ∷ l) (before_more p xs more (rw other at none))
+    ]
+
+pub after_more : {X : Type 0} (p : X → Bool) (xs more : List X) → list_any p xs ≡ false → after_first p (xs ++ more) ≡ after_first p more
+after_more p [] more none = refl
+after_more p (x ∷ xs) more none =
+    elim (cases_Bool (p x)) [
+      | inl here ↦ (let never : true ≡ false = rw here at none in cc)
+      | inr other ↦ after_skip p x (xs ++ more) other ∙ after_more p xs more (rw other at none)
+    ]
+
+any_or : (a b : Bool) → a ≡ false → (a || b) ≡ b
+any_or a b e = rw e refl
+
+-- Lines that divide, and lines behind them.
+
+module _ (lines : List (List ℕ)) (line : List ℕ) (undivided : are_divided lines ≡ false) where
+  pub still_undivided : is_divider line ≡ false → are_divided (lines ++ line ∷ []) ≡ false
+  still_undivided other = rw (list_any-append is_divider lines (line ∷ []), undivided, other) refl
+
+  module _ (here : is_divider line ≡ true) where
+    pub now_divided : are_divided (lines ++ line ∷ []) ≡ true
+    now_divided = rw (list_any-append is_divider lines (line ∷ []), undivided, here) refl
+
+    pub configuration_is : configuration_in (lines ++ line ∷ []) ≡ text_of_lines lines
+    configuration_is =
+        ap text_of_lines (before_more is_divider lines (line ∷ []) undivided ∙ ap (λ l. lines ++ l) (before_here is_divider line [] here) ∙ append-nil lines)
+
+    pub nothing_behind : (config : Configuration) → taken_in config (lines ++ line ∷ []) ≡ nothing_taken (values_of config)
+    unfolding taken_of
+    nothing_behind config =
+        ap (λ l. fold (with_line (values_of config)) (nothing_taken (values_of config)) (spoken_from (1 + length (before_first is_divider (lines ++ line ∷ [])) + 1) l))
+        (after_more is_divider lines (line ∷ []) undivided ∙ after_here is_divider line [] here)
+
+pub configuration_stays : (lines more : List (List ℕ)) → are_divided lines ≡ true → configuration_in (lines ++ more) ≡ configuration_in lines
+configuration_stays lines more divided = ap text_of_lines (parts_stay is_divider lines more divided).before
+
+-- a configuration that goes on is a part of the whole
+pub configuration_grows : (lines more : List (List ℕ)) → are_divided lines ≡ false → length (text_of_lines lines) ≤ length (configuration_in (lines ++ more))
+configuration_grows lines more undivided =
+    rw (
+      before_more is_divider lines more undivided,
+      flat_map-append (λ (l : List ℕ). l ++ 10 ∷ []) lines (before_first is_divider more),
+      length-append (text_of_lines lines) (text_of_lines (before_first is_divider more)),
+    ) (omega arith)
+
+pub text_grows : (lines : List (List ℕ)) (line : List ℕ) → text_of_lines (lines ++ line ∷ []) ≡ text_of_lines lines ++ line ++ 10 ∷ []
+text_grows lines line =
+    flat_map-append (λ (l : List ℕ). l ++ 10 ∷ []) lines (line ∷ []) ∙ ap (λ t. text_of_lines lines ++ t) (append-nil (line ++ 10 ∷ []))
+    ∙ sym (append_assoc (text_of_lines lines) line (10 ∷ []))
+
+-- A line of steps more.
+
+spoken_more : (k : ℕ) (lines : List (List ℕ)) (line : List ℕ)
+    → spoken_from k (lines ++ line ∷ []) ≡ spoken_from k lines ++ spoken_from (k + length lines) (line ∷ [])
+spoken_more k [] line = ap (λ n. spoken_from n (line ∷ [])) (omega arith)
+spoken_more k (first ∷ lines) line =
+    let place : k + 1 + length lines ≡ k + length (first ∷ lines) = omega arith in
+    let behind = spoken_more (k + 1) lines line ∙ ap (λ n. spoken_from (k + 1) lines ++ spoken_from n (line ∷ [])) place in
+    elim (cases_Bool (is_skipped first)) [
+      | inl skipped ↦ rw skipped behind
+      | inr spoken ↦ rw spoken (ap (λ (l : Lines). (k, first) ∷ l) behind)
+    ]
+
+module _ (config : Configuration) (lines : List (List ℕ)) (line : List ℕ) (divided : are_divided lines ≡ true) where
+  steps_more : steps_in (lines ++ line ∷ []) ≡ steps_in lines ++ spoken_from (length lines + 1) (line ∷ [])
+  steps_more =
+      let stay = parts_stay is_divider lines (line ∷ []) divided in
+      let first = 1 + length (before_first is_divider lines) + 1 in
+      let place : first + length (after_first is_divider lines) ≡ length lines + 1 = omega (arith, stay.count) in
+      ap₂ (λ (b a : List (List ℕ)). spoken_from (1 + length b + 1) a) stay.before stay.after
+      ∙ spoken_more first (after_first is_divider lines) line
+      ∙ ap (λ n. spoken_from first (after_first is_divider lines) ++ spoken_from n (line ∷ [])) place
+
+  taken_more : taken_in config (lines ++ line ∷ []) ≡ fold (with_line (values_of config)) (taken_in config lines) (spoken_from (length lines + 1) (line ∷ []))
+  unfolding taken_of
+  taken_more =
+      ap (fold (with_line (values_of config)) (nothing_taken (values_of config))) steps_more
+      ∙ fold-append (with_line (values_of config)) (nothing_taken (values_of config)) (steps_in lines) (spoken_from (length lines + 1) (line ∷ []))
+
+  pub taken_skipped : is_skipped line ≡ true → taken_in config (lines ++ line ∷ []) ≡ taken_in config lines
+  taken_skipped skipped = taken_more ∙ rw skipped refl
+
+  pub taken_line : is_skipped line ≡ false
+      → taken_in config (lines ++ line ∷ []) ≡ with_line (values_of config) (taken_in config lines) (length lines + 1, line)
+  taken_line spoken = taken_more ∙ rw spoken refl
+
+-- Bytes.
+
+abbrev is_end : ℕ → Bool
+is_end c = c == 10
+
+onto : (c : ℕ) (text front : List ℕ) (parts : List (List ℕ)) → (c == 10) ≡ false → lines_of text ≡ front ∷ parts → lines_of (c ∷ text) ≡ (c ∷ front) ∷ parts
+onto c text front parts goes is = rw (goes, is) refl
+
+none_in : (c : ℕ) (text : List ℕ) → list_any is_end (c ∷ text) ≡ false → ((c == 10) ≡ false) × (list_any is_end text ≡ false)
+none_in c text none =
+    elim (cases_Bool (c == 10)) [
+      | inl here ↦ (let never : true ≡ false = rw here at none in cc)
+      | inr other ↦ (other, rw other at none)
+    ]
+
+-- a line that has begun, and its end
+pub line_closed : (begun tail : List ℕ) → list_any is_end begun ≡ false → lines_of (begun ++ 10 ∷ tail) ≡ begun ∷ lines_of tail
+line_closed [] tail none = refl
+line_closed (c ∷ begun) tail none =
+    let parts = none_in c begun none in
+    onto c (begun ++ 10 ∷ tail) begun (lines_of tail) parts.0 (line_closed begun tail parts.1)
+
+-- a last line without its end
+pub line_last : (c : ℕ) (begun : List ℕ) → list_any is_end (c ∷ begun) ≡ false → lines_of (c ∷ begun) ≡ (c ∷ begun) ∷ []
+line_last c [] none = let parts = none_in c [] none in rw parts.0 refl
+line_last c (d ∷ begun) none =
+    let parts = none_in c (d ∷ begun) none in
+    onto c (d ∷ begun) (d ∷ begun) [] parts.0 (line_last d begun parts.1)
+
+-- a line that goes on is at least as long as what has begun and its next byte
+pub record GoesOn (begun : List ℕ) (all : List (List ℕ)) : Type 0 where
+  pub line : List ℕ
+  pub behind : List (List ℕ)
+  pub is : all ≡ line ∷ behind
+  pub long : length begun < length line
+
+first_of : (c : ℕ) (tail : List ℕ) (lines : List (List ℕ)) → lines_of tail ≡ lines → (c == 10) ≡ false → GoesOn [] (lines_of (c ∷ tail))
+first_of c tail [] is goes = record { line = c ∷ []; behind = []; is = rw (goes, is) refl; long = omega arith }
+first_of c tail (line ∷ behind) is goes = record { line = c ∷ line; behind = behind; is = rw (goes, is) refl; long = omega arith }
+
+pub line_goes_on : (begun : List ℕ) (c : ℕ) (tail : List ℕ) → list_any is_end begun ≡ false → (c == 10) ≡ false → GoesOn begun (lines_of (begun ++ c ∷ tail))
+line_goes_on [] c tail none goes = first_of c tail (lines_of tail) refl goes
+line_goes_on (d ∷ begun) c tail none goes =
+    let parts = none_in d begun none in
+    let behind = line_goes_on begun c tail parts.1 goes in
+    record {
+      line = d ∷ behind.line;
+      behind = behind.behind;
+      is = onto d (begun ++ c ∷ tail) behind.line behind.behind parts.0 behind.is;
+      long = (let more = behind.long in omega (arith, more));
+    }

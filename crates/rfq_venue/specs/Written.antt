@@ -1,0 +1,21 @@
+-- What a run has written to a stream.
+use Rattle.std.specs.Prelude.{ℕ, List, take, Option}
+use Rattle.std.specs.Io.KnownBytes.{Appends, Keeps}
+
+-- What a writer held before a run and after it, where it tells.
+pub record Written : Type 0 where
+  pub before : Option (List ℕ)
+  pub after : Option (List ℕ)
+
+-- nothing was written
+abbrev pub IsUntouched : Written → Type 0
+IsUntouched written = Keeps written.before written.after
+
+-- a text was written, and nothing else
+abbrev pub Gains : List ℕ → Written → Type 0
+Gains text written = Appends written.before written.after text
+
+-- a part of a text was written, from its front, as where the writer refused
+pub record GainsPart (text : List ℕ) (written : Written) : Type 0 where
+  pub taken : ℕ
+  pub gained : Gains (take taken text) written
