@@ -30,6 +30,29 @@ functions() {
         END {print n}' "$log"
 }
 
+# full_day: of a day of 64 dealers and 64 investors at the limits of a configuration, on threads, what
+# comes, what is printed, and what it takes, where the program is built.
+full_day() {
+    program=$root/crates/rfq_venue/out/rfq_venue
+    [ -x "$program" ] || return 0
+    python3 "$root/tests/hostile/full_day.py" >"$day"
+    python3 - "$program" "$day" <<'END'
+import resource, subprocess, sys, time
+with open(sys.argv[2], "rb") as day:
+    come = sum(line.startswith(b"say ") for line in day)
+    day.seek(0)
+    begun = time.time()
+    printed = subprocess.run([sys.argv[1], "day"], stdin=day, capture_output=True, check=True).stdout.count(b"\n")
+took = time.time() - begun
+memory = resource.getrusage(resource.RUSAGE_CHILDREN).ru_maxrss // 1024
+print("A day of 64 dealers and 64 investors at the limits of a configuration, on 129 threads:")
+print("%d messages came, some %d were sent, in %.1f seconds and %d MB." % (come, printed, took, memory))
+END
+    echo
+}
+
+day=$(mktemp)
+trap 'rm -f "$day"' EXIT
 crates=$(sed -n 's/^\([a-z0-9_]*\)[ a-z_=+0-9A-Z]*:.*/\1/p' "$root/crates.txt")
 {
     echo '# Sizes and times'
@@ -49,6 +72,7 @@ crates=$(sed -n 's/^\([a-z0-9_]*\)[ a-z_=+0-9A-Z]*:.*/\1/p' "$root/crates.txt")
             "$(lines "$at/proofs" '*.antt') | $tests | $((edits)) | $(functions "$crate") |"
     done
     echo
+    full_day
     if grep -q '^[0-9]* passed, ' "$log"; then
         echo 'The gate, `rt ci`:'
         echo
