@@ -1,5 +1,5 @@
 #!/bin/sh
-# Writes docs/SIZES.md: for each crate its lines that are not blank, and its must-fail edits; and, from
+# Writes docs/SIZES.md: for each crate its lines that are not blank, and its wrong bodies; and, from
 # a log of the gate that ended, how it ended and how long it took. Sizes and times stand nowhere else.
 # usage: tests/sizes.sh [LOG]     LOG as written by: { time rt ci; } >LOG 2>&1
 set -eu
@@ -28,6 +28,12 @@ functions() {
     awk -v head="== $1" '/^== /{ours = $0 == head}
         ours && match($0, /^logic=proved functions=[0-9]+/) {n = substr($0, 24, RLENGTH - 23)}
         END {print n}' "$log"
+}
+
+# edits FOLDER: how many wrong bodies stand there.
+edits() {
+    [ -d "$1" ] || { echo 0; return; }
+    find "$1" -name '*.edit' | wc -l
 }
 
 # full_day: of a day of 64 dealers and 64 investors at the limits of a configuration, on threads, what
@@ -60,16 +66,17 @@ crates=$(sed -n 's/^\([a-z0-9_]*\)[ a-z_=+0-9A-Z]*:.*/\1/p' "$root/crates.txt")
     echo 'Written by `tests/sizes.sh`; change nothing here by hand. Lines that are not blank: code with'
     echo 'its contracts and comments, definitions, proofs with lemmas, invariants and answers.'
     echo
-    echo '| crate | code | definitions | proofs | tests | must-fail edits | functions proved |'
-    echo '|---|---|---|---|---|---|---|'
+    echo '| crate | code | definitions | proofs | tests | edits in the gate | beside it | functions proved |'
+    echo '|---|---|---|---|---|---|---|---|'
     for crate in $crates; do
         at=$root/crates/$crate
         code=$(lines "$at/src" '*.rt')
         tests=$(test_lines "$at/src")
         case $crate in *_tests) tests=$code ;; esac
-        edits=$(find "$at/must-fail" -name '*.edit' 2>/dev/null | wc -l)
+        edits=$(edits "$at/must-fail")
+        beside=$(edits "$root/tests/edits/$crate")
         echo "| \`$crate\` | $((code - tests)) | $(lines "$at/specs" '*.antt') |" \
-            "$(lines "$at/proofs" '*.antt') | $tests | $((edits)) | $(functions "$crate") |"
+            "$(lines "$at/proofs" '*.antt') | $tests | $edits | $beside | $(functions "$crate") |"
     done
     echo
     full_day
