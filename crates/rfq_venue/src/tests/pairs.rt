@@ -1,6 +1,7 @@
 //! Worked pairs of days, and what `compare` says of them. Each value was written down before there
 //! was a program.
 use super::days::{VENUE, assert_printed};
+use super::live::assert_same_live;
 use super::*;
 use std::test::Fail;
 
@@ -44,7 +45,8 @@ quantity = 5000000
 
 const SAME: &[u8] = b"row equal\ndue equal\nmessages equal\n";
 
-/// Asserts what is printed of two days, each given in parts, for DLR1.
+/// Asserts what is printed of two days, each given in parts, for DLR1; each is answered line by
+/// line as it is replayed.
 fn assert_pair<T: Threads + Wait + Sync + Abort + AllocGlobal>(
     rt: &T,
     one: &[&[u8]],
@@ -55,6 +57,8 @@ fn assert_pair<T: Threads + Wait + Sync + Abort + AllocGlobal>(
     let other = joined(rt, other);
     let input = joined(rt, &[one.as_slice(), b"%%\n", other.as_slice()]);
     assert_printed(rt, &["compare", "DLR1"], input.as_slice(), wanted);
+    assert_same_live(rt, one.as_slice());
+    assert_same_live(rt, other.as_slice());
 }
 
 const ASKS: &[u8] = b"%%
