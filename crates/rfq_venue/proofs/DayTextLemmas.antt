@@ -2,7 +2,7 @@
 use Rattle.std.proofs.Common.{◌≡◌, ◌∙◌, ◌++◌, ℕ, Bool, true, false, List, [], refl, sym}
 use Rattle.std.proofs.lemmas.List.{append-nil}
 use Rattle.venue_config.specs.Rows.{Configuration}
-use Rattle.step_replay.specs.Records.{RecordedDay}
+use Rattle.recorded_days.specs.Records.{RecordedDay}
 use Rattle.venue_text.specs.RecordText.{record_text}
 use Rattle.rfq_venue.specs.ThreadedDays.{IsDay, IsLast, IsRecordOf}
 

@@ -1,13 +1,13 @@
 -- What `day` prints.
 use Rattle.std.specs.Prelude.{◌≡◌, ◌⊎◌, ℕ, Bool, true, false, List, [], ◌++◌, length, Ok, Err, is_ok}
 use Rattle.venue_config.specs.Rows.{Configuration, values_of}
-use Rattle.step_replay.specs.Records.{RecordedDay}
-use Rattle.step_replay.specs.Weaving.{AreWoven, FaultIsTrue, SendAsRecorded}
-use Rattle.step_replay.specs.declared.actions.Inbound.{Inbound}
-use Rattle.step_replay.specs.declared.actions.Sweep.{Sweep}
+use Rattle.recorded_days.specs.Records.{RecordedDay}
+use Rattle.recorded_days.specs.Weaving.{AreWoven, FaultIsTrue, SendAsRecorded}
+use Rattle.recorded_days.specs.declared.actions.Inbound.{Inbound}
+use Rattle.recorded_days.specs.declared.actions.Sweep.{Sweep}
 use Rattle.step_replay.specs.declared.steps.Step.{Step}
-use Rattle.step_replay.specs.declared.weaving.WeaveFault.{WeaveFault}
-use Rattle.step_replay.specs.declared.weaving.WeaveFault.TheVariants as weaving
+use Rattle.recorded_days.specs.declared.weaving.WeaveFault.{WeaveFault}
+use Rattle.recorded_days.specs.declared.weaving.WeaveFault.TheVariants as weaving
 use Rattle.session_worker.specs.KeptDays.{KeepsDay}
 use Rattle.session_worker.specs.declared.faults.DayFault.{DayFault}
 use Rattle.session_worker.specs.declared.faults.DayFault.TheVariants as threaded

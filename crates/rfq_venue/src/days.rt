@@ -1,16 +1,16 @@
 //! A day of the venue on threads.
 ghost use Rattle.std.specs.Prelude.{◌≡◌, ◌≢◌, IfOk, IfErr};
-ghost use Rattle.step_replay.specs.Weaving.{FaultIsTrue};
-ghost use Rattle.step_replay.specs.declared.weaving.WeaveFault.{WeaveFault};
+ghost use Rattle.recorded_days.specs.Weaving.{FaultIsTrue};
+ghost use Rattle.recorded_days.specs.declared.weaving.WeaveFault.{WeaveFault};
 ghost use Rattle.venue_text.specs.RecordText.{woven_line};
 ghost use Rattle.rfq_venue.specs.ThreadedDays as spec;
 
+use recorded_days::{DayRecord, WeaveFault, weave};
 use session_worker::{DayFault, Gate, Point, run_day};
 use std::alloc::Global;
 use std::marker::Sync;
 use std::sync::Wait;
 use std::thread::Threads;
-use step_replay::{DayRecord, WeaveFault, weave};
 use venue_config::VenueConfig;
 use venue_text::{ProgramFault, UnkeptDay, UnwovenDay, read_arriving_day, record_text, woven_line};
 

@@ -1,6 +1,6 @@
 -- Dealers one by one.
 use Rattle.std.proofs.Common.{◌≡◌, ℕ, ◌+◌, true, false, List, ◌∷◌, Some, refl}
-use Rattle.step_replay.specs.Records.{DealerLists}
+use Rattle.recorded_days.specs.Records.{DealerLists}
 use Rattle.session_worker.specs.DayChecks.{DayRoom, is_told, untold_from}
 
 module _ (rooms : List DayRoom) (number : ℕ) (dealers : List DealerLists) (dealer : DealerLists) (later : List DealerLists) where

@@ -19,7 +19,7 @@ use Rattle.quote_word.specs.declared.settled.Settled.{Settled}
 use Rattle.quote_word.specs.declared.settled.Settled.TheVariants.{Withdrawn}
 use Rattle.quote_word.specs.declared.settled.Settlement.{Settlement}
 use Rattle.step_replay.specs.Actions.{dealer_of, first_word}
-use Rattle.step_replay.specs.DayDues.{AnswersAre, AreAnswered, IsAnswered, day_due_list}
+use Rattle.recorded_days.specs.DayDues.{AnswersAre, AreAnswered, IsAnswered, day_due_list}
 use Rattle.step_replay.specs.DealerView.{dealer_view}
 use Rattle.venue_config.specs.Rows.{Configuration, dealer_numbered}
 use Rattle.venue_config.specs.declared.dealer_rows.DealerRow.{DealerRow}

@@ -3,7 +3,7 @@ use Rattle.std.proofs.Common.{◌≡◌, ℕ, List, [], ◌∷◌, ◌++◌, Res
 use Rattle.std.proofs.lemmas.List.{append-nil}
 use Rattle.fix_fields.specs.Envelope.{Cutting, cut_behind}
 use Rattle.fix_fields.specs.declared.fault.StreamFault.{StreamFault}
-use Rattle.step_replay.specs.declared.actions.Inbound.{Inbound}
+use Rattle.recorded_days.specs.declared.actions.Inbound.{Inbound}
 use Rattle.session_worker.specs.Inbox.{Arrivals, arrivals_behind, ended_at}
 
 -- a fault stands for ever

@@ -17,11 +17,11 @@ use Rattle.quote_word.specs.SettleLogLaws.{entry_stays_later}
 use Rattle.venue_config.specs.Rows.{Configuration, dealer_numbered}
 use Rattle.venue_config.specs.declared.dealer_rows.DealerRow.{DealerRow}
 use Rattle.step_replay.specs.Actions.{dealer_of, first_word}
-use Rattle.step_replay.specs.Records.{ActionRef, DealerLists, FirmLists, InvestorLists, RecordedDay}
-use Rattle.step_replay.specs.Records.{RoomLists, of_dealer, of_investor}
-use Rattle.step_replay.specs.declared.actions.Action.{Action}
-use Rattle.step_replay.specs.declared.actions.Inbound.{Inbound}
-use Rattle.step_replay.specs.declared.actions.Sweep.{Sweep}
+use Rattle.recorded_days.specs.Records.{ActionRef, DealerLists, FirmLists, InvestorLists}
+use Rattle.recorded_days.specs.Records.{RecordedDay, RoomLists, of_dealer, of_investor}
+use Rattle.recorded_days.specs.declared.actions.Action.{Action}
+use Rattle.recorded_days.specs.declared.actions.Inbound.{Inbound}
+use Rattle.recorded_days.specs.declared.actions.Sweep.{Sweep}
 use Rattle.session_worker.specs.DayChecks.{DayRoom, came_from_dealer, came_from_investor}
 use Rattle.session_worker.specs.DayChecks.{first_unswept, first_untold}
 use Rattle.session_worker.specs.KeptDays.{DealerKeeps, DealersKeep, DealerStands}

@@ -4,9 +4,9 @@ use Rattle.std.specs.Prelude.{slice_get}
 use Rattle.std.specs.Option.{option_map, option_and_then}
 use Rattle.venue_config.specs.Rows.{Configuration, dealer_numbered}
 use Rattle.venue_config.specs.declared.dealer_rows.DealerRow.{DealerRow}
-use Rattle.step_replay.specs.DayDues.{day_due_list, day_dues_of}
+use Rattle.recorded_days.specs.DayDues.{day_due_list, day_dues_of}
 use Rattle.step_replay.specs.DealerView.{dealer_view}
-use Rattle.step_replay.specs.Records.{DealerLists, RecordedDay}
+use Rattle.recorded_days.specs.Records.{DealerLists, RecordedDay}
 use Rattle.step_replay.specs.declared.dues.Due.{Due}
 use Rattle.session_worker.specs.KeptDays.{DealerKeeps, DealersKeep, sent_on}
 use Rattle.session_worker.proofs.LockLemmas.{some_same}

@@ -17,9 +17,9 @@ use Rattle.request_room.specs.Book.{room_after}
 use Rattle.request_room.specs.RoomFacts.{end_of, is_named}
 use Rattle.request_room.specs.declared.events.RoomEvent.{RoomEvent}
 use Rattle.request_room.specs.declared.events.RoomEvent.TheVariants as in_room
-use Rattle.step_replay.specs.Records.{DealerLists, RoomLists}
-use Rattle.step_replay.specs.declared.actions.Inbound.{Inbound}
-use Rattle.step_replay.specs.declared.actions.Sweep.{Sweep}
+use Rattle.recorded_days.specs.Records.{DealerLists, RoomLists}
+use Rattle.recorded_days.specs.declared.actions.Inbound.{Inbound}
+use Rattle.recorded_days.specs.declared.actions.Sweep.{Sweep}
 use Rattle.venue_steps.specs.RoomSteps.{close_for}
 use Rattle.session_worker.specs.declared.notices.Notice.{Notice}
 

@@ -3,7 +3,7 @@ use Rattle.std.specs.Prelude.{ℕ, List, [], ◌∷◌, ◌++◌, map, Option, R
 use Rattle.std.specs.Result.{result_err}
 use Rattle.fix_fields.specs.Envelope.{cut_behind}
 use Rattle.fix_fields.specs.declared.fault.StreamFault.{StreamFault}
-use Rattle.step_replay.specs.declared.actions.Inbound.{Inbound}
+use Rattle.recorded_days.specs.declared.actions.Inbound.{Inbound}
 
 -- What a stream brings: its messages, and the fault that it has from some byte on.
 pub record Arrivals : Type 0 where

@@ -19,12 +19,12 @@ use Rattle.venue_config.specs.Rows.{Configuration, dealer_numbered}
 use Rattle.venue_config.specs.declared.dealer_rows.DealerRow.{DealerRow}
 use Rattle.venue_config.specs.declared.investor_rows.InvestorRow.{InvestorRow}
 use Rattle.step_replay.specs.Actions.{dealer_of, first_word}
-use Rattle.step_replay.specs.DayDues.{day_due_list}
+use Rattle.recorded_days.specs.DayDues.{day_due_list}
 use Rattle.step_replay.specs.DealerView.{dealer_view}
-use Rattle.step_replay.specs.Records.{DealerLists, FirmLists, InvestorLists, RecordedDay, RoomLists}
-use Rattle.step_replay.specs.Records.{dealer_in, firms_in}
-use Rattle.step_replay.specs.declared.actions.Inbound.{Inbound}
-use Rattle.step_replay.specs.declared.actions.Sweep.{Sweep}
+use Rattle.recorded_days.specs.Records.{DealerLists, FirmLists, InvestorLists, RecordedDay}
+use Rattle.recorded_days.specs.Records.{RoomLists, dealer_in, firms_in}
+use Rattle.recorded_days.specs.declared.actions.Inbound.{Inbound}
+use Rattle.recorded_days.specs.declared.actions.Sweep.{Sweep}
 use Rattle.session_worker.specs.DayChecks.{DayRoom, came_from_dealer, came_from_investor}
 use Rattle.session_worker.specs.DayChecks.{first_unswept, first_untold}
 use Rattle.session_worker.specs.Locks.{Answer, StandsIn, answers_at, answers_in}

@@ -14,8 +14,8 @@ use Rattle.quote_word.specs.declared.settled.Settlement.{Settlement}
 use Rattle.request_room.specs.declared.events.RoomEvent.{RoomEvent}
 use Rattle.request_room.specs.declared.events.RoomEvent.TheVariants as in_room
 use Rattle.step_replay.specs.Actions.{dealer_of, first_word}
-use Rattle.step_replay.specs.DayDues.{AreAnswered}
-use Rattle.step_replay.specs.Records.{ActionRef}
+use Rattle.recorded_days.specs.DayDues.{AreAnswered}
+use Rattle.recorded_days.specs.Records.{ActionRef}
 use Rattle.venue_config.specs.Rows.{Configuration, dealer_numbered}
 use Rattle.venue_steps.specs.Words.{word_of}
 

@@ -8,9 +8,10 @@ use crate::venue::SharedVenue;
 use crate::watched::Acting;
 use fix_fields::{Memory, Moment};
 use market_terms::Duty;
+use recorded_days::{Action, Inbound, Kind, Sweep};
 use std::collections::VecDeque;
 use std::sync::Wait;
-use step_replay::{Action, Actor, Inbound, Kind, Sweep};
+use step_replay::Actor;
 
 /// An actor at work: what it shares with the others, its queue of duties and what it did.
 #[derive(Drop)]

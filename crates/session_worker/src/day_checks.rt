@@ -19,10 +19,10 @@ use fix_fields::{Memory, Moment};
 use investor_desk::InvestorEvent;
 use market_terms::{Close, RoomRef};
 use quote_messages::Message;
+use recorded_days::{DealerDay, Inbound, Sweep};
 use request_room::RoomEvent;
 use std::alloc::Global;
 use std::collections::BTreeMap;
-use step_replay::{DealerDay, Inbound, Sweep};
 use venue_config::VenueConfig;
 use venue_steps::close_for;
 

@@ -4,9 +4,10 @@ ghost use Rattle.request_room.specs.Book.{room_after};
 ghost use Rattle.request_room.specs.RoomFacts.{end_of, is_named};
 
 use market_terms::RoomRef;
+use recorded_days::RoomDay;
 use request_room::{End, Room, RoomEvent};
 use std::marker::Model;
-use step_replay::{Actor, RoomDay};
+use step_replay::Actor;
 
 /// A room when the day is over. A contract sees which one it is, and what is recorded of it.
 #[derive(Drop)]

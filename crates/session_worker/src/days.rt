@@ -13,11 +13,11 @@ use crate::threads::work;
 use crate::venue::SharedVenue;
 use fix_fields::Memory;
 use quote_word::{Board, BoardSeen};
+use recorded_days::{Action, DayRecord, Inbound, Sweep};
 use std::alloc::Global;
 use std::marker::Brand;
 use std::sync::Wait;
 use std::thread::Threads;
-use step_replay::{Action, DayRecord, Inbound, Sweep};
 use venue_config::VenueConfig;
 
 /// Runs a day of the venue on threads: one session for each firm, which takes its inbox, and the

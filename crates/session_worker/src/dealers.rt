@@ -23,11 +23,12 @@ use dealer_desk::{DealerDesk, words_are_asked_event_by_event};
 use fix_fields::{Memory, Moment};
 use market_terms::{Ask, Close, RoomRef};
 use quote_word::BoardSeen;
+use recorded_days::{
+    DealerDay, events_are_answered_one_by_one, recorded_dealers_are_sent_their_view,
+};
 use std::alloc::Global;
 use std::marker::{Model, PhantomData};
-use step_replay::{
-    Actor, DealerDay, events_are_answered_one_by_one, recorded_dealers_are_sent_their_view,
-};
+use step_replay::Actor;
 use venue_config::{DealerRow, VenueConfig};
 use venue_steps::{do_drop, do_show, do_tell, own_dealer};
 

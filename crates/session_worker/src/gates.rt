@@ -1,6 +1,7 @@
 //! What a day on threads tells its watcher.
+use recorded_days::Kind;
 use std::marker::Sync;
-use step_replay::{Actor, Kind};
+use step_replay::Actor;
 
 /// Where an actor stands in an action.
 #[derive(Clone, Copy)]

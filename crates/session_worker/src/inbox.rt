@@ -6,8 +6,8 @@ ghost use Rattle.session_worker.specs.Inbox as spec;
 
 use fix_fields::{Memory, Messages, Moment, Splitter, StreamFault};
 use quote_messages::Message;
+use recorded_days::Inbound;
 use std::alloc::{AllocError, Global};
-use step_replay::Inbound;
 
 /// The messages that pieces of one firm's stream bring, first to last, each at the moment of the
 /// piece that ends it, and the fault of the stream, where it has one: the messages are those before

@@ -15,9 +15,10 @@ use crate::naming::Naming;
 use fix_fields::{Memory, Moment};
 use investor_desk::InvestorDesk;
 use market_terms::{Offer, Reply, ResponseRef};
+use recorded_days::{InvestorDay, RoomDay};
 use std::alloc::Global;
 use std::marker::{Model, PhantomData};
-use step_replay::{Actor, InvestorDay, RoomDay};
+use step_replay::Actor;
 use venue_config::{Name, VenueConfig};
 use venue_steps::{do_answer, do_close, do_declined, do_gone, do_relay, own_investor};
 

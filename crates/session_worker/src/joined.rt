@@ -16,10 +16,10 @@ use crate::venue::{DealerPlace, InvestorPlace};
 use fix_fields::Memory;
 use market_terms::RoomRef;
 use quote_word::{Board, BoardSeen};
+use recorded_days::{Action, DealerDay, Inbound, InvestorDay, RoomDay};
 use std::alloc::Global;
 use std::sync::Mutex;
 use std::vec;
-use step_replay::{Action, DealerDay, Inbound, InvestorDay, RoomDay};
 use venue_config::VenueConfig;
 
 /// What a session leaves: the messages that came to it, and what the firm did.

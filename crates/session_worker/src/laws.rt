@@ -5,11 +5,11 @@ ghost use Rattle.std.specs.Option.{option_map};
 ghost use Rattle.venue_config.specs.Rows.{Configuration, dealer_numbered};
 ghost use Rattle.venue_config.specs.declared.dealer_rows.DealerRow.{DealerRow};
 ghost use Rattle.step_replay.specs.AuditTrail as venue;
-ghost use Rattle.step_replay.specs.DayDues.{day_dues_of};
+ghost use Rattle.recorded_days.specs.DayDues.{day_dues_of};
 ghost use Rattle.step_replay.specs.DealerView.{dealer_view};
-ghost use Rattle.step_replay.specs.Records.{RecordedDay};
-ghost use Rattle.step_replay.specs.declared.actions.Inbound.{Inbound};
-ghost use Rattle.step_replay.specs.declared.actions.Sweep.{Sweep};
+ghost use Rattle.recorded_days.specs.Records.{RecordedDay};
+ghost use Rattle.recorded_days.specs.declared.actions.Inbound.{Inbound};
+ghost use Rattle.recorded_days.specs.declared.actions.Sweep.{Sweep};
 ghost use Rattle.step_replay.specs.declared.steps.Step.{Step};
 ghost use Rattle.session_worker.specs.KeptDays.{KeepsDay, sent_on};
 

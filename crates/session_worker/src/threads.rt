@@ -6,11 +6,11 @@ use crate::gates::Gate;
 use crate::naming::Naming;
 use crate::venue::SharedVenue;
 use fix_fields::Memory;
+use recorded_days::{Action, Inbound, Sweep};
 use std::alloc::Global;
 use std::sync::Wait;
 use std::thread;
 use std::thread::{JoinHandle, Scope, Threads};
-use step_replay::{Action, Inbound, Sweep};
 
 /// What an actor did, or that memory was refused to it.
 type Work = Result<Vec<Action>, Memory>;

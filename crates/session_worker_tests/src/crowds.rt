@@ -1,8 +1,8 @@
 //! Days of many firms, again and again.
 use crate::fixtures::{Open, are_views, is_woven, runs};
+use recorded_days::DayRecord;
 use std::process::Abort;
 use std::test::Fail;
-use step_replay::DayRecord;
 
 const RUNS: u32 = 10;
 

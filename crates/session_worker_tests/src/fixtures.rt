@@ -1,12 +1,13 @@
 //! Days as texts: a configuration, a line `%%` and the lines of a day, and what each firm is sent.
 use message_fixtures::VENUE;
 use quote_messages::SentMessage;
+use recorded_days::{DayRecord, Inbound, Sweep, weave};
 use session_worker::{DayFault, Gate, Point, run_day};
 use std::process::Abort;
 use std::sync::Wait;
 use std::test::Fail;
 use std::thread::Threads;
-use step_replay::{DayRecord, Inbound, Step, Sweep, alone, run, weave};
+use step_replay::{Step, alone, run};
 use venue_config::{Name, VenueConfig};
 use venue_text::{MOST_INPUT, day_parts, messages_text, read_steps, read_venue};
 

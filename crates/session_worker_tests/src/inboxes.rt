@@ -2,10 +2,10 @@
 //! faults of a stream.
 use fix_fields::{Moment, StreamFault};
 use quote_messages::Message;
+use recorded_days::Inbound;
 use session_worker::inbox_of;
 use std::process::Abort;
 use std::test::Fail;
-use step_replay::Inbound;
 
 // A frame of 133 bytes, with a vertical bar for each SOH.
 const QUOTE: &[u8] =

@@ -1,9 +1,10 @@
 //! Sessions that a gate makes overlap.
 use crate::fixtures::sends;
 use crate::flags::Flag;
+use recorded_days::Kind;
 use session_worker::{Gate, Point};
 use std::test::Fail;
-use step_replay::{Actor, Kind};
+use step_replay::Actor;
 
 /// Holds DLR1 at its first exchange until DLR2's message was taken, which comes while DLR1 stands
 /// there; and the first message of each until it was shown its request.

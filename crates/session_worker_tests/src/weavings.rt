@@ -3,13 +3,14 @@
 use crate::fixtures::{are_views, day_text, is_woven, runs};
 use crate::flags::Flag;
 use message_fixtures::VENUE;
+use recorded_days::Kind;
 use session_worker::{Gate, Point};
 use std::process::Abort;
 use std::sync::Wait;
 use std::sync::atomic::{AtomicU64, Ordering};
 use std::test::Fail;
 use std::thread::Threads;
-use step_replay::{Actor, Kind};
+use step_replay::Actor;
 
 const DLR1: u16 = 0;
 

@@ -19,9 +19,6 @@ mod ConditionRooms
 mod ConditionTable
 mod ConditionTurns
 mod CountLemmas
-mod DayDueLemmas
-mod DayFormLemmas
-mod DayViewLemmas
 mod DealerActionLemmas
 mod DueListLemmas
 mod DutyLemmas
@@ -52,14 +49,10 @@ mod LiftingLemmas
 mod ListEnds
 mod LiveEffects
 mod LiveLemmas
-mod MessageLemmas
 mod NoticeLemmas
 mod OpeningLemmas
-mod OrderLawLemmas
-mod OrderLemmas
 mod OwnerLemmas
 mod PlaceLemmas
-mod PlaceNotes
 mod PriceLemmas
 mod PricedFields
 mod PricedMessages

@@ -68,26 +68,9 @@
 //! - [`a_hit_notice_names_the_lifted_quote`]: a notice of a hit names the quote that was lifted.
 //! - [`steps_meet_their_tests`]: a duty's test never fails. The duty that stands first in a queue
 //!   meets the test of its action, and a dealer's message asks a word that the venue has.
-//!
-//! # A day on threads
-//!
-//! A venue that runs on threads leaves a [`DayRecord`]: what each firm was sent, the events at every
-//! desk and in every room with the order in which they came, and what each actor did.
-//!
-//! - [`DayRecord::due`] is what was due to a dealer by the events at its desk, and
-//!   [`recorded_dealers_are_sent_their_view`] the law that what its desk sent is the dealer view of
-//!   that.
-//! - [`weave`] makes a list of steps of a record, which sends every firm what the record says: so
-//!   what is promised of days that are replayed holds of that day. The order of these steps keeps
-//!   what came before what ([`orders_keep_what_is_before`]), and a record that is of no day is
-//!   refused as malformed, exactly then ([`well_formed_days_are_not_malformed`]).
 #![tactic(auto)]
 
-mod actions;
 mod condition_laws;
-mod day_dues;
-mod day_form;
-mod day_reading;
 mod dealer_actions;
 mod dealer_view;
 mod due_lists;
@@ -99,31 +82,17 @@ mod hits;
 mod investor_actions;
 mod laws;
 mod live;
-mod name_checks;
 mod notice_laws;
 mod opening;
-mod order_checks;
-mod order_laws;
 mod prices;
 mod queues;
-mod records;
 mod replay;
 mod room_actions;
-mod sent_checks;
 mod sent_to;
-mod sites;
 mod steps;
-mod weave_circle;
-mod weave_plan;
-mod weave_search;
-mod weave_sort;
-mod weaving;
 mod world;
-mod woven_steps;
 
-pub use actions::{Action, Inbound, Kind, Sweep};
 pub use condition_laws::steps_meet_their_tests;
-pub use day_dues::{events_are_answered_one_by_one, recorded_dealers_are_sent_their_view};
 pub use dealer_view::{alone, equal_lists_have_equal_views};
 pub use dues::Due;
 pub use faults::ReplayFault;
@@ -135,10 +104,7 @@ pub use notice_laws::{
     a_hit_notice_names_the_lifted_quote, each_named_dealer_is_told_once,
     notices_come_once_after_their_requests, words_are_answered_as_the_view_says,
 };
-pub use order_laws::{orders_keep_what_is_before, well_formed_days_are_not_malformed};
 pub use prices::price_law;
-pub use records::{DayRecord, DealerDay, InvestorDay, RoomDay};
 pub use sent_to::SentTo;
 pub use steps::{Actor, MOST_TURNS_BEHIND, Step};
-pub use weaving::{WeaveFault, weave};
 pub use world::{World, due, run};

@@ -21,8 +21,6 @@ mod priced_days;
 mod tests;
 #[cfg(test)]
 mod used_up;
-#[cfg(test)]
-mod weaving;
 mod worked_days;
 
 pub use priced_days::definitions_give_the_priced_days;

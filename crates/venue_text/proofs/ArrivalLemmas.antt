@@ -6,7 +6,7 @@ use Rattle.std.specs.Option.{option_map}
 use Rattle.venue_config.specs.Rows.{ConfigValues, Configuration, values_of}
 use Rattle.std.proofs.lemmas.List.{length-append, length-map}
 use Rattle.step_replay.specs.FirmDays.{FirmDay}
-use Rattle.step_replay.specs.Records.{FirmLists}
+use Rattle.recorded_days.specs.Records.{FirmLists}
 use Rattle.step_replay.specs.declared.steps.Step.{Step}
 use Rattle.venue_text.specs.ArrivingDays.{arrival_of_line, arrivals_from, inbox_of, inboxes_of, is_of_turns}
 use Rattle.venue_text.specs.DueText.{Lines}

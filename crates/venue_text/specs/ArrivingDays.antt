@@ -6,8 +6,8 @@ use Rattle.std.specs.Prelude.{Option, Some, None, Result, Ok, Err, if◌then◌e
 use Rattle.std.specs.List.{filter_map}
 use Rattle.venue_config.specs.Rows.{ConfigValues}
 use Rattle.venue_config.specs.Texts.{same_text}
-use Rattle.step_replay.specs.declared.actions.Inbound.{Inbound}
-use Rattle.step_replay.specs.declared.actions.Sweep.{Sweep}
+use Rattle.recorded_days.specs.declared.actions.Inbound.{Inbound}
+use Rattle.recorded_days.specs.declared.actions.Sweep.{Sweep}
 use Rattle.step_replay.specs.declared.steps.Step.{Step}
 use Rattle.step_replay.specs.declared.steps.Step.TheVariants as step
 use Rattle.venue_text.specs.AskedDays.{sized}

@@ -15,8 +15,9 @@ use crate::step_lines::read_line;
 use crate::venue_parts::{day_parts, read_venue};
 use fix_fields::Memory;
 use quote_messages::Message;
+use recorded_days::{Inbound, Sweep};
 use std::alloc::Global;
-use step_replay::{Inbound, Step, Sweep};
+use step_replay::Step;
 use venue_config::VenueConfig;
 
 /// What comes to a venue on one day: it is for `run_day` of `session_worker`.

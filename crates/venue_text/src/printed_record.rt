@@ -9,8 +9,8 @@ use crate::printed_replay::firm_name;
 use arrayvec::ArrayString;
 use fix_fields::Memory;
 use itoa::Buffer;
+use recorded_days::DayRecord;
 use std::alloc::Global;
-use step_replay::DayRecord;
 use venue_config::VenueConfig;
 
 /// The messages that all firms of a venue were sent on a recorded day, dealers and then investors in
@@ -42,7 +42,7 @@ fn push_firm(
     firm: u16,
 ) -> Result<(), Memory>
     ensures { OnOk result (text.new.items ≡ text.old.items ++ flat_map (firm_text with_frames)
-        (one_at firm (named_days venue.now (spec.recorded_days day.now)))) }
+        (one_at firm (named_days venue.now (spec.days_in_record day.now)))) }
 {
     let Some(name) = firm_name(venue, firm) else {
         return Ok(());

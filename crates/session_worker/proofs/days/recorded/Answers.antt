@@ -3,7 +3,7 @@ use Rattle.std.proofs.Common.{◌++◌, None, arith, length-drop}
 use Rattle.std.proofs.lemmas.List.{length-map, length-take-le}
 use Rattle.venue_config.specs.Rows.{Configuration}
 use Rattle.venue_config.specs.declared.investor_rows.InvestorRow.{InvestorRow}
-use Rattle.step_replay.specs.Records.{DealerLists, InvestorLists}
+use Rattle.recorded_days.specs.Records.{DealerLists, InvestorLists}
 use Rattle.session_worker.specs.DayChecks.{first_unswept, first_untold}
 use Rattle.session_worker.specs.KeptDays.{KeepsDay, names_by, rooms_of}
 use Rattle.session_worker.proofs.KeepLemmas.{Joined, day_is_kept, investor_inboxes}

@@ -2,7 +2,7 @@ use Rattle.std.proofs.Common.{◌≡◌, ◌⊎◌, inl, inr, sym, subst, length
 use Rattle.std.specs.Iterator.Adapters.{zip_first, zip_second}
 use Rattle.std.specs.Vec.Iter.{into_iter_items, into_iter_len}
 use mathlib.Core.List.{IsPrefix}
-use Rattle.step_replay.specs.Records.{DealerLists}
+use Rattle.recorded_days.specs.Records.{DealerLists}
 use Rattle.session_worker.specs.KeptDays.{DealerKeeps, DealersKeep, DealersStand, DealerStands}
 use Rattle.session_worker.proofs.KeepLemmas.{dealer_later, dealers_grow, dealers_later}
 use Rattle.session_worker.proofs.KeepLemmas.{dealers_stand_more}

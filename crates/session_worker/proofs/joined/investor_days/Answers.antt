@@ -3,7 +3,7 @@ use Rattle.std.proofs.Common.{[], ◌∷◌, length-append}
 use Rattle.std.specs.Iterator.Adapters.{zip_first, zip_second}
 use Rattle.std.specs.Vec.Iter.{into_iter_items, into_iter_len}
 use Rattle.quote_word.specs.SettleLogLaws.{begins_all}
-use Rattle.step_replay.specs.Records.{InvestorLists}
+use Rattle.recorded_days.specs.Records.{InvestorLists}
 use Rattle.session_worker.specs.KeptDays.{InvestorKeeps, InvestorsKeep, names_of}
 use Rattle.session_worker.proofs.KeepLemmas.{investors_grow}
 use Rattle.session_worker.proofs.RoomLemmas.{all_moved, both_ended, both_shorter, counted_on, moved}

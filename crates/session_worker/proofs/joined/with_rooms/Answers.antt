@@ -3,7 +3,7 @@ use Rattle.std.proofs.Common.{length, arith, length-append}
 use Rattle.std.specs.Iterator.Adapters.{zip_first, zip_second}
 use Rattle.std.specs.Slice.Iter.{iter_rest}
 use Rattle.std.specs.Vec.Iter.{into_iter_items}
-use Rattle.step_replay.specs.Records.{InvestorLists}
+use Rattle.recorded_days.specs.Records.{InvestorLists}
 use Rattle.session_worker.specs.KeptDays.{names_by, names_from, names_of, requests_of, rooms_of}
 use Rattle.session_worker.specs.KeptDays.{without_rooms}
 use Rattle.session_worker.proofs.RoomLemmas.{both_shorter, ended_too, moved, names_left, none_left}

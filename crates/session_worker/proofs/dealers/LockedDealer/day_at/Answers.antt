@@ -1,6 +1,6 @@
 use Rattle.std.proofs.Common.{◌≡◌, ◌∙◌, sym, ap, subst, IsTrue}
 use Rattle.session_worker.specs.DayChecks.{came_from_dealer}
-use Rattle.step_replay.specs.Records.{DealerLists}
+use Rattle.recorded_days.specs.Records.{DealerLists}
 use Rattle.session_worker.specs.Locks.{DealerUnderLock}
 use Rattle.session_worker.specs.KeptDays.{DealerStands}
 use Rattle.session_worker.proofs.KeepLemmas.{day_keeps, dealer_stands}

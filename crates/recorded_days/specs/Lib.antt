@@ -1,0 +1,9 @@
+pub mod DayDues
+pub mod DayForm
+pub mod DayOrder
+pub mod Kinds
+pub mod OrderCounts
+pub mod OrderLaws
+pub mod OrderPlaces
+pub mod Records
+pub mod Weaving

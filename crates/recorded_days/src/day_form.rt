@@ -1,0 +1,144 @@
+//! Whether a record is of a day of a venue.
+ghost use Rattle.std.specs.Prelude.{◌≡◌, ℕ, true, false, not, count_by, Some, IfOk};
+ghost use Rattle.std.specs.List.{list_any};
+ghost use Rattle.recorded_days.specs.DayForm as spec;
+ghost use Rattle.recorded_days.specs.Records.{FirmLists, firm_in};
+ghost use Rattle.venue_config.specs.Rows.{Configuration};
+
+use crate::actions::{Action, Kind};
+use crate::day_reading::action_in;
+use crate::name_checks::names_each_once;
+use crate::records::DayRecord;
+use crate::weave_plan::firms_of;
+use fix_fields::Memory;
+use std::alloc::Global;
+use step_replay::Actor;
+use venue_config::VenueConfig;
+
+/// Whether a record is of a day of a venue, and not malformed.
+pub(crate) fn is_well_formed(
+    alloc: Global,
+    config: &VenueConfig,
+    day: &DayRecord,
+) -> Result<bool, Memory>
+    ensures yes { IfOk result (λ well. well ≡ true → spec.IsWellFormed config.now day.now) }
+    ensures no { IfOk result (λ well. well ≡ false → spec.IsMalformed config.now day.now) }
+{
+    if !day.has_firms_of(config) {
+        return Ok(false);
+    }
+    if !are_firms_days(config, day) {
+        return Ok(false);
+    }
+    if !has_no_message_of_clock(day) {
+        return Ok(false);
+    }
+    let once = names_each_once(alloc, config, day)?;
+    Ok(once)
+}
+
+/// Whether of each firm the record is as it must be.
+fn are_firms_days(config: &VenueConfig, day: &DayRecord) -> bool
+    requires { spec.HasFirmsOf config.now day.now }
+    ensures yes { result ≡ true → (firm : ℕ) (lists : FirmLists)
+        → firm_in day.now firm ≡ Some lists → spec.IsFirmsDay day.now lists }
+    ensures no { result ≡ false → spec.IsMalformed config.now day.now }
+{
+    for firm in 0..firms_of(config) {
+        if !is_firms_day(day, firm) {
+            return false;
+        }
+    }
+    true
+}
+
+/// Whether the inbox of a firm has one message for each that came to its desk, it sweeps no room,
+/// and its desk is not swept.
+fn is_firms_day(day: &DayRecord, firm: u16) -> bool
+    ensures yes { result ≡ true → (lists : FirmLists) → firm_in day.now firm ≡ Some lists
+        → spec.IsFirmsDay day.now lists }
+    ensures no { result ≡ false → (config : Configuration) → spec.IsMalformed config day.now }
+{
+    let Some(actions) = day.actions(Actor::Firm(firm)) else {
+        return true;
+    };
+    let Some(inbox) = day.inbox(firm) else {
+        return true;
+    };
+    let Some(order) = day.desk_order(firm) else {
+        return true;
+    };
+    if messages_in(actions) != inbox.len() {
+        return false;
+    }
+    if sweeps_any(actions) {
+        return false;
+    }
+    !is_swept(day, order)
+}
+
+/// Whether no message comes from the clock.
+fn has_no_message_of_clock(day: &DayRecord) -> bool
+    ensures { result ≡ not (list_any spec.takes_message day.now.clock) }
+{
+    let Some(actions) = day.actions(Actor::Clock) else {
+        return true;
+    };
+    let any = takes_any_message(actions);
+    !any
+}
+
+/// Whether one of these actions is a message that came.
+fn takes_any_message(actions: &[Action]) -> bool
+    ensures { result ≡ list_any spec.takes_message actions.now }
+{
+    actions.iter().any(takes_message)
+}
+
+/// How many messages came, of these actions.
+fn messages_in(actions: &[Action]) -> usize
+    ensures { result ≡ count_by spec.takes_message actions.now }
+{
+    actions
+        .iter()
+        .filter(|action| takes_message(action))
+        .count()
+}
+
+/// Whether a room was swept by one of these actions.
+fn sweeps_any(actions: &[Action]) -> bool
+    ensures { result ≡ list_any spec.sweeps actions.now }
+{
+    actions.iter().any(sweeps)
+}
+
+/// Whether a sweep stands in the order of a desk.
+fn is_swept(day: &DayRecord, order: &[(Actor, u64)]) -> bool
+    ensures { result ≡ list_any (spec.names_sweep day.now) order.now }
+{
+    order.iter().any(|action| names_sweep(day, *action))
+}
+
+/// Whether an order names a sweep.
+fn names_sweep(day: &DayRecord, action: (Actor, u64)) -> bool
+    ensures { result ≡ spec.names_sweep day.now action }
+{
+    let Some(action) = action_in(day, action) else {
+        return false;
+    };
+    sweeps(action)
+}
+
+/// Whether an action is a message that came to a desk.
+fn takes_message(action: &Action) -> bool
+    ensures { result ≡ spec.takes_message action.now }
+{
+    matches!(action.kind, Kind::In)
+}
+
+/// Whether an action is a sweep of a room.
+fn sweeps(action: &Action) -> bool
+    ensures { result ≡ spec.sweeps action.now }
+{
+    matches!(action.kind, Kind::Expire)
+}

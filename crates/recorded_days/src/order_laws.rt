@@ -1,0 +1,31 @@
+//! Laws of the orders that keep what is directly before what: what is true of every such order of
+//! every recorded day.
+ghost use Rattle.std.specs.Prelude.{◌≡◌, true, List, is_some};
+ghost use Rattle.venue_config.specs.Rows.{Configuration};
+ghost use Rattle.recorded_days.specs.DayForm as form;
+ghost use Rattle.recorded_days.specs.DayOrder as spec;
+ghost use Rattle.recorded_days.specs.OrderLaws as order;
+ghost use Rattle.recorded_days.specs.Records.{ActionRef, RecordedDay};
+ghost use Rattle.recorded_days.specs.declared.weave_plan.Slot.{Slot};
+
+/// A law: an order of a recorded day that is kept names each action of the day exactly once; and
+/// where the orders of the desks and rooms name each action exactly once too, as they do on each
+/// day that is woven, no action stands in it before one that is directly before it. So where of
+/// some actions each has one of them directly before it, no order is kept. It does nothing.
+pub fn orders_keep_what_is_before()
+    ensures once { (day : RecordedDay) (slots : List Slot) → spec.KeepsOrder day slots
+        → (action : ActionRef) → is_some (spec.action_in day action) ≡ true
+        → order.StandsOnce slots action }
+    ensures before { (day : RecordedDay) (slots : List Slot) → form.AreNamedOnce day
+        → spec.KeepsOrder day slots → (one other : ActionRef)
+        → spec.IsDirectlyBefore day one other → order.ComesBefore slots one other }
+    ensures circle { (day : RecordedDay) (slots : List Slot) (actions : List ActionRef)
+        → form.AreNamedOnce day → spec.IsCircle day actions → spec.KeepsOrder day slots → ⊥ }
+{}
+
+/// A law: a record that is of a day of a venue is not malformed. So no malformed record is woven.
+/// It does nothing.
+pub fn well_formed_days_are_not_malformed()
+    ensures { (config : Configuration) (day : RecordedDay) → form.IsWellFormed config day
+        → form.IsMalformed config day → ⊥ }
+{}
