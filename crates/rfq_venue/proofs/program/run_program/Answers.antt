@@ -1,7 +1,0 @@
-use Rattle.rfq_venue.proofs.CommandLemmas.{asked_told, some_arguments}
-use Rattle.rfq_venue.proofs.program.run_program.Goals as goal
-
-pub returns-in-Err : goal.returns-in-Err
-returns-in-Err g c =
-    asked_told g.S.AsStr.text c.args.arguments.now c.in-Err.error _ _ (some_arguments c.args.arguments.now c.if-is_empty.ensures)
-    c.in-Err.ensures.err c.tell.ensures

@@ -1,0 +1,201 @@
+-- What readers and writers hold, where they tell it.
+use Rattle.std.proofs.lemmas.Bool.{false≢true}
+use Rattle.std.proofs.Common.{◌≡◌, ◌≢◌, ℕ, ◌-◌, ◌<◌, ◌≤◌, List, [], ◌++◌, length, take, drop, sym}
+use Rattle.std.proofs.Common.{ap, ◌∙◌, subst, refl, arith, Option, Some, None, append_assoc}
+use Rattle.std.proofs.Common.{true, nat_lt, inl, inr, Result, Ok, Err, ◌⊎◌}
+use Rattle.std.specs.Io.KnownBytes.{Appends, Keeps}
+use Rattle.std.proofs.lemmas.List.{append-nil, take-append-drop, take_all, length-drop}
+use Rattle.std.proofs.lemmas.List.{length-append}
+use Rattle.std.proofs.Math.Seq.{take-append_seam}
+use Rattle.venue_text.specs.declared.lines.TheConstants.{MOST_INPUT}
+use Rattle.venue_commands.specs.Arguments.{Command, alone, blotter, compare, day, due, live, replay}
+use Rattle.venue_commands.specs.Runs.{FaultLeaves, HasPrinted, HasPrintedPart, IsFaultOf, IsReadOf, IsTextOf}
+use Rattle.venue_commands.specs.Written.{Gains, GainsPart, Written}
+use Rattle.venue_text.specs.declared.faults.ProgramFault.{ProgramFault}
+use Rattle.venue_text.specs.declared.faults.ProgramFault.TheVariants.{Read, Input, Parts, Config, Firm}
+use Rattle.venue_text.specs.declared.faults.ProgramFault.TheVariants.{Form, UnknownFirm, UnknownRoom}
+use Rattle.venue_text.specs.declared.faults.ProgramFault.TheVariants.{Stream, Day, Weave, Memory, Write}
+use Rattle.std.proofs.lemmas.Bool.{cases_Bool}
+use Rattle.std.proofs.lemmas.Bool.Decides.{nat_tests}
+use Rattle.std.specs.Option.{IfSome}
+use Rattle.std.specs.Prelude.{IfErr, OnErr, OnOk}
+
+-- two texts that were taken one behind the other
+pub appends_both : (old mid new : Option (List ℕ)) (a b : List ℕ) → Appends old mid a → Appends mid new b → Appends old new (a ++ b)
+appends_both None mid new a b first second = tt
+appends_both (Some xs) None new a b first second = absurd first
+appends_both (Some xs) (Some ys) None a b first second = absurd second
+appends_both (Some xs) (Some ys) (Some zs) a b first second = second ∙ ap (λ l. l ++ b) first ∙ append_assoc xs a b
+
+pub appends_kept : (old mid new : Option (List ℕ)) (a : List ℕ) → Appends old mid a → Keeps mid new → Appends old new a
+appends_kept None mid new a first kept = tt
+appends_kept (Some xs) None new a first kept = absurd first
+appends_kept (Some xs) (Some ys) None a first kept = absurd kept
+appends_kept (Some xs) (Some ys) (Some zs) a first kept = kept ∙ first
+
+-- what was taken of a text
+pub prefix_taken : (out : Written) (text written rest : List ℕ) → Gains written out → text ≡ written ++ rest → GainsPart text out
+prefix_taken out text written rest gains split =
+    record {
+      taken = length written;
+      gained = subst (λ (l : List ℕ). Gains l out) (sym (ap (take (length written)) split ∙ take-append_seam written rest)) gains;
+    }
+
+-- a part more of it
+pub split_more : (text written rest : List ℕ) (n : ℕ) → text ≡ written ++ rest → text ≡ (written ++ take n rest) ++ take (length rest - n) (drop n rest)
+split_more text written rest n split =
+    split ∙ ap (λ l. written ++ l) (sym (take-append-drop n rest)) ∙ sym (append_assoc written (take n rest) (drop n rest))
+    ∙ ap (λ l. (written ++ take n rest) ++ l) (sym (take_all (length rest - n) (drop n rest) (omega (arith, length-drop n rest))))
+
+pub keeps_same : (known : Option (List ℕ)) → Keeps known known
+keeps_same None = tt
+keeps_same (Some xs) = refl
+
+pub nothing_taken : (known : Option (List ℕ)) (text : List ℕ) → GainsPart text (record { before = known; after = known })
+nothing_taken None text = record { taken = 0; gained = tt }
+nothing_taken (Some xs) text = record { taken = 0; gained = sym (append-nil xs) }
+
+pub all_taken : (old mid new : Option (List ℕ)) (text : List ℕ) → Appends old mid text → Keeps mid new
+    → GainsPart text (record { before = old; after = new })
+all_taken old mid new text all kept =
+    prefix_taken (record { before = old; after = new }) text text [] (appends_kept old mid new text all kept) (sym (append-nil text))
+
+-- what was read, unless it is too long, is all
+all_read : (all bytes : List ℕ) → IsReadOf all bytes → length bytes ≤ MOST_INPUT → bytes ≡ all
+all_read all bytes read fits = sym (append-nil bytes) ∙ ap (λ rest. bytes ++ rest) (sym (read.whole fits)) ∙ sym read.split
+
+-- an input that is too long is at fault by that, for each command
+long_fault : (command : Command) (input : List ℕ) (fault : ProgramFault) → nat_lt MOST_INPUT (length input) ≡ true → IsFaultOf command input fault
+    → Input ≡ fault
+long_fault (alone with_frames) input fault long is = let same : Some Input ≡ Some fault = rw long at is in cc
+long_fault (replay firm with_frames) input fault long is = let same : Err Input ≡ Err fault = rw long at is in cc
+long_fault (day with_frames woven) input fault long (inl is) = let same : Err Input ≡ Err fault = rw long at is in cc
+long_fault (day with_frames woven) input fault long (inr (inl unkept)) = let lawful = unkept.lawful in absurd (false≢true (rw long at lawful))
+long_fault (day with_frames woven) input fault long (inr (inr unwoven)) = let same = unwoven.recorded.spelled in cc (rw long at same)
+long_fault (live with_frames) input fault long is = absurd is
+long_fault (due dealer) input fault long is = let same : Err Input ≡ Err fault = rw long at is in cc
+long_fault (compare dealer) input fault long is = let same : Err Input ≡ Err fault = rw long at is in cc
+long_fault (blotter firm) input fault long is = let same : Err Input ≡ Err fault = rw long at is in cc
+
+too_long : (command : Command) (input bytes : List ℕ) (fault : ProgramFault) → nat_lt MOST_INPUT (length input) ≡ true → IsFaultOf command bytes fault
+    → IsFaultOf command input Input
+too_long (alone with_frames) input bytes fault long is = rw long refl
+too_long (replay firm with_frames) input bytes fault long is = rw long refl
+too_long (day with_frames woven) input bytes fault long is = inl (rw long refl)
+too_long (live with_frames) input bytes fault long is = absurd is
+too_long (due dealer) input bytes fault long is = rw long refl
+too_long (compare dealer) input bytes fault long is = rw long refl
+too_long (blotter firm) input bytes fault long is = rw long refl
+
+-- and it has no text
+no_text : (command : Command) (input text : List ℕ) → nat_lt MOST_INPUT (length input) ≡ true → IsTextOf command input text → ⊥
+no_text (alone with_frames) input text long is = let fits = is.fits in grind (arith, nat_tests)
+no_text (replay firm with_frames) input text long is = let same = is.spelled in cc (rw long at same)
+no_text (day with_frames woven) input text long is = let same = is.recorded.spelled in cc (rw long at same)
+no_text (live with_frames) input text long is = absurd is
+no_text (due dealer) input text long is = let same = is.spelled in cc (rw long at same)
+no_text (compare dealer) input text long is = let same = is.spelled in cc (rw long at same)
+no_text (blotter firm) input text long is = let same = is.spelled in cc (rw long at same)
+
+-- what was read is all, or too long, as all is then
+read_whole : (all bytes : List ℕ) → IsReadOf all bytes
+    → ((nat_lt MOST_INPUT (length bytes) ≡ true) × (nat_lt MOST_INPUT (length all) ≡ true)) ⊎ (bytes ≡ all)
+read_whole all bytes read = elim (cases_Bool (nat_lt MOST_INPUT (length bytes))) [
+  | inl long ↦
+      inl (
+        long,
+        (let over : MOST_INPUT < length bytes = grind (arith, nat_tests) in
+            let sum = ap length read.split ∙ length-append bytes read.rest in
+            grind (arith, nat_tests)),
+      )
+  | inr short ↦
+      (let fits : length bytes ≤ MOST_INPUT = grind (arith, nat_tests) in
+      inr (all_read all bytes read fits))
+]
+
+pub fault_read : (command : Command) (known : Option (List ℕ)) (bytes : List ℕ) (fault : ProgramFault) → IfSome known (λ all. IsReadOf all bytes)
+    → IsFaultOf command bytes fault → IfSome known (λ all. IsFaultOf command all fault)
+fault_read command None bytes fault read is = tt
+fault_read command (Some all) bytes fault read is = elim (read_whole all bytes read) [
+  | inl long ↦ subst (IsFaultOf command all) (long_fault command bytes fault long.0 is) (too_long command all bytes fault long.1 is)
+  | inr same ↦ subst (λ (l : List ℕ). IsFaultOf command l fault) same is
+]
+
+pub printed_read : (command : Command) (known : Option (List ℕ)) (out : Written) (bytes text : List ℕ) → IfSome known (λ all. IsReadOf all bytes)
+    → IsTextOf command bytes text → Gains text out → IfSome known (λ all. HasPrinted command all out)
+printed_read command None out bytes text read printed gained = tt
+printed_read command (Some all) out bytes text read printed gained = elim (read_whole all bytes read) [
+  | inl long ↦ absurd (no_text command bytes text long.0 printed)
+  | inr same ↦ record { text = text; is_text = subst (λ (l : List ℕ). IsTextOf command l text) same printed; gained = gained }
+]
+
+pub part_read : (command : Command) (known : Option (List ℕ)) (out : Written) (bytes text : List ℕ) → IfSome known (λ all. IsReadOf all bytes)
+    → IsTextOf command bytes text → GainsPart text out → IfSome known (λ all. HasPrintedPart command all out)
+part_read command None out bytes text read printed gained = tt
+part_read command (Some all) out bytes text read printed gained = elim (read_whole all bytes read) [
+  | inl long ↦ absurd (no_text command bytes text long.0 printed)
+  | inr same ↦ record { text = text; is_text = subst (λ (l : List ℕ). IsTextOf command l text) same printed; gained = gained }
+]
+
+-- a fault that is found before anything is printed
+pub fault_left : (command : Command) (known old : Option (List ℕ)) (bytes : List ℕ) (fault : ProgramFault) → IfSome known (λ all. IsReadOf all bytes)
+    → fault ≢ Write → (fault ≢ Memory → IsFaultOf command bytes fault) → FaultLeaves command fault known (record { before = old; after = old })
+fault_left command known old bytes Read read other is = keeps_same old
+fault_left command known old bytes Memory read other is = keeps_same old
+fault_left command known old bytes Write read other is = absurd (other refl)
+fault_left command known old bytes Input read other is = (keeps_same old, fault_read command known bytes Input read (is (λ e. cc)))
+fault_left command known old bytes Parts read other is = (keeps_same old, fault_read command known bytes Parts read (is (λ e. cc)))
+fault_left command known old bytes (Config f) read other is = (keeps_same old, fault_read command known bytes (Config f) read (is (λ e. cc)))
+fault_left command known old bytes Firm read other is = (keeps_same old, fault_read command known bytes Firm read (is (λ e. cc)))
+fault_left command known old bytes (Form line) read other is = (keeps_same old, fault_read command known bytes (Form line) read (is (λ e. cc)))
+fault_left command known old bytes (UnknownFirm line) read other is =
+    (keeps_same old, fault_read command known bytes (UnknownFirm line) read (is (λ e. cc)))
+fault_left command known old bytes (UnknownRoom line) read other is =
+    (keeps_same old, fault_read command known bytes (UnknownRoom line) read (is (λ e. cc)))
+fault_left command known old bytes (Day what) read other is = (keeps_same old, fault_read command known bytes (Day what) read (is (λ e. cc)))
+fault_left command known old bytes (Weave why) read other is = (keeps_same old, fault_read command known bytes (Weave why) read (is (λ e. cc)))
+fault_left command known old bytes (Stream line) read other is = (keeps_same old, fault_read command known bytes (Stream line) read (is (λ e. cc)))
+
+-- ---- a line of a front, a word and a line feed
+
+take_less : (n : ℕ) (a b : List ℕ) → take n a ≡ take (length (take n a)) (a ++ b)
+take_less n a b = sym (ap (λ l. take (length (take n a)) l) (ap (λ l. l ++ b) (sym (take-append-drop n a)) ∙ append_assoc (take n a) (drop n a) b)
+    ∙ take-append_seam (take n a) (drop n a ++ b))
+
+-- a part of the front is one of the line
+pub front_part : (out : Written) (a b : List ℕ) → GainsPart a out → GainsPart (a ++ b) out
+front_part out a b part = record {
+  taken = length (take part.taken a);
+  gained = subst (λ (l : List ℕ). Gains l out) (take_less part.taken a b) part.gained;
+}
+
+-- the front, and a part of what stands behind it
+pub more_part : (old mid new : Option (List ℕ)) (a b : List ℕ) → Appends old mid a
+    → GainsPart b (record { before = mid; after = new }) → GainsPart (a ++ b) (record { before = old; after = new })
+more_part old mid new a b first part =
+    prefix_taken (record { before = old; after = new }) (a ++ b) (a ++ take part.taken b) (drop part.taken b)
+    (appends_both old mid new a (take part.taken b) first part.gained)
+    (ap (λ l. a ++ l) (sym (take-append-drop part.taken b)) ∙ sym (append_assoc a (take part.taken b) (drop part.taken b)))
+
+-- the same of a front, a word and an end
+pub line_front : (out : Written) (a b c : List ℕ) → GainsPart a out → GainsPart ((a ++ b) ++ c) out
+line_front out a b c part = subst (λ (l : List ℕ). GainsPart l out) (sym (append_assoc a b c)) (front_part out a (b ++ c) part)
+
+pub line_more : (old mid new : Option (List ℕ)) (a b c : List ℕ) → Appends old mid a
+    → GainsPart (b ++ c) (record { before = mid; after = new }) → GainsPart ((a ++ b) ++ c) (record { before = old; after = new })
+line_more old mid new a b c first part =
+    subst (λ (l : List ℕ). GainsPart l (record { before = old; after = new })) (sym (append_assoc a b c)) (more_part old mid new a (b ++ c) first part)
+
+-- ---- after the writing of a command's text
+
+pub printed_ok : {A : Type 0} (r : Result A ProgramFault) (command : Command) (known : Option (List ℕ)) (out : Written) (bytes text : List ℕ)
+    → IfSome known (λ all. IsReadOf all bytes) → IsTextOf command bytes text → OnOk r (Gains text out) → OnOk r (IfSome known (λ all. HasPrinted command all out))
+printed_ok (Ok x) command known out bytes text read printed gained = printed_read command known out bytes text read printed gained
+printed_ok (Err fault) command known out bytes text read printed gained = tt
+
+pub printed_err : {A : Type 0} (r : Result A ProgramFault) (command : Command) (known : Option (List ℕ)) (out : Written) (bytes text : List ℕ)
+    → IfSome known (λ all. IsReadOf all bytes) → IsTextOf command bytes text → IfErr r (λ fault. fault ≡ Write) → OnErr r (GainsPart text out)
+    → IfErr r (λ fault. FaultLeaves command fault known out)
+printed_err (Ok x) command known out bytes text read printed is part = tt
+printed_err (Err fault) command known out bytes text read printed is part =
+    subst (λ (f : ProgramFault). FaultLeaves command f known out) (sym is) (part_read command known out bytes text read printed part)

@@ -1,0 +1,59 @@
+use Rattle.std.proofs.Common.{◌≡◌, ◌∙◌, refl, sym, ap, subst, true, List, [], map}
+use Rattle.std.proofs.Common.{Some, Result, Ok, Err, codes}
+use Rattle.std.specs.Prelude.{IfErr, IsErrAnd, option_map}
+use Rattle.clap.specs.declared.error.Error.{Error}
+use Rattle.clap.specs.Words.{HasKind, Row, Text, app_of, fault_of, found_of, is_simple, rows_of}
+use Rattle.clap.specs.Words.{is_simple_and_free, subcommand_of}
+use Rattle.clap.proofs.OnLiterals.{clap_on_literals}
+use Rattle.clap.proofs.WalkLemmas.{first_value-rows, one_text-rows}
+use Rattle.venue_commands.specs.Arguments.{arguments_fault, named_command, venue_app}
+use Rattle.venue_commands.specs.declared.command.VenueCommand.{VenueCommand}
+use Rattle.venue_commands.proofs.AppLemmas.{found_both, names_alike}
+use Rattle.venue_commands.proofs.LawfulArguments.{arguments_read}
+use Rattle.venue_commands.proofs.command.read_command.Goals as goal
+
+is_free : is_simple_and_free venue_app ≡ true
+unfolding clap_on_literals
+is_free = refl
+
+is_simple_too : is_simple venue_app ≡ true
+unfolding clap_on_literals
+is_simple_too = refl
+
+same_error : (P : Error → Type 0) (r : Result VenueCommand Error) (e : Error) → IsErrAnd r (λ f. f ≡ e) → P e → IfErr r P
+same_error P (Ok x) e h p = tt
+same_error P (Err f) e h p = subst P (sym h) p
+
+pub returns-in_err-matches-clause-err : goal.returns-in_err-matches-clause-err
+unfolding arguments_fault
+returns-in_err-matches-clause-err g c =
+    let app_is : app_of c.in_ok-venue_command.field-0 ≡ venue_app = c.in_ok-venue_command.ensures.0 in
+    let words = map g.S.AsStr.text c.args.arguments.now in
+    let kind = c.in_err-matches.ensures.kinds (ap is_simple_and_free app_is ∙ is_free) in
+    same_error (HasKind (fault_of venue_app words)) c.from_residual-in_err-matches.result c.in_err-matches.field-0.0 c.from_residual-in_err-matches.ensures.1
+    (subst (λ a. HasKind (fault_of a words) c.in_err-matches.field-0.0) app_is kind)
+
+pub returns-clause-none : goal.returns-clause-none
+unfolding arguments_fault
+returns-clause-none g c =
+    let app_is : app_of c.in_ok-venue_command.field-0 ≡ venue_app = c.in_ok-venue_command.ensures.0 in
+    ap (λ a. fault_of a (map g.S.AsStr.text c.args.arguments.now)) (sym app_is) ∙ c.in_ok-matches.ensures.kinds (ap is_simple_and_free app_is ∙ is_free)
+
+pub returns-clause-ok : goal.returns-clause-ok
+unfolding arguments_fault
+returns-clause-ok g c =
+    let app_is : app_of c.in_ok-venue_command.field-0 ≡ venue_app = c.in_ok-venue_command.ensures.0 in
+    let words = map g.S.AsStr.text c.args.arguments.now in
+    let none : arguments_fault words ≡ [] = ap (λ a. fault_of a words) (sym app_is) ∙ c.in_ok-matches.ensures.kinds (ap is_simple_and_free app_is ∙ is_free) in
+    let matches = c.in_ok-matches.ensures.matches (ap is_simple app_is ∙ is_simple_too) in
+    let met = matches.1 ∙ ap (λ a. subcommand_of a words) app_is in
+    let found = found_of c.in-Some.words.now in
+    let name_is = c.in-Some.ensures.name ∙ names_alike _ ∙ ap (option_map (λ (p : Text × List Row). p.0)) met in
+    let rows_are = c.in-Some.ensures.rows ∙ ap (option_map (λ (p : Text × List Row). p.1)) met in
+    let read = arguments_read g.S.AsStr.text c.args.arguments.now c.requires none (c.in-Some.name.now, rows_of found)
+    (found_both (subcommand_of venue_app words) c.in-Some.name.now (rows_of found) name_is rows_are) c.get_flag-frames.result c.get_flag-woven.result
+    (λ e. c.get_flag-frames.ensures.value (one_text-rows found (codes "frames") ∙ e), λ e. c.get_flag-frames.ensures.other (one_text-rows found (codes "frames") ∙ e))
+    (λ e. c.get_flag-woven.ensures.value (one_text-rows found (codes "woven") ∙ e), λ e. c.get_flag-woven.ensures.other (one_text-rows found (codes "woven") ∙ e)) in
+    let firm = c.get_str.ensures ∙ first_value-rows found (codes "firm") in
+    read ∙ ap (λ firm_word. Some (named_command c.in-Some.name.now firm_word c.get_flag-frames.result c.get_flag-woven.result)) (sym firm)
+    ∙ ap (λ command. Some command) (sym c.command_named-command.ensures)

@@ -1,0 +1,4 @@
+use Rattle.venue_commands.proofs.process.run_status.Goals as goal
+
+pub returns-in-Ok : goal.returns-in-Ok
+returns-in-Ok g c = rw c.in-Ok.is (rw c.as_slice.ensures.value at c.run_program.ensures)

@@ -1,0 +1,112 @@
+-- How a run of `live` ends, by the lines of its input alone: so what it prints does not depend on
+-- how the input comes, in whatever pieces.
+use Rattle.std.specs.Prelude.{◌≡◌, ◌<◌, ◌⊎◌, ℕ, Bool, true, false, List, [], ◌∷◌, ◌++◌, length}
+use Rattle.std.specs.Prelude.{nat_lt, Option, Ok, Err}
+use Rattle.std.specs.List.{list_any}
+use Rattle.std.specs.Option.{IfSome}
+use Rattle.venue_config.specs.Rows.{Configuration, values_of}
+use Rattle.venue_text.specs.Faults.{told_line}
+use Rattle.venue_text.specs.Lines.{lines_of}
+use Rattle.venue_text.specs.LiveInput.{are_divided, configuration_in, taken_in, text_in}
+use Rattle.venue_text.specs.VenueParts.{venue_of}
+use Rattle.venue_text.specs.declared.faults.ProgramFault.{ProgramFault}
+use Rattle.venue_text.specs.declared.faults.ProgramFault.TheVariants.{Read, Input, Parts, Config}
+use Rattle.venue_text.specs.declared.faults.ProgramFault.TheVariants.{Memory, Write}
+use Rattle.venue_text.specs.declared.lines.TheConstants.{MOST_INPUT}
+use Rattle.venue_text.specs.declared.live_lines.TheConstants.{MOST_LINES}
+use Rattle.venue_commands.specs.Written.{Written, Gains, GainsPart, IsUntouched}
+
+-- the lines of faults, one behind the other; of each a part from its front where it was refused
+abbrev pub GainsFaults : List ProgramFault → Written → Type 0
+GainsFaults [] err = IsUntouched err
+GainsFaults (fault ∷ faults) err = (mid : Option (List ℕ))
+    × GainsPart (told_line [] fault) (record { before = err.before; after = mid })
+    × GainsFaults faults (record { before = mid; after = err.after })
+
+-- The lines are those of a day of this configuration, and each lawful one was answered: the output
+-- has exactly the text of the messages that they bring, and standard error was told the others.
+pub record AnswersDay (with_frames : Bool) (config : Configuration) (lines : List (List ℕ))
+    (out err : Written) : Type 0 where
+  pub divided : are_divided lines ≡ true
+  pub spelled : venue_of (configuration_in lines) ≡ Ok (values_of config)
+  pub printed : Gains (text_in with_frames config lines) out
+  pub told : GainsFaults (taken_in config lines).faults err
+
+-- The same, where the output refused, and has only a part of the text from its front.
+pub record AnswersPart (with_frames : Bool) (config : Configuration) (lines : List (List ℕ))
+    (out err : Written) : Type 0 where
+  pub divided : are_divided lines ≡ true
+  pub spelled : venue_of (configuration_in lines) ≡ Ok (values_of config)
+  pub printed : GainsPart (text_in with_frames config lines) out
+  pub told : GainsFaults (taken_in config lines).faults err
+
+-- the lines are of a configuration that goes on, and nothing was printed
+pub record AnswersNothing (lines : List (List ℕ)) (out err : Written) : Type 0 where
+  pub undivided : are_divided lines ≡ false
+  pub left : IsUntouched out
+  pub untold : IsUntouched err
+
+-- these lines were answered, and nothing else
+abbrev pub HasAnswered : Bool → List (List ℕ) → Written → Written → Type 0
+HasAnswered with_frames lines out err =
+    AnswersNothing lines out err
+    ⊎ ((config : Configuration) × AnswersDay with_frames config lines out err)
+
+-- what was printed where a fault ends the day behind these lines
+abbrev pub Leaves : Bool → ProgramFault → List (List ℕ) → Written → Written → Type 0
+Leaves with_frames Write lines out err =
+    (config : Configuration) × AnswersPart with_frames config lines out err
+Leaves with_frames Parts lines out err = IsUntouched out × IsUntouched err
+Leaves with_frames (Config fault) lines out err = IsUntouched out × IsUntouched err
+Leaves with_frames fault lines out err = HasAnswered with_frames lines out err
+
+-- a line is too long, or the configuration, or there are too many lines
+abbrev pub ArePastLimits : List (List ℕ) → Type 0
+ArePastLimits lines =
+    (list_any (λ line. nat_lt MOST_INPUT (length line)) lines ≡ true)
+    ⊎ ((MOST_INPUT < length (configuration_in lines)) ⊎ (MOST_LINES < length lines))
+
+-- what a fault that ends the day says of all lines of the input
+abbrev pub IsLiveFault : ProgramFault → List (List ℕ) → Type 0
+IsLiveFault Read lines = Unit {0}
+IsLiveFault Memory lines = Unit {0}
+IsLiveFault Write lines = Unit {0}
+IsLiveFault Input lines = ArePastLimits lines
+IsLiveFault Parts lines = are_divided lines ≡ false
+IsLiveFault (Config fault) lines = venue_of (configuration_in lines) ≡ Err (Config fault)
+IsLiveFault fault lines = ⊥
+
+-- A fault ends the day behind whole lines, which were answered.
+pub record EndsDay (with_frames : Bool) (fault : ProgramFault) (all : List (List ℕ))
+    (out err : Written) : Type 0 where
+  pub is_fault : IsLiveFault fault all
+  pub lines : List (List ℕ)
+  pub rest : List (List ℕ)
+  pub split : all ≡ lines ++ rest
+  pub left : Leaves with_frames fault lines out err
+
+-- the same, and the fault was told behind the others
+pub record EndsInLiveFault (with_frames : Bool) (all : List (List ℕ)) (out err : Written)
+    : Type 0 where
+  pub fault : ProgramFault
+  pub mid : Option (List ℕ)
+  pub ends : EndsDay with_frames fault all out (record { before = err.before; after = mid })
+  pub told : GainsPart (told_line [] fault) (record { before = mid; after = err.after })
+
+-- all lines of the input were answered
+abbrev pub EndsInAnswers : Bool → List (List ℕ) → Written → Written → Type 0
+EndsInAnswers with_frames all out err =
+    (config : Configuration) × AnswersDay with_frames config all out err
+
+-- How a run ends over an input: with status 0 and all of its answers, or with status 1 behind some
+-- of them.
+abbrev pub EndsOver : Bool → List ℕ → ℕ → Written → Written → Type 0
+EndsOver with_frames input status out err =
+    ((status ≡ 0) × EndsInAnswers with_frames (lines_of input) out err)
+    ⊎ ((status ≡ 1) × EndsInLiveFault with_frames (lines_of input) out err)
+
+-- The same where the input is known.
+abbrev pub EndsInLive : Bool → ℕ → Option (List ℕ) → Written → Written → Type 0
+EndsInLive with_frames status input out err =
+    ((status ≡ 0) ⊎ (status ≡ 1))
+    × IfSome input (λ all. EndsOver with_frames all status out err)

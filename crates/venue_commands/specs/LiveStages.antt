@@ -1,0 +1,181 @@
+-- How far a run of `live` has come: words of private functions alone.
+use Rattle.std.specs.Prelude.{◌≡◌, ◌<◌, ℕ, ◌+◌, ◌==◌, Bool, true, false, List, [], ◌∷◌, ◌++◌}
+use Rattle.std.specs.Prelude.{length, Option, Some, None, Err}
+use Rattle.std.specs.List.{list_any}
+use Rattle.venue_config.specs.Rows.{Configuration}
+use Rattle.venue_text.specs.Lines.{lines_of}
+use Rattle.venue_text.specs.LiveInput.{taken_in}
+use Rattle.venue_text.specs.LiveLines.{Goes, HasHeardFew, Opens}
+use Rattle.venue_text.specs.VenueParts.{is_divider, text_of_lines, venue_of}
+use Rattle.venue_text.specs.declared.faults.ProgramFault.{ProgramFault}
+use Rattle.venue_text.specs.declared.faults.ProgramFault.TheVariants as program
+use Rattle.venue_text.specs.declared.lines.TheConstants.{MOST_INPUT}
+use Rattle.venue_text.specs.declared.live_lines.LiveDay.{LiveDay}
+use Rattle.venue_commands.specs.LiveRuns.{AnswersDay, AnswersNothing, EndsDay, EndsInAnswers}
+use Rattle.venue_commands.specs.Written.{Written}
+use Rattle.venue_commands.specs.declared.live.LiveRun.{LiveRun}
+use Rattle.venue_commands.specs.declared.live.Stage.{Stage}
+use Rattle.venue_commands.specs.declared.live.Stage.TheVariants as stage
+
+-- the lines so far are of a configuration, which is read on
+pub record AwaitsDay (lines : List (List ℕ)) (text : List ℕ) (out err : Written) : Type 0 where
+  pub nothing : AnswersNothing lines out err
+  pub text_is : text ≡ text_of_lines lines
+
+-- the lines so far are those of a day that goes on
+pub record DayGoes (with_frames : Bool) (lines : List (List ℕ)) (day : LiveDay)
+    (out err : Written) : Type 0 where
+  pub config : Configuration
+  pub answers : AnswersDay with_frames config lines out err
+  pub goes : Goes with_frames config (taken_in config lines).steps (taken_in config lines).heard day
+
+abbrev pub StageIs : Bool → List (List ℕ) → Stage → Written → Written → Type 0
+StageIs with_frames lines (stage.Configuration text) out err = AwaitsDay lines text.items out err
+StageIs with_frames lines (stage.Day day) out err = DayGoes with_frames lines day out err
+
+-- a run has answered these lines
+pub record HasCome (with_frames : Bool) (lines : List (List ℕ)) (run : LiveRun)
+    (out err : Written) : Type 0 where
+  pub number_is : run.number ≡ length lines + 1
+  pub form_is : run.with_frames ≡ with_frames
+  pub stage_is : StageIs with_frames lines run.stage out err
+
+-- no firm has spoken more often than there were lines
+abbrev pub IsCounted : ℕ → Stage → Type 0
+IsCounted number (stage.Configuration text) = Unit {0}
+IsCounted number (stage.Day day) = HasHeardFew number day
+
+-- bytes are these lines, each with its end, and one that has begun
+pub record IsCut (read : List ℕ) (lines : List (List ℕ)) (begun : List ℕ) : Type 0 where
+  pub closed : (tail : List ℕ) → lines_of (read ++ tail) ≡ lines ++ lines_of (begun ++ tail)
+  pub goes_on : list_any (λ c. c == 10) begun ≡ false
+
+-- a run has read these bytes, and answered the lines in them that came whole
+pub record StandsAt (with_frames : Bool) (read : List ℕ) (run : LiveRun) (out err : Written)
+    : Type 0 where
+  pub lines : List (List ℕ)
+  pub cut : IsCut read lines run.line.items
+  pub come : HasCome with_frames lines run out err
+
+-- what the streams held at the start of a run
+pub record Start : Type 0 where
+  pub out : Option (List ℕ)
+  pub err : Option (List ℕ)
+
+-- what was written since then, before a call and behind it
+abbrev pub out_old : Start → Written → Written
+out_old start out = record { before = start.out; after = out.before }
+
+abbrev pub out_new : Start → Written → Written
+out_new start out = record { before = start.out; after = out.after }
+
+abbrev pub err_old : Start → Written → Written
+err_old start err = record { before = start.err; after = err.before }
+
+abbrev pub err_new : Start → Written → Written
+err_new start err = record { before = start.err; after = err.after }
+
+-- A line of steps is answered, wherever the run began and whatever came before; or a fault ends the
+-- day with it, whatever comes behind it.
+abbrev pub DayTakes : ℕ → List ℕ → LiveDay → LiveDay → Written → Written → Type 0
+DayTakes number line before after out err = (with_frames : Bool) (lines : List (List ℕ))
+    (start : Start) → number ≡ length lines + 1
+    → DayGoes with_frames lines before (out_old start out) (err_old start err)
+    → DayGoes with_frames (lines ++ line ∷ []) after (out_new start out) (err_new start err)
+
+abbrev pub DayFails : ℕ → List ℕ → LiveDay → ProgramFault → Written → Written → Type 0
+DayFails number line before fault out err = (with_frames : Bool) (lines : List (List ℕ))
+    (start : Start) → number ≡ length lines + 1
+    → DayGoes with_frames lines before (out_old start out) (err_old start err)
+    → (more : List (List ℕ)) → EndsDay with_frames fault ((lines ++ line ∷ []) ++ more)
+    (out_new start out) (err_new start err)
+
+-- The same at each stage.
+abbrev pub StageTakes : Bool → ℕ → List ℕ → Stage → Stage → Written → Written → Type 0
+StageTakes with_frames number line before after out err = (lines : List (List ℕ)) (start : Start)
+    → number ≡ length lines + 1
+    → StageIs with_frames lines before (out_old start out) (err_old start err)
+    → StageIs with_frames (lines ++ line ∷ []) after (out_new start out) (err_new start err)
+
+abbrev pub StageFails : Bool → ℕ → List ℕ → Stage → ProgramFault → Written → Written → Type 0
+StageFails with_frames number line before fault out err = (lines : List (List ℕ)) (start : Start)
+    → number ≡ length lines + 1
+    → StageIs with_frames lines before (out_old start out) (err_old start err)
+    → (more : List (List ℕ)) → EndsDay with_frames fault ((lines ++ line ∷ []) ++ more)
+    (out_new start out) (err_new start err)
+
+-- The line that has begun is whole.
+abbrev pub LineTakes : LiveRun → LiveRun → Written → Written → Type 0
+LineTakes before after out err = (with_frames : Bool) (lines : List (List ℕ)) (start : Start)
+    → HasCome with_frames lines before (out_old start out) (err_old start err)
+    → HasCome with_frames (lines ++ before.line.items ∷ []) after (out_new start out)
+    (err_new start err)
+
+abbrev pub LineFails : LiveRun → ProgramFault → Written → Written → Type 0
+LineFails before fault out err = (with_frames : Bool) (lines : List (List ℕ)) (start : Start)
+    → HasCome with_frames lines before (out_old start out) (err_old start err)
+    → (more : List (List ℕ))
+    → EndsDay with_frames fault ((lines ++ before.line.items ∷ []) ++ more) (out_new start out)
+    (err_new start err)
+
+-- Bytes are read.
+abbrev pub Feeds : List ℕ → LiveRun → LiveRun → Written → Written → Type 0
+Feeds bytes before after out err = (with_frames : Bool) (read : List ℕ) (start : Start)
+    → StandsAt with_frames read before (out_old start out) (err_old start err)
+    → StandsAt with_frames (read ++ bytes) after (out_new start out) (err_new start err)
+
+abbrev pub FeedFails : List ℕ → LiveRun → ProgramFault → Written → Written → Type 0
+FeedFails bytes before fault out err = (with_frames : Bool) (read : List ℕ) (start : Start)
+    → StandsAt with_frames read before (out_old start out) (err_old start err)
+    → (tail : List ℕ) → EndsDay with_frames fault (lines_of ((read ++ bytes) ++ tail))
+    (out_new start out) (err_new start err)
+
+-- The input ends.
+abbrev pub Ends : LiveRun → Written → Written → Type 0
+Ends before out err = (with_frames : Bool) (read : List ℕ) (start : Start)
+    → StandsAt with_frames read before (out_old start out) (err_old start err)
+    → EndsInAnswers with_frames (lines_of read) (out_new start out) (err_new start err)
+
+abbrev pub EndFails : LiveRun → ProgramFault → Written → Written → Type 0
+EndFails before fault out err = (with_frames : Bool) (read : List ℕ) (start : Start)
+    → StandsAt with_frames read before (out_old start out) (err_old start err)
+    → EndsDay with_frames fault (lines_of read) (out_new start out) (err_new start err)
+
+-- A line before the day: the configuration goes on, or its text is whole and opens the day.
+abbrev pub IsNext : Bool → List ℕ → List ℕ → List ℕ → Option LiveDay → Type 0
+IsNext with_frames line before after None =
+    (is_divider line ≡ false) × (after ≡ before ++ line ++ 10 ∷ [])
+IsNext with_frames line before after (Some day) =
+    (is_divider line ≡ true) × Opens with_frames before day × HasHeardFew 1 day
+
+-- why it is at fault
+pub data IsBad (line before : List ℕ) (fault : ProgramFault) : Type 0 where
+  OfMemory : fault ≡ program.Memory → IsBad line before fault
+  OfConfig : is_divider line ≡ true → venue_of before ≡ Err fault → IsBad line before fault
+  OfLength : fault ≡ program.Input → is_divider line ≡ false
+      → MOST_INPUT < length (before ++ line ++ 10 ∷ []) → IsBad line before fault
+
+abbrev pub IsDay : Stage → Type 0
+IsDay (stage.Configuration text) = ⊥
+IsDay (stage.Day day) = Unit {0}
+
+abbrev pub IsConfiguration : Stage → Type 0
+IsConfiguration (stage.Configuration text) = Unit {0}
+IsConfiguration (stage.Day day) = ⊥
+
+-- A run that has read nothing, whatever the streams held.
+abbrev pub StandsFirst : Bool → LiveRun → Type 0
+StandsFirst with_frames run = (start : Start)
+    → StandsAt with_frames [] run (record { before = start.out; after = start.out })
+    (record { before = start.err; after = start.err })
+
+-- All of an input is answered behind what was read, or a fault ends the day.
+abbrev pub AnswersAll : List ℕ → LiveRun → Written → Written → Type 0
+AnswersAll all before out err = (with_frames : Bool) (read : List ℕ) (start : Start)
+    → StandsAt with_frames read before (out_old start out) (err_old start err)
+    → EndsInAnswers with_frames (lines_of (read ++ all)) (out_new start out) (err_new start err)
+
+abbrev pub FailsIn : List ℕ → ProgramFault → LiveRun → Written → Written → Type 0
+FailsIn all fault before out err = (with_frames : Bool) (read : List ℕ) (start : Start)
+    → StandsAt with_frames read before (out_old start out) (err_old start err)
+    → EndsDay with_frames fault (lines_of (read ++ all)) (out_new start out) (err_new start err)

@@ -1,0 +1,172 @@
+-- How a run of the program ends.
+use Rattle.std.specs.Prelude.{◌≡◌, ◌<◌, ◌≤◌, ◌⊎◌, ℕ, Bool, true, List, [], ◌++◌, length, take}
+use Rattle.std.specs.Prelude.{Option, Some, None, Result, Ok, Err}
+use Rattle.std.specs.Option.{IfSome}
+use Rattle.clap.specs.Kinds.{Kinds}
+use Rattle.clap.specs.Walk.{Text}
+use Rattle.venue_text.specs.AloneText.{IsPrinted, first_fault}
+use Rattle.venue_text.specs.AskedDays.{dealer_by, firm_by, firms_by, one_day, two_days}
+use Rattle.venue_text.specs.BlotterCommand.{IsBlotter}
+use Rattle.venue_text.specs.CompareText.{IsCompared}
+use Rattle.venue_text.specs.DueCommand.{IsDueText}
+use Rattle.venue_text.specs.Faults.{fault_line, told_line}
+use Rattle.venue_text.specs.ReplayText.{IsReplayed}
+use Rattle.venue_text.specs.declared.faults.ProgramFault.{ProgramFault}
+use Rattle.venue_text.specs.declared.faults.ProgramFault.TheVariants.{Read, Memory, Write}
+use Rattle.venue_text.specs.declared.lines.TheConstants.{MOST_INPUT}
+use Rattle.venue_commands.specs.Arguments.{Command, alone, arguments_fault, blotter, command_of}
+use Rattle.venue_commands.specs.Arguments.{compare, day, due, live, live_form, may_be_help}
+use Rattle.venue_commands.specs.Arguments.{may_be_mistake, replay}
+use Rattle.venue_commands.specs.LiveRuns.{EndsInLive}
+use Rattle.venue_commands.specs.ThreadedDays.{IsDay, IsDayFault}
+use Rattle.venue_commands.specs.Written.{Written, Gains, GainsPart, IsUntouched}
+use Rattle.venue_commands.specs.declared.process.ArgumentFault.{ArgumentFault}
+use Rattle.venue_commands.specs.declared.process.ArgumentFault.TheVariants as argument
+
+-- What a command prints for an input.
+abbrev pub IsTextOf : Command → List ℕ → List ℕ → Type 0
+IsTextOf (alone with_frames) input text = IsPrinted with_frames input text
+IsTextOf (replay firm with_frames) input text = IsReplayed firm with_frames input text
+IsTextOf (day with_frames woven) input text = IsDay with_frames woven input text
+IsTextOf (live with_frames) input text = ⊥  -- it prints line by line
+IsTextOf (due dealer) input text = IsDueText dealer input text
+IsTextOf (compare dealer) input text = IsCompared dealer input text
+IsTextOf (blotter firm) input text = IsBlotter firm input text
+
+-- the first fault of an input, for a command
+abbrev pub IsFaultOf : Command → List ℕ → ProgramFault → Type 0
+IsFaultOf (alone with_frames) input fault = first_fault input ≡ Some fault
+IsFaultOf (replay firm with_frames) input fault = one_day (firms_by firm) input ≡ Err fault
+IsFaultOf (day with_frames woven) input fault = IsDayFault woven input fault
+IsFaultOf (live with_frames) input fault = ⊥  -- it tells line by line
+IsFaultOf (due dealer) input fault = one_day (dealer_by dealer) input ≡ Err fault
+IsFaultOf (compare dealer) input fault = two_days (dealer_by dealer) input ≡ Err fault
+IsFaultOf (blotter firm) input fault = one_day (firm_by firm) input ≡ Err fault
+
+-- the word of a command that names a firm; it is told where no firm has that name
+abbrev pub word_of : Command → List ℕ
+word_of (alone with_frames) = []
+word_of (replay None with_frames) = []
+word_of (replay (Some firm) with_frames) = firm
+word_of (day with_frames woven) = []
+word_of (live with_frames) = []
+word_of (due dealer) = dealer
+word_of (compare dealer) = dealer
+word_of (blotter firm) = firm
+
+-- The streams of a run: what standard input had to give, where it tells, and what was written to
+-- standard output and to standard error.
+pub record Streams : Type 0 where
+  pub input : Option (List ℕ)
+  pub out : Written
+  pub err : Written
+
+-- What was read of all bytes: their front, and all of them unless there are more than an input has.
+pub record IsReadOf (all bytes : List ℕ) : Type 0 where
+  pub rest : List ℕ
+  pub split : all ≡ bytes ++ rest
+  pub whole : length bytes ≤ MOST_INPUT → rest ≡ []
+
+-- what a command prints for an input was written, and nothing else
+pub record HasPrinted (command : Command) (input : List ℕ) (out : Written) : Type 0 where
+  pub text : List ℕ
+  pub is_text : IsTextOf command input text
+  pub gained : Gains text out
+
+-- a part of it was written, from its front
+pub record HasPrintedPart (command : Command) (input : List ℕ) (out : Written) : Type 0 where
+  pub text : List ℕ
+  pub is_text : IsTextOf command input text
+  pub gained : GainsPart text out
+
+-- What a fault says of the input, where its bytes are known.
+abbrev pub IsFirstOf : Command → ProgramFault → Option (List ℕ) → Type 0
+IsFirstOf command fault input = IfSome input (λ all. IsFaultOf command all fault)
+
+-- What standard output holds after a fault, and what the fault says of the input: nothing was
+-- written, but for a part of the text where the output itself refused.
+abbrev pub FaultLeaves : Command → ProgramFault → Option (List ℕ) → Written → Type 0
+FaultLeaves command Read input out = IsUntouched out
+FaultLeaves command Memory input out = IsUntouched out
+FaultLeaves command Write input out = IfSome input (λ all. HasPrintedPart command all out)
+FaultLeaves command fault input out = IsUntouched out × IsFirstOf command fault input
+
+-- a fault, whose line standard error has taken, or a part of it where it refused
+pub record EndsInFault (command : Command) (streams : Streams) : Type 0 where
+  pub fault : ProgramFault
+  pub left : FaultLeaves command fault streams.input streams.out
+  pub told : GainsPart (told_line (word_of command) fault) streams.err
+
+-- all of what the command prints for the input was written, and nothing to standard error
+abbrev pub EndsInPrint : Command → Streams → Type 0
+EndsInPrint command streams =
+    IfSome streams.input (λ all. HasPrinted command all streams.out) × IsUntouched streams.err
+
+-- How a run of a command ends: with status 0 and all of its text, or with status 1 and a fault.
+abbrev pub EndsInCommand : Command → ℕ → Streams → Type 0
+EndsInCommand command status streams =
+    ((status ≡ 0) × EndsInPrint command streams)
+    ⊎ ((status ≡ 1) × EndsInFault command streams)
+
+-- How a run ends that prints one text: with status 0 and all of it, or, where the output refused
+-- a part, with status 1.
+abbrev pub EndsInText : List ℕ → ℕ → Written → Written → Type 0
+EndsInText text status out err =
+    ((status ≡ 0) × Gains text out × IsUntouched err)
+    ⊎ ((status ≡ 1) × GainsPart text out × GainsPart (fault_line Write) err)
+
+-- help: a text that is not empty is printed
+pub record EndsInHelp (status : ℕ) (out err : Written) : Type 0 where
+  pub text : List ℕ
+  pub filled : 0 < length text
+  pub ends : EndsInText text status out err
+
+-- wrong arguments: status 2, nothing is printed, and standard error has taken a text that is not
+-- empty, or a part of it
+pub record EndsInMistake (status : ℕ) (out err : Written) : Type 0 where
+  pub text : List ℕ
+  pub filled : 0 < length text
+  pub code : status ≡ 2
+  pub left : IsUntouched out
+  pub told : GainsPart text err
+
+-- memory was refused before anything was printed
+abbrev pub EndsInMemory : ℕ → Written → Written → Type 0
+EndsInMemory status out err =
+    (status ≡ 1) × IsUntouched out × GainsPart (fault_line Memory) err
+
+-- How a run ends whose arguments are not those of a command, by what is wrong with them.
+abbrev pub EndsTold : Kinds → ℕ → Written → Written → Type 0
+EndsTold kinds status out err =
+    EndsInMemory status out err
+    ⊎ (((may_be_help kinds ≡ true) × EndsInHelp status out err)
+    ⊎ ((may_be_mistake kinds ≡ true) × EndsInMistake status out err))
+
+-- How a run of a command ends, whichever it is.
+abbrev pub EndsOf : Option Bool → Command → ℕ → Streams → Type 0
+EndsOf (Some with_frames) command status streams =
+    EndsInLive with_frames status streams.input streams.out streams.err
+EndsOf None command status streams = EndsInCommand command status streams
+
+-- How a run ends, by the command that is asked for, or else by what is wrong with the arguments.
+abbrev pub EndsBy : Option Command → Kinds → ℕ → Streams → Type 0
+EndsBy (Some command) kinds status streams = EndsOf (live_form command) command status streams
+EndsBy None kinds status streams = EndsTold kinds status streams.out streams.err
+
+-- How a run ends, by its arguments.
+abbrev pub EndsAsAsked : List Text → ℕ → Streams → Type 0
+EndsAsAsked arguments status streams =
+    EndsBy (command_of arguments) (arguments_fault arguments) status streams
+
+-- the arguments of the process as texts
+abbrev pub as_texts : {A : Type 0} → (A → List Text) → Result A ArgumentFault
+    → Result (List Text) ArgumentFault
+as_texts texts_of (Ok arguments) = Ok (texts_of arguments)
+as_texts texts_of (Err fault) = Err fault
+
+-- How the process ends, by its arguments, or by why they could not be read: an argument that is no
+-- UTF-8 is a wrong one.
+abbrev pub EndsProcess : Result (List Text) ArgumentFault → ℕ → Streams → Type 0
+EndsProcess (Ok arguments) status streams = EndsAsAsked arguments status streams
+EndsProcess (Err argument.NotUtf8) status streams = EndsInMistake status streams.out streams.err
+EndsProcess (Err argument.Memory) status streams = EndsInMemory status streams.out streams.err

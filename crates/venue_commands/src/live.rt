@@ -1,0 +1,343 @@
+//! The command `live`: a venue that answers line by line.
+ghost use Rattle.std.specs.Prelude.{◌≡◌, ◌≢◌, ◌==◌, ◌<◌, ◌≤◌, ◌+◌, ◌++◌, ◌⊎◌, [], ◌∷◌, length};
+ghost use Rattle.std.specs.Prelude.{IfOk, IfErr, IfSome, OnOk, OnErr};
+ghost use Rattle.std.specs.Io.KnownBytes.{Keeps};
+ghost use Rattle.venue_text.specs.Faults.{told_line};
+ghost use Rattle.venue_text.specs.Lines.{lines_of};
+ghost use Rattle.venue_text.specs.LiveLines.{HasHeardFew};
+ghost use Rattle.venue_commands.specs.LiveRuns as spec;
+ghost use Rattle.venue_commands.specs.LiveStages as stages;
+ghost use Rattle.venue_commands.specs.Written.{GainsPart};
+
+use crate::program::{print_text, report};
+use std::alloc::Global;
+use std::io::{Read, Write};
+use std::mem;
+use venue_text::{LiveDay, MOST_INPUT, MOST_LINES, ProgramFault, same_text};
+
+/// How many bytes are read at once.
+const CHUNK: usize = 16_384;
+
+/// How far a run has come.
+#[derive(Drop)]
+enum Stage {
+    /// The lines of the configuration so far, each with its line feed.
+    Configuration(Vec<u8>),
+    /// The day goes on.
+    Day(LiveDay),
+}
+
+/// A run of `live`: what was read so far.
+#[derive(Drop)]
+struct LiveRun {
+    alloc: Global,
+    with_frames: bool,
+    /// The number of the line that comes next, or that has begun.
+    number: usize,
+    /// Its bytes so far.
+    line: Vec<u8>,
+    stage: Stage,
+}
+
+/// Runs `live`: reads a configuration and a line `%%`, and then answers each line of steps before
+/// the next one is read. A line at fault is told on `err`, and the day goes on.
+pub(crate) fn run_live<R: Read, W: Write, E: Write>(
+    alloc: Global,
+    with_frames: bool,
+    input: &mut R,
+    out: &mut W,
+    err: &mut E,
+) -> u8
+    ensures { spec.EndsInLive with_frames result (R.remaining input.old)
+        (record { before = W.contents out.old; after = W.contents out.new })
+        (record { before = E.contents err.old; after = E.contents err.new }) }
+{
+    let mut run = LiveRun::new(alloc, with_frames);
+    let Err(fault) = answer_all(&mut run, input, out, err) else {
+        return 0;
+    };
+    report(err, b"", &fault)
+}
+
+/// Reads to the end of the input.
+fn answer_all<R: Read, W: Write, E: Write>(
+    run: &mut LiveRun,
+    input: &mut R,
+    out: &mut W,
+    err: &mut E,
+) -> Result<(), ProgramFault>
+    requires { stages.IsCounted run.old.number run.old.stage }
+    ensures ok { OnOk result (IfSome (R.remaining input.old) (λ all.
+        stages.AnswersAll all run.old
+        (record { before = W.contents out.old; after = W.contents out.new })
+        (record { before = E.contents err.old; after = E.contents err.new }))) }
+    ensures err { IfErr result (λ fault. IfSome (R.remaining input.old) (λ all.
+        stages.FailsIn all fault run.old
+        (record { before = W.contents out.old; after = W.contents out.new })
+        (record { before = E.contents err.old; after = E.contents err.new }))) }
+{
+    let mut chunk = [0; CHUNK];
+    for _ in 0..u64::MAX {
+        let Ok(count) = input.read(&mut chunk) else {
+            return Err(ProgramFault::Read);
+        };
+        if count == 0 {
+            run.end(out, err)?;
+            return Ok(());
+        }
+        run.feed(&chunk[..count], out, err)?;
+    }
+    // No reader gives so much.
+    Err(ProgramFault::Read)
+}
+
+impl LiveRun {
+    /// Nothing was read.
+    fn new(alloc: Global, with_frames: bool) -> Self
+        ensures first { stages.StandsFirst with_frames result }
+        ensures few { stages.IsCounted result.number result.stage }
+    {
+        LiveRun {
+            alloc,
+            with_frames,
+            number: 1,
+            line: Vec::new(alloc),
+            stage: Stage::Configuration(Vec::new(alloc)),
+        }
+    }
+
+    /// The next bytes come: each line that they end is answered.
+    fn feed<W: Write, E: Write>(
+        &mut self,
+        bytes: &[u8],
+        out: &mut W,
+        err: &mut E,
+    ) -> Result<(), ProgramFault>
+        requires { stages.IsCounted self.old.number self.old.stage }
+        ensures few { OnOk result (stages.IsCounted self.new.number self.new.stage) }
+        ensures ok { OnOk result (stages.Feeds bytes.now self.old self.new
+            (record { before = W.contents out.old; after = W.contents out.new })
+            (record { before = E.contents err.old; after = E.contents err.new })) }
+        ensures err { IfErr result (λ fault. stages.FeedFails bytes.now self.old fault
+            (record { before = W.contents out.old; after = W.contents out.new })
+            (record { before = E.contents err.old; after = E.contents err.new })) }
+    {
+        for byte in bytes {
+            self.take(*byte, out, err)?;
+        }
+        Ok(())
+    }
+
+    /// The next byte comes.
+    fn take<W: Write, E: Write>(
+        &mut self,
+        byte: u8,
+        out: &mut W,
+        err: &mut E,
+    ) -> Result<(), ProgramFault>
+        requires { stages.IsCounted self.old.number self.old.stage }
+        ensures few { OnOk result (stages.IsCounted self.new.number self.new.stage) }
+        ensures ok { OnOk result (stages.Feeds (byte ∷ []) self.old self.new
+            (record { before = W.contents out.old; after = W.contents out.new })
+            (record { before = E.contents err.old; after = E.contents err.new })) }
+        ensures err { IfErr result (λ fault. stages.FeedFails (byte ∷ []) self.old fault
+            (record { before = W.contents out.old; after = W.contents out.new })
+            (record { before = E.contents err.old; after = E.contents err.new })) }
+    {
+        if byte == b'\n' {
+            self.answer_line(out, err)?;
+            return Ok(());
+        }
+        put(&mut self.line, byte)?;
+        Ok(())
+    }
+
+    /// The input ends: bytes behind the last line feed are a line, too.
+    fn end<W: Write, E: Write>(&mut self, out: &mut W, err: &mut E) -> Result<(), ProgramFault>
+        requires { stages.IsCounted self.old.number self.old.stage }
+        ensures ok { OnOk result (stages.Ends self.old
+            (record { before = W.contents out.old; after = W.contents out.new })
+            (record { before = E.contents err.old; after = E.contents err.new })) }
+        ensures err { IfErr result (λ fault. stages.EndFails self.old fault
+            (record { before = W.contents out.old; after = W.contents out.new })
+            (record { before = E.contents err.old; after = E.contents err.new })) }
+    {
+        if is_bare(&self.line) {
+            close(&self.stage)?;
+            return Ok(());
+        }
+        self.answer_line(out, err)?;
+        close(&self.stage)?;
+        Ok(())
+    }
+
+    /// The line that has begun is whole.
+    fn answer_line<W: Write, E: Write>(
+        &mut self,
+        out: &mut W,
+        err: &mut E,
+    ) -> Result<(), ProgramFault>
+        requires { stages.IsCounted self.old.number self.old.stage }
+        ensures few { OnOk result (stages.IsCounted self.new.number self.new.stage) }
+        ensures empty { OnOk result (self.new.line.items ≡ []) }
+        ensures ok { OnOk result (stages.LineTakes self.old self.new
+            (record { before = W.contents out.old; after = W.contents out.new })
+            (record { before = E.contents err.old; after = E.contents err.new })) }
+        ensures err { IfErr result (λ fault. stages.LineFails self.old fault
+            (record { before = W.contents out.old; after = W.contents out.new })
+            (record { before = E.contents err.old; after = E.contents err.new })) }
+    {
+        let number = self.number;
+        if number > MOST_LINES {
+            return Err(ProgramFault::Input);
+        }
+        let line = mem::replace(&mut self.line, Vec::new(self.alloc));
+        self.number = number + 1;
+        let form = self.with_frames;
+        answer_at(self.alloc, form, number, &mut self.stage, &line, out, err)?;
+        Ok(())
+    }
+}
+
+/// Whether a line has no byte yet.
+fn is_bare(line: &Vec<u8>) -> bool
+    ensures { result ≡ (length line.now.items == 0) }
+{
+    line.is_empty()
+}
+
+/// A byte of the line that has begun.
+fn put(line: &mut Vec<u8>, byte: u8) -> Result<(), ProgramFault>
+    ensures ok { OnOk result (line.new.items ≡ line.old.items ++ byte ∷ []) }
+    ensures err { IfErr result (λ fault. (fault ≡ ProgramFault.Memory)
+        ⊎ ((fault ≡ ProgramFault.Input) × MOST_INPUT ≤ length line.old.items)) }
+{
+    if line.len() >= MOST_INPUT {
+        return Err(ProgramFault::Input);
+    }
+    line.push(byte)?;
+    Ok(())
+}
+
+/// At the end there is a day.
+fn close(stage: &Stage) -> Result<(), ProgramFault>
+    ensures ok { OnOk result (stages.IsDay stage.now) }
+    ensures err { IfErr result (λ fault.
+        (fault ≡ ProgramFault.Parts) × stages.IsConfiguration stage.now) }
+{
+    match stage {
+        Stage::Configuration(_) => Err(ProgramFault::Parts),
+        Stage::Day(_) => Ok(()),
+    }
+}
+
+/// The line with this number is answered.
+fn answer_at<W: Write, E: Write>(
+    alloc: Global,
+    with_frames: bool,
+    number: usize,
+    stage: &mut Stage,
+    line: &[u8],
+    out: &mut W,
+    err: &mut E,
+) -> Result<(), ProgramFault>
+    requires counted { stages.IsCounted number stage.old }
+    requires within { number ≤ MOST_LINES }
+    ensures few { OnOk result (stages.IsCounted (number + 1) stage.new) }
+    ensures ok { OnOk result (stages.StageTakes with_frames number line.now stage.old stage.new
+        (record { before = W.contents out.old; after = W.contents out.new })
+        (record { before = E.contents err.old; after = E.contents err.new })) }
+    ensures err { IfErr result (λ fault.
+        stages.StageFails with_frames number line.now stage.old fault
+        (record { before = W.contents out.old; after = W.contents out.new })
+        (record { before = E.contents err.old; after = E.contents err.new })) }
+{
+    match stage {
+        Stage::Configuration(text) => {
+            let Some(day) = next_day(alloc, with_frames, text, line)? else {
+                return Ok(());
+            };
+            *stage = Stage::Day(day);
+            Ok(())
+        }
+        Stage::Day(day) => {
+            answer_step(alloc, number, day, line, out, err)?;
+            Ok(())
+        }
+    }
+}
+
+/// A line before the day: it opens the day, or goes on with the configuration, whose text this is.
+fn next_day(
+    alloc: Global,
+    with_frames: bool,
+    text: &mut Vec<u8>,
+    line: &[u8],
+) -> Result<Option<LiveDay>, ProgramFault>
+    ensures ok { IfOk result (stages.IsNext with_frames line.now text.old.items text.new.items) }
+    ensures err { IfErr result (stages.IsBad line.now text.old.items) }
+{
+    if !same_text(line, b"%%") {
+        put_line(text, line)?;
+        return Ok(None);
+    }
+    let day = LiveDay::open(alloc, with_frames, text.as_slice())?;
+    Ok(Some(day))
+}
+
+/// Puts a line behind those of a configuration.
+fn put_line(text: &mut Vec<u8>, line: &[u8]) -> Result<(), ProgramFault>
+    ensures ok { OnOk result (text.new.items ≡ text.old.items ++ line.now ++ 10 ∷ []) }
+    ensures err { IfErr result (λ fault. (fault ≡ ProgramFault.Memory)
+        ⊎ ((fault ≡ ProgramFault.Input)
+        × MOST_INPUT < length (text.old.items ++ line.now ++ 10 ∷ []))) }
+{
+    if line.len() >= MOST_INPUT || text.len() >= MOST_INPUT - line.len() {
+        return Err(ProgramFault::Input);
+    }
+    text.extend_from_slice(line)?;
+    text.push(b'\n')?;
+    Ok(())
+}
+
+/// A line of steps is answered, or its fault told.
+fn answer_step<W: Write, E: Write>(
+    alloc: Global,
+    number: usize,
+    day: &mut LiveDay,
+    line: &[u8],
+    out: &mut W,
+    err: &mut E,
+) -> Result<(), ProgramFault>
+    requires counted { HasHeardFew number day.old }
+    requires within { number ≤ MOST_LINES }
+    ensures few { OnOk result (HasHeardFew (number + 1) day.new) }
+    ensures ok { OnOk result (stages.DayTakes number line.now day.old day.new
+        (record { before = W.contents out.old; after = W.contents out.new })
+        (record { before = E.contents err.old; after = E.contents err.new })) }
+    ensures err { IfErr result (λ fault. stages.DayFails number line.now day.old fault
+        (record { before = W.contents out.old; after = W.contents out.new })
+        (record { before = E.contents err.old; after = E.contents err.new })) }
+{
+    let text = match day.answer(alloc, number, line) {
+        Ok(text) => text,
+        Err(fault) => return refuse(err, &fault),
+    };
+    print_text(out, text.as_slice())?;
+    Ok(())
+}
+
+/// Tells the fault of a line; only memory ends the day.
+fn refuse<E: Write>(err: &mut E, fault: &ProgramFault) -> Result<(), ProgramFault>
+    ensures ok { OnOk result (fault.now ≢ ProgramFault.Memory) }
+    ensures told { OnOk result (GainsPart (told_line [] fault.now)
+        (record { before = E.contents err.old; after = E.contents err.new })) }
+    ensures err { IfErr result (λ f. f ≡ ProgramFault.Memory) }
+    ensures untold { OnErr result (Keeps (E.contents err.old) (E.contents err.new)) }
+{
+    if matches!(fault, ProgramFault::Memory) {
+        return Err(ProgramFault::Memory);
+    }
+    report(err, b"", fault);
+    Ok(())
+}

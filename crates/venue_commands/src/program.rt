@@ -1,0 +1,192 @@
+//! A run of the program.
+ghost use Rattle.std.specs.Prelude.{◌≡◌, ◌≢◌, ◌++◌, [], ◌∷◌, None, map, IfOk, IfErr, IfSome};
+ghost use Rattle.std.specs.Prelude.{OnOk, OnErr};
+ghost use Rattle.std.specs.Io.KnownBytes.{Appends};
+ghost use Rattle.clap.specs.Words.{kind_of};
+ghost use Rattle.venue_text.specs.Faults as faults;
+ghost use Rattle.venue_commands.specs.Arguments.{live_form, meant};
+ghost use Rattle.venue_commands.specs.Runs as spec;
+ghost use Rattle.venue_commands.specs.Written.{GainsPart};
+
+use crate::command::{Told, VenueCommand, form_of_live, read_command, told_by};
+use crate::input::read_input;
+use crate::live::run_live;
+use crate::output::write_text;
+use crate::texts::{command_text, command_word};
+use clap::Error;
+use std::alloc::Global;
+use std::convert::AsStr;
+use std::io::{Read, Write};
+use std::marker::Sync;
+use std::sync::Wait;
+use std::thread::Threads;
+use venue_text::{ProgramFault, fault_line};
+
+/// Runs the program: reads what its arguments ask for from `input`, prints it to `out`, and
+/// answers the exit status: 0 is done. A fault is told in one line on `err`, with status 1; wrong
+/// arguments have status 2. No arguments at all mean `alone`.
+pub fn run_program<H: Threads + Wait + Sync, S: AsStr, R: Read, W: Write, E: Write>(
+    rt: &H,
+    alloc: Global,
+    arguments: &[S],
+    input: &mut R,
+    out: &mut W,
+    err: &mut E,
+) -> u8
+    ensures { spec.EndsAsAsked (map S.text arguments.now) result (record {
+      input = R.remaining input.old;
+      out = record { before = W.contents out.old; after = W.contents out.new };
+      err = record { before = E.contents err.old; after = E.contents err.new };
+    }) }
+{
+    if arguments.is_empty() {
+        let command = VenueCommand::Alone { frames: false };
+        return run_command(rt, alloc, &command, input, out, err);
+    }
+    match read_command(alloc, arguments) {
+        Ok(command) => run_command(rt, alloc, &command, input, out, err),
+        Err(error) => tell(alloc, &error, out, err),
+    }
+}
+
+/// Prints what a command asks for, or tells the fault.
+fn run_command<H: Threads + Wait + Sync, R: Read, W: Write, E: Write>(
+    rt: &H,
+    alloc: Global,
+    command: &VenueCommand<'_>,
+    input: &mut R,
+    out: &mut W,
+    err: &mut E,
+) -> u8
+    ensures { spec.EndsOf (live_form (meant command.now)) (meant command.now) result (record {
+      input = R.remaining input.old;
+      out = record { before = W.contents out.old; after = W.contents out.new };
+      err = record { before = E.contents err.old; after = E.contents err.new };
+    }) }
+{
+    let Some(frames) = form_of_live(command) else {
+        return run_text_command(rt, alloc, command, input, out, err);
+    };
+    run_live(alloc, frames, input, out, err)
+}
+
+/// The same of a command that prints one text.
+fn run_text_command<H: Threads + Wait + Sync, R: Read, W: Write, E: Write>(
+    rt: &H,
+    alloc: Global,
+    command: &VenueCommand<'_>,
+    input: &mut R,
+    out: &mut W,
+    err: &mut E,
+) -> u8
+    requires { live_form (meant command.now) ≡ None }
+    ensures { spec.EndsInCommand (meant command.now) result (record {
+      input = R.remaining input.old;
+      out = record { before = W.contents out.old; after = W.contents out.new };
+      err = record { before = E.contents err.old; after = E.contents err.new };
+    }) }
+{
+    let Err(fault) = print_command(rt, alloc, command, input, out) else {
+        return 0;
+    };
+    report(err, command_word(command), &fault)
+}
+
+/// Prints the help that the arguments ask for, or says on `err` why they are wrong.
+fn tell<W: Write, E: Write>(alloc: Global, error: &Error, out: &mut W, err: &mut E) -> u8
+    ensures { spec.EndsTold (kind_of error.now ∷ []) result
+        (record { before = W.contents out.old; after = W.contents out.new })
+        (record { before = E.contents err.old; after = E.contents err.new }) }
+{
+    match told_by(alloc, error) {
+        Told::Help(text) => print_help(text.as_bytes(), out, err),
+        Told::Wrong(text) => {
+            write_text(err, text.as_bytes());
+            2
+        }
+        Told::Memory => report(err, b"", &ProgramFault::Memory),
+    }
+}
+
+/// Prints a help text.
+fn print_help<W: Write, E: Write>(text: &[u8], out: &mut W, err: &mut E) -> u8
+    ensures { spec.EndsInText text.now result
+        (record { before = W.contents out.old; after = W.contents out.new })
+        (record { before = E.contents err.old; after = E.contents err.new }) }
+{
+    let Err(fault) = print_text(out, text) else {
+        return 0;
+    };
+    report(err, b"", &fault)
+}
+
+/// Prints what a command asks for.
+fn print_command<H: Threads + Wait + Sync, R: Read, W: Write>(
+    rt: &H,
+    alloc: Global,
+    command: &VenueCommand<'_>,
+    input: &mut R,
+    out: &mut W,
+) -> Result<(), ProgramFault>
+    requires { live_form (meant command.now) ≡ None }
+    ensures ok { OnOk result (IfSome (R.remaining input.old) (λ all. spec.HasPrinted
+        (meant command.now) all
+        (record { before = W.contents out.old; after = W.contents out.new }))) }
+    ensures err { IfErr result (λ fault. spec.FaultLeaves (meant command.now) fault
+        (R.remaining input.old)
+        (record { before = W.contents out.old; after = W.contents out.new })) }
+{
+    let bytes = read_input(alloc, input)?;
+    let text = match command_text(rt, alloc, command, bytes.as_slice()) {
+        Ok(text) => text,
+        Err(fault) => return Err(fault),
+    };
+    print_text(out, text.as_slice())
+}
+
+/// Prints a text as a whole.
+pub(crate) fn print_text<W: Write>(out: &mut W, text: &[u8]) -> Result<(), ProgramFault>
+    ensures ok { OnOk result (Appends (W.contents out.old) (W.contents out.new) text.now) }
+    ensures err { IfErr result (λ fault. fault ≡ ProgramFault.Write) }
+    ensures part { OnErr result (GainsPart text.now
+        (record { before = W.contents out.old; after = W.contents out.new })) }
+{
+    if !write_text(out, text) {
+        return Err(ProgramFault::Write);
+    }
+    let flushed = out.flush();
+    if flushed.is_err() {
+        return Err(ProgramFault::Write);
+    }
+    Ok(())
+}
+
+/// Tells a fault of a run in one line, and answers the status of a run that has one. The word is
+/// the one of the arguments that names a firm.
+pub(crate) fn report<E: Write>(err: &mut E, word: &[u8], fault: &ProgramFault) -> u8
+    ensures status { result ≡ 1 }
+    ensures told { GainsPart (faults.told_line word.now fault.now)
+        (record { before = E.contents err.old; after = E.contents err.new }) }
+{
+    let line = fault_line(fault);
+    if !matches!(fault, ProgramFault::Firm) {
+        write_text(err, line.as_bytes());
+        return 1;
+    }
+    write_named(err, line.as_bytes(), word);
+    1
+}
+
+/// Writes a line: its front, and the word that it ends with.
+fn write_named<E: Write>(err: &mut E, front: &[u8], word: &[u8])
+    ensures { GainsPart (front.now ++ word.now ++ 10 ∷ [])
+        (record { before = E.contents err.old; after = E.contents err.new }) }
+{
+    if !write_text(err, front) {
+        return;
+    }
+    if !write_text(err, word) {
+        return;
+    }
+    write_text(err, b"\n");
+}
