@@ -6,46 +6,13 @@ use itoa::Buffer;
 use market_terms::{
     Ask, AskedDealers, Duty, HitRefusal, Id, IdBuf, Offer, Reply, ResponseRef, RoomRef, Side,
 };
-use message_fixtures::frame;
+use message_fixtures::{frame, with_grids};
 use quote_messages::SentMessage;
 use std::alloc::Global;
 use std::process::Abort;
 use std::str;
 use std::test::Fail;
 use venue_config::{Name, read_config};
-
-/// The dealers DLR1, DLR2 and DLR3, firms 0 to 2, and the investor INV1, firm 3, with 3 requests a
-/// day, 2 of them open, each of 5,000,000 at most.
-pub(crate) const VENUE: &str = "version = 2
-date = \"20250314\"
-[[bond]]
-id = \"BONDA0000001\"
-grid = 256
-[[bond]]
-id = \"BONDB0000002\"
-grid = 32
-[[dealer]]
-name = \"DLR1\"
-traders = [\"T1\"]
-quotes = 4
-exposure = 10000000
-[[dealer]]
-name = \"DLR2\"
-traders = [\"T2\"]
-quotes = 4
-exposure = 10000000
-[[dealer]]
-name = \"DLR3\"
-traders = [\"T3\"]
-quotes = 4
-exposure = 10000000
-[[investor]]
-name = \"INV1\"
-traders = [\"T8\"]
-requests = 3
-open = 2
-quantity = 5000000
-";
 
 /// What comes to a desk.
 pub(crate) enum Step {
@@ -76,16 +43,38 @@ pub(crate) struct Day {
     pub(crate) lines: &'static [Line<'static>],
 }
 
-/// The desk of INV1 at the start of a day of this venue.
-pub(crate) fn desk(alloc: Global, venue: &str) -> Result<InvestorDesk, Fail> {
-    let Some(desk) = try_desk(alloc, venue) else {
+/// The desk of INV1, firm 3, at the start of a day of the venue of most tests with grids of 256
+/// and 32: it has 3 requests a day, 2 of them open, each of 5,000,000 at most.
+pub(crate) fn desk(alloc: Global) -> Result<InvestorDesk, Fail> {
+    let Some(desk) = try_desk(alloc) else {
         return Err(Fail::new("no desk of INV1"));
     };
     Ok(desk)
 }
 
 /// The same, or none where memory is refused.
-pub(crate) fn try_desk(alloc: Global, venue: &str) -> Option<InvestorDesk> {
+pub(crate) fn try_desk(alloc: Global) -> Option<InvestorDesk> {
+    let venue = with_grids(alloc, 256, 32).ok()?;
+    desk_in(alloc, venue.as_str())
+}
+
+/// A venue of one bond and of so many dealers, DLR1 and so on, and INV1 with these limits.
+pub(crate) fn venue_of_dealers(alloc: Global, count: u32, limits: &str) -> Result<String, Memory> {
+    let mut text = String::new(alloc);
+    text.push_str("version = 1\ndate = \"20250314\"\n[[bond]]\nid = \"BONDA0000001\"\n")?;
+    let mut digits = Buffer::new();
+    for n in 0..count {
+        text.push_str("[[dealer]]\nname = \"DLR")?;
+        text.push_str(digits.format(n.wrapping_add(1)))?;
+        text.push_str("\"\ntraders = [\"T1\"]\nquotes = 1\nexposure = 1\n")?;
+    }
+    text.push_str("[[investor]]\nname = \"INV1\"\ntraders = [\"T8\"]\n")?;
+    text.push_str(limits)?;
+    Ok(text)
+}
+
+/// The desk of INV1 in this venue, or none where memory is refused.
+pub(crate) fn desk_in(alloc: Global, venue: &str) -> Option<InvestorDesk> {
     let config = read_config(alloc, venue).ok()?;
     let firm = config.firm("INV1")?;
     if config.investor(firm).is_none() {
@@ -277,9 +266,18 @@ fn is_sent(
     Ok(())
 }
 
-/// A day at the desk of INV1 in this venue, and what it is sent.
-pub(crate) fn is_day(rt: &impl Abort, alloc: Global, venue: &str, day: &Day) -> Result<(), Fail> {
-    let mut desk = desk(alloc, venue)?;
+/// A day at the desk of INV1, and what it is sent.
+pub(crate) fn is_day(rt: &impl Abort, alloc: Global, day: &Day) -> Result<(), Fail> {
+    is_day_at(rt, alloc, desk(alloc)?, day)
+}
+
+/// The same at a desk of its own.
+pub(crate) fn is_day_at(
+    rt: &impl Abort,
+    alloc: Global,
+    mut desk: InvestorDesk,
+    day: &Day,
+) -> Result<(), Fail> {
     play(rt, alloc, &mut desk, day.steps)?;
     assert_eq!(rt; desk.events().len(), day.steps.len(), "how many events");
     are_sent(rt, alloc, &desk, day.lines)

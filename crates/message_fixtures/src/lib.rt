@@ -1,48 +1,20 @@
-//! What the tests of several crates stand on: a configuration, rows of firms, and frames of texts.
+//! What the tests of several crates stand on: configurations, worked days of a dealer, rows of
+//! firms, and frames of texts.
 //!
 //! In every text of a message a vertical bar stands for SOH.
 #![tactic(auto)]
 
+mod dealer_days;
+mod venues;
+
+pub use dealer_days::{
+    CANCEL_OF_ALL, CANCEL_OF_ALL_ANSWERS, REPLACEMENT, REPLACEMENT_ANSWERS, REQUEST,
+    SESSION_FAULTS, SESSION_FAULTS_ANSWERS, SHOWN,
+};
 use fix_fields::{Date, Memory};
 use std::alloc::Global;
 use venue_config::{DealerRow, InvestorRow, Name, Traders};
-
-/// A configuration: two bonds, the dealers DLR1, DLR2 and DLR3, firms 0 to 2, and the investors INV1
-/// and INV2, firms 3 and 4.
-pub const VENUE: &str = "version = 1
-date = \"20250314\"
-[[bond]]
-id = \"BONDA0000001\"
-[[bond]]
-id = \"BONDB0000002\"
-[[dealer]]
-name = \"DLR1\"
-traders = [\"T1\"]
-quotes = 4
-exposure = 10000000
-[[dealer]]
-name = \"DLR2\"
-traders = [\"T2\"]
-quotes = 4
-exposure = 10000000
-[[dealer]]
-name = \"DLR3\"
-traders = [\"T3\"]
-quotes = 4
-exposure = 10000000
-[[investor]]
-name = \"INV1\"
-traders = [\"T8\"]
-requests = 3
-open = 2
-quantity = 5000000
-[[investor]]
-name = \"INV2\"
-traders = [\"T9\"]
-requests = 3
-open = 2
-quantity = 5000000
-";
+pub use venues::{TWO_DEALERS, VENUE, with_grids, with_one_quote_and_request};
 
 /// 14 March 2025, the day of the tests.
 pub fn day() -> Option<Date> {

@@ -1,42 +1,21 @@
 //! Each message that a dealer is sent, byte by byte.
-use crate::support::{at, day, id};
+use crate::support::{at, head, id, is_written};
 use bond_prices::{Grid, Ticks};
-use message_fixtures::frame;
 use quote_messages::{
     Ask, CancelStatus, Close, ClosingNotice, Head, IdBuf, Message, MsgType, OutMessage, Quantity,
     QuoteRejectReason, QuotedPrice, Reject, Request, SentMessage, SeqNum, SessionFault,
     SessionRejectReason, Side, write_out,
 };
 use std::alloc::Global;
-use std::process::Abort;
 use std::test::Fail;
 use venue_config::{BondId, Name};
 
 const NINE: u32 = 32_400_000;
 
 /// The header of a message to DLR1.
-fn head(number: u64, millis: u32) -> Result<Head, Fail> {
-    Ok(Head {
-        date: day()?,
-        firm: Name::new(b"DLR1").ok_or("no name")?,
-        number,
-        moment: at(millis)?,
-    })
-}
-
-/// Asserts the frame of a message, whose body is given as text.
-fn is_written(
-    rt: &impl Abort,
-    alloc: Global,
-    number: u64,
-    millis: u32,
-    message: &OutMessage,
-    body: &str,
-) -> Result<(), Fail> {
-    let bytes = write_out(alloc, &head(number, millis)?, message)?;
-    let wanted = frame(alloc, body)?;
-    assert!(rt; bytes.as_bytes() == wanted.as_slice(), "{body}");
-    Ok(())
+fn to_dlr1(number: u64, millis: u32) -> Result<Head, Fail> {
+    let head = head(b"DLR1", number, millis)?;
+    Ok(head)
 }
 
 const REJECT: &str = "35=3|49=VENUE|56=DLR1|34=1|52=20250314-09:00:00.000|45=2|371=34|372=Z|373=5|";
@@ -54,7 +33,7 @@ fn rejects(rt: HostRuntime) -> Result<(), Fail> {
         },
         msg_type: MsgType::new(b"Z"),
     });
-    is_written(&rt, rt.alloc(), 1, NINE, &reject, REJECT)?;
+    is_written(&rt, &to_dlr1(1, NINE)?, &reject, REJECT)?;
     let reject = OutMessage::Reject(Reject {
         number: SeqNum::new(b"000000100").ok_or("no number")?,
         fault: SessionFault {
@@ -65,9 +44,7 @@ fn rejects(rt: HostRuntime) -> Result<(), Fail> {
     });
     is_written(
         &rt,
-        rt.alloc(),
-        18_446_744_073_709_551_615,
-        86_399_999,
+        &to_dlr1(18_446_744_073_709_551_615, 86_399_999)?,
         &reject,
         REJECT_OF_NO_TYPE,
     )
@@ -112,11 +89,11 @@ const SELLING_REQUEST: &str =
 #[test]
 fn requests(rt: HostRuntime) -> Result<(), Fail> {
     let shown = OutMessage::Request(buying(1)?);
-    is_written(&rt, rt.alloc(), 1, NINE, &shown, REQUEST)?;
+    is_written(&rt, &to_dlr1(1, NINE)?, &shown, REQUEST)?;
     let mut request = selling(2)?;
     request.ask = request.ask.copy();
     let shown = OutMessage::Request(request);
-    is_written(&rt, rt.alloc(), 6, 32_435_000, &shown, SELLING_REQUEST)
+    is_written(&rt, &to_dlr1(6, 32_435_000)?, &shown, SELLING_REQUEST)
 }
 
 /// The acceptance of a quote as a whole frame of 96 bytes.
@@ -145,7 +122,7 @@ const NOTICE: &[u8] =
 #[test]
 fn refused_memory_changes_no_answer(rt: HostRuntime) -> Result<(), Fail> {
     let notice = first_notice(Close::Hit, quoted(b"a1", 25_473)?)?;
-    let bytes = written_at_last(rt.alloc(), &head(3, 32_460_000)?, &notice)?;
+    let bytes = written_at_last(rt.alloc(), &to_dlr1(3, 32_460_000)?, &notice)?;
     assert!(rt; bytes.as_bytes() == NOTICE);
     assert_eq!(rt; bytes.frame().times(693), 1);
     if let Ok(copy) = Message::copy_of(rt.alloc(), NOTICE) {
@@ -162,7 +139,7 @@ fn longest_ids_are_written(rt: HostRuntime) -> Result<(), Fail> {
         id: id(longest)?,
         refusal: None,
     };
-    is_written(&rt, rt.alloc(), 2, 32_410_000, &accepted, LONGEST_IDS)
+    is_written(&rt, &to_dlr1(2, 32_410_000)?, &accepted, LONGEST_IDS)
 }
 
 const LONGEST_IDS: &str =
@@ -175,14 +152,14 @@ fn quote_answers(rt: HostRuntime) -> Result<(), Fail> {
         id: id(b"a1")?,
         refusal: None,
     };
-    let bytes = written_at_last(rt.alloc(), &head(2, 32_410_000)?, &accepted)?;
+    let bytes = written_at_last(rt.alloc(), &to_dlr1(2, 32_410_000)?, &accepted)?;
     assert!(rt; bytes.as_bytes() == ACCEPTED);
     let refused = OutMessage::QuoteAnswer {
         request: id(b"R1")?,
         id: id(b"a1")?,
         refusal: Some(QuoteRejectReason::DuplicateQuote),
     };
-    is_written(&rt, rt.alloc(), 4, 32_425_000, &refused, REFUSED)
+    is_written(&rt, &to_dlr1(4, 32_425_000)?, &refused, REFUSED)
 }
 
 const CANCELLED: &str = "35=AI|49=VENUE|56=DLR1|34=3|52=20250314-09:00:30.000|117=a1|297=17|";
@@ -200,27 +177,27 @@ fn cancel_answers(rt: HostRuntime) -> Result<(), Fail> {
         id: Some(id(b"a1")?),
         status: CancelStatus::Withdrawn,
     };
-    is_written(&rt, rt.alloc(), 3, 32_430_000, &accepted, CANCELLED)?;
+    is_written(&rt, &to_dlr1(3, 32_430_000)?, &accepted, CANCELLED)?;
     let unknown = OutMessage::CancelAnswer {
         id: Some(id(b"x")?),
         status: CancelStatus::Unknown,
     };
-    is_written(&rt, rt.alloc(), 9, 32_409_000, &unknown, UNKNOWN)?;
+    is_written(&rt, &to_dlr1(9, 32_409_000)?, &unknown, UNKNOWN)?;
     let none = OutMessage::CancelAnswer {
         id: None,
         status: CancelStatus::Unknown,
     };
-    is_written(&rt, rt.alloc(), 9, 32_409_000, &none, NOTHING_TO_CANCEL)?;
+    is_written(&rt, &to_dlr1(9, 32_409_000)?, &none, NOTHING_TO_CANCEL)?;
     let refused = OutMessage::CancelAnswer {
         id: Some(id(b"a1")?),
         status: CancelStatus::Refused(QuoteRejectReason::TooLate),
     };
-    is_written(&rt, rt.alloc(), 3, 32_461_000, &refused, NOT_CANCELLED)?;
+    is_written(&rt, &to_dlr1(3, 32_461_000)?, &refused, NOT_CANCELLED)?;
     let refused = OutMessage::CancelAnswer {
         id: None,
         status: CancelStatus::Refused(QuoteRejectReason::Other),
     };
-    is_written(&rt, rt.alloc(), 8, 32_408_000, &refused, NAMELESS)
+    is_written(&rt, &to_dlr1(8, 32_408_000)?, &refused, NAMELESS)
 }
 
 const NOTHING_TO_CANCEL: &str = "35=AI|49=VENUE|56=DLR1|34=9|52=20250314-09:00:09.000|297=9|";
@@ -236,12 +213,12 @@ fn decline_answers(rt: HostRuntime) -> Result<(), Fail> {
         request: id(b"R1")?,
         refusal: None,
     };
-    is_written(&rt, rt.alloc(), 2, 32_420_000, &accepted, DECLINED)?;
+    is_written(&rt, &to_dlr1(2, 32_420_000)?, &accepted, DECLINED)?;
     let refused = OutMessage::DeclineAnswer {
         request: id(b"R9")?,
         refusal: Some(QuoteRejectReason::Other),
     };
-    is_written(&rt, rt.alloc(), 2, 32_420_000, &refused, NOT_DECLINED)
+    is_written(&rt, &to_dlr1(2, 32_420_000)?, &refused, NOT_DECLINED)
 }
 
 /// A dealer's quote.
@@ -274,16 +251,16 @@ const HIT_WITHOUT_QUOTE: &str =
 #[test]
 fn hit_notices(rt: HostRuntime) -> Result<(), Fail> {
     let notice = first_notice(Close::Hit, quoted(b"a1", 25_473)?)?;
-    is_written(&rt, rt.alloc(), 3, 32_460_000, &notice, HIT)?;
+    is_written(&rt, &to_dlr1(3, 32_460_000)?, &notice, HIT)?;
     let notice = first_notice(Close::Hit, None)?;
-    is_written(&rt, rt.alloc(), 3, 32_460_000, &notice, HIT_WITHOUT_QUOTE)?;
+    is_written(&rt, &to_dlr1(3, 32_460_000)?, &notice, HIT_WITHOUT_QUOTE)?;
     let notice = OutMessage::ClosingNotice(ClosingNotice {
         number: 2,
         request: selling(2)?,
         close: Close::Hit,
         quote: quoted(b"a2", 25_856)?,
     });
-    is_written(&rt, rt.alloc(), 7, 32_440_000, &notice, SELLER_HIT)
+    is_written(&rt, &to_dlr1(7, 32_440_000)?, &notice, SELLER_HIT)
 }
 
 const COVER: &str =
@@ -302,11 +279,11 @@ const EXPIRED: &str =
 #[test]
 fn other_notices(rt: HostRuntime) -> Result<(), Fail> {
     let notice = first_notice(Close::Cover, quoted(b"b1", 25_476)?)?;
-    is_written(&rt, rt.alloc(), 3, 32_460_000, &notice, COVER)?;
+    is_written(&rt, &to_dlr1(3, 32_460_000)?, &notice, COVER)?;
     let notice = first_notice(Close::DoneAway, quoted(b"a1", 25_473)?)?;
-    is_written(&rt, rt.alloc(), 4, 32_470_000, &notice, DONE_AWAY)?;
+    is_written(&rt, &to_dlr1(4, 32_470_000)?, &notice, DONE_AWAY)?;
     let notice = first_notice(Close::Pass, quoted(b"a1", 25_473)?)?;
-    is_written(&rt, rt.alloc(), 3, 32_460_000, &notice, PASSED)?;
+    is_written(&rt, &to_dlr1(3, 32_460_000)?, &notice, PASSED)?;
     let notice = first_notice(Close::Expired, None)?;
-    is_written(&rt, rt.alloc(), 2, 32_700_000, &notice, EXPIRED)
+    is_written(&rt, &to_dlr1(2, 32_700_000)?, &notice, EXPIRED)
 }

@@ -1,35 +1,16 @@
 //! Each message that an investor is sent, byte by byte.
-use crate::support::{at, day, id};
+use crate::support::{at, head, id, is_written};
 use bond_prices::Ticks;
-use message_fixtures::frame;
 use quote_messages::{
     Head, HitRefusal, OutMessage, PassStatus, Quantity, RequestRejectReason, ShownQuote, Side,
-    write_out,
 };
-use std::alloc::Global;
-use std::process::Abort;
 use std::test::Fail;
 use venue_config::{BondId, Name};
 
-/// Asserts the frame of a message to INV1, whose body is given as text.
-fn is_written(
-    rt: &impl Abort,
-    alloc: Global,
-    number: u64,
-    millis: u32,
-    message: &OutMessage,
-    body: &str,
-) -> Result<(), Fail> {
-    let head = Head {
-        date: day()?,
-        firm: Name::new(b"INV1").ok_or("no name")?,
-        number,
-        moment: at(millis)?,
-    };
-    let sent = write_out(alloc, &head, message)?;
-    let wanted = frame(alloc, body)?;
-    assert!(rt; sent.as_bytes() == wanted.as_slice(), "{body}");
-    Ok(())
+/// The header of a message to INV1.
+fn to_inv1(number: u64, millis: u32) -> Result<Head, Fail> {
+    let head = head(b"INV1", number, millis)?;
+    Ok(head)
 }
 
 const ACCEPTED: &str = "35=AI|49=VENUE|56=INV1|34=1|52=20250314-09:00:00.000|131=A|297=0|";
@@ -42,15 +23,15 @@ const EXPIRED: &str = "35=AI|49=VENUE|56=INV1|34=2|52=20250314-09:05:00.000|131=
 #[test]
 fn answers_to_requests(rt: HostRuntime) -> Result<(), Fail> {
     let accepted = OutMessage::RequestAccepted { request: id(b"A")? };
-    is_written(&rt, rt.alloc(), 1, 32_400_000, &accepted, ACCEPTED)?;
+    is_written(&rt, &to_inv1(1, 32_400_000)?, &accepted, ACCEPTED)?;
     let refused = OutMessage::RequestRefused {
         request: id(b"B")?,
         bond: id(b"BONDC0000003")?,
         reason: RequestRejectReason::UnknownSymbol,
     };
-    is_written(&rt, rt.alloc(), 3, 32_400_000, &refused, REFUSED)?;
+    is_written(&rt, &to_inv1(3, 32_400_000)?, &refused, REFUSED)?;
     let expired = OutMessage::RequestExpired { request: id(b"A")? };
-    is_written(&rt, rt.alloc(), 2, 32_700_000, &expired, EXPIRED)
+    is_written(&rt, &to_inv1(2, 32_700_000)?, &expired, EXPIRED)
 }
 
 const SHOWN: &str =
@@ -71,7 +52,7 @@ fn shown_quotes(rt: HostRuntime) -> Result<(), Fail> {
         valid_until: None,
         dealer: Name::new(b"DLR1").ok_or("no name")?,
     });
-    is_written(&rt, rt.alloc(), 2, 32_410_000, &quote, SHOWN)?;
+    is_written(&rt, &to_inv1(2, 32_410_000)?, &quote, SHOWN)?;
     let quote = OutMessage::ShownQuote(ShownQuote {
         request: id(b"B")?,
         number: 12,
@@ -82,7 +63,7 @@ fn shown_quotes(rt: HostRuntime) -> Result<(), Fail> {
         valid_until: Some(at(32_640_000)?),
         dealer: Name::new(b"DLR2").ok_or("no name")?,
     });
-    is_written(&rt, rt.alloc(), 7, 32_420_000, &quote, SHOWN_TO_SELLER)
+    is_written(&rt, &to_inv1(7, 32_420_000)?, &quote, SHOWN_TO_SELLER)
 }
 
 const GONE: &str = "35=AI|49=VENUE|56=INV1|34=5|52=20250314-09:00:30.000|131=A|117=Q1|297=17|";
@@ -96,12 +77,12 @@ fn what_dealers_did(rt: HostRuntime) -> Result<(), Fail> {
         request: id(b"A")?,
         quote: 1,
     };
-    is_written(&rt, rt.alloc(), 5, 32_430_000, &gone, GONE)?;
+    is_written(&rt, &to_inv1(5, 32_430_000)?, &gone, GONE)?;
     let declined = OutMessage::DealerDeclined {
         request: id(b"A")?,
         dealer: Name::new(b"DLR2").ok_or("no name")?,
     };
-    is_written(&rt, rt.alloc(), 3, 32_420_000, &declined, DECLINED)
+    is_written(&rt, &to_inv1(3, 32_420_000)?, &declined, DECLINED)
 }
 
 /// Each answer to the hit h1 of Q1 on A.
@@ -144,13 +125,13 @@ fn answers_to_hits(rt: HostRuntime) -> Result<(), Fail> {
             quote: 1,
             refusal,
         };
-        is_written(&rt, rt.alloc(), 4, 32_460_000, &answer, body)?;
+        is_written(&rt, &to_inv1(4, 32_460_000)?, &answer, body)?;
     }
     let unknown = OutMessage::HitUnknown {
         id: id(b"h1")?,
         quote: id(b"Q01")?,
     };
-    is_written(&rt, rt.alloc(), 4, 32_460_000, &unknown, UNKNOWN_HIT)
+    is_written(&rt, &to_inv1(4, 32_460_000)?, &unknown, UNKNOWN_HIT)
 }
 
 /// Each answer to the pass p1 of A.
@@ -177,7 +158,7 @@ fn answers_to_passes(rt: HostRuntime) -> Result<(), Fail> {
             request: id(b"A")?,
             status,
         };
-        is_written(&rt, rt.alloc(), 4, 32_460_000, &answer, body)?;
+        is_written(&rt, &to_inv1(4, 32_460_000)?, &answer, body)?;
     }
     Ok(())
 }

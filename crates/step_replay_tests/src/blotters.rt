@@ -2,8 +2,9 @@
 use crate::days::{
     AUCTION, CANCELLED_ALL, CANCELLED_TOO_LATE, PASSED, SWEEPS, WITHDRAWN_BEFORE_THE_HIT,
 };
-use crate::fixtures::{Day, VENUE, lines_of, steps_of};
+use crate::fixtures::{Day, lines_of, steps_of};
 use market_terms::{FirmLines, QuoteLine, QuoteState, RequestLine, RequestState, Side};
+use message_fixtures::VENUE;
 use std::process::Abort;
 use std::test::Fail;
 use step_replay::{World, run};

@@ -2,22 +2,15 @@
 //! program.
 use crate::fixtures::{Day, Line, is_day};
 use crate::parts::{
-    ASKS_THREE, ASKS_TWO, AWARDED, COVERED, DLR1_DONE, DLR1_OFFERED, DLR1_QUOTED, DLR1_QUOTES,
-    DLR2_OFFERED, DLR2_QUOTED, DLR2_QUOTES, DONE_AWAY, HITS_FIRST, SHOWN, SHOWN_TO_TWO, TAKEN,
-    TOLD_TO_TWO,
+    ASKS_THREE, ASKS_TWO, AWARDED, BOTH_QUOTE, COVERED, DLR1_DONE, DLR1_OFFERED, DLR1_QUOTED,
+    DLR1_QUOTES, DLR2_OFFERED, DLR2_QUOTED, DLR2_QUOTES, DONE_AWAY, HITS_FIRST, SHOWN,
+    SHOWN_TO_TWO, TAKEN, TOLD_TO_TWO,
 };
 use std::test::Fail;
 
 /// INV1 hits the quote of DLR1; the quote of DLR2 is the cover.
 pub(crate) const AUCTION: Day = Day {
-    parts: &[
-        ASKS_TWO,
-        SHOWN_TO_TWO,
-        DLR1_QUOTES,
-        DLR2_QUOTES,
-        HITS_FIRST,
-        TOLD_TO_TWO,
-    ],
+    parts: &[BOTH_QUOTE, HITS_FIRST, TOLD_TO_TWO],
     dlr1: &[SHOWN, DLR1_QUOTED, DLR1_DONE],
     dlr2: &[SHOWN, DLR2_QUOTED, COVERED],
     dlr3: &[],
@@ -123,10 +116,7 @@ const NO_QUOTE: Day = Day {
 /// once. Its second cancel asks no word.
 pub(crate) const CANCELLED_TOO_LATE: Day = Day {
     parts: &[
-        ASKS_TWO,
-        SHOWN_TO_TWO,
-        DLR1_QUOTES,
-        DLR2_QUOTES,
+        BOTH_QUOTE,
         HITS_FIRST,
         &[
             Line::Turn("INV1", 1),
@@ -150,10 +140,7 @@ pub(crate) const CANCELLED_TOO_LATE: Day = Day {
 /// DLR1 withdraws before INV1 hits its quote, and INV1 hits the other one.
 pub(crate) const WITHDRAWN_BEFORE_THE_HIT: Day = Day {
     parts: &[
-        ASKS_TWO,
-        SHOWN_TO_TWO,
-        DLR1_QUOTES,
-        DLR2_QUOTES,
+        BOTH_QUOTE,
         &[Line::Say("DLR1", "T1", "09:00:30", "Z", 2, "298=5|117=a1")],
         HITS_FIRST,
         &[
@@ -230,10 +217,7 @@ pub(crate) const SWEEPS: Day = Day {
 /// A hit at the deadline's own moment is too late.
 const HIT_AT_THE_DEADLINE: Day = Day {
     parts: &[
-        ASKS_TWO,
-        SHOWN_TO_TWO,
-        DLR1_QUOTES,
-        DLR2_QUOTES,
+        BOTH_QUOTE,
         &[
             Line::Say("INV1", "T8", "09:05:00", "AJ", 2, "693=h1|117=Q1|694=1"),
             Line::Turn("INV1", 2),
@@ -292,10 +276,7 @@ pub(crate) const PASSED: Day = Day {
 /// DLR1 cancels all its quotes: the one is dropped, and leaves its room.
 pub(crate) const CANCELLED_ALL: Day = Day {
     parts: &[
-        ASKS_TWO,
-        SHOWN_TO_TWO,
-        DLR1_QUOTES,
-        DLR2_QUOTES,
+        BOTH_QUOTE,
         &[
             Line::Say("DLR1", "T1", "09:00:30", "Z", 2, "298=4"),
             Line::Turn("DLR1", 3),

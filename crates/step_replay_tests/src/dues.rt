@@ -1,6 +1,7 @@
 //! What was due to a dealer on worked days, as lines of due text.
 use crate::days::{AUCTION, CANCELLED_ALL, CANCELLED_TOO_LATE, SWEEPS};
-use crate::fixtures::{Day, VENUE, steps_of};
+use crate::fixtures::{Day, steps_of};
+use message_fixtures::VENUE;
 use std::process::Abort;
 use std::test::Fail;
 use step_replay::due;

@@ -1,7 +1,8 @@
 //! Which step of a day is the fault, and days of nothing.
-use crate::fixtures::{VENUE, lines_of, put_message, put_turns, views_are_sent};
+use crate::fixtures::{lines_of, put_message, put_turns, views_are_sent};
 use fix_fields::Moment;
 use market_terms::RoomRef;
+use message_fixtures::VENUE;
 use std::process::Abort;
 use std::test::Fail;
 use step_replay::{Actor, ReplayFault, Step, due, run};

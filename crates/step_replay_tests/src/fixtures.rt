@@ -1,48 +1,12 @@
 //! A venue, its days as tables of lines, and what each firm is sent in them.
 use fix_fields::{Moment, read_moment};
 use market_terms::{FirmLines, RoomRef};
-use message_fixtures::frame;
+use message_fixtures::{VENUE, frame};
 use quote_messages::{Message, SentMessage};
 use std::process::Abort;
 use std::test::Fail;
 use step_replay::{Actor, Step, World, alone, due, run};
 use venue_config::{VenueConfig, read_config};
-
-/// The dealers DLR1, DLR2 and DLR3, firms 0 to 2, and the investors INV1 and INV2, firms 3 and 4.
-pub(crate) const VENUE: &str = "version = 1
-date = \"20250314\"
-[[bond]]
-id = \"BONDA0000001\"
-[[bond]]
-id = \"BONDB0000002\"
-[[dealer]]
-name = \"DLR1\"
-traders = [\"T1\"]
-quotes = 4
-exposure = 10000000
-[[dealer]]
-name = \"DLR2\"
-traders = [\"T2\"]
-quotes = 4
-exposure = 10000000
-[[dealer]]
-name = \"DLR3\"
-traders = [\"T3\"]
-quotes = 4
-exposure = 10000000
-[[investor]]
-name = \"INV1\"
-traders = [\"T8\"]
-requests = 3
-open = 2
-quantity = 5000000
-[[investor]]
-name = \"INV2\"
-traders = [\"T9\"]
-requests = 3
-open = 2
-quantity = 5000000
-";
 
 /// A line of a day. In a text of fields a vertical bar stands for SOH, and none stands at its end.
 pub(crate) enum Line {

@@ -19,6 +19,9 @@ const DLR17: u16 = 16;
 /// The number of the investor.
 const INV1: u16 = 17;
 
+/// Its number and its name.
+const INVESTOR: (u16, &str) = (INV1, "INV1");
+
 /// What is asked for in each request.
 const ASKED: &str = "146=1|48=BONDA0000001|22=4|54=1|38=2000000|126=20250314-09:05:00|453=2|\
     448=DLR15|447=D|452=35|448=DLR16|447=D|452=35|";
@@ -92,14 +95,7 @@ fn put_request<T: Abort + AllocGlobal>(
     sequence: u32,
 ) -> Result<(), Fail> {
     let fields = format!(in rt.alloc(); "131=A{k}|{ASKED}")?;
-    put_said(
-        rt,
-        steps,
-        (INV1, "INV1"),
-        ("R", sequence),
-        fields.as_str(),
-        4,
-    )
+    put_said(rt, steps, INVESTOR, ("R", sequence), fields.as_str(), 4)
 }
 
 /// Puts a hit of a quote behind other steps, with this MsgSeqNum (34).
@@ -110,14 +106,7 @@ fn put_hit<T: Abort + AllocGlobal>(
     sequence: u32,
 ) -> Result<(), Fail> {
     let fields = format!(in rt.alloc(); "693=h{quote}|117=Q{quote}|694=1|")?;
-    put_said(
-        rt,
-        steps,
-        (INV1, "INV1"),
-        ("AJ", sequence),
-        fields.as_str(),
-        4,
-    )
+    put_said(rt, steps, INVESTOR, ("AJ", sequence), fields.as_str(), 4)
 }
 
 /// Puts the k-th auction behind other steps, 16 of them: DLR16 wins, and DLR15 is the cover.
@@ -192,7 +181,7 @@ fn the_last_of_65536_words_is_lifted(rt: HostRuntime) -> Result<(), Fail> {
     let mut steps = Vec::new(rt.alloc());
     let fields = "131=A1|146=1|48=BONDA0000001|22=4|54=1|38=2000000|126=20250314-09:05:00|\
         453=1|448=DLR17|447=D|452=35|";
-    put_said(&rt, &mut steps, (INV1, "INV1"), ("R", 1), fields, 3)?;
+    put_said(&rt, &mut steps, INVESTOR, ("R", 1), fields, 3)?;
     put_quote(&rt, &mut steps, (DLR17, "DLR17"), 1, 1, "99.25")?;
     put_quote(&rt, &mut steps, (DLR17, "DLR17"), 2, 1, "99")?;
     put_hit(&rt, &mut steps, 1, 2)?;

@@ -2,7 +2,7 @@
 use crate::fixtures::{Line, Sent};
 
 /// INV1 asks two dealers to sell it 2,000,000 of the first bond until 09:05.
-pub(crate) const ASKS_TWO: &[Line] = &[Line::Say(
+const ASK_OF_TWO: Line = Line::Say(
     "INV1",
     "T8",
     "09:00:00",
@@ -10,12 +10,51 @@ pub(crate) const ASKS_TWO: &[Line] = &[Line::Say(
     1,
     "131=A|146=1|48=BONDA0000001|22=4|54=1|38=2000000|126=20250314-09:05:00|453=2|\
     448=DLR1|447=D|452=35|448=DLR2|447=D|452=35",
-)];
+);
+
+/// DLR1 quotes at 09:00:10.
+const DLR1_QUOTE: Line = Line::Say(
+    "DLR1",
+    "T1",
+    "09:00:10",
+    "S",
+    1,
+    "117=a1|131=R1|48=BONDA0000001|22=4|133=99.50390625",
+);
+
+/// DLR2 quotes at 09:00:20.
+const DLR2_QUOTE: Line = Line::Say(
+    "DLR2",
+    "T2",
+    "09:00:20",
+    "S",
+    1,
+    "117=b1|131=R1|48=BONDA0000001|22=4|133=99.515625",
+);
+
+/// INV1 asks two dealers.
+pub(crate) const ASKS_TWO: &[Line] = &[ASK_OF_TWO];
 
 /// The request is shown to both.
 pub(crate) const SHOWN_TO_TWO: &[Line] = &[Line::Turn("INV1", 4)];
 
-/// It asks all three, and the request is shown to them.
+/// DLR1 quotes, and its quote is posted and shown.
+pub(crate) const DLR1_QUOTES: &[Line] = &[DLR1_QUOTE, Line::Turn("DLR1", 2)];
+
+/// DLR2 quotes, and its quote is posted and shown.
+pub(crate) const DLR2_QUOTES: &[Line] = &[DLR2_QUOTE, Line::Turn("DLR2", 2)];
+
+/// INV1 asks two dealers, the request is shown to them, and both quotes are posted and shown.
+pub(crate) const BOTH_QUOTE: &[Line] = &[
+    ASK_OF_TWO,
+    Line::Turn("INV1", 4),
+    DLR1_QUOTE,
+    Line::Turn("DLR1", 2),
+    DLR2_QUOTE,
+    Line::Turn("DLR2", 2),
+];
+
+/// INV1 asks all three, and the request is shown to them.
 pub(crate) const ASKS_THREE: &[Line] = &[
     Line::Say(
         "INV1",
@@ -27,32 +66,6 @@ pub(crate) const ASKS_THREE: &[Line] = &[
         448=DLR1|447=D|452=35|448=DLR2|447=D|452=35|448=DLR3|447=D|452=35",
     ),
     Line::Turn("INV1", 5),
-];
-
-/// DLR1 quotes at 09:00:10, and its quote is posted and shown.
-pub(crate) const DLR1_QUOTES: &[Line] = &[
-    Line::Say(
-        "DLR1",
-        "T1",
-        "09:00:10",
-        "S",
-        1,
-        "117=a1|131=R1|48=BONDA0000001|22=4|133=99.50390625",
-    ),
-    Line::Turn("DLR1", 2),
-];
-
-/// DLR2 quotes at 09:00:20, and its quote is posted and shown.
-pub(crate) const DLR2_QUOTES: &[Line] = &[
-    Line::Say(
-        "DLR2",
-        "T2",
-        "09:00:20",
-        "S",
-        1,
-        "117=b1|131=R1|48=BONDA0000001|22=4|133=99.515625",
-    ),
-    Line::Turn("DLR2", 2),
 ];
 
 /// INV1 hits the first quote that it was shown.

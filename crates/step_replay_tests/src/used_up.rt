@@ -1,45 +1,12 @@
 //! A worked day on which a dealer's quotes and an investor's requests are used up.
 use crate::fixtures::{Day, Line, is_day_of};
 use crate::parts::{ASKS_TWO, DLR1_OFFERED, DLR1_QUOTED, DLR1_QUOTES, SHOWN, SHOWN_TO_TWO, TAKEN};
+use message_fixtures::{VENUE, with_one_quote_and_request};
 use std::test::Fail;
 use venue_config::read_config;
 
-/// The venue in which DLR1 has one quote in its day, and INV1 one request.
-const OF_ONE: &str = "version = 1
-date = \"20250314\"
-[[bond]]
-id = \"BONDA0000001\"
-[[dealer]]
-name = \"DLR1\"
-traders = [\"T1\"]
-quotes = 1
-exposure = 10000000
-[[dealer]]
-name = \"DLR2\"
-traders = [\"T2\"]
-quotes = 4
-exposure = 10000000
-[[dealer]]
-name = \"DLR3\"
-traders = [\"T3\"]
-quotes = 4
-exposure = 10000000
-[[investor]]
-name = \"INV1\"
-traders = [\"T8\"]
-requests = 1
-open = 2
-quantity = 5000000
-[[investor]]
-name = \"INV2\"
-traders = [\"T9\"]
-requests = 3
-open = 2
-quantity = 5000000
-";
-
-/// The quotes of a dealer's day and the requests of an investor's are used up. A turn of an actor
-/// that has nothing to do does nothing.
+/// DLR1 has one quote in its day, and INV1 one request: they are used up. A turn of an actor that
+/// has nothing to do does nothing.
 const USED_UP: Day = Day {
     parts: &[
         ASKS_TWO,
@@ -100,6 +67,7 @@ const USED_UP: Day = Day {
 
 #[test]
 fn quotes_and_requests_are_used_up(rt: HostRuntime) -> Result<(), Fail> {
-    let config = read_config(rt.alloc(), OF_ONE)?;
+    let venue = with_one_quote_and_request(rt.alloc(), VENUE)?;
+    let config = read_config(rt.alloc(), venue.as_str())?;
     is_day_of(&rt, &config, &USED_UP)
 }

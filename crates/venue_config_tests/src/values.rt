@@ -1,11 +1,11 @@
 //! What is read from a text: the rows, and how they are found.
-use crate::examples::{THREE_DEALERS, THREE_GRIDS};
+use message_fixtures::VENUE;
 use std::test::Fail;
 use venue_config::read_config;
 
 #[test]
 fn the_example_has_its_rows(rt: HostRuntime) -> Result<(), Fail> {
-    let config = read_config(rt.alloc(), THREE_DEALERS)?;
+    let config = read_config(rt.alloc(), VENUE)?;
     assert!(rt; config.date().digits().as_slice() == b"20250314".as_slice());
     let bonds = config.bonds();
     assert_eq!(rt; bonds.len(), 2);
@@ -35,7 +35,7 @@ fn the_example_has_its_rows(rt: HostRuntime) -> Result<(), Fail> {
 
 #[test]
 fn the_example_has_its_firms(rt: HostRuntime) -> Result<(), Fail> {
-    let config = read_config(rt.alloc(), THREE_DEALERS)?;
+    let config = read_config(rt.alloc(), VENUE)?;
     for (name, number) in [
         ("DLR1", Some(0)),
         ("DLR3", Some(2)),
@@ -62,6 +62,21 @@ fn the_example_has_its_firms(rt: HostRuntime) -> Result<(), Fail> {
     Ok(())
 }
 
+/// Three bonds, each with a grid of its own.
+const THREE_GRIDS: &str = "
+version = 2
+date = \"20250314\"
+[[bond]]
+id = \"BONDA0000001\"
+grid = 32
+[[bond]]
+id = \"BONDB0000002\"
+grid = 128
+[[bond]]
+id = \"BONDC0000003\"
+grid = 256
+";
+
 #[test]
 fn bonds_are_found_with_their_grids(rt: HostRuntime) -> Result<(), Fail> {
     let config = read_config(rt.alloc(), THREE_GRIDS)?;
@@ -82,7 +97,7 @@ fn bonds_are_found_with_their_grids(rt: HostRuntime) -> Result<(), Fail> {
 
 #[test]
 fn firms_have_their_rows(rt: HostRuntime) -> Result<(), Fail> {
-    let config = read_config(rt.alloc(), THREE_DEALERS)?;
+    let config = read_config(rt.alloc(), VENUE)?;
     assert_eq!(rt; config.dealer_count(), 3);
     let dealer = config.dealer(2).ok_or("no dealer")?;
     assert!(rt; dealer.name.as_bytes() == b"DLR3".as_slice());
@@ -101,7 +116,7 @@ fn firms_have_their_rows(rt: HostRuntime) -> Result<(), Fail> {
 
 #[test]
 fn traders_are_found_by_their_names(rt: HostRuntime) -> Result<(), Fail> {
-    let config = read_config(rt.alloc(), THREE_DEALERS)?;
+    let config = read_config(rt.alloc(), VENUE)?;
     let dealer = config.dealer(1).ok_or("no dealer")?;
     let trader = dealer.traders.find(b"T2").ok_or("no trader")?;
     assert!(rt; trader.as_bytes() == b"T2".as_slice());
@@ -152,7 +167,7 @@ fn rows_are_told_apart_by_each_value(rt: HostRuntime) -> Result<(), Fail> {
 
 #[test]
 fn a_copy_has_the_same_rows(rt: HostRuntime) -> Result<(), Fail> {
-    let config = read_config(rt.alloc(), THREE_DEALERS)?;
+    let config = read_config(rt.alloc(), VENUE)?;
     let copy = config.copy(rt.alloc())?;
     assert!(rt; copy.date().digits() == config.date().digits());
     assert_eq!(rt; copy.bonds().len(), 2);

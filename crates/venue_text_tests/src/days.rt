@@ -1,35 +1,14 @@
 //! Days of the worked examples: each value is computed by hand or outside the program from the
 //! rules.
-use crate::fixtures::{assert_all_go_on, assert_prints, assert_shown_first, assert_text};
+use crate::fixtures::{
+    assert_all_go_on, assert_from_start, assert_prints, assert_shown_first, assert_text,
+};
+use message_fixtures::{
+    REPLACEMENT, REPLACEMENT_ANSWERS, REQUEST, SESSION_FAULTS, SESSION_FAULTS_ANSWERS, SHOWN,
+};
 use std::test::Fail;
 
-/// A quote is replaced at exactly the exposure, the second one is lifted, and its request closed.
-const REPLACEMENT: &str = "date 20250314
-dealer DLR1 4 2000000 T1
-shown INV1 BONDA0000001 1 2000000 09:05:00 09:00:00
-say T1 09:00:10 S 117=a1|131=R1|48=BONDA0000001|22=4|133=99.5
-say T1 09:00:20 S 117=a2|131=R1|48=BONDA0000001|22=4|133=99.25
-say T1 09:00:25 S 117=a1|131=R1|48=BONDA0000001|22=4|133=99
-lifted 2
-say T1 09:00:30 S 117=a3|131=R1|48=BONDA0000001|22=4|133=99
-shown INV2 BONDB0000002 2 2000000 09:06:00 09:00:35
-say T1 09:00:40 S 117=a3|131=R2|48=BONDB0000002|22=4|132=101
-closed 1 1 09:00:50
-say T1 09:01:00 S 117=a3|131=R2|48=BONDB0000002|22=4|132=101
-";
-
-const REPLACEMENT_MESSAGES: &str =
-    "DLR1 1 09:00:00.000 R 131=R1|146=1|55=[N/A]|48=BONDA0000001|22=4|54=1|38=2000000|126=20250314-09:05:00.000|453=1|448=INV1|447=D|452=13
-DLR1 2 09:00:10.000 AI 131=R1|117=a1|297=0
-DLR1 3 09:00:20.000 AI 131=R1|117=a2|297=0
-DLR1 4 09:00:25.000 AI 131=R1|117=a1|297=5|300=6
-DLR1 5 09:00:30.000 AI 131=R1|117=a3|297=5|300=4
-DLR1 6 09:00:35.000 R 131=R2|146=1|55=[N/A]|48=BONDB0000002|22=4|54=2|38=2000000|126=20250314-09:06:00.000|453=1|448=INV2|447=D|452=13
-DLR1 7 09:00:40.000 AI 131=R2|117=a3|297=5|300=3
-DLR1 8 09:00:50.000 AJ 693=N1|131=R1|117=a2|694=1|55=[N/A]|48=BONDA0000001|22=4|54=1|38=2000000|133=99.25
-DLR1 9 09:01:00.000 AI 131=R2|117=a3|297=0
-";
-
+/// The messages of the worked replacement as frames.
 const REPLACEMENT_FRAMES: &str =
     "DLR1 8=FIXT.1.1|9=165|35=R|49=VENUE|56=DLR1|34=1|52=20250314-09:00:00.000|131=R1|146=1|55=[N/A]|48=BONDA0000001|22=4|54=1|38=2000000|126=20250314-09:05:00.000|453=1|448=INV1|447=D|452=13|10=216|
 DLR1 8=FIXT.1.1|9=73|35=AI|49=VENUE|56=DLR1|34=2|52=20250314-09:00:10.000|131=R1|117=a1|297=0|10=207|
@@ -44,38 +23,17 @@ DLR1 8=FIXT.1.1|9=73|35=AI|49=VENUE|56=DLR1|34=9|52=20250314-09:01:00.000|131=R2
 
 #[test]
 fn quote_is_replaced_at_the_exposure(rt: HostRuntime) -> Result<(), Fail> {
-    assert_text(&rt, false, REPLACEMENT, REPLACEMENT_MESSAGES)?;
-    assert_text(&rt, true, REPLACEMENT, REPLACEMENT_FRAMES)
+    let input = format!(in rt.alloc();
+        "date 20250314\ndealer DLR1 4 2000000 T1\n{SHOWN}{REPLACEMENT}"
+    )?;
+    let lines = format!(in rt.alloc(); "{REQUEST}{REPLACEMENT_ANSWERS}")?;
+    assert_text(&rt, false, input.as_str(), lines.as_str())?;
+    assert_text(&rt, true, input.as_str(), REPLACEMENT_FRAMES)
 }
-
-const CANCELS: &str = "date 20250314
-dealer DLR1 4 10000000 T1
-say T1 09:00:00 Z 34=2|298=5|117=x
-say T1 09:00:01 Z 34=x|298=5|117=x
-say T7 09:00:02 Z 298=5|117=x
-say T1 09:00:03 R 131=q
-say T1 09:00:04 Z 298=5|117=x|117=y
-say T1 09:00:05 Z 298=5|117=
-say T1 09:00:06 Z 298=5
-say T1 09:00:07 Z 34=5|298=5|117=x
-say T1 09:00:08 Z 298=1|117=x
-say T1 09:00:09 Z 298=5|117=x
-";
-
-const CANCEL_ANSWERS: &str = "DLR1 1 09:00:00.000 3 45=2|371=34|372=Z|373=5
-DLR1 2 09:00:02.000 3 45=1|371=50|372=Z|373=5
-DLR1 3 09:00:03.000 3 45=2|371=35|372=R|373=11
-DLR1 4 09:00:04.000 3 45=3|371=117|372=Z|373=13
-DLR1 5 09:00:05.000 3 45=4|371=117|372=Z|373=4
-DLR1 6 09:00:06.000 3 45=5|371=117|372=Z|373=1
-DLR1 7 09:00:07.000 3 45=5|371=34|372=Z|373=5
-DLR1 8 09:00:08.000 AI 117=x|297=5|300=99
-DLR1 9 09:00:09.000 AI 117=x|297=9
-";
 
 #[test]
 fn cancels_are_checked_in_order(rt: HostRuntime) -> Result<(), Fail> {
-    assert_prints(&rt, CANCELS, CANCEL_ANSWERS)
+    assert_from_start(&rt, SESSION_FAULTS, SESSION_FAULTS_ANSWERS)
 }
 
 /// What is due behind the first quote, and what is printed behind its acceptance.

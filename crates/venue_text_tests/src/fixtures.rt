@@ -1,4 +1,5 @@
 //! What most tests begin with, and what they ask.
+use message_fixtures::{REQUEST, SHOWN};
 use std::process::Abort;
 use std::test::Fail;
 use venue_text::{ProgramFault, alone_text, fault_line};
@@ -8,16 +9,11 @@ pub(crate) const HEAD: &str = "date 20250314
 dealer DLR1 4 10000000 T1
 ";
 
-/// A request, and a quote on it.
-pub(crate) const SHOWN: &str = "shown INV1 BONDA0000001 1 2000000 09:05:00 09:00:00\n";
-
+/// A quote on the request that is shown.
 pub(crate) const QUOTE: &str =
     "say T1 09:00:10 S 117=a1|131=R1|48=BONDA0000001|22=4|133=99.50390625\n";
 
-/// The message that shows the request, and the acceptance of the quote.
-pub(crate) const REQUEST: &str =
-    "DLR1 1 09:00:00.000 R 131=R1|146=1|55=[N/A]|48=BONDA0000001|22=4|54=1|38=2000000|126=20250314-09:05:00.000|453=1|448=INV1|447=D|452=13\n";
-
+/// Its acceptance.
 pub(crate) const ACCEPTED: &str = "DLR1 2 09:00:10.000 AI 131=R1|117=a1|297=0\n";
 
 /// Asserts what is printed for an input, as lines or as frames.

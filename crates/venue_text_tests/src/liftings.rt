@@ -1,7 +1,6 @@
 //! Made-up lists: liftings and notices in any place, and messages byte by byte.
-use crate::fixtures::{
-    REQUEST, assert_all_go_on, assert_from_start, assert_prints, assert_shown_first,
-};
+use crate::fixtures::{assert_all_go_on, assert_from_start, assert_prints, assert_shown_first};
+use message_fixtures::REQUEST;
 use std::alloc::Global;
 use std::test::Fail;
 

@@ -1,7 +1,6 @@
 //! Values at the ends of their ranges, and long inputs.
-use crate::fixtures::{
-    ACCEPTED, HEAD, QUOTE, REQUEST, SHOWN, assert_fault, assert_form, assert_prints,
-};
+use crate::fixtures::{ACCEPTED, HEAD, QUOTE, assert_fault, assert_form, assert_prints};
+use message_fixtures::{REQUEST, SHOWN};
 use std::process::Abort;
 use std::test::Fail;
 use venue_text::{MOST_INPUT, ProgramFault};

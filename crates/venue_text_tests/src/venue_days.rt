@@ -1,6 +1,6 @@
 //! Worked days of a venue: what each firm is sent, what was due to a dealer, and blotters.
 use crate::venues::{
-    BASIC_DAY, ONE_QUOTE, TWO_QUOTES, VENUE, assert_blotter, assert_due, assert_replay, day_of,
+    BASIC_DAY, ONE_QUOTE, SECOND_QUOTE, assert_blotter, assert_due, assert_replay, day_of,
 };
 use std::test::Fail;
 use venue_text::{alone_text, replay_text};
@@ -36,7 +36,7 @@ closed 1 1 09:01:00.000
 
 #[test]
 fn all_firms_are_told_of_the_basic_day(rt: HostRuntime) -> Result<(), Fail> {
-    let input = day_of(rt.alloc(), &[VENUE, BASIC_DAY])?;
+    let input = day_of(rt.alloc(), BASIC_DAY)?;
     let all = format!(in rt.alloc(); "{DLR1}{DLR2}{INV1}")?;
     assert_replay(&rt, None, input.as_str(), all.as_str())?;
     assert_replay(&rt, Some("DLR2"), input.as_str(), DLR2)?;
@@ -46,7 +46,7 @@ fn all_firms_are_told_of_the_basic_day(rt: HostRuntime) -> Result<(), Fail> {
 
 #[test]
 fn messages_are_whole_frames(rt: HostRuntime) -> Result<(), Fail> {
-    let input = day_of(rt.alloc(), &[VENUE, BASIC_DAY])?;
+    let input = day_of(rt.alloc(), BASIC_DAY)?;
     let only: &[u8] = b"DLR1";
     let text = replay_text(rt.alloc(), Some(only), true, input.as_bytes())?;
     let mut lines = text.as_slice().split(|byte| *byte == b'\n');
@@ -60,13 +60,13 @@ fn messages_are_whole_frames(rt: HostRuntime) -> Result<(), Fail> {
 
 #[test]
 fn no_steps_send_nothing(rt: HostRuntime) -> Result<(), Fail> {
-    let input = day_of(rt.alloc(), &[VENUE])?;
+    let input = day_of(rt.alloc(), &[])?;
     assert_replay(&rt, None, input.as_str(), "")
 }
 
 #[test]
 fn the_due_text_of_the_basic_day(rt: HostRuntime) -> Result<(), Fail> {
-    let input = day_of(rt.alloc(), &[VENUE, BASIC_DAY])?;
+    let input = day_of(rt.alloc(), BASIC_DAY)?;
     assert_due(&rt, "DLR1", input.as_str(), DUE)?;
     let text = alone_text(rt.alloc(), false, DUE.as_bytes())?;
     assert!(rt; text.as_slice() == DLR1.as_bytes());
@@ -80,7 +80,7 @@ fn the_due_text_of_the_basic_day(rt: HostRuntime) -> Result<(), Fail> {
 
 #[test]
 fn blotters_of_the_basic_day(rt: HostRuntime) -> Result<(), Fail> {
-    let input = day_of(rt.alloc(), &[VENUE, BASIC_DAY])?;
+    let input = day_of(rt.alloc(), BASIC_DAY)?;
     let lifted = "   1 09:00:10.000 T1       R1    BONDA0000001 B       2000000  99-161 lifted\n";
     assert_blotter(&rt, "DLR1", input.as_str(), lifted)?;
     let won = "   1 09:00:00.000 T8       BONDA0000001 B       2000000 won DLR1 99-161\n";
@@ -99,7 +99,7 @@ turn INV1 4
 
 #[test]
 fn a_withdrawn_quote_on_the_blotter(rt: HostRuntime) -> Result<(), Fail> {
-    let input = day_of(rt.alloc(), &[VENUE, TWO_QUOTES, WITHDRAWN])?;
+    let input = day_of(rt.alloc(), &[ONE_QUOTE, SECOND_QUOTE, WITHDRAWN])?;
     let withdrawn =
         "   1 09:00:10.000 T1       R1    BONDA0000001 B       2000000  99-161 withdrawn\n";
     assert_blotter(&rt, "DLR1", input.as_str(), withdrawn)?;
@@ -118,7 +118,7 @@ turn INV1 4
 
 #[test]
 fn a_pass_ends_the_quote_on_the_blotter(rt: HostRuntime) -> Result<(), Fail> {
-    let input = day_of(rt.alloc(), &[VENUE, ONE_QUOTE, PASSED])?;
+    let input = day_of(rt.alloc(), &[ONE_QUOTE, PASSED])?;
     let ended = "   1 09:00:10.000 T1       R1    BONDA0000001 B       2000000  99-161 ended\n";
     assert_blotter(&rt, "DLR1", input.as_str(), ended)?;
     assert_blotter(&rt, "DLR2", input.as_str(), "")?;
@@ -131,7 +131,7 @@ const ANOTHER_PRICE: &str = "say DLR1 T1 09:00:30 S 117=a2|131=R1|48=BONDA000000
 
 #[test]
 fn a_replaced_quote_and_a_live_one_on_the_blotter(rt: HostRuntime) -> Result<(), Fail> {
-    let input = day_of(rt.alloc(), &[VENUE, ONE_QUOTE, ANOTHER_PRICE])?;
+    let input = day_of(rt.alloc(), &[ONE_QUOTE, ANOTHER_PRICE])?;
     let both = "   1 09:00:10.000 T1       R1    BONDA0000001 B       2000000  99-161 replaced
    2 09:00:30.000 T1       R1    BONDA0000001 B       2000000   99-08 live
 ";
@@ -148,7 +148,7 @@ say DLR1 T1 09:01:01 Z 298=5|117=a1
 
 #[test]
 fn a_quote_known_to_be_lifted_on_the_blotter(rt: HostRuntime) -> Result<(), Fail> {
-    let input = day_of(rt.alloc(), &[VENUE, ONE_QUOTE, KNOWN])?;
+    let input = day_of(rt.alloc(), &[ONE_QUOTE, KNOWN])?;
     let lifted = "   1 09:00:10.000 T1       R1    BONDA0000001 B       2000000  99-161 lifted\n";
     assert_blotter(&rt, "DLR1", input.as_str(), lifted)
 }
@@ -160,7 +160,7 @@ turn CLOCK 3
 
 #[test]
 fn an_expired_request_on_the_blotter(rt: HostRuntime) -> Result<(), Fail> {
-    let input = day_of(rt.alloc(), &[VENUE, ONE_QUOTE, EXPIRED])?;
+    let input = day_of(rt.alloc(), &[ONE_QUOTE, EXPIRED])?;
     let expired = "   1 09:00:00.000 T8       BONDA0000001 B       2000000 expired\n";
     assert_blotter(&rt, "INV1", input.as_str(), expired)?;
     let ended = "   1 09:00:10.000 T1       R1    BONDA0000001 B       2000000  99-161 ended\n";

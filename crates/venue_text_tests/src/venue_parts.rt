@@ -76,24 +76,8 @@ fn arguments_name_firms(rt: HostRuntime) -> Result<(), Fail> {
     Ok(())
 }
 
-/// A day with a line of each kind.
-const EACH: &str = "version = 1
-date = \"20250314\"
-[[bond]]
-id = \"BONDA0000001\"
-[[dealer]]
-name = \"DLR1\"
-traders = [\"T1\"]
-quotes = 4
-exposure = 10000000
-[[investor]]
-name = \"INV1\"
-traders = [\"T8\"]
-requests = 3
-open = 2
-quantity = 5000000
-%%
-say DLR1 T1 09:00:10 S 117=a1|131=R1
+/// A line of each kind.
+const EACH: &str = "say DLR1 T1 09:00:10 S 117=a1|131=R1
 in INV1 09:00:11 x
 turn CLOCK 40
 expire INV1 1 09:05:00
@@ -106,8 +90,11 @@ piece DLR1 09:06:01 0|8=FIX
 /// N-th allocation; it passes whichever that is.
 #[test]
 fn refused_memory_is_told(rt: HostRuntime) {
+    let Ok(input) = format!(in rt.alloc(); "{VENUE}{EACH}") else {
+        return;
+    };
     for _ in 0..2 {
-        match steps_of(&rt, EACH.as_bytes()) {
+        match steps_of(&rt, input.as_bytes()) {
             Ok(steps) => assert_eq!(&rt; steps.len(), 45),
             Err(fault) => assert_eq!(&rt; fault, ProgramFault::Memory),
         }

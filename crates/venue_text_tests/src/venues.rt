@@ -1,47 +1,11 @@
-//! A venue, days of it, and what is asked of them.
+//! Days of a venue, and what is asked of them.
+use message_fixtures::VENUE;
 use std::alloc::Global;
 use std::process::Abort;
 use std::test::Fail;
 use venue_text::{
     ProgramFault, blotter_command_text, compare_text, due_command_text, fault_line, replay_text,
 };
-
-/// Two bonds, three dealers and two investors, and the line that divides them from the steps.
-pub(crate) const VENUE: &str = "version = 1
-date = \"20250314\"
-[[bond]]
-id = \"BONDA0000001\"
-[[bond]]
-id = \"BONDB0000002\"
-[[dealer]]
-name = \"DLR1\"
-traders = [\"T1\"]
-quotes = 4
-exposure = 10000000
-[[dealer]]
-name = \"DLR2\"
-traders = [\"T2\"]
-quotes = 4
-exposure = 10000000
-[[dealer]]
-name = \"DLR3\"
-traders = [\"T3\"]
-quotes = 4
-exposure = 10000000
-[[investor]]
-name = \"INV1\"
-traders = [\"T8\"]
-requests = 3
-open = 2
-quantity = 5000000
-[[investor]]
-name = \"INV2\"
-traders = [\"T9\"]
-requests = 3
-open = 2
-quantity = 5000000
-%%
-";
 
 /// A request of two dealers, and the quote of the first.
 pub(crate) const ONE_QUOTE: &str =
@@ -51,34 +15,33 @@ say DLR1 T1 09:00:10 S 117=a1|131=R1|48=BONDA0000001|22=4|133=99.50390625
 turn DLR1 2
 ";
 
-/// The same, and the quote of the second dealer.
-pub(crate) const TWO_QUOTES: &str =
-    "say INV1 T8 09:00:00 R 131=A|146=1|48=BONDA0000001|22=4|54=1|38=2000000|126=20250314-09:05:00|453=2|448=DLR1|447=D|452=35|448=DLR2|447=D|452=35
-turn INV1 4
-say DLR1 T1 09:00:10 S 117=a1|131=R1|48=BONDA0000001|22=4|133=99.50390625
-turn DLR1 2
-say DLR2 T2 09:00:20 S 117=b1|131=R1|48=BONDA0000001|22=4|133=99.515625
+/// The quote of the second dealer.
+pub(crate) const SECOND_QUOTE: &str =
+    "say DLR2 T2 09:00:20 S 117=b1|131=R1|48=BONDA0000001|22=4|133=99.515625
 turn DLR2 2
 ";
 
-/// The same, and a hit of the first quote.
-pub(crate) const BASIC_DAY: &str =
-    "say INV1 T8 09:00:00 R 131=A|146=1|48=BONDA0000001|22=4|54=1|38=2000000|126=20250314-09:05:00|453=2|448=DLR1|447=D|452=35|448=DLR2|447=D|452=35
-turn INV1 4
-say DLR1 T1 09:00:10 S 117=a1|131=R1|48=BONDA0000001|22=4|133=99.50390625
-turn DLR1 2
-say DLR2 T2 09:00:20 S 117=b1|131=R1|48=BONDA0000001|22=4|133=99.515625
-turn DLR2 2
-say INV1 T8 09:01:00 AJ 693=h1|117=Q1|694=1
+/// A hit of the first quote, which is answered, and both dealers are told.
+const HIT: &str = "say INV1 T8 09:01:00 AJ 693=h1|117=Q1|694=1
 turn INV1 4
 ";
 
-/// An input of these texts, one behind the other.
-pub(crate) fn day_of(alloc: Global, parts: &[&str]) -> Result<String, Fail> {
-    let mut input = String::new(alloc);
+/// The lines of the basic day.
+pub(crate) const BASIC_DAY: &[&str] = &[ONE_QUOTE, SECOND_QUOTE, HIT];
+
+/// These texts one behind the other.
+pub(crate) fn joined(alloc: Global, parts: &[&str]) -> Result<String, Fail> {
+    let mut text = String::new(alloc);
     for part in parts {
-        input.push_str(part)?;
+        text.push_str(part)?;
     }
+    Ok(text)
+}
+
+/// The input of a day of [`VENUE`] with these lines.
+pub(crate) fn day_of(alloc: Global, lines: &[&str]) -> Result<String, Fail> {
+    let lines = joined(alloc, lines)?;
+    let input = format!(in alloc; "{VENUE}%%\n{lines}")?;
     Ok(input)
 }
 

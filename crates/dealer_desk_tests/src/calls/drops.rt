@@ -1,7 +1,7 @@
 //! Drops: which word each of them asks, what it leaves to be done, and drops that are refused
 //! memory.
 use super::fixtures::{
-    FIRST_ROOM, SECOND_ROOM, ask, asked_desk, at, desk, drops, left_text, message, sum, takes,
+    FIRST_ROOM, SECOND_ROOM, ask, asked_desk, at, desk, drops, left_text, message, seen, takes,
 };
 use dealer_desk::DealerDesk;
 use fix_fields::Moment;
@@ -116,20 +116,6 @@ fn quoted_desk(rt: &impl Abort, alloc: Global) -> Result<DealerDesk, Fail> {
         }
     }
     Ok(desk)
-}
-
-/// What the readers of a desk answer.
-fn seen(desk: &DealerDesk) -> (usize, usize, u32, u64) {
-    let mut bytes: u32 = 0;
-    for message in desk.sent() {
-        bytes = bytes.wrapping_add(sum(message.as_bytes()));
-    }
-    (
-        desk.events().len(),
-        desk.sent().len(),
-        bytes,
-        desk.exposure(),
-    )
 }
 
 /// Drops the next of two quotes, and where memory was refused looks at the desk and drops it again.

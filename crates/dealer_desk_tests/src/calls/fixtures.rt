@@ -2,6 +2,7 @@
 use bond_prices::Grid;
 use dealer_desk::DealerDesk;
 use fix_fields::{Date, Memory, Moment};
+use message_fixtures::frame;
 use quote_messages::{Ask, Duty, Quantity, RoomRef, Side};
 use quote_word::Settled;
 use std::alloc::Global;
@@ -88,30 +89,32 @@ pub(crate) fn message(
     let body = format!(in alloc;
         "35={msg_type}|49=DLR1|56=VENUE|34={number}|52=20250314-09:00:10|50=T1|{fields}"
     )?;
-    let start = format!(in alloc; "8=FIXT.1.1|9={}|{body}", body.len())?;
-    let mut bytes = with_soh(alloc, start.as_str())?;
-    let end = format!(in alloc; "10={:03}|", sum(bytes.as_slice()) % 256)?;
-    let end = with_soh(alloc, end.as_str())?;
-    bytes.extend_from_slice(end.as_slice())?;
+    let bytes = frame(alloc, body.as_str())?;
     Ok(bytes)
 }
 
+/// What the readers of a desk answer: how many events, how many messages, the sum of the bytes of
+/// the messages, and the exposure.
+pub(crate) fn seen(desk: &DealerDesk) -> (usize, usize, u32, u64) {
+    let mut bytes: u32 = 0;
+    for message in desk.sent() {
+        bytes = bytes.wrapping_add(sum(message.as_bytes()));
+    }
+    (
+        desk.events().len(),
+        desk.sent().len(),
+        bytes,
+        desk.exposure(),
+    )
+}
+
 /// The sum of bytes.
-pub(crate) fn sum(bytes: &[u8]) -> u32 {
+fn sum(bytes: &[u8]) -> u32 {
     let mut sum: u32 = 0;
     for c in bytes {
         sum = sum.wrapping_add(u32::from(*c));
     }
     sum
-}
-
-/// The bytes of a text, with SOH for each vertical bar.
-pub(crate) fn with_soh(alloc: Global, text: &str) -> Result<Vec<u8>, Memory> {
-    let mut bytes = Vec::new(alloc);
-    for c in text.bytes() {
-        bytes.push(if c == b'|' { 1 } else { c })?;
-    }
-    Ok(bytes)
 }
 
 /// A desk takes a message, with the answer of the word that it asks, and answers the own number of

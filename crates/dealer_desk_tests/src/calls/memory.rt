@@ -5,7 +5,7 @@
 //! refuses the N-th allocation. It allocates nothing but in `show`, `take` and `tell`: after a
 //! refusal the desk has to be as before, and the same call made again has to answer as if the first
 //! one had not been made. So it passes whichever allocation is refused.
-use super::fixtures::{FIRST_ROOM, SECOND_ROOM, ask, at, desk, sum, takes};
+use super::fixtures::{FIRST_ROOM, SECOND_ROOM, ask, at, desk, seen, takes};
 use dealer_desk::DealerDesk;
 use fix_fields::Moment;
 use quote_messages::{Close, Duty, RoomRef};
@@ -98,21 +98,6 @@ const NOTICE: &[u8] = b"8=FIXT.1.1\x019=134\x0135=AJ\x0149=VENUE\x0156=DLR1\x013
     52=20250314-09:00:00.000\x01693=N2\x01131=R2\x01117=a3\x01694=1\x0155=[N/A]\x01\
     48=BONDA0000001\x0122=4\x0154=1\x01\
     38=2000000\x01133=99\x0110=255\x01";
-
-/// What the readers of a desk answer: how many events, how many messages, the sum of the bytes of
-/// the messages, and the exposure.
-fn seen(desk: &DealerDesk) -> (usize, usize, u32, u64) {
-    let mut bytes: u32 = 0;
-    for message in desk.sent() {
-        bytes = bytes.wrapping_add(sum(message.as_bytes()));
-    }
-    (
-        desk.events().len(),
-        desk.sent().len(),
-        bytes,
-        desk.exposure(),
-    )
-}
 
 /// Takes each message of [`TAKEN`]. The word of the third quote is lifted.
 fn takes_all(rt: &impl Abort, desk: &mut DealerDesk) -> Result<(), Fail> {

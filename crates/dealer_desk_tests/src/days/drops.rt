@@ -1,30 +1,12 @@
 //! A cancel of all quotes (298=4), and the drops that follow it one by one.
-use super::openings::{BOTH_QUOTED, FIRST_QUOTED, NOTHING, ONE_QUOTED, TWO_SHOWN, WIDE};
+use super::openings::{BOTH_QUOTED, FIRST_QUOTED, NOTHING, ONE_QUOTED, ONE_SHOWN, WIDE};
 use super::{Day, Days, Opening, print_all};
+use message_fixtures::{CANCEL_OF_ALL, CANCEL_OF_ALL_ANSWERS};
 use std::test::Fail;
 
 /// Of two quotes one was lifted before its drop. A third drop finds nothing, and so does a cancel
 /// behind the notice.
-const WORKED: Day = (
-    "worked",
-    "say T1 09:00:10 S 117=a1|131=R1|<a>|133=99.5
-say T1 09:00:20 S 117=a2|131=R2|<b>|132=101
-say T1 09:00:30 Z 298=4
-lifted 2
-drop 2 09:00:30
-drop 2 09:00:30
-drop 2 09:00:30
-closed 2 1 09:00:40
-say T1 09:00:50 Z 298=4
-",
-    "DLR1 3 09:00:10.000 AI 131=R1|117=a1|297=0
-DLR1 4 09:00:20.000 AI 131=R2|117=a2|297=0
-DLR1 5 09:00:30.000 AI 117=a1|297=17
-DLR1 6 09:00:30.000 AI 117=a2|297=5|300=4
-DLR1 7 09:00:40.000 AJ 693=N1|131=R2|117=a2|694=1|<B>|132=101
-DLR1 8 09:00:50.000 AI 297=9
-",
-);
+const WORKED: Day = ("worked", CANCEL_OF_ALL, CANCEL_OF_ALL_ANSWERS);
 
 /// What is withdrawn by a drop is withdrawn as by a cancel of its own: its QuoteID stays used, a
 /// cancel of it is refused, its request can be quoted or declined, and a hit has no quote to name.
@@ -360,7 +342,7 @@ DLR1 7 09:00:24.000 AI 131=R2|117=b1|297=0
 ];
 
 const DAYS: &[Days] = &[
-    (WIDE, TWO_SHOWN, &[WORKED]),
+    (WIDE, ONE_SHOWN, &[WORKED]),
     (WIDE, BOTH_QUOTED, &[LIKE_A_CANCEL]),
     (WIDE, BOTH_QUOTED, BEFORE_THE_DROP),
     (

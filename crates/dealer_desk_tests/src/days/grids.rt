@@ -1,5 +1,5 @@
 //! Prices on the grid of the request's bond.
-use super::openings::{NOTHING, WIDE};
+use super::openings::{NOTHING, ONE_SHOWN, WIDE};
 use super::{Day, Days, Opening, print_all};
 use std::test::Fail;
 
@@ -9,13 +9,6 @@ const REQUEST: &str =
 
 const ON_256: Opening = (
     "shown INV1 BONDA0000001 1 2000000 09:05:00 09:00:00 256
-",
-    REQUEST,
-);
-
-/// A line without a grid means that of 256.
-const WITHOUT_A_GRID: Opening = (
-    "shown INV1 BONDA0000001 1 2000000 09:05:00 09:00:00
 ",
     REQUEST,
 );
@@ -134,7 +127,8 @@ DLR1 7 09:00:13.000 AI 131=R3|117=c1|297=0
 
 const DAYS: &[Days] = &[
     (WIDE, ON_256, &[("256", PRICES, ANSWERS_256)]),
-    (WIDE, WITHOUT_A_GRID, &[("none", PRICES, ANSWERS_256)]),
+    // a line without a grid means that of 256
+    (WIDE, ONE_SHOWN, &[("none", PRICES, ANSWERS_256)]),
     (WIDE, ON_128, &[("128", PRICES, ANSWERS_128)]),
     (WIDE, ON_64, &[("64", PRICES, ANSWERS_64)]),
     (WIDE, ON_32, &[("32", PRICES, ANSWERS_32)]),

@@ -1,36 +1,23 @@
 //! A day at its limits: what a message costs does not grow with it.
-use super::super::fixtures::{at, desk, joined, offer, says};
+use super::super::fixtures::{at, desk_in, joined, offer, says, venue_of_dealers};
 use investor_desk::InvestorDesk;
 use itoa::Buffer;
 use std::alloc::Global;
 use std::process::Abort;
 use std::test::Fail;
 
-/// INV1 may ask 1,024 times, all of them open at once, and there are eight dealers.
-const VENUE: &str = "version = 1
-date = \"20250314\"
-bond = [{ id = \"BONDA0000001\" }]
-dealer = [
-    { name = \"DLR1\", traders = [\"T1\"], quotes = 1, exposure = 1 },
-    { name = \"DLR2\", traders = [\"T1\"], quotes = 1, exposure = 1 },
-    { name = \"DLR3\", traders = [\"T1\"], quotes = 1, exposure = 1 },
-    { name = \"DLR4\", traders = [\"T1\"], quotes = 1, exposure = 1 },
-    { name = \"DLR5\", traders = [\"T1\"], quotes = 1, exposure = 1 },
-    { name = \"DLR6\", traders = [\"T1\"], quotes = 1, exposure = 1 },
-    { name = \"DLR7\", traders = [\"T1\"], quotes = 1, exposure = 1 },
-    { name = \"DLR8\", traders = [\"T1\"], quotes = 1, exposure = 1 },
-]
-investor = [{ name = \"INV1\", traders = [\"T8\"], requests = 1024, open = 1024, quantity = 9 }]
-";
+/// INV1 may ask 1,024 times, all of them open at once.
+const LIMITS: &str = "requests = 1024\nopen = 1024\nquantity = 9\n";
 
-/// Their names.
+/// The dealers of the venue.
 const DEALERS: &[&str] = &[
     "DLR1", "DLR2", "DLR3", "DLR4", "DLR5", "DLR6", "DLR7", "DLR8",
 ];
 
 #[test]
 fn all_requests_of_a_day_with_eight_quotes_each(rt: HostRuntime) -> Result<(), Fail> {
-    let mut desk = desk(rt.alloc(), VENUE)?;
+    let venue = venue_of_dealers(rt.alloc(), 8, LIMITS)?;
+    let mut desk = desk_in(rt.alloc(), venue.as_str()).ok_or("no desk of INV1")?;
     for n in 1..1_025 {
         asks(&rt, rt.alloc(), &mut desk, n)?;
         are_shown(&rt, &mut desk, n)?;

@@ -5,7 +5,7 @@
 //! refuses the N-th allocation. After a refusal the desk has to be as before, and the same call
 //! made again has to answer as if the first one had not been made. So it passes whichever
 //! allocation is refused.
-use super::super::fixtures::{VENUE, at, desk, message, name, offer, response, try_desk};
+use super::super::fixtures::{at, desk, message, name, offer, response, try_desk};
 use fix_fields::Memory;
 use investor_desk::InvestorDesk;
 use market_terms::{HitRefusal, Reply};
@@ -57,9 +57,9 @@ const CALLS: &[(Call, usize)] = &[
 
 #[test]
 fn a_refused_call_leaves_the_desk(rt: HostRuntime) -> Result<(), Fail> {
-    let mut desk = match try_desk(rt.alloc(), VENUE) {
+    let mut desk = match try_desk(rt.alloc()) {
         Some(desk) => desk,
-        None => desk(rt.alloc(), VENUE)?,
+        None => desk(rt.alloc())?,
     };
     let mut messages: usize = 0;
     for (call, sends) in CALLS {

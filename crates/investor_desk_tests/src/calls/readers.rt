@@ -1,5 +1,5 @@
 //! What the readers of a desk answer.
-use super::super::fixtures::{Step, VENUE, ascii, at, desk, play, side_text};
+use super::super::fixtures::{Step, ascii, at, desk, play, side_text};
 use fix_fields::Memory;
 use investor_desk::InvestorEvent;
 use market_terms::{RequestLine, RequestState};
@@ -47,7 +47,7 @@ const KNOWN: &[(u32, Option<u64>, bool)] = &[
 
 #[test]
 fn a_desk_knows_what_it_was_told(rt: HostRuntime) -> Result<(), Fail> {
-    let mut desk = desk(rt.alloc(), VENUE)?;
+    let mut desk = desk(rt.alloc())?;
     assert!(rt; !desk.knows(1, None), "no request yet");
     play(&rt, rt.alloc(), &mut desk, TOLD)?;
     for (n, k, known) in KNOWN {
@@ -107,7 +107,7 @@ fn has_lines(
     steps: &[(u32, Step)],
     lines: &[&str],
 ) -> Result<(), Fail> {
-    let mut desk = desk(alloc, VENUE)?;
+    let mut desk = desk(alloc)?;
     play(rt, alloc, &mut desk, steps)?;
     assert_eq!(rt; desk.lines().len(), lines.len(), "how many lines");
     for (expected, line) in lines.iter().zip(desk.lines()) {
@@ -147,7 +147,7 @@ fn state_text(alloc: Global, state: &RequestState) -> Result<String, Memory> {
 
 #[test]
 fn a_desk_is_taken_apart(rt: HostRuntime) -> Result<(), Fail> {
-    let mut desk = desk(rt.alloc(), VENUE)?;
+    let mut desk = desk(rt.alloc())?;
     assert_eq!(rt; desk.firm(), 3);
     assert!(rt; desk.row().name.as_bytes() == b"INV1".as_slice(), "the row");
     assert!(rt; desk.date().digits() == b"20250314", "the day");

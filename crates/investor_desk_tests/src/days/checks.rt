@@ -1,5 +1,7 @@
 //! The checks of a request, each alone and with the one behind it, in their order.
-use super::super::fixtures::{Day, Line, Step, VENUE, are_sent, at, desk, is_day, joined, says};
+use super::super::fixtures::{
+    Day, Line, Step, are_sent, at, desk, desk_in, is_day, is_day_at, joined, says, venue_of_dealers,
+};
 use std::alloc::Global;
 use std::process::Abort;
 use std::test::Fail;
@@ -109,7 +111,7 @@ fn is_answered(
         group,
     ];
     let fields = joined(alloc, &parts)?;
-    let mut desk = desk(alloc, VENUE)?;
+    let mut desk = desk(alloc)?;
     let said = ("R", 1, fields.as_str());
     says(rt, alloc, &mut desk, at(rt, 32_400_000), said, leaves)?;
     are_sent(rt, alloc, &desk, &[answer])
@@ -212,26 +214,11 @@ const COUNTED: &Day = &Day {
 
 #[test]
 fn open_requests_and_those_of_a_day_are_counted(rt: HostRuntime) -> Result<(), Fail> {
-    is_day(&rt, rt.alloc(), VENUE, COUNTED)
+    is_day(&rt, rt.alloc(), COUNTED)
 }
 
-/// A venue with nine dealers.
-const NINE_DEALERS: &str = "version = 1
-date = \"20250314\"
-bond = [{ id = \"BONDA0000001\" }]
-dealer = [
-    { name = \"DLR1\", traders = [\"T1\"], quotes = 1, exposure = 1 },
-    { name = \"DLR2\", traders = [\"T1\"], quotes = 1, exposure = 1 },
-    { name = \"DLR3\", traders = [\"T1\"], quotes = 1, exposure = 1 },
-    { name = \"DLR4\", traders = [\"T1\"], quotes = 1, exposure = 1 },
-    { name = \"DLR5\", traders = [\"T1\"], quotes = 1, exposure = 1 },
-    { name = \"DLR6\", traders = [\"T1\"], quotes = 1, exposure = 1 },
-    { name = \"DLR7\", traders = [\"T1\"], quotes = 1, exposure = 1 },
-    { name = \"DLR8\", traders = [\"T1\"], quotes = 1, exposure = 1 },
-    { name = \"DLR9\", traders = [\"T1\"], quotes = 1, exposure = 1 },
-]
-investor = [{ name = \"INV1\", traders = [\"T8\"], requests = 3, open = 2, quantity = 5000000 }]
-";
+/// What INV1 may ask where there are nine dealers.
+const LIMITS: &str = "requests = 3\nopen = 2\nquantity = 5000000\n";
 
 /// A request of all nine; the same with one of them twice, and past its deadline; and one of eight,
 /// in an order of its own.
@@ -277,5 +264,7 @@ const EIGHT: &Day = &Day {
 
 #[test]
 fn a_request_names_eight_dealers_at_most(rt: HostRuntime) -> Result<(), Fail> {
-    is_day(&rt, rt.alloc(), NINE_DEALERS, EIGHT)
+    let venue = venue_of_dealers(rt.alloc(), 9, LIMITS)?;
+    let desk = desk_in(rt.alloc(), venue.as_str()).ok_or("no desk of INV1")?;
+    is_day_at(&rt, rt.alloc(), desk, EIGHT)
 }

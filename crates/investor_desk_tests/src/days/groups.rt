@@ -1,5 +1,5 @@
 //! The party group of a request, at the desk.
-use super::super::fixtures::{VENUE, are_sent, at, desk, joined, left_text};
+use super::super::fixtures::{are_sent, at, desk, joined, left_text};
 use message_fixtures::frame;
 use std::alloc::Global;
 use std::process::Abort;
@@ -92,7 +92,7 @@ fn is_answered(
     let terms = "131=A|146=1|48=BONDA0000001|22=4|54=1|38=2000000|126=20250314-09:05:00|";
     let body = joined(alloc, &[header, terms, group])?;
     let bytes = frame(alloc, body.as_str())?;
-    let mut desk = desk(alloc, VENUE)?;
+    let mut desk = desk(alloc)?;
     let left = desk.take(at(rt, 32_400_000), bytes.as_slice())?;
     let left = left_text(alloc, &left)?;
     assert_eq!(rt; left.as_str(), leaves, "what a request leaves");

@@ -1,5 +1,5 @@
 //! Quotes that INV1 is shown, that are replaced and taken back, and dealers that decline.
-use super::super::fixtures::{Day, Step, VENUE, is_day};
+use super::super::fixtures::{Day, Step, is_day};
 use std::test::Fail;
 
 /// INV1 asks DLR1 and DLR3 for a bid of 3 of BONDB0000002.
@@ -37,7 +37,7 @@ const BIDS: &Day = &Day {
 
 #[test]
 fn a_bid_bears_when_it_ends(rt: HostRuntime) -> Result<(), Fail> {
-    is_day(&rt, rt.alloc(), VENUE, BIDS)
+    is_day(&rt, rt.alloc(), BIDS)
 }
 
 /// DLR1's quote at 1 and DLR3's at 2, each at 09:00:10.
@@ -90,7 +90,7 @@ const REPLACED: &Day = &Day {
 
 #[test]
 fn a_quote_takes_the_place_of_another(rt: HostRuntime) -> Result<(), Fail> {
-    is_day(&rt, rt.alloc(), VENUE, REPLACED)
+    is_day(&rt, rt.alloc(), REPLACED)
 }
 
 const ONE_WORD: &Day = &Day {
@@ -115,7 +115,7 @@ const ONE_WORD: &Day = &Day {
 
 #[test]
 fn of_one_word_the_first_shown_is_gone(rt: HostRuntime) -> Result<(), Fail> {
-    is_day(&rt, rt.alloc(), VENUE, ONE_WORD)
+    is_day(&rt, rt.alloc(), ONE_WORD)
 }
 
 const BEFORE_THE_ANSWER: &Day = &Day {
@@ -151,7 +151,7 @@ const BEFORE_THE_ANSWER: &Day = &Day {
 
 #[test]
 fn what_comes_before_the_answer_is_shown(rt: HostRuntime) -> Result<(), Fail> {
-    is_day(&rt, rt.alloc(), VENUE, BEFORE_THE_ANSWER)
+    is_day(&rt, rt.alloc(), BEFORE_THE_ANSWER)
 }
 
 const AGAIN_ALL: &str = "131=B|146=1|48=BONDB0000002|22=4|54=2|38=3|126=20250314-09:05:00|\
@@ -186,5 +186,5 @@ const CLOSED: &Day = &Day {
 
 #[test]
 fn a_closed_request_is_sent_nothing_more(rt: HostRuntime) -> Result<(), Fail> {
-    is_day(&rt, rt.alloc(), VENUE, CLOSED)
+    is_day(&rt, rt.alloc(), CLOSED)
 }

@@ -1,5 +1,5 @@
 //! Hits and passes, and how their rooms answer.
-use super::super::fixtures::{Day, Step, VENUE, is_day};
+use super::super::fixtures::{Day, Step, is_day};
 use market_terms::HitRefusal;
 use std::test::Fail;
 
@@ -52,7 +52,7 @@ const UNKNOWN_TO_THE_DESK: &Day = &Day {
 
 #[test]
 fn what_is_unknown_is_told_at_once(rt: HostRuntime) -> Result<(), Fail> {
-    is_day(&rt, rt.alloc(), VENUE, UNKNOWN_TO_THE_DESK)
+    is_day(&rt, rt.alloc(), UNKNOWN_TO_THE_DESK)
 }
 
 const GONE_AND_HIT: &Day = &Day {
@@ -84,7 +84,7 @@ const GONE_AND_HIT: &Day = &Day {
 
 #[test]
 fn a_quote_that_is_gone_can_be_hit(rt: HostRuntime) -> Result<(), Fail> {
-    is_day(&rt, rt.alloc(), VENUE, GONE_AND_HIT)
+    is_day(&rt, rt.alloc(), GONE_AND_HIT)
 }
 
 const REFUSALS: &Day = &Day {
@@ -141,7 +141,7 @@ const REFUSALS: &Day = &Day {
 
 #[test]
 fn each_refusal_has_its_name(rt: HostRuntime) -> Result<(), Fail> {
-    is_day(&rt, rt.alloc(), VENUE, REFUSALS)
+    is_day(&rt, rt.alloc(), REFUSALS)
 }
 
 const CLOSED_AND_ANSWERED: &Day = &Day {
@@ -177,5 +177,5 @@ const CLOSED_AND_ANSWERED: &Day = &Day {
 
 #[test]
 fn a_closed_request_is_answered_still(rt: HostRuntime) -> Result<(), Fail> {
-    is_day(&rt, rt.alloc(), VENUE, CLOSED_AND_ANSWERED)
+    is_day(&rt, rt.alloc(), CLOSED_AND_ANSWERED)
 }

@@ -1,5 +1,5 @@
 //! What the session makes of an investor's messages, at the desk.
-use super::super::fixtures::{Day, Line, Step, VENUE, are_sent, at, desk, is_day, says};
+use super::super::fixtures::{Day, Line, Step, are_sent, at, desk, is_day, says};
 use std::test::Fail;
 
 /// Messages of INV1: MsgType (35), MsgSeqNum (34), and the fields behind the header.
@@ -26,7 +26,7 @@ const ANSWERS: &[Line<'static>] = &[
 
 #[test]
 fn numbers_are_used_up_in_their_order(rt: HostRuntime) -> Result<(), Fail> {
-    let mut desk = desk(rt.alloc(), VENUE)?;
+    let mut desk = desk(rt.alloc())?;
     let moment = at(&rt, 32_400_000);
     desk.take(moment, b"8=FIXT.1.1")?;
     for said in SAID {
@@ -60,5 +60,5 @@ const RESPONSES: &Day = &Day {
 
 #[test]
 fn a_response_has_what_it_means(rt: HostRuntime) -> Result<(), Fail> {
-    is_day(&rt, rt.alloc(), VENUE, RESPONSES)
+    is_day(&rt, rt.alloc(), RESPONSES)
 }

@@ -1,5 +1,5 @@
 //! Whole days, worked out by hand.
-use super::super::fixtures::{Day, Step, VENUE, is_day};
+use super::super::fixtures::{Day, Step, is_day};
 use market_terms::HitRefusal;
 use std::test::Fail;
 
@@ -39,7 +39,7 @@ const AWARDED: &Day = &Day {
 
 #[test]
 fn a_hit_is_awarded(rt: HostRuntime) -> Result<(), Fail> {
-    is_day(&rt, rt.alloc(), VENUE, AWARDED)
+    is_day(&rt, rt.alloc(), AWARDED)
 }
 
 const WITHDRAWN_FIRST: &Day = &Day {
@@ -78,7 +78,7 @@ const WITHDRAWN_FIRST: &Day = &Day {
 
 #[test]
 fn a_hit_comes_behind_a_withdrawal(rt: HostRuntime) -> Result<(), Fail> {
-    is_day(&rt, rt.alloc(), VENUE, WITHDRAWN_FIRST)
+    is_day(&rt, rt.alloc(), WITHDRAWN_FIRST)
 }
 
 const PASSED: &Day = &Day {
@@ -106,7 +106,7 @@ const PASSED: &Day = &Day {
 
 #[test]
 fn a_request_is_passed(rt: HostRuntime) -> Result<(), Fail> {
-    is_day(&rt, rt.alloc(), VENUE, PASSED)
+    is_day(&rt, rt.alloc(), PASSED)
 }
 
 const EXPIRED: &Day = &Day {
@@ -122,5 +122,5 @@ const EXPIRED: &Day = &Day {
 
 #[test]
 fn a_request_expires(rt: HostRuntime) -> Result<(), Fail> {
-    is_day(&rt, rt.alloc(), VENUE, EXPIRED)
+    is_day(&rt, rt.alloc(), EXPIRED)
 }
