@@ -15,8 +15,7 @@ use Rattle.venue_commands.specs.Arguments.{Command, arguments_fault, command_of,
 use Rattle.venue_commands.specs.Arguments.{live_form, may_be_help, may_be_mistake}
 use Rattle.venue_commands.specs.LiveRuns.{EndsInLive, EndsOver}
 use Rattle.venue_commands.specs.Runs.{EndsAsAsked, EndsBy, EndsInCommand, EndsInMemory, EndsOf, EndsTold}
-use Rattle.venue_commands.specs.Runs.{Streams}
-use Rattle.venue_commands.specs.Written.{Written}
+use Rattle.venue_commands.specs.Written.{Streams, Written}
 use Rattle.venue_commands.proofs.StreamLemmas.{keeps_same}
 use Rattle.venue_commands.proofs.LawfulArguments.{lawful_arguments}
 
@@ -54,20 +53,20 @@ memory_alone status streams (inr (inl help)) = absurd (false≢true help.0)
 memory_alone status streams (inr (inr mistake)) = absurd (false≢true mistake.0)
 
 -- no line was answered then
-before_lines : (with_frames : Bool) (known : Option (List ℕ)) (status : ℕ) (out err : Written) → EndsInMemory status out err
-    → IfSome known (λ all. EndsOver with_frames all status out err)
-before_lines with_frames None status out err memory = tt
-before_lines with_frames (Some all) status out err memory = inr (
+before_lines : (with_frames : Bool) (known : Option (List ℕ)) (status : ℕ) (streams : Streams) → EndsInMemory status streams.out streams.err
+    → IfSome known (λ all. EndsOver with_frames all status streams)
+before_lines with_frames None status streams memory = tt
+before_lines with_frames (Some all) status streams memory = inr (
   memory.0,
   record {
     fault = Memory;
-    mid = err.before;
+    mid = streams.err.before;
     ends = record {
       is_fault = tt;
       lines = [];
       rest = lines_of all;
       split = refl;
-      left = inl (record { undivided = refl; left = memory.1; untold = keeps_same err.before });
+      left = inl (record { undivided = refl; left = memory.1; untold = keeps_same streams.err.before });
     };
     told = memory.2;
   },
@@ -77,7 +76,7 @@ of_memory : (form : Option Bool) (command : Command) (status : ℕ) (streams : S
     → EndsOf form command status streams
 of_memory None command status streams memory = inr (memory.0, record { fault = Memory; left = memory.1; told = memory.2 })
 of_memory (Some with_frames) command status streams memory =
-    (inr memory.0, before_lines with_frames streams.input status streams.out streams.err memory)
+    (inr memory.0, before_lines with_frames streams.input status streams memory)
 
 ends_by : (asked : Option Command) (kinds : Kinds) (status : ℕ) (streams : Streams) → (is_some asked ≡ true → kinds ≡ [])
     → EndsTold kinds status streams.out streams.err → EndsBy asked kinds status streams
@@ -113,5 +112,5 @@ pub in_text : (form : Option Bool) (command : Command) (status : ℕ) (streams :
 in_text form command status streams none ends = subst (λ (f : Option Bool). EndsOf f command status streams) none ends
 
 pub in_live : (with_frames : Bool) (form : Option Bool) (command : Command) (status : ℕ) (streams : Streams) → Some with_frames ≡ form
-    → EndsInLive with_frames status streams.input streams.out streams.err → EndsOf form command status streams
+    → EndsInLive with_frames status streams → EndsOf form command status streams
 in_live with_frames form command status streams some ends = subst (λ (f : Option Bool). EndsOf f command status streams) some ends

@@ -1,5 +1,5 @@
 -- What `day` prints where it is not asked to weave.
-use Rattle.std.proofs.Common.{◌≡◌, ◌∙◌, ◌++◌, ℕ, Bool, true, false, List, [], refl, sym}
+use Rattle.std.proofs.Common.{◌≡◌, ◌∙◌, ℕ, Bool, true, false, List, [], refl, sym}
 use Rattle.std.proofs.lemmas.List.{append-nil}
 use Rattle.venue_config.specs.Rows.{Configuration}
 use Rattle.recorded_days.specs.Records.{RecordedDay}

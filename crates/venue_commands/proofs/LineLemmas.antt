@@ -1,17 +1,17 @@
 -- Lines of an input as they come: their parts, and what one line more brings.
-use Rattle.std.proofs.Common.{◌≡◌, ℕ, ◌+◌, ◌-◌, ◌<◌, ◌≤◌, ◌==◌, ◌||◌, Bool, true, false, List, [], ◌∷◌, ◌++◌, length, take, drop, suc, fold}
-use Rattle.std.proofs.Common.{Ok, Err, refl, sym, ap, ap₂, ◌∙◌, arith, inl, inr, append_assoc, add-one, nat_lt}
+use Rattle.std.proofs.Common.{◌≡◌, ℕ, ◌+◌, ◌<◌, ◌≤◌, ◌==◌, ◌||◌, Bool, true, false, List, [], ◌∷◌, ◌++◌, length, take, drop, suc, fold}
+use Rattle.std.proofs.Common.{cond, refl, sym, ap, ap₂, ◌∙◌, arith, inl, inr, append_assoc, add-one}
 use Rattle.std.proofs.Math.Nat.{add_comm}
-use Rattle.std.specs.List.{list_any, before_first, after_first, position_or_len, onto_first}
+use Rattle.std.specs.List.{count_by, list_any, before_first, after_first, position_or_len}
 use Rattle.std.proofs.lemmas.Bool.{cases_Bool, false≢true}
-use Rattle.std.proofs.lemmas.Bool.Decides.{nat_tests}
 use Rattle.std.proofs.lemmas.List.{length-append, append-nil}
 use Rattle.std.proofs.lemmas.Grind.{flat_map-append, fold-append}
 use Rattle.std.proofs.lemmas.List.Folds.{list_any-append}
+use Rattle.std.proofs.lemmas.List.Sums.{sum_by_push}
 use Rattle.venue_config.specs.Rows.{Configuration, values_of}
 use Rattle.venue_text.specs.DueText.{Lines}
-use Rattle.venue_text.specs.Lines.{is_skipped, lines_of, parts_of, spoken_from}
-use Rattle.venue_text.specs.LiveInput.{Taken, are_divided, configuration_in, nothing_taken, steps_in, taken_in, taken_of, with_line}
+use Rattle.venue_text.specs.Lines.{is_skipped, lines_of, spoken_from}
+use Rattle.venue_text.specs.LiveInput.{are_divided, configuration_in, nothing_taken, steps_in, taken_in, taken_of, with_line}
 use Rattle.venue_text.specs.VenueParts.{is_divider, text_of_lines}
 
 -- The first element of a list that passes a test.
@@ -161,6 +161,14 @@ module _ (config : Configuration) (lines : List (List ℕ)) (line : List ℕ) (d
 
 abbrev is_end : ℕ → Bool
 is_end c = c == 10
+
+-- the line feeds among bytes
+pub feeds_end : (bytes : List ℕ) → count_by is_end (bytes ++ 10 ∷ []) ≡ count_by is_end bytes + 1
+feeds_end bytes = sum_by_push (λ c. cond (is_end c) 1 0) bytes 10
+
+pub feeds_stay : (bytes : List ℕ) (c : ℕ) → (c == 10) ≡ false → count_by is_end (bytes ++ c ∷ []) ≡ count_by is_end bytes
+feeds_stay bytes c goes =
+    sum_by_push (λ x. cond (is_end x) 1 0) bytes c ∙ ap (λ b. count_by is_end bytes + cond b 1 0) goes ∙ omega arith
 
 onto : (c : ℕ) (text front : List ℕ) (parts : List (List ℕ)) → (c == 10) ≡ false → lines_of text ≡ front ∷ parts → lines_of (c ∷ text) ≡ (c ∷ front) ∷ parts
 onto c text front parts goes is = rw (goes, is) refl

@@ -1,6 +1,6 @@
 -- A run of `live`: what it has answered so far, and how a fault ends it.
-use Rattle.std.proofs.Common.{◌≡◌, ◌≢◌, ◌⊎◌, ℕ, ◌+◌, ◌<◌, ◌≤◌, ◌==◌, Bool, true, false, List, [], ◌∷◌, ◌++◌, length, Option, Some, None}
-use Rattle.std.proofs.Common.{All, Result, Ok, Err, refl, sym, ap, subst, ◌∙◌, arith, inl, inr, append_assoc, nat_lt, fold, take, drop}
+use Rattle.std.proofs.Common.{◌≡◌, ◌⊎◌, ℕ, ◌+◌, ◌<◌, ◌≤◌, ◌==◌, Bool, true, false, List, [], ◌∷◌, ◌++◌, length, Option, Some, None}
+use Rattle.std.proofs.Common.{Result, Ok, Err, refl, sym, ap, subst, ◌∙◌, arith, inl, inr, append_assoc, nat_lt, take, drop}
 use Rattle.std.specs.Io.KnownBytes.{Appends, Consumes, IsAtEnd, Keeps}
 use Rattle.std.specs.List.{list_any}
 use Rattle.std.specs.Option.{IfSome}
@@ -9,6 +9,7 @@ use Rattle.std.specs.declared.alloc.Global.{Global}
 use Rattle.std.specs.Str.{is_utf8}
 use Rattle.std.proofs.lemmas.Bool.{cases_Bool, false≢true}
 use Rattle.std.proofs.lemmas.Bool.Decides.{nat_tests}
+use Rattle.std.proofs.Math.Seq.{take-append_seam}
 use Rattle.std.proofs.lemmas.List.{append-nil, length-append, take-append-drop}
 use Rattle.std.proofs.lemmas.List.Folds.{list_any-append}
 use Rattle.venue_config.specs.Config.{config_of}
@@ -20,34 +21,31 @@ use Rattle.step_replay.specs.LiveDays.{messages_in}
 use Rattle.step_replay.specs.declared.steps.Step.{Step}
 use Rattle.venue_text.specs.Faults.{told_line}
 use Rattle.venue_text.specs.Lines.{is_skipped, lines_of}
-use Rattle.venue_text.specs.LiveInput.{Taken, are_divided, configuration_in, nothing_taken, taken_in, text_in, with_line, with_read}
-use Rattle.venue_text.specs.LiveLines.{Goes, HasHeardFew, LineIsAnswered, LineIsRefused, Opens, live_text, live_steps_of}
+use Rattle.venue_text.specs.LiveInput.{Taken, are_divided, taken_in, text_in, with_read}
+use Rattle.venue_text.specs.LiveLines.{Goes, LineIsAnswered, LineIsRefused, Opens, live_text, live_steps_of}
 use Rattle.venue_text.specs.StepLines.{Heard}
-use Rattle.venue_text.specs.VenueParts.{is_divider, or_config_fault, text_of_lines, venue_of}
+use Rattle.venue_text.specs.VenueParts.{is_divider, or_config_fault, venue_of}
 use Rattle.venue_text.specs.declared.faults.ProgramFault.{ProgramFault}
-use Rattle.venue_text.specs.declared.faults.ProgramFault.TheVariants.{Input, Config, Memory, Parts, Read as NotRead}
-use Rattle.venue_text.specs.declared.faults.ProgramFault.TheVariants.{Write}
+use Rattle.venue_text.specs.declared.faults.ProgramFault.TheVariants.{Input, Config, Day, Firm, Form, Memory, Parts, Read as NotRead}
+use Rattle.venue_text.specs.declared.faults.ProgramFault.TheVariants.{Stream, UnknownFirm, UnknownRoom, Weave, Write}
 use Rattle.venue_text.specs.declared.lines.TheConstants.{MOST_INPUT}
 use Rattle.venue_text.specs.declared.live_lines.LiveDay.{LiveDay}
-use Rattle.venue_text.specs.declared.live_lines.TheConstants.{MOST_LINES}
-use Rattle.venue_commands.specs.LiveRuns.{AnswersDay, AnswersNothing, EndsDay, EndsInAnswers, EndsInLive, GainsFaults, HasAnswered}
-use Rattle.venue_commands.specs.LiveStages.{AwaitsDay, DayGoes, HasCome, IsBad, IsConfiguration, IsCut, IsDay, StageIs, StandsAt, Start}
+use Rattle.venue_commands.specs.LiveRuns.{AnswersDay, EndsWith, EndsDay, EndsInAnswers, EndsInLive, GainsFaults, HasAnswered}
+use Rattle.venue_commands.specs.LiveRuns.{ended_lines}
+use Rattle.venue_commands.specs.LiveStages.{AwaitsDay, DayGoes, IsBad, IsConfiguration, IsCut, IsDay, StageIs, StandsAt, Start}
 use Rattle.venue_commands.specs.LiveStages.{OfConfig, OfLength, OfMemory, err_new, err_old, out_new, out_old}
 use Rattle.venue_commands.specs.LiveStages.{AnswersAll, DayFails, DayTakes, EndFails, Ends, FailsIn, FeedFails, Feeds, IsNext}
 use Rattle.venue_commands.specs.LiveStages.{LineFails, LineTakes, StageFails, StageTakes, StandsFirst}
-use Rattle.venue_commands.specs.Written.{Gains, GainsPart, IsUntouched, Written}
+use Rattle.venue_commands.specs.Written.{Gains, GainsPart, Written}
 use Rattle.venue_commands.specs.declared.live.LiveRun.{LiveRun}
 use Rattle.venue_commands.specs.declared.live.Stage.{Stage}
 use Rattle.venue_commands.specs.declared.live.Stage.TheVariants as stage
-use Rattle.venue_commands.proofs.LineLemmas.{GoesOn, configuration_grows, configuration_is, configuration_stays, line_closed, line_goes_on, line_last}
-use Rattle.venue_commands.proofs.LineLemmas.{nothing_behind, now_divided, parts_stay, still_undivided, taken_line, taken_skipped, text_grows}
-use Rattle.venue_commands.proofs.StreamLemmas.{appends_both, appends_kept, keeps_same, more_part}
+use Rattle.venue_commands.specs.declared.live.TheConstants.{MOST_LINES}
+use Rattle.venue_commands.proofs.LineLemmas.{configuration_grows, configuration_is, configuration_stays, line_closed, line_goes_on, line_last}
+use Rattle.venue_commands.proofs.LineLemmas.{feeds_end, feeds_stay, nothing_behind, now_divided, parts_stay, still_undivided, taken_line, taken_skipped, text_grows}
+use Rattle.venue_commands.proofs.StreamLemmas.{appends_both, keeps_same, more_part}
 
 -- Results.
-
-pub on_ok : {A E : Type 0} (r : Result A E) (P : Type 0) → P → OnOk r P
-on_ok (Ok x) P p = p
-on_ok (Err e) P p = tt
 
 pub on_ok_both : {A E : Type 0} (r : Result A E) (P Q R : Type 0) → OnOk r P → OnOk r Q → (P → Q → R) → OnOk r R
 on_ok_both (Ok x) P Q R p q f = f p q
@@ -418,6 +416,7 @@ line_past before o e past with_frames lines start come more =
 
 cut_end : (read : List ℕ) (lines : List (List ℕ)) (begun : List ℕ) → IsCut read lines begun → IsCut (read ++ 10 ∷ []) (lines ++ begun ∷ []) []
 cut_end read lines begun cut = record {
+  count = length-append lines (begun ∷ []) ∙ ap (λ n. n + 1) cut.count ∙ sym (feeds_end read);
   closed = λ tail. ap lines_of (append_assoc read (10 ∷ []) tail) ∙ cut.closed (10 ∷ tail)
       ∙ ap (λ (l : List (List ℕ)). lines ++ l) (line_closed begun tail cut.goes_on) ∙ sym (append_assoc lines (begun ∷ []) (lines_of tail));
   goes_on = refl;
@@ -426,6 +425,7 @@ cut_end read lines begun cut = record {
 cut_more : (read : List ℕ) (lines : List (List ℕ)) (begun : List ℕ) (c : ℕ) → (c == 10) ≡ false → IsCut read lines begun
     → IsCut (read ++ c ∷ []) lines (begun ++ c ∷ [])
 cut_more read lines begun c goes cut = record {
+  count = cut.count ∙ sym (feeds_stay read c goes);
   closed = λ tail. ap lines_of (append_assoc read (c ∷ []) tail) ∙ cut.closed (c ∷ tail)
       ∙ ap (λ (t : List ℕ). lines ++ lines_of t) (sym (append_assoc begun (c ∷ []) tail));
   goes_on = rw (list_any-append (λ (x : ℕ). x == 10) begun (c ∷ []), cut.goes_on, goes) refl;
@@ -596,7 +596,31 @@ module _ (before : LiveRun) (out err : Written) (some : (length before.line.item
       (append-nil (stands.lines ++ before.line.items ∷ []) ∙ sym (last_line read stands.lines before.line.items stands.cut some))
       (fails with_frames stands.lines start stands.come [])
 
+-- the lines that came whole are those that have their line feed
+ended_is : (read : List ℕ) (lines : List (List ℕ)) (begun : List ℕ) → IsCut read lines begun → ended_lines read ≡ lines
+ended_is read lines begun cut =
+    let behind = lines_of (begun ++ []) in
+    ap (λ n. take n (lines_of read)) (sym cut.count) ∙ ap (take (length lines)) (ap lines_of (sym (append-nil read)) ∙ cut.closed [])
+    ∙ take-append_seam lines behind
+
 -- All of the input.
+
+-- a fault of lines
+ends_with : (fault : ProgramFault) (with_frames : Bool) (input : List ℕ) (left : Option (List ℕ)) (out err : Written)
+    → EndsDay with_frames fault (lines_of input) out err → EndsWith with_frames fault input left out err
+ends_with NotRead with_frames input left out err ends = absurd ends.is_fault
+ends_with Input with_frames input left out err ends = ends
+ends_with Parts with_frames input left out err ends = ends
+ends_with (Config fault) with_frames input left out err ends = ends
+ends_with Firm with_frames input left out err ends = ends
+ends_with (Form line) with_frames input left out err ends = ends
+ends_with (UnknownFirm line) with_frames input left out err ends = ends
+ends_with (UnknownRoom line) with_frames input left out err ends = ends
+ends_with (Stream line) with_frames input left out err ends = ends
+ends_with (Day what) with_frames input left out err ends = ends
+ends_with (Weave why) with_frames input left out err ends = ends
+ends_with Memory with_frames input left out err ends = ends
+ends_with Write with_frames input left out err ends = ends
 
 module _ (first mid : LiveRun) (bytes : List ℕ) (o o' o'' e e' e'' : Option (List ℕ))
     (fed : Feeds bytes first mid (record { before = o; after = o' }) (record { before = e; after = e' })) where
@@ -612,48 +636,46 @@ module _ (first mid : LiveRun) (bytes : List ℕ) (o o' o'' e e' e'' : Option (L
 
   pub all_ended : (fault : ProgramFault) (known now : Option (List ℕ)) → Consumes known now bytes → IsAtEnd now
       → EndFails mid fault (record { before = o'; after = o'' }) (record { before = e'; after = e'' })
-      → IfSome known (λ all. FailsIn all fault first (record { before = o; after = o'' }) (record { before = e; after = e'' }))
+      → IfSome known (λ all. FailsIn all now fault first (record { before = o; after = o'' }) (record { before = e; after = e'' }))
   all_ended fault None now read end ends = tt
   all_ended fault (Some all) None read end ends = absurd read
   all_ended fault (Some all) (Some ys) read end ends = λ with_frames past start stands.
       let same : past ++ bytes ≡ past ++ all = ap (λ (l : List ℕ). past ++ l) (sym (append-nil bytes) ∙ ap (λ (l : List ℕ). bytes ++ l) (sym end) ∙ sym read) in
-      subst (λ (t : List ℕ). EndsDay with_frames fault (lines_of t) (record { before = start.out; after = o'' }) (record { before = start.err; after = e'' }))
-      same (ends with_frames (past ++ bytes) start (fed with_frames past start stands))
+      ends_with fault with_frames (past ++ all) (Some ys) (record { before = start.out; after = o'' }) (record { before = start.err; after = e'' })
+      (subst (λ (t : List ℕ). EndsDay with_frames fault (lines_of t) (record { before = start.out; after = o'' }) (record { before = start.err; after = e'' }))
+      same (ends with_frames (past ++ bytes) start (fed with_frames past start stands)))
 
   pub all_failed : (fault : ProgramFault) (more : List ℕ) (known now : Option (List ℕ)) → Consumes known now (bytes ++ more)
       → FeedFails more mid fault (record { before = o'; after = o'' }) (record { before = e'; after = e'' })
-      → IfSome known (λ all. FailsIn all fault first (record { before = o; after = o'' }) (record { before = e; after = e'' }))
+      → IfSome known (λ all. FailsIn all now fault first (record { before = o; after = o'' }) (record { before = e; after = e'' }))
   all_failed fault more None now read fails = tt
   all_failed fault more (Some all) None read fails = absurd read
   all_failed fault more (Some all) (Some ys) read fails = λ with_frames past start stands.
       let same : ((past ++ bytes) ++ more) ++ ys ≡ past ++ all =
       append_assoc (past ++ bytes) more ys ∙ append_assoc past bytes (more ++ ys)
       ∙ ap (λ (l : List ℕ). past ++ l) (sym (append_assoc bytes more ys) ∙ sym read) in
-      subst (λ (t : List ℕ). EndsDay with_frames fault (lines_of t) (record { before = start.out; after = o'' }) (record { before = start.err; after = e'' }))
-      same (fails with_frames (past ++ bytes) start (fed with_frames past start stands) ys)
+      ends_with fault with_frames (past ++ all) (Some ys) (record { before = start.out; after = o'' }) (record { before = start.err; after = e'' })
+      (subst (λ (t : List ℕ). EndsDay with_frames fault (lines_of t) (record { before = start.out; after = o'' }) (record { before = start.err; after = e'' }))
+      same (fails with_frames (past ++ bytes) start (fed with_frames past start stands) ys))
 
--- the reader failed
-read_fails : (run : LiveRun) (o e : Option (List ℕ)) → FeedFails [] run NotRead (still o) (still e)
-read_fails run o e with_frames read start stands tail = record {
-  is_fault = tt;
-  lines = stands.lines;
-  rest = lines_of (run.line.items ++ tail);
-  split = ap (λ (t : List ℕ). lines_of (t ++ tail)) (append-nil read) ∙ stands.cut.closed tail;
-  left = answered_by with_frames stands.lines run.stage _ _ stands.come.stage_is;
-}
-
-consumes_kept : (known mid now : Option (List ℕ)) (bytes : List ℕ) → Consumes known mid bytes → Keeps mid now → Consumes known now (bytes ++ [])
-consumes_kept None mid now bytes read kept = tt
-consumes_kept (Some all) None now bytes read kept = absurd read
-consumes_kept (Some all) (Some ys) None bytes read kept = absurd kept
-consumes_kept (Some all) (Some ys) (Some zs) bytes read kept =
-    read ∙ ap (λ (l : List ℕ). bytes ++ l) (sym kept) ∙ ap (λ (l : List ℕ). l ++ zs) (sym (append-nil bytes))
-
+-- the reader failed: all lines that it gave were answered
 pub all_unread : (first mid : LiveRun) (bytes : List ℕ) (o o' e e' known now later : Option (List ℕ))
     → Feeds bytes first mid (record { before = o; after = o' }) (record { before = e; after = e' }) → Consumes known now bytes → Keeps now later
-    → IfSome known (λ all. FailsIn all NotRead first (record { before = o; after = o' }) (record { before = e; after = e' }))
-all_unread first mid bytes o o' e e' known now later fed read kept =
-    all_failed first mid bytes o o' o' e e' e' fed NotRead [] known later (consumes_kept known now later bytes read kept) (read_fails mid o' e')
+    → IfSome known (λ all. FailsIn all later NotRead first (record { before = o; after = o' }) (record { before = e; after = e' }))
+all_unread first mid bytes o o' e e' None now later fed read kept = tt
+all_unread first mid bytes o o' e e' (Some all) None later fed read kept = absurd read
+all_unread first mid bytes o o' e e' (Some all) (Some ys) None fed read kept = absurd kept
+all_unread first mid bytes o o' e e' (Some all) (Some ys) (Some zs) fed read kept = λ with_frames past start stands.
+    let come = fed with_frames past start stands in
+    record {
+      got = past ++ bytes;
+      rest = zs;
+      split = ap (λ (l : List ℕ). past ++ l) (read ∙ ap (λ (l : List ℕ). bytes ++ l) (sym kept)) ∙ sym (append_assoc past bytes zs);
+      is_left = refl;
+      answered = subst (λ (l : List (List ℕ)). HasAnswered with_frames l (record { before = start.out; after = o' }) (record { before = start.err; after = e' }))
+          (sym (ended_is (past ++ bytes) come.lines mid.line.items come.cut))
+          (answered_by with_frames come.lines mid.stage _ _ come.come.stage_is);
+    }
 
 consumes_both : (known mid now : Option (List ℕ)) (a b : List ℕ) → Consumes known mid a → Consumes mid now b → Consumes known now (a ++ b)
 consumes_both None mid now a b one two = tt
@@ -680,7 +702,7 @@ pub first_stands : (with_frames : Bool) (run : LiveRun) → run.number ≡ 1 →
     → run.stage ≡ stage.Configuration t → t.items ≡ [] → StandsFirst with_frames run
 first_stands with_frames run number form line t at empty start = record {
   lines = [];
-  cut = record { closed = λ tail. ap (λ (l : List ℕ). lines_of (l ++ tail)) (sym line); goes_on = ap (list_any (λ (c : ℕ). c == 10)) line };
+  cut = record { count = refl; closed = λ tail. ap (λ (l : List ℕ). lines_of (l ++ tail)) (sym line); goes_on = ap (list_any (λ (c : ℕ). c == 10)) line };
   come = record {
     number_is = number;
     form_is = form;
@@ -692,19 +714,25 @@ first_stands with_frames run number form line t at empty start = record {
   };
 }
 
-pub run_answered : (with_frames : Bool) (run : LiveRun) (known : Option (List ℕ)) (out err : Written) → StandsFirst with_frames run
-    → IfSome known (λ all. AnswersAll all run out err) → EndsInLive with_frames 0 known out err
-run_answered with_frames run None out err first answers = (inl refl, tt)
-run_answered with_frames run (Some all) out err first answers =
+pub run_answered : (with_frames : Bool) (run : LiveRun) (known left : Option (List ℕ)) (out err : Written) → StandsFirst with_frames run
+    → IfSome known (λ all. AnswersAll all run out err)
+    → EndsInLive with_frames 0 (record { input = known; left = left; out = out; err = err })
+run_answered with_frames run None left out err first answers = (inl refl, tt)
+run_answered with_frames run (Some all) left out err first answers =
     let start : Start = record { out = out.before; err = err.before } in
     (inl refl, inl (refl, answers with_frames [] start (first start)))
 
-pub run_failed : (with_frames : Bool) (run : LiveRun) (known o o' e e' e'' : Option (List ℕ)) (fault : ProgramFault) (status : ℕ)
+pub run_failed : (with_frames : Bool) (run : LiveRun) (known left o o' e e' e'' : Option (List ℕ)) (fault : ProgramFault) (status : ℕ)
     → StandsFirst with_frames run
-    → IfSome known (λ all. FailsIn all fault run (record { before = o; after = o' }) (record { before = e; after = e' }))
+    → IfSome known (λ all. FailsIn all left fault run (record { before = o; after = o' }) (record { before = e; after = e' }))
     → status ≡ 1 → GainsPart (told_line [] fault) (record { before = e'; after = e'' })
-    → EndsInLive with_frames status known (record { before = o; after = o' }) (record { before = e; after = e'' })
-run_failed with_frames run None o o' e e' e'' fault status first fails one told = (inr one, tt)
-run_failed with_frames run (Some all) o o' e e' e'' fault status first fails one told =
+    → EndsInLive with_frames status (record {
+      input = known;
+      left = left;
+      out = record { before = o; after = o' };
+      err = record { before = e; after = e'' };
+    })
+run_failed with_frames run None left o o' e e' e'' fault status first fails one told = (inr one, tt)
+run_failed with_frames run (Some all) left o o' e e' e'' fault status first fails one told =
     let start : Start = record { out = o; err = e } in
     (inr one, inr (one, record { fault = fault; mid = e'; ends = fails with_frames [] start (first start); told = told }))

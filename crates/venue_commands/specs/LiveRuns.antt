@@ -1,8 +1,8 @@
 -- How a run of `live` ends, by the lines of its input alone: so what it prints does not depend on
 -- how the input comes, in whatever pieces.
-use Rattle.std.specs.Prelude.{◌≡◌, ◌<◌, ◌⊎◌, ℕ, Bool, true, false, List, [], ◌∷◌, ◌++◌, length}
-use Rattle.std.specs.Prelude.{nat_lt, Option, Ok, Err}
-use Rattle.std.specs.List.{list_any}
+use Rattle.std.specs.Prelude.{◌≡◌, ◌<◌, ◌==◌, ◌⊎◌, ℕ, Bool, true, false, List, [], ◌∷◌, ◌++◌}
+use Rattle.std.specs.Prelude.{length, nat_lt, take, Option, Some, Ok, Err}
+use Rattle.std.specs.List.{count_by, list_any}
 use Rattle.std.specs.Option.{IfSome}
 use Rattle.venue_config.specs.Rows.{Configuration, values_of}
 use Rattle.venue_text.specs.Faults.{told_line}
@@ -13,8 +13,8 @@ use Rattle.venue_text.specs.declared.faults.ProgramFault.{ProgramFault}
 use Rattle.venue_text.specs.declared.faults.ProgramFault.TheVariants.{Read, Input, Parts, Config}
 use Rattle.venue_text.specs.declared.faults.ProgramFault.TheVariants.{Memory, Write}
 use Rattle.venue_text.specs.declared.lines.TheConstants.{MOST_INPUT}
-use Rattle.venue_text.specs.declared.live_lines.TheConstants.{MOST_LINES}
-use Rattle.venue_commands.specs.Written.{Written, Gains, GainsPart, IsUntouched}
+use Rattle.venue_commands.specs.Written.{Streams, Written, Gains, GainsPart, IsUntouched}
+use Rattle.venue_commands.specs.declared.live.TheConstants.{MOST_LINES}
 
 -- the lines of faults, one behind the other; of each a part from its front where it was refused
 abbrev pub GainsFaults : List ProgramFault → Written → Type 0
@@ -66,9 +66,8 @@ ArePastLimits lines =
     (list_any (λ line. nat_lt MOST_INPUT (length line)) lines ≡ true)
     ⊎ ((MOST_INPUT < length (configuration_in lines)) ⊎ (MOST_LINES < length lines))
 
--- what a fault that ends the day says of all lines of the input
+-- what a fault of lines that ends the day says of all lines of the input
 abbrev pub IsLiveFault : ProgramFault → List (List ℕ) → Type 0
-IsLiveFault Read lines = Unit {0}
 IsLiveFault Memory lines = Unit {0}
 IsLiveFault Write lines = Unit {0}
 IsLiveFault Input lines = ArePastLimits lines
@@ -85,13 +84,33 @@ pub record EndsDay (with_frames : Bool) (fault : ProgramFault) (all : List (List
   pub split : all ≡ lines ++ rest
   pub left : Leaves with_frames fault lines out err
 
+-- the lines of bytes that have their line feed: as many as there are line feeds
+abbrev pub ended_lines : List ℕ → List (List ℕ)
+ended_lines bytes = take (count_by (λ c. c == 10) bytes) (lines_of bytes)
+
+-- The input can't be read on: what was got of it are all of its bytes but those that are left, and
+-- exactly the lines that ended in them were answered.
+pub record EndsInRead (with_frames : Bool) (input : List ℕ) (left : Option (List ℕ))
+    (out err : Written) : Type 0 where
+  pub got : List ℕ
+  pub rest : List ℕ
+  pub split : input ≡ got ++ rest
+  pub is_left : left ≡ Some rest
+  pub answered : HasAnswered with_frames (ended_lines got) out err
+
+-- How a fault ends the day, by the bytes of the input, and by what is left of them for `read`.
+abbrev pub EndsWith : Bool → ProgramFault → List ℕ → Option (List ℕ) → Written → Written → Type 0
+EndsWith with_frames Read input left out err = EndsInRead with_frames input left out err
+EndsWith with_frames fault input left out err = EndsDay with_frames fault (lines_of input) out err
+
 -- the same, and the fault was told behind the others
-pub record EndsInLiveFault (with_frames : Bool) (all : List (List ℕ)) (out err : Written)
+pub record EndsInLiveFault (with_frames : Bool) (input : List ℕ) (streams : Streams)
     : Type 0 where
   pub fault : ProgramFault
   pub mid : Option (List ℕ)
-  pub ends : EndsDay with_frames fault all out (record { before = err.before; after = mid })
-  pub told : GainsPart (told_line [] fault) (record { before = mid; after = err.after })
+  pub ends : EndsWith with_frames fault input streams.left streams.out
+      (record { before = streams.err.before; after = mid })
+  pub told : GainsPart (told_line [] fault) (record { before = mid; after = streams.err.after })
 
 -- all lines of the input were answered
 abbrev pub EndsInAnswers : Bool → List (List ℕ) → Written → Written → Type 0
@@ -100,13 +119,13 @@ EndsInAnswers with_frames all out err =
 
 -- How a run ends over an input: with status 0 and all of its answers, or with status 1 behind some
 -- of them.
-abbrev pub EndsOver : Bool → List ℕ → ℕ → Written → Written → Type 0
-EndsOver with_frames input status out err =
-    ((status ≡ 0) × EndsInAnswers with_frames (lines_of input) out err)
-    ⊎ ((status ≡ 1) × EndsInLiveFault with_frames (lines_of input) out err)
+abbrev pub EndsOver : Bool → List ℕ → ℕ → Streams → Type 0
+EndsOver with_frames input status streams =
+    ((status ≡ 0) × EndsInAnswers with_frames (lines_of input) streams.out streams.err)
+    ⊎ ((status ≡ 1) × EndsInLiveFault with_frames input streams)
 
 -- The same where the input is known.
-abbrev pub EndsInLive : Bool → ℕ → Option (List ℕ) → Written → Written → Type 0
-EndsInLive with_frames status input out err =
+abbrev pub EndsInLive : Bool → ℕ → Streams → Type 0
+EndsInLive with_frames status streams =
     ((status ≡ 0) ⊎ (status ≡ 1))
-    × IfSome input (λ all. EndsOver with_frames all status out err)
+    × IfSome streams.input (λ all. EndsOver with_frames all status streams)

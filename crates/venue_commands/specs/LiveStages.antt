@@ -1,17 +1,18 @@
 -- How far a run of `live` has come: words of private functions alone.
 use Rattle.std.specs.Prelude.{◌≡◌, ◌<◌, ℕ, ◌+◌, ◌==◌, Bool, true, false, List, [], ◌∷◌, ◌++◌}
 use Rattle.std.specs.Prelude.{length, Option, Some, None, Err}
-use Rattle.std.specs.List.{list_any}
+use Rattle.std.specs.List.{count_by, list_any}
 use Rattle.venue_config.specs.Rows.{Configuration}
 use Rattle.venue_text.specs.Lines.{lines_of}
 use Rattle.venue_text.specs.LiveInput.{taken_in}
-use Rattle.venue_text.specs.LiveLines.{Goes, HasHeardFew, Opens}
+use Rattle.venue_text.specs.LiveLines.{Goes, Opens}
 use Rattle.venue_text.specs.VenueParts.{is_divider, text_of_lines, venue_of}
 use Rattle.venue_text.specs.declared.faults.ProgramFault.{ProgramFault}
 use Rattle.venue_text.specs.declared.faults.ProgramFault.TheVariants as program
 use Rattle.venue_text.specs.declared.lines.TheConstants.{MOST_INPUT}
 use Rattle.venue_text.specs.declared.live_lines.LiveDay.{LiveDay}
-use Rattle.venue_commands.specs.LiveRuns.{AnswersDay, AnswersNothing, EndsDay, EndsInAnswers}
+use Rattle.venue_commands.specs.LiveRuns.{AnswersDay, AnswersNothing, EndsWith, EndsDay}
+use Rattle.venue_commands.specs.LiveRuns.{EndsInAnswers}
 use Rattle.venue_commands.specs.Written.{Written}
 use Rattle.venue_commands.specs.declared.live.LiveRun.{LiveRun}
 use Rattle.venue_commands.specs.declared.live.Stage.{Stage}
@@ -40,13 +41,9 @@ pub record HasCome (with_frames : Bool) (lines : List (List ℕ)) (run : LiveRun
   pub form_is : run.with_frames ≡ with_frames
   pub stage_is : StageIs with_frames lines run.stage out err
 
--- no firm has spoken more often than there were lines
-abbrev pub IsCounted : ℕ → Stage → Type 0
-IsCounted number (stage.Configuration text) = Unit {0}
-IsCounted number (stage.Day day) = HasHeardFew number day
-
 -- bytes are these lines, each with its end, and one that has begun
 pub record IsCut (read : List ℕ) (lines : List (List ℕ)) (begun : List ℕ) : Type 0 where
+  pub count : length lines ≡ count_by (λ c. c == 10) read
   pub closed : (tail : List ℕ) → lines_of (read ++ tail) ≡ lines ++ lines_of (begun ++ tail)
   pub goes_on : list_any (λ c. c == 10) begun ≡ false
 
@@ -146,7 +143,7 @@ abbrev pub IsNext : Bool → List ℕ → List ℕ → List ℕ → Option LiveD
 IsNext with_frames line before after None =
     (is_divider line ≡ false) × (after ≡ before ++ line ++ 10 ∷ [])
 IsNext with_frames line before after (Some day) =
-    (is_divider line ≡ true) × Opens with_frames before day × HasHeardFew 1 day
+    (is_divider line ≡ true) × Opens with_frames before day
 
 -- why it is at fault
 pub data IsBad (line before : List ℕ) (fault : ProgramFault) : Type 0 where
@@ -175,7 +172,7 @@ AnswersAll all before out err = (with_frames : Bool) (read : List ℕ) (start : 
     → StandsAt with_frames read before (out_old start out) (err_old start err)
     → EndsInAnswers with_frames (lines_of (read ++ all)) (out_new start out) (err_new start err)
 
-abbrev pub FailsIn : List ℕ → ProgramFault → LiveRun → Written → Written → Type 0
-FailsIn all fault before out err = (with_frames : Bool) (read : List ℕ) (start : Start)
+abbrev pub FailsIn : List ℕ → Option (List ℕ) → ProgramFault → LiveRun → Written → Written → Type 0
+FailsIn all left fault before out err = (with_frames : Bool) (read : List ℕ) (start : Start)
     → StandsAt with_frames read before (out_old start out) (err_old start err)
-    → EndsDay with_frames fault (lines_of (read ++ all)) (out_new start out) (err_new start err)
+    → EndsWith with_frames fault (read ++ all) left (out_new start out) (err_new start err)

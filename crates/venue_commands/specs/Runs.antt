@@ -1,5 +1,5 @@
 -- How a run of the program ends.
-use Rattle.std.specs.Prelude.{◌≡◌, ◌<◌, ◌≤◌, ◌⊎◌, ℕ, Bool, true, List, [], ◌++◌, length, take}
+use Rattle.std.specs.Prelude.{◌≡◌, ◌<◌, ◌≤◌, ◌⊎◌, ℕ, Bool, true, List, [], ◌++◌, length}
 use Rattle.std.specs.Prelude.{Option, Some, None, Result, Ok, Err}
 use Rattle.std.specs.Option.{IfSome}
 use Rattle.clap.specs.Kinds.{Kinds}
@@ -19,7 +19,7 @@ use Rattle.venue_commands.specs.Arguments.{compare, day, due, live, live_form, m
 use Rattle.venue_commands.specs.Arguments.{may_be_mistake, replay}
 use Rattle.venue_commands.specs.LiveRuns.{EndsInLive}
 use Rattle.venue_commands.specs.ThreadedDays.{IsDay, IsDayFault}
-use Rattle.venue_commands.specs.Written.{Written, Gains, GainsPart, IsUntouched}
+use Rattle.venue_commands.specs.Written.{Streams, Written, Gains, GainsPart, IsUntouched}
 use Rattle.venue_commands.specs.declared.process.ArgumentFault.{ArgumentFault}
 use Rattle.venue_commands.specs.declared.process.ArgumentFault.TheVariants as argument
 
@@ -53,13 +53,6 @@ word_of (live with_frames) = []
 word_of (due dealer) = dealer
 word_of (compare dealer) = dealer
 word_of (blotter firm) = firm
-
--- The streams of a run: what standard input had to give, where it tells, and what was written to
--- standard output and to standard error.
-pub record Streams : Type 0 where
-  pub input : Option (List ℕ)
-  pub out : Written
-  pub err : Written
 
 -- What was read of all bytes: their front, and all of them unless there are more than an input has.
 pub record IsReadOf (all bytes : List ℕ) : Type 0 where
@@ -144,8 +137,7 @@ EndsTold kinds status out err =
 
 -- How a run of a command ends, whichever it is.
 abbrev pub EndsOf : Option Bool → Command → ℕ → Streams → Type 0
-EndsOf (Some with_frames) command status streams =
-    EndsInLive with_frames status streams.input streams.out streams.err
+EndsOf (Some with_frames) command status streams = EndsInLive with_frames status streams
 EndsOf None command status streams = EndsInCommand command status streams
 
 -- How a run ends, by the command that is asked for, or else by what is wrong with the arguments.

@@ -1,4 +1,4 @@
--- What a run has written to a stream.
+-- What a run has read of its input, and written to its streams.
 use Rattle.std.specs.Prelude.{ℕ, List, take, Option}
 use Rattle.std.specs.Io.KnownBytes.{Appends, Keeps}
 
@@ -6,6 +6,14 @@ use Rattle.std.specs.Io.KnownBytes.{Appends, Keeps}
 pub record Written : Type 0 where
   pub before : Option (List ℕ)
   pub after : Option (List ℕ)
+
+-- The streams of a run: what standard input had to give and what is left of it, where it tells, and
+-- what was written to standard output and to standard error.
+pub record Streams : Type 0 where
+  pub input : Option (List ℕ)
+  pub left : Option (List ℕ)
+  pub out : Written
+  pub err : Written
 
 -- nothing was written
 abbrev pub IsUntouched : Written → Type 0

@@ -53,17 +53,13 @@ pub(crate) fn day_text<H: Threads + Wait + Sync>(
 }
 
 /// Into how many steps a day is woven, or why it is not.
-fn count_woven(
-    alloc: Global,
-    venue: &VenueConfig,
-    record: &DayRecord,
-) -> Result<usize, ProgramFault>
+fn count_woven(alloc: Global, venue: &VenueConfig, day: &DayRecord) -> Result<usize, ProgramFault>
     ensures ok { IfOk result (λ count.
-        spec.IsWovenLine venue.now record.now (woven_line count)) }
+        spec.IsWovenLine venue.now day.now (woven_line count)) }
     ensures err { IfErr result (λ fault. (why : WeaveFault)
-        × (fault ≡ spec.unwoven why) × FaultIsTrue venue.now record.now why) }
+        × (fault ≡ spec.unwoven why) × FaultIsTrue venue.now day.now why) }
 {
-    match weave(alloc, venue, record) {
+    match weave(alloc, venue, day) {
         Ok(steps) => Ok(steps.len()),
         Err(fault) => Err(unwoven(&fault)),
     }

@@ -32,5 +32,6 @@ mod program;
 mod texts;
 
 pub use command::{arguments_have_these_faults, these_arguments_are_commands};
+pub use live::MOST_LINES;
 pub use process::{ArgumentFault, process_arguments, run_process};
 pub use program::run_program;

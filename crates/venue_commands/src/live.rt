@@ -4,7 +4,6 @@ ghost use Rattle.std.specs.Prelude.{IfOk, IfErr, IfSome, OnOk, OnErr};
 ghost use Rattle.std.specs.Io.KnownBytes.{Keeps};
 ghost use Rattle.venue_text.specs.Faults.{told_line};
 ghost use Rattle.venue_text.specs.Lines.{lines_of};
-ghost use Rattle.venue_text.specs.LiveLines.{HasHeardFew};
 ghost use Rattle.venue_commands.specs.LiveRuns as spec;
 ghost use Rattle.venue_commands.specs.LiveStages as stages;
 ghost use Rattle.venue_commands.specs.Written.{GainsPart};
@@ -13,7 +12,10 @@ use crate::program::{print_text, report};
 use std::alloc::Global;
 use std::io::{Read, Write};
 use std::mem;
-use venue_text::{LiveDay, MOST_INPUT, MOST_LINES, ProgramFault, same_text};
+use venue_text::{LiveDay, MOST_INPUT, ProgramFault, same_text};
+
+/// How many lines a day that goes on may have.
+pub const MOST_LINES: usize = 1_000_000_000_000_000;
 
 /// How many bytes are read at once.
 const CHUNK: usize = 16_384;
@@ -48,9 +50,12 @@ pub(crate) fn run_live<R: Read, W: Write, E: Write>(
     out: &mut W,
     err: &mut E,
 ) -> u8
-    ensures { spec.EndsInLive with_frames result (R.remaining input.old)
-        (record { before = W.contents out.old; after = W.contents out.new })
-        (record { before = E.contents err.old; after = E.contents err.new }) }
+    ensures { spec.EndsInLive with_frames result (record {
+      input = R.remaining input.old;
+      left = R.remaining input.new;
+      out = record { before = W.contents out.old; after = W.contents out.new };
+      err = record { before = E.contents err.old; after = E.contents err.new };
+    }) }
 {
     let mut run = LiveRun::new(alloc, with_frames);
     let Err(fault) = answer_all(&mut run, input, out, err) else {
@@ -66,13 +71,12 @@ fn answer_all<R: Read, W: Write, E: Write>(
     out: &mut W,
     err: &mut E,
 ) -> Result<(), ProgramFault>
-    requires { stages.IsCounted run.old.number run.old.stage }
     ensures ok { OnOk result (IfSome (R.remaining input.old) (λ all.
         stages.AnswersAll all run.old
         (record { before = W.contents out.old; after = W.contents out.new })
         (record { before = E.contents err.old; after = E.contents err.new }))) }
     ensures err { IfErr result (λ fault. IfSome (R.remaining input.old) (λ all.
-        stages.FailsIn all fault run.old
+        stages.FailsIn all (R.remaining input.new) fault run.old
         (record { before = W.contents out.old; after = W.contents out.new })
         (record { before = E.contents err.old; after = E.contents err.new }))) }
 {
@@ -95,7 +99,6 @@ impl LiveRun {
     /// Nothing was read.
     fn new(alloc: Global, with_frames: bool) -> Self
         ensures first { stages.StandsFirst with_frames result }
-        ensures few { stages.IsCounted result.number result.stage }
     {
         LiveRun {
             alloc,
@@ -113,8 +116,6 @@ impl LiveRun {
         out: &mut W,
         err: &mut E,
     ) -> Result<(), ProgramFault>
-        requires { stages.IsCounted self.old.number self.old.stage }
-        ensures few { OnOk result (stages.IsCounted self.new.number self.new.stage) }
         ensures ok { OnOk result (stages.Feeds bytes.now self.old self.new
             (record { before = W.contents out.old; after = W.contents out.new })
             (record { before = E.contents err.old; after = E.contents err.new })) }
@@ -135,8 +136,6 @@ impl LiveRun {
         out: &mut W,
         err: &mut E,
     ) -> Result<(), ProgramFault>
-        requires { stages.IsCounted self.old.number self.old.stage }
-        ensures few { OnOk result (stages.IsCounted self.new.number self.new.stage) }
         ensures ok { OnOk result (stages.Feeds (byte ∷ []) self.old self.new
             (record { before = W.contents out.old; after = W.contents out.new })
             (record { before = E.contents err.old; after = E.contents err.new })) }
@@ -154,7 +153,6 @@ impl LiveRun {
 
     /// The input ends: bytes behind the last line feed are a line, too.
     fn end<W: Write, E: Write>(&mut self, out: &mut W, err: &mut E) -> Result<(), ProgramFault>
-        requires { stages.IsCounted self.old.number self.old.stage }
         ensures ok { OnOk result (stages.Ends self.old
             (record { before = W.contents out.old; after = W.contents out.new })
             (record { before = E.contents err.old; after = E.contents err.new })) }
@@ -177,8 +175,6 @@ impl LiveRun {
         out: &mut W,
         err: &mut E,
     ) -> Result<(), ProgramFault>
-        requires { stages.IsCounted self.old.number self.old.stage }
-        ensures few { OnOk result (stages.IsCounted self.new.number self.new.stage) }
         ensures empty { OnOk result (self.new.line.items ≡ []) }
         ensures ok { OnOk result (stages.LineTakes self.old self.new
             (record { before = W.contents out.old; after = W.contents out.new })
@@ -241,9 +237,6 @@ fn answer_at<W: Write, E: Write>(
     out: &mut W,
     err: &mut E,
 ) -> Result<(), ProgramFault>
-    requires counted { stages.IsCounted number stage.old }
-    requires within { number ≤ MOST_LINES }
-    ensures few { OnOk result (stages.IsCounted (number + 1) stage.new) }
     ensures ok { OnOk result (stages.StageTakes with_frames number line.now stage.old stage.new
         (record { before = W.contents out.old; after = W.contents out.new })
         (record { before = E.contents err.old; after = E.contents err.new })) }
@@ -309,9 +302,6 @@ fn answer_step<W: Write, E: Write>(
     out: &mut W,
     err: &mut E,
 ) -> Result<(), ProgramFault>
-    requires counted { HasHeardFew number day.old }
-    requires within { number ≤ MOST_LINES }
-    ensures few { OnOk result (HasHeardFew (number + 1) day.new) }
     ensures ok { OnOk result (stages.DayTakes number line.now day.old day.new
         (record { before = W.contents out.old; after = W.contents out.new })
         (record { before = E.contents err.old; after = E.contents err.new })) }

@@ -65,6 +65,7 @@ pub fn run_process<H: Threads + Wait + Sync, R: Read, W: Write, E: Write>(
     ensures { spec.EndsProcess (spec.as_texts (λ v. map string_bytes v.items) arguments.now)
         (exit_status result) (record {
           input = R.remaining input.old;
+          left = R.remaining input.new;
           out = record { before = W.contents out.old; after = W.contents out.new };
           err = record { before = E.contents err.old; after = E.contents err.new };
         }) }
@@ -85,6 +86,7 @@ fn run_status<H: Threads + Wait + Sync, R: Read, W: Write, E: Write>(
     ensures { spec.EndsProcess (spec.as_texts (λ v. map string_bytes v.items) arguments.now)
         result (record {
           input = R.remaining input.old;
+          left = R.remaining input.new;
           out = record { before = W.contents out.old; after = W.contents out.new };
           err = record { before = E.contents err.old; after = E.contents err.new };
         }) }

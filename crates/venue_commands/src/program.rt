@@ -35,6 +35,7 @@ pub fn run_program<H: Threads + Wait + Sync, S: AsStr, R: Read, W: Write, E: Wri
 ) -> u8
     ensures { spec.EndsAsAsked (map S.text arguments.now) result (record {
       input = R.remaining input.old;
+      left = R.remaining input.new;
       out = record { before = W.contents out.old; after = W.contents out.new };
       err = record { before = E.contents err.old; after = E.contents err.new };
     }) }
@@ -60,6 +61,7 @@ fn run_command<H: Threads + Wait + Sync, R: Read, W: Write, E: Write>(
 ) -> u8
     ensures { spec.EndsOf (live_form (meant command.now)) (meant command.now) result (record {
       input = R.remaining input.old;
+      left = R.remaining input.new;
       out = record { before = W.contents out.old; after = W.contents out.new };
       err = record { before = E.contents err.old; after = E.contents err.new };
     }) }
@@ -82,6 +84,7 @@ fn run_text_command<H: Threads + Wait + Sync, R: Read, W: Write, E: Write>(
     requires { live_form (meant command.now) ≡ None }
     ensures { spec.EndsInCommand (meant command.now) result (record {
       input = R.remaining input.old;
+      left = R.remaining input.new;
       out = record { before = W.contents out.old; after = W.contents out.new };
       err = record { before = E.contents err.old; after = E.contents err.new };
     }) }

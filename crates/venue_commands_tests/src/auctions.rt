@@ -1,49 +1,12 @@
 //! Worked days of the venue on which a quote is hit, with each message of each firm. Each value was
 //! written down before there was a program.
-use crate::fixtures::{HIT, VENUE, assert_printed, joined, ran};
+use crate::fixtures::{HIT, assert_printed, day_of, joined, ran};
 use crate::live::assert_same_live;
+use message_fixtures::{VENUE, with_grids};
 use std::marker::Sync;
 use std::process::Abort;
 use std::sync::Wait;
 use std::thread::Threads;
-
-/// The venue of most days in version 2 of the configuration.
-const VENUE_WITH_GRIDS: &[u8] = b"version = 2
-date = \"20250314\"
-[[bond]]
-id = \"BONDA0000001\"
-grid = 256
-[[bond]]
-id = \"BONDB0000002\"
-grid = 256
-[[dealer]]
-name = \"DLR1\"
-traders = [\"T1\"]
-quotes = 4
-exposure = 10000000
-[[dealer]]
-name = \"DLR2\"
-traders = [\"T2\"]
-quotes = 4
-exposure = 10000000
-[[dealer]]
-name = \"DLR3\"
-traders = [\"T3\"]
-quotes = 4
-exposure = 10000000
-[[investor]]
-name = \"INV1\"
-traders = [\"T8\"]
-requests = 3
-open = 2
-quantity = 5000000
-[[investor]]
-name = \"INV2\"
-traders = [\"T9\"]
-requests = 3
-open = 2
-quantity = 5000000
-";
 
 pub(crate) const ASKS_TWO: &[u8] =
     b"say INV1 T8 09:00:00 R 131=A|146=1|48=BONDA0000001|22=4|54=1|38=2000000|\
@@ -121,8 +84,7 @@ pub(crate) fn assert_day<T: Threads + Wait + Sync + Abort + AllocGlobal>(
     others: &[&[u8]],
 ) {
     assert_raced_day(rt, steps, dealer, others);
-    let steps = joined(rt, steps);
-    let input = joined(rt, &[VENUE, b"%%\n", steps.as_slice()]);
+    let input = day_of(rt, steps);
     assert_same_live(rt, input.as_slice());
 }
 
@@ -134,8 +96,9 @@ fn assert_raced_day<T: Threads + Wait + Sync + Abort + AllocGlobal>(
     dealer: &[&[u8]],
     others: &[&[u8]],
 ) {
-    assert_day_of(rt, VENUE, steps, dealer, others);
-    assert_day_of(rt, VENUE_WITH_GRIDS, steps, dealer, others);
+    assert_day_of(rt, VENUE.as_bytes(), steps, dealer, others);
+    let finest = with_grids(rt.alloc(), 256, 256).ok().expect(rt, "memory");
+    assert_day_of(rt, finest.as_bytes(), steps, dealer, others);
 }
 
 const TIE: &[u8] = b"say DLR3 T3 09:00:10 S 117=c1|131=R1|48=BONDA0000001|22=4|133=99.5

@@ -1,17 +1,10 @@
 //! The commands over a day of the venue: one auction, which INV1 opens and in which it hits DLR1.
+use crate::auctions::{ASKS_TWO, QUOTES, TURNS};
 use crate::fixtures::{
-    ACCEPTED_FRAME, CANCEL, HIT, VENUE, assert_fault, assert_printed, joined, ran,
+    ACCEPTED_FRAME, CANCEL, HIT, assert_fault, assert_printed, day_of, joined, ran,
 };
+use message_fixtures::VENUE;
 use std::process::Abort;
-
-const QUOTED: &[u8] =
-    b"say INV1 T8 09:00:00 R 131=A|146=1|48=BONDA0000001|22=4|54=1|38=2000000|126=20250314-09:05:00|453=2|448=DLR1|447=D|452=35|448=DLR2|447=D|452=35
-turn INV1 4
-say DLR1 T1 09:00:10 S 117=a1|131=R1|48=BONDA0000001|22=4|133=99.50390625
-turn DLR1 2
-say DLR2 T2 09:00:20 S 117=b1|131=R1|48=BONDA0000001|22=4|133=99.515625
-turn DLR2 2
-";
 
 const DEALERS: &[u8] =
     b"DLR1 1 09:00:00.000 R 131=R1|146=1|55=[N/A]|48=BONDA0000001|22=4|54=1|38=2000000|126=20250314-09:05:00.000|453=1|448=INV1|447=D|452=13
@@ -38,7 +31,7 @@ closed 1 1 09:01:00.000
 
 /// The input of the day: the venue, and the steps of the auction.
 fn auction<T: Abort + AllocGlobal>(rt: &T) -> Vec<u8> {
-    joined(rt, &[VENUE, b"%%\n", QUOTED, HIT, b"turn INV1 4\n"])
+    day_of(rt, &[ASKS_TWO, TURNS, QUOTES, HIT, TURNS])
 }
 
 #[test]
@@ -49,14 +42,14 @@ fn replay_prints_dealers_and_then_investors(rt: HostRuntime) {
     assert_printed(&rt, &["replay", "INV1"], input.as_slice(), INVESTOR);
     assert_printed(&rt, &["replay", "--", "INV1"], input.as_slice(), INVESTOR);
     assert_printed(&rt, &["replay", "DLR3"], input.as_slice(), b"");
-    let nothing = joined(&rt, &[VENUE, b"%%\n"]);
+    let nothing = day_of(&rt, &[]);
     assert_printed(&rt, &["replay"], nothing.as_slice(), b"");
 }
 
 /// The flag may stand before the firm and behind it.
 #[test]
 fn replay_prints_frames(rt: HostRuntime) {
-    let input = joined(&rt, &[VENUE, b"%%\n", QUOTED]);
+    let input = day_of(&rt, &[ASKS_TWO, TURNS, QUOTES]);
     let (status, out, err) = ran(&rt, &["replay", "DLR1", "--frames"], input.as_slice());
     assert_eq!(rt; status, 0);
     assert!(rt; out.as_slice().ends_with(ACCEPTED_FRAME));
@@ -83,11 +76,12 @@ fn due_text_of_a_day_is_read_by_alone(rt: HostRuntime) {
 /// The cancel comes before the hit in one day, and behind it in the other.
 #[test]
 fn compare_tells_where_two_days_differ(rt: HostRuntime) {
-    let turn = b"turn INV1 1\n".as_slice();
-    let days = [
-        VENUE, b"%%\n", QUOTED, CANCEL, b"%%\n", VENUE, b"%%\n", QUOTED, HIT, turn, CANCEL,
-    ];
-    let input = joined(&rt, &days);
+    let cancelled = day_of(&rt, &[ASKS_TWO, TURNS, QUOTES, CANCEL]);
+    let lifted = day_of(
+        &rt,
+        &[ASKS_TWO, TURNS, QUOTES, HIT, b"turn INV1 1\n", CANCEL],
+    );
+    let input = joined(&rt, &[cancelled.as_slice(), b"%%\n", lifted.as_slice()]);
     assert_printed(
         &rt,
         &["compare", "DLR1"],
@@ -125,12 +119,12 @@ fn blotter_is_that_of_the_firm(rt: HostRuntime) {
 /// Each fault is told where those before it are not met.
 #[test]
 fn faults_come_in_their_order(rt: HostRuntime) {
-    assert_fault(&rt, &["replay", "NONE"], VENUE, b"parts\n");
+    assert_fault(&rt, &["replay", "NONE"], VENUE.as_bytes(), b"parts\n");
     assert_fault(&rt, &["replay"], b"%%\n%%\n", b"parts\n");
     assert_fault(&rt, &["compare", "DLR1"], b"%%\n%%\n", b"parts\n");
     assert_fault(&rt, &["replay", "NONE"], b"%%\nx\n", b"config: Missing\n");
     assert_fault(&rt, &["replay"], b"\xff\n%%\nx\n", b"config: Toml\n");
-    let wrong = joined(&rt, &[VENUE, b"%%\nturn NONE 1\nx\n"]);
+    let wrong = day_of(&rt, &[b"turn NONE 1\nx\n"]);
     assert_fault(&rt, &["replay", "NONE"], wrong.as_slice(), b"firm: NONE\n");
     assert_fault(&rt, &["due", "INV1"], wrong.as_slice(), b"firm: INV1\n");
     assert_fault(
@@ -146,14 +140,14 @@ fn faults_come_in_their_order(rt: HostRuntime) {
         wrong.as_slice(),
         b"line 35: unknown firm\n",
     );
-    let room = joined(&rt, &[VENUE, b"%%\nexpire INV1 4 09:06:00\nx\n"]);
+    let room = day_of(&rt, &[b"expire INV1 4 09:06:00\nx\n"]);
     assert_fault(
         &rt,
         &["due", "DLR1"],
         room.as_slice(),
         b"line 35: unknown room\n",
     );
-    let form = joined(&rt, &[VENUE, b"%%\nexpire NONE 4 9\n"]);
+    let form = day_of(&rt, &[b"expire NONE 4 9\n"]);
     assert_fault(
         &rt,
         &["blotter", "INV1"],
@@ -165,14 +159,14 @@ fn faults_come_in_their_order(rt: HostRuntime) {
 /// Of two days the second one is read where nothing is wrong with the first.
 #[test]
 fn second_day_is_read_behind_the_first(rt: HostRuntime) {
-    let first = joined(&rt, &[VENUE, b"%%\nx\n%%\n%%\nx\n"]);
+    let first = day_of(&rt, &[b"x\n%%\n%%\nx\n"]);
     assert_fault(
         &rt,
         &["compare", "DLR1"],
         first.as_slice(),
         b"line 35: form\n",
     );
-    let second = joined(&rt, &[VENUE, b"%%\n%%\n%%\nx\n"]);
+    let second = day_of(&rt, &[b"%%\n%%\nx\n"]);
     assert_fault(
         &rt,
         &["compare", "DLR1"],
@@ -203,7 +197,7 @@ INV1 2 09:01:00.000 AI 693=p1|131=A|297=11
 /// ready, the pass, its answer and the notice.
 #[test]
 fn day_is_woven_into_its_actions(rt: HostRuntime) {
-    let input = joined(&rt, &[VENUE, b"%%\n", PASSED]);
+    let input = day_of(&rt, &[PASSED]);
     let wanted = joined(&rt, &[PASSED_MESSAGES, b"woven 8\n"]);
     assert_printed(
         &rt,
@@ -216,13 +210,13 @@ fn day_is_woven_into_its_actions(rt: HostRuntime) {
 /// A day on threads needs no turns, and takes none.
 #[test]
 fn day_prints_what_its_threads_send(rt: HostRuntime) {
-    let input = joined(&rt, &[VENUE, b"%%\n", PASSED]);
+    let input = day_of(&rt, &[PASSED]);
     assert_printed(&rt, &["day"], input.as_slice(), PASSED_MESSAGES);
-    let nothing = joined(&rt, &[VENUE, b"%%\n"]);
+    let nothing = day_of(&rt, &[]);
     assert_printed(&rt, &["day", "--frames"], nothing.as_slice(), b"");
     let twice = ["day", "--woven", "--frames"];
     assert_printed(&rt, &twice, nothing.as_slice(), b"woven 0\n");
-    let turns = joined(&rt, &[VENUE, b"%%\nturn INV1 1\n"]);
+    let turns = day_of(&rt, &[b"turn INV1 1\n"]);
     let (status, out, err) = ran(&rt, &["day"], turns.as_slice());
     assert_eq!(rt; status, 1);
     assert!(rt; out.is_empty());

@@ -4,7 +4,9 @@ use crate::auctions::{
     ASKS_TWO, DLR1_QUOTED, DLR1_REQUEST, DLR2_QUOTED, DLR2_REQUEST, INV1_OFFERED, QUOTES, TURNS,
     assert_day, assert_day_of,
 };
-use crate::fixtures::{VENUE, assert_fault, joined, ran};
+use crate::fixtures::{assert_fault, day_of, ran};
+use message_fixtures::{TWO_DEALERS, with_one_quote_and_request};
+use std::test::Fail;
 
 const SWEEPS: &[u8] = b"turn INV1 1
 expire INV1 1 09:05:00
@@ -36,7 +38,7 @@ fn sweep_ends_an_open_room_at_its_deadline(rt: HostRuntime) {
         &[DLR2_REQUEST, EXPIRED_OF_DLR2, EXPIRED_OF_INV1],
     );
     let no_room = b"expire INV1 4 09:06:00\n".as_slice();
-    let input = joined(&rt, &[VENUE, b"%%\n", ASKS_TWO, SWEEPS, no_room]);
+    let input = day_of(&rt, &[ASKS_TWO, SWEEPS, no_room]);
     assert_fault(
         &rt,
         &["replay"],
@@ -113,33 +115,10 @@ fn cancel_of_all_drops_the_quote(rt: HostRuntime) {
             b"INV1 4 09:00:30.000 AI 131=A|117=Q1|297=17\n",
         ],
     );
-    let input = joined(&rt, &[VENUE, b"%%\n", ASKS_TWO, TURNS, QUOTES, CANCELS_ALL]);
+    let input = day_of(&rt, &[ASKS_TWO, TURNS, QUOTES, CANCELS_ALL]);
     let (_, due, _) = ran(&rt, &["due", "DLR1"], input.as_slice());
     assert!(rt; due.as_slice().ends_with(b"\ndrop 1 09:00:30.000\n"));
 }
-
-/// DLR1 may give one quote, and INV1 may make one request.
-const USED_UP: &[u8] = b"version = 1
-date = \"20250314\"
-[[bond]]
-id = \"BONDA0000001\"
-[[dealer]]
-name = \"DLR1\"
-traders = [\"T1\"]
-quotes = 1
-exposure = 10000000
-[[dealer]]
-name = \"DLR2\"
-traders = [\"T2\"]
-quotes = 4
-exposure = 10000000
-[[investor]]
-name = \"INV1\"
-traders = [\"T8\"]
-requests = 1
-open = 2
-quantity = 5000000
-";
 
 const SECOND_QUOTE_AND_REQUESTS: &[u8] =
     b"say DLR1 T1 09:00:10 S 117=a1|131=R1|48=BONDA0000001|22=4|133=99.50390625
@@ -154,11 +133,13 @@ INV1 2 09:00:10.000 S 131=A|117=Q1|55=[N/A]|48=BONDA0000001|22=4|54=1|133=99.503
 INV1 3 09:00:00.000 AG 131=B|658=3|146=1|55=[N/A]|48=BONDA0000001|22=4
 INV1 4 09:00:00.000 AG 131=A|658=99|146=1|55=[N/A]|48=BONDA0000001|22=4\n";
 
+/// DLR1 may give one quote, and INV1 may make one request.
 #[test]
-fn quotes_and_requests_of_a_day_are_used_up(rt: HostRuntime) {
+fn quotes_and_requests_of_a_day_are_used_up(rt: HostRuntime) -> Result<(), Fail> {
+    let venue = with_one_quote_and_request(rt.alloc(), TWO_DEALERS)?;
     assert_day_of(
         &rt,
-        USED_UP,
+        venue.as_bytes(),
         &[
             ASKS_TWO,
             TURNS,
@@ -173,6 +154,7 @@ fn quotes_and_requests_of_a_day_are_used_up(rt: HostRuntime) {
         ],
         &[DLR2_REQUEST, USED_UP_OF_INV1],
     );
+    Ok(())
 }
 
 /// A group that says two entries and has one.

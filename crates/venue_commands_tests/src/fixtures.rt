@@ -1,4 +1,5 @@
 //! Runs with readers and writers in memory, and what most tests begin with.
+use message_fixtures::VENUE;
 use std::marker::Sync;
 use std::process::Abort;
 use std::sync::Wait;
@@ -19,42 +20,6 @@ DLR1 2 09:00:10.000 AI 131=R1|117=a1|297=0\n";
 pub(crate) const ACCEPTED_FRAME: &[u8] =
     b"DLR1 8=FIXT.1.1|9=73|35=AI|49=VENUE|56=DLR1|34=2|52=20250314-09:00:10.000|\
 131=R1|117=a1|297=0|10=207|\n";
-
-/// The venue of most days.
-pub(crate) const VENUE: &[u8] = b"version = 1
-date = \"20250314\"
-[[bond]]
-id = \"BONDA0000001\"
-[[bond]]
-id = \"BONDB0000002\"
-[[dealer]]
-name = \"DLR1\"
-traders = [\"T1\"]
-quotes = 4
-exposure = 10000000
-[[dealer]]
-name = \"DLR2\"
-traders = [\"T2\"]
-quotes = 4
-exposure = 10000000
-[[dealer]]
-name = \"DLR3\"
-traders = [\"T3\"]
-quotes = 4
-exposure = 10000000
-[[investor]]
-name = \"INV1\"
-traders = [\"T8\"]
-requests = 3
-open = 2
-quantity = 5000000
-[[investor]]
-name = \"INV2\"
-traders = [\"T9\"]
-requests = 3
-open = 2
-quantity = 5000000
-";
 
 /// A hit, and a cancel that comes behind it.
 pub(crate) const HIT: &[u8] = b"say INV1 T8 09:01:00 AJ 693=h1|117=Q1|694=1\n";
@@ -80,6 +45,12 @@ pub(crate) fn joined<T: Abort + AllocGlobal>(rt: &T, parts: &[&[u8]]) -> Vec<u8>
         assert!(rt; all.extend_from_slice(part).is_ok());
     }
     all
+}
+
+/// The input of a day of [`VENUE`]: these texts stand behind the line that divides them from it.
+pub(crate) fn day_of<T: Abort + AllocGlobal>(rt: &T, steps: &[&[u8]]) -> Vec<u8> {
+    let steps = joined(rt, steps);
+    joined(rt, &[VENUE.as_bytes(), b"%%\n", steps.as_slice()])
 }
 
 /// Asserts that a command prints this over an input, and nothing else.

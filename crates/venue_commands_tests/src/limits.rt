@@ -1,5 +1,5 @@
 //! Firms and rooms that a venue does not have, and the greatest venue.
-use crate::fixtures::{VENUE, assert_fault, assert_printed, joined};
+use crate::fixtures::{assert_fault, assert_printed, day_of, joined};
 use std::marker::Sync;
 use std::process::Abort;
 use std::sync::Wait;
@@ -40,7 +40,7 @@ fn assert_unknown<T: Threads + Wait + Sync + Abort + AllocGlobal>(
     steps: &[u8],
     line: &[u8],
 ) {
-    let input = joined(rt, &[VENUE, b"%%\n", steps]);
+    let input = day_of(rt, &[steps]);
     for command in COMMANDS {
         assert_fault(rt, command, input.as_slice(), line);
     }
@@ -79,7 +79,7 @@ fn first_unknown_firm_or_room_is_told(rt: HostRuntime) {
 /// Of two days the lines are counted over the whole input.
 #[test]
 fn unknown_firm_of_the_second_day_is_told(rt: HostRuntime) {
-    let day = joined(&rt, &[VENUE, b"%%\nturn INV1 1\n"]);
+    let day = day_of(&rt, &[b"turn INV1 1\n"]);
     let days = [day.as_slice(), b"%%\n", day.as_slice(), b"turn NONE 1\n"];
     let input = joined(&rt, &days);
     assert_fault(

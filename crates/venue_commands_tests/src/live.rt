@@ -1,5 +1,8 @@
 //! The command `live`: each line is answered before the next one is read.
-use crate::fixtures::{CANCEL, HIT, VENUE, joined, ran};
+use crate::auctions::ASKS_TWO;
+use crate::fixtures::{CANCEL, HIT, day_of, joined, ran};
+use crate::streams::Source;
+use message_fixtures::VENUE;
 use std::io;
 use std::io::{Read, Write};
 use std::marker::Sync;
@@ -8,10 +11,7 @@ use std::sync::Wait;
 use std::thread::Threads;
 use venue_commands::run_program;
 
-/// The steps of the auction, without the turns that `replay` asks for.
-const REQUEST: &[u8] =
-    b"say INV1 T8 09:00:00 R 131=A|146=1|48=BONDA0000001|22=4|54=1|38=2000000|126=20250314-09:05:00|453=2|448=DLR1|447=D|452=35|448=DLR2|447=D|452=35\n";
-
+/// The quotes of the auction, without the turns that `replay` asks for.
 const FIRST: &[u8] = b"say DLR1 T1 09:00:10 S 117=a1|131=R1|48=BONDA0000001|22=4|133=99.50390625\n";
 
 const SECOND: &[u8] = b"say DLR2 T2 09:00:20 S 117=b1|131=R1|48=BONDA0000001|22=4|133=99.515625\n";
@@ -37,7 +37,7 @@ DLR2 3 09:01:00.000 AJ 693=N1|131=R1|694=4|55=[N/A]|48=BONDA0000001|22=4|54=1|38
 
 /// The input of the auction.
 fn auction<T: Abort + AllocGlobal>(rt: &T) -> Vec<u8> {
-    joined(rt, &[VENUE, b"%%\n", REQUEST, FIRST, SECOND, HIT])
+    day_of(rt, &[ASKS_TWO, FIRST, SECOND, HIT])
 }
 
 /// What the auction is answered.
@@ -69,13 +69,13 @@ fn each_line_is_answered_in_order(rt: HostRuntime) {
 /// A last line without its line feed is one, and so are empty ones, and comments say nothing.
 #[test]
 fn last_line_needs_no_line_feed(rt: HostRuntime) {
-    let input = joined(&rt, &[VENUE, b"%%\n\n# none\n", REQUEST]);
+    let input = day_of(&rt, &[b"\n# none\n", ASKS_TWO]);
     let Some((_, unended)) = input.as_slice().split_last() else {
         assert!(rt; false);
         return;
     };
     assert_live(&rt, unended, 0, REQUESTED, b"");
-    let empty = joined(&rt, &[VENUE, b"%%"]);
+    let empty = joined(&rt, &[VENUE.as_bytes(), b"%%"]);
     assert_live(&rt, empty.as_slice(), 0, b"", b"");
 }
 
@@ -83,10 +83,9 @@ fn last_line_needs_no_line_feed(rt: HostRuntime) {
 /// them.
 #[test]
 fn faulty_lines_change_nothing(rt: HostRuntime) {
-    let lines: [&[u8]; 11] = [
-        VENUE,
-        b"%%\nhello\n",
-        REQUEST,
+    let lines: [&[u8]; 10] = [
+        b"hello\n",
+        ASKS_TWO,
         b"turn INV1 1\n",
         FIRST,
         b"say DLR9 T1 09:00:15 S 117=a2\n",
@@ -96,7 +95,7 @@ fn faulty_lines_change_nothing(rt: HostRuntime) {
         b"say DLR1 T1 late Z 298=4\n",
         HIT,
     ];
-    let input = joined(&rt, &lines);
+    let input = day_of(&rt, &lines);
     let printed = answers(&rt);
     assert_live(&rt, input.as_slice(), 0, printed.as_slice(), FAULTS);
 }
@@ -112,17 +111,15 @@ line 43: form
 /// A piece at fault is as if it had not come: the stream goes on where it stood before.
 #[test]
 fn piece_at_fault_changes_nothing(rt: HostRuntime) {
-    let lines: [&[u8]; 8] = [
-        VENUE,
-        b"%%\n",
-        REQUEST,
+    let lines: [&[u8]; 6] = [
+        ASKS_TWO,
         b"piece DLR1 09:00:01 8=FIXT.1.1|9=\n",
         b"piece DLR1 09:00:02 x\n",
         b"piece DLR1 09:00:03 12|\n",
         b"piece DLR1 09:00:04 35=0|123456|10=0x9|\n",
         FIRST,
     ];
-    let input = joined(&rt, &lines);
+    let input = day_of(&rt, &lines);
     let printed = joined(&rt, &[REQUESTED, FIRST_SHOWN]);
     let told = b"line 37: stream\nline 39: stream\n".as_slice();
     assert_live(&rt, input.as_slice(), 0, printed.as_slice(), told);
@@ -131,7 +128,7 @@ fn piece_at_fault_changes_nothing(rt: HostRuntime) {
 #[test]
 fn faults_before_the_day_end_it(rt: HostRuntime) {
     assert_live(&rt, b"", 1, b"", b"parts\n");
-    assert_live(&rt, VENUE, 1, b"", b"parts\n");
+    assert_live(&rt, VENUE.as_bytes(), 1, b"", b"parts\n");
     assert_live(
         &rt,
         b"version = 1\n%%\nhello\n",
@@ -186,14 +183,9 @@ pub(crate) fn assert_same_live<T: Threads + Wait + Sync + Abort + AllocGlobal>(
 /// Each firm is sent what `replay` has for the steps with all their turns, in both forms.
 #[test]
 fn firms_are_sent_what_replay_has(rt: HostRuntime) {
-    let live = joined(
-        &rt,
-        &[VENUE, b"%%\n", REQUEST, FIRST, SECOND, CANCEL, HIT, SWEEP],
-    );
-    let turns: [&[u8]; 14] = [
-        VENUE,
-        b"%%\n",
-        REQUEST,
+    let live = day_of(&rt, &[ASKS_TWO, FIRST, SECOND, CANCEL, HIT, SWEEP]);
+    let turns: [&[u8]; 12] = [
+        ASKS_TWO,
         INVESTOR_TURNS,
         FIRST,
         b"turn DLR1 1000\n",
@@ -206,7 +198,7 @@ fn firms_are_sent_what_replay_has(rt: HostRuntime) {
         SWEEP,
         b"turn CLOCK 1000\n",
     ];
-    let day = joined(&rt, &turns);
+    let day = day_of(&rt, &turns);
     for firm in ["DLR1", "DLR2", "DLR3", "INV1", "INV2"] {
         let (_, answered, _) = ran(&rt, &["live"], live.as_slice());
         let (_, replayed, _) = ran(&rt, &["replay", firm], day.as_slice());
@@ -253,6 +245,45 @@ fn bytes_may_come_one_by_one(rt: HostRuntime) {
     assert_eq!(rt; status, 0);
     assert!(rt; out.as_slice() == answers(&rt).as_slice());
     assert!(rt; err.is_empty());
+}
+
+/// An answer whose line ends within what was read, or nothing.
+fn answered(read: usize, end: usize, answer: &'static [u8]) -> &'static [u8] {
+    if read < end {
+        return b"";
+    }
+    answer
+}
+
+/// The reader fails behind a line feed, and one byte before it: the lines that ended were answered.
+#[test]
+fn failing_reader_leaves_the_answers_of_whole_lines(rt: HostRuntime) {
+    let bytes = auction(&rt);
+    let first = day_of(&rt, &[ASKS_TWO]).len();
+    let second = day_of(&rt, &[ASKS_TWO, FIRST]).len();
+    let third = day_of(&rt, &[ASKS_TWO, FIRST, SECOND]).len();
+    let last = bytes.len();
+    for end in [first, second, third, last] {
+        for left in [end.saturating_sub(1), end] {
+            let mut input = Source {
+                bytes: bytes.as_slice(),
+                left,
+                failed: false,
+            };
+            let mut out = Vec::new(rt.alloc());
+            let mut err = Vec::new(rt.alloc());
+            let status = run_program(&rt, rt.alloc(), &["live"], &mut input, &mut out, &mut err);
+            let shown = [
+                answered(left, first, REQUESTED),
+                answered(left, second, FIRST_SHOWN),
+                answered(left, third, SECOND_SHOWN),
+                answered(left, last, AWARDED),
+            ];
+            assert_eq!(rt; status, 1);
+            assert!(rt; out.as_slice() == joined(&rt, &shown).as_slice());
+            assert!(rt; err.as_slice() == b"read\n".as_slice());
+        }
+    }
 }
 
 /// A writer that takes `left` bytes and then fails.

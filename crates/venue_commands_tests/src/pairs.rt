@@ -1,7 +1,8 @@
 //! Worked pairs of days, and what `compare` says of them. Each value was written down before there
 //! was a program.
-use crate::fixtures::{VENUE, assert_printed, joined, ran};
+use crate::fixtures::{assert_printed, joined, ran};
 use crate::live::assert_same_live;
+use message_fixtures::{TWO_DEALERS, VENUE, with_grids};
 use std::marker::Sync;
 use std::process::Abort;
 use std::sync::Wait;
@@ -40,35 +41,25 @@ turn DLR2 2\n";
 const HITS: &[u8] = b"say INV1 T8 09:01:00 AJ 693=h1|117=Q1|694=1
 turn INV1 4\n";
 
-/// The second day has less exposure of DLR2, and a second investor that asks twenty times.
-const BUSY_VENUE: &[u8] = b"version = 1
-date = \"20250314\"
-[[bond]]
-id = \"BONDA0000001\"
-[[dealer]]
-name = \"DLR1\"
-traders = [\"T1\"]
-quotes = 4
-exposure = 10000000
-[[dealer]]
-name = \"DLR2\"
-traders = [\"T2\"]
-quotes = 4
-exposure = 1000000
-[[investor]]
-name = \"INV1\"
-traders = [\"T8\"]
-requests = 3
-open = 2
-quantity = 5000000
-[[investor]]
+/// A second investor, that may ask twenty times.
+const SECOND_INVESTOR: &str = "[[investor]]
 name = \"INV2\"
 traders = [\"T9\"]
 requests = 20
 open = 20
 quantity = 5000000
-%%
 ";
+
+/// A venue with less exposure of DLR2, and with the second investor.
+fn busy_venue<T: AllocGlobal>(rt: &T) -> Result<String, Fail> {
+    let venue = TWO_DEALERS.replace(
+        rt.alloc(),
+        "exposure = 10000000\n[[investor]]",
+        "exposure = 1000000\n[[investor]]",
+    )?;
+    let text = format!(in rt.alloc(); "{venue}{SECOND_INVESTOR}%%\n")?;
+    Ok(text)
+}
 
 /// Twenty requests of INV2 to DLR2 alone, each of them shown.
 fn asked_often<T: AllocGlobal>(rt: &T) -> Result<String, Fail> {
@@ -89,13 +80,14 @@ turn DLR2 2\n";
 /// Whatever others ask, quote and decline, the dealer is sent the same.
 #[test]
 fn dealer_is_sent_the_same_on_a_busier_day(rt: HostRuntime) -> Result<(), Fail> {
+    let busy = busy_venue(&rt)?;
     let often = asked_often(&rt)?;
     let (_, asks) = ASKS.split_at(3);
     assert_pair(
         &rt,
-        &[VENUE, ASKS, SECOND_QUOTES, HITS],
+        &[VENUE.as_bytes(), ASKS, SECOND_QUOTES, HITS],
         &[
-            BUSY_VENUE,
+            busy.as_bytes(),
             often.as_bytes(),
             asks,
             SECOND_QUOTES,
@@ -124,34 +116,23 @@ turn INV1 5\n";
 /// Another price of DLR2 is seen by DLR1 only where it makes DLR1 the cover.
 #[test]
 fn price_of_another_shows_in_the_cover_alone(rt: HostRuntime) {
-    let tie = [VENUE, ASKS_THREE, b"99.515625", TIE];
+    let venue = VENUE.as_bytes();
+    let tie = [venue, ASKS_THREE, b"99.515625", TIE];
     assert_pair(
         &rt,
         &tie,
-        &[VENUE, ASKS_THREE, b"99.75", TIE],
+        &[venue, ASKS_THREE, b"99.75", TIE],
         b"row equal\ndue differs at 3\nmessages differ at 3\n",
     );
-    assert_pair(&rt, &tie, &[VENUE, ASKS_THREE, b"99.25", TIE], SAME);
-}
-
-/// A venue of version 2 with these grids of its two bonds.
-fn venue_with_grids<T: AllocGlobal>(rt: &T, one: u32, other: u32) -> Result<String, Fail> {
-    let text = format!(in rt.alloc();
-        "version = 2\ndate = \"20250314\"\n\
-[[bond]]\nid = \"BONDA0000001\"\ngrid = {one}\n[[bond]]\nid = \"BONDB0000002\"\ngrid = {other}\n\
-[[dealer]]\nname = \"DLR1\"\ntraders = [\"T1\"]\nquotes = 4\nexposure = 10000000\n\
-[[dealer]]\nname = \"DLR2\"\ntraders = [\"T2\"]\nquotes = 4\nexposure = 10000000\n\
-[[investor]]\nname = \"INV1\"\ntraders = [\"T8\"]\nrequests = 3\nopen = 2\nquantity = 5000000\n"
-    )?;
-    Ok(text)
+    assert_pair(&rt, &tie, &[venue, ASKS_THREE, b"99.25", TIE], SAME);
 }
 
 /// The grid of the bond that is asked for decides on a price, and no other bond's.
 #[test]
 fn grid_of_the_bond_decides_on_a_price(rt: HostRuntime) -> Result<(), Fail> {
-    let finest = venue_with_grids(&rt, 256, 256)?;
-    let coarse = venue_with_grids(&rt, 32, 256)?;
-    let other = venue_with_grids(&rt, 256, 32)?;
+    let finest = with_grids(rt.alloc(), 256, 256)?;
+    let coarse = with_grids(rt.alloc(), 32, 256)?;
+    let other = with_grids(rt.alloc(), 256, 32)?;
     let day = [finest.as_bytes(), ASKS];
     assert_pair(
         &rt,

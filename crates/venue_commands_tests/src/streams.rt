@@ -11,10 +11,10 @@ use venue_commands::run_program;
 
 /// A reader of these bytes that fails once, behind `left` of them, and then goes on.
 #[derive(Drop)]
-struct Source<'a> {
-    bytes: &'a [u8],
-    left: usize,
-    failed: bool,
+pub(crate) struct Source<'a> {
+    pub(crate) bytes: &'a [u8],
+    pub(crate) left: usize,
+    pub(crate) failed: bool,
 }
 
 impl<'a> Read for Source<'a> {

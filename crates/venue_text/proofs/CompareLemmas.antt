@@ -1,6 +1,6 @@
 -- Where two lists differ first.
-use Rattle.std.proofs.Common.{◌≡◌, ◌≢◌, ℕ, ◌+◌, ◌-◌, ◌<◌, ◌≤◌, List, [], ◌∷◌, ◌++◌, length, take, drop}
-use Rattle.std.proofs.Common.{zero, suc, sym, ap, ◌∙◌, refl, arith, max, Bool, true, Option, Some, None}
+use Rattle.std.proofs.Common.{◌≡◌, ◌≢◌, ℕ, ◌+◌, ◌≤◌, List, [], ◌∷◌, ◌++◌, length, take}
+use Rattle.std.proofs.Common.{zero, suc, sym, ap, ◌∙◌, refl, arith, Bool, Option, Some, None}
 use Rattle.std.specs.Prelude.{slice_get, IsTrue, ◌↔◌}
 use Rattle.std.proofs.Common.{false}
 use Rattle.venue_config.specs.Rows.{dealer_numbered}

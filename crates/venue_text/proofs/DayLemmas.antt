@@ -1,6 +1,6 @@
 -- Lists one item at a time: firms with their days, and words behind spaces.
-use Rattle.std.proofs.Common.{◌≡◌, ◌≢◌, ℕ, ◌+◌, ◌-◌, ◌<◌, ◌≤◌, List, [], ◌∷◌, ◌++◌, length, map, take, drop}
-use Rattle.std.proofs.Common.{zero, suc, add-one, sym, ap, ◌∙◌, refl, arith, append_assoc, Option, Some, None}
+use Rattle.std.proofs.Common.{◌≡◌, ℕ, ◌+◌, List, [], ◌∷◌, ◌++◌, length, map, take}
+use Rattle.std.proofs.Common.{zero, suc, add-one, sym, ap, ◌∙◌, refl, append_assoc, Option, Some, None}
 use Rattle.std.proofs.lemmas.List.{append-nil, length-append, length-map}
 use Rattle.std.proofs.lemmas.Grind.{flat_map-append}
 use Rattle.venue_config.specs.Rows.{Configuration, firm_names}

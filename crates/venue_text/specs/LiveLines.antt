@@ -1,5 +1,5 @@
 -- A day that goes on, line by line: what a line spells, and what it is answered.
-use Rattle.std.specs.Prelude.{◌≡◌, ◌≤◌, ℕ, All, Bool, List, [], ◌++◌, codes, length, slice_get, Ok, Err}
+use Rattle.std.specs.Prelude.{◌≡◌, ℕ, Bool, List, [], ◌++◌, codes, length, slice_get, Ok, Err}
 use Rattle.std.specs.Prelude.{if◌then◌else◌}
 use Rattle.std.specs.List.{flat_map}
 use Rattle.std.specs.Option.{option_to_list}
@@ -52,10 +52,6 @@ pub record Goes (with_frames : Bool) (config : Configuration) (taken : List Step
   pub config_is : day.config ≡ config
   pub stands : IsAt config taken day.venue
   pub heard_is : day.heard ≡ heard
-
--- No firm's next `say` line has a greater number. It is for callers, as `Goes` is.
-abbrev pub HasHeardFew : ℕ → LiveDay → Type 0
-HasHeardFew most day = All (λ number. number ≤ most) day.heard.numbers
 
 -- what a lawful line brings
 pub record LineIsAnswered (with_frames : Bool) (config : Configuration) (taken : List Step)

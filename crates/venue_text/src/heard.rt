@@ -1,5 +1,5 @@
 //! What was heard of the firms, line by line.
-ghost use Rattle.std.specs.Prelude.{◌≡◌, ◌≢◌, ◌≤◌, ◌+◌, ◌++◌, All, List, ℕ, Some, Ok, Err, map};
+ghost use Rattle.std.specs.Prelude.{◌≡◌, ◌≢◌, ◌+◌, ◌++◌, List, ℕ, Some, Ok, Err, map};
 ghost use Rattle.std.specs.Prelude.{IfOk, IfErr, OnOk, OnErr};
 ghost use Rattle.std.specs.List.{concat};
 ghost use Rattle.fix_fields.specs.Envelope.{cut_behind, envelopes_of};
@@ -10,6 +10,10 @@ use crate::faults::ProgramFault;
 use fix_fields::{Memory, Messages, Splitter, StreamFault, envelopes_of_is_the_cutting};
 use std::alloc::{AllocError, Global};
 use std::marker::Model;
+
+/// The greatest number of a firm's next `say` line. So many lines ask for more memory than any
+/// machine has, so a caller can't tell this limit from memory that is refused.
+const MOST_SAID: u64 = 1_000_000_000_000_000;
 
 /// The bytes of a firm's pieces behind the last message that they end.
 #[derive(Drop)]
@@ -87,17 +91,18 @@ impl Heard {
     }
 
     /// Counts a `say` line of a firm.
-    pub(crate) fn count(&mut self, firm: u16)
-        requires { All (λ number. number ≤ 9223372036854775808) self.old.numbers }
-        ensures counts { self.new
-            ≡ spec.with_number self.old firm (spec.number_for self.old (Some firm) + 1) }
-        ensures few { (most : ℕ) → All (λ number. number ≤ most) self.old.numbers
-            → All (λ number. number ≤ most + 1) self.new.numbers }
+    pub(crate) fn count(&mut self, firm: u16) -> Result<(), Memory>
+        ensures counts { OnOk result (self.new
+            ≡ spec.with_number self.old firm (spec.number_for self.old (Some firm) + 1)) }
     {
         let Some(number) = self.numbers.get_mut(usize::from(firm)) else {
-            return;
+            return Ok(());
         };
+        if *number >= MOST_SAID {
+            return Err(AllocError);
+        }
         *number += 1;
+        Ok(())
     }
 
     /// The messages that end in a piece of a firm's stream. Where it has a fault with the piece,

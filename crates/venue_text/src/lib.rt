@@ -77,7 +77,7 @@ pub use fields::{Field, read_fields};
 pub use fitting::LONGEST_BODY;
 pub use lines::{MOST_INPUT, Parts, SpokenLines, has_divider, one_past};
 pub use live_laws::lines_bring_the_same_however_they_come;
-pub use live_lines::{LiveDay, MOST_LINES};
+pub use live_lines::LiveDay;
 pub use message_lines::messages_text;
 pub use parts::{cut_part, read_side, read_time, same_text};
 pub use printed::alone_text;

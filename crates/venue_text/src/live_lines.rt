@@ -1,5 +1,5 @@
 //! A day that is read line by line, and what is printed for each line.
-ghost use Rattle.std.specs.Prelude.{◌≡◌, ◌≢◌, ◌≤◌, ◌+◌, ◌++◌, [], ℕ, All, Bool, List, true, false};
+ghost use Rattle.std.specs.Prelude.{◌≡◌, ◌≢◌, ◌++◌, [], Bool, List, true, false};
 ghost use Rattle.std.specs.Prelude.{Ok, Err, IfOk, IfErr, IsOkAnd, OnOk};
 ghost use Rattle.step_replay.specs.LiveStanding.{IsAt};
 ghost use Rattle.step_replay.specs.declared.steps.Step.{Step};
@@ -7,7 +7,6 @@ ghost use Rattle.venue_config.specs.Rows.{Configuration, values_of};
 ghost use Rattle.venue_text.specs.Lines.{is_skipped};
 ghost use Rattle.venue_text.specs.LiveLines as spec;
 ghost use Rattle.venue_text.specs.StepLines as lines;
-ghost use Rattle.venue_text.specs.StepReading.{counted};
 ghost use Rattle.venue_text.specs.VenueParts.{venue_of};
 
 use crate::faults::ProgramFault;
@@ -16,16 +15,13 @@ use crate::lines::is_skipped;
 use crate::message_lines::push_sent_line;
 use crate::parts::{cut_part, same_text};
 use crate::printed_replay::firm_name;
-use crate::spelled::{Spelled, push_steps};
+use crate::spelled::push_spelled;
 use crate::step_lines::read_line;
 use crate::venue_parts::read_venue;
 use fix_fields::Memory;
 use std::alloc::{AllocError, Global};
 use step_replay::{LiveVenue, SentTo, Step};
 use venue_config::VenueConfig;
-
-/// The greatest number of a line of a day that goes on.
-pub const MOST_LINES: usize = 1_000_000_000_000_000;
 
 /// A day of a venue that goes on, line by line.
 #[derive(Drop)]
@@ -42,7 +38,6 @@ impl LiveDay {
     /// printed as its whole frame, or as a line of its fields. Memory may be refused at any point.
     pub fn open(alloc: Global, with_frames: bool, text: &[u8]) -> Result<Self, ProgramFault>
         ensures ok { IfOk result (spec.Opens with_frames text.now) }
-        ensures few { IfOk result (spec.HasHeardFew 1) }
         ensures err { IfErr result (λ fault. fault ≢ ProgramFault.Memory
             → venue_of text.now ≡ Err fault) }
         ensures unwritten { IfErr result (λ fault. fault ≢ ProgramFault.Write) }
@@ -70,8 +65,6 @@ impl LiveDay {
         line: usize,
         text: &[u8],
     ) -> Result<Vec<u8>, ProgramFault>
-        // A line has a number, so no firm has spoken more often than lines have one.
-        requires few { spec.HasHeardFew MOST_LINES self.old }
         // An empty line and a comment say nothing.
         ensures skipped { is_skipped text.now ≡ true
             → IsOkAnd result (λ answer. (answer.items ≡ []) × (self.new ≡ self.old)) }
@@ -84,8 +77,6 @@ impl LiveDay {
             → (with_frames : Bool) (config : Configuration) (taken : List Step)
             (heard : lines.Heard) → spec.Goes with_frames config taken heard self.old
             → spec.LineIsRefused with_frames config taken heard line text.now fault self.new) }
-        ensures few { (most : ℕ) → spec.HasHeardFew most self.old
-            → spec.HasHeardFew (most + 1) self.new }
     {
         if is_skipped(text) {
             return Ok(Vec::new(alloc));
@@ -113,7 +104,6 @@ fn read_live_line(
     line: usize,
     text: &[u8],
 ) -> Result<Vec<Step>, ProgramFault>
-    requires few { All (λ number. number ≤ MOST_LINES) heard.old.numbers }
     ensures ok { IfOk result (λ steps. spec.live_steps_of (values_of config.now) heard.old line
         text.now ≡ Ok (steps.items, heard.new)) }
     ensures err { IfErr result (λ fault. fault ≢ ProgramFault.Memory
@@ -121,31 +111,15 @@ fn read_live_line(
     ensures unheard { IfErr result (λ fault. fault ≢ ProgramFault.Memory
         → heard.new ≡ heard.old) }
     ensures unwritten { IfErr result (λ fault. fault ≢ ProgramFault.Write) }
-    ensures few { (most : ℕ) → All (λ number. number ≤ most) heard.old.numbers
-        → All (λ number. number ≤ most + 1) heard.new.numbers }
 {
     let (keyword, _) = cut_part(text);
     if same_text(keyword, b"turn") {
         return Err(ProgramFault::Form { line });
     }
     let spelled = read_line(alloc, config, heard, line, text)?;
-    count_line(heard, &spelled);
     let mut steps = Vec::new(alloc);
-    push_steps(&mut steps, spelled)?;
+    push_spelled(&mut steps, heard, spelled)?;
     Ok(steps)
-}
-
-/// Counts a line whose number was written for it.
-fn count_line(heard: &mut Heard, spelled: &Spelled)
-    requires { All (λ number. number ≤ MOST_LINES) heard.old.numbers }
-    ensures ok { heard.new ≡ counted spelled.now heard.old }
-    ensures few { (most : ℕ) → All (λ number. number ≤ most) heard.old.numbers
-        → All (λ number. number ≤ most + 1) heard.new.numbers }
-{
-    let Spelled::Said(firm, _, _, true) = spelled else {
-        return;
-    };
-    heard.count(*firm);
 }
 
 /// Steps are done, each with all duties that it leaves, and the messages that are sent for them are

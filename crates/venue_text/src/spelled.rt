@@ -1,5 +1,5 @@
 //! What a line of steps spells, before its steps are put behind the others.
-ghost use Rattle.std.specs.Prelude.{◌≡◌, ◌≤◌, ◌+◌, ◌++◌, All, length, replicate, take, OnOk};
+ghost use Rattle.std.specs.Prelude.{◌≡◌, ◌++◌, replicate, OnOk};
 ghost use Rattle.step_replay.specs.declared.steps.Step.TheVariants as step;
 ghost use Rattle.venue_text.specs.StepLines.{in_steps};
 ghost use Rattle.venue_text.specs.StepReading as spec;
@@ -30,35 +30,27 @@ pub(crate) fn push_spelled(
     heard: &mut Heard,
     spelled: Spelled,
 ) -> Result<(), Memory>
-    requires { All (λ number. number ≤ length steps.old.items + 1) heard.old.numbers }
     ensures steps { OnOk result (steps.new.items ≡ steps.old.items ++ spec.steps_in spelled) }
     ensures heard { OnOk result (heard.new ≡ spec.counted spelled heard.old) }
-    ensures few { OnOk result
-        (All (λ number. number ≤ length steps.new.items + 1) heard.new.numbers) }
 {
-    match spelled {
-        Spelled::Said(firm, moment, message, is_counted) => {
-            steps.push(Step::In(firm, moment, message))?;
-            if is_counted {
-                heard.count(firm);
-            }
-            Ok(())
-        }
-        Spelled::Came(firm, moment, message) => {
-            steps.push(Step::In(firm, moment, message))?;
-            Ok(())
-        }
-        Spelled::Turns(by, count) => push_turns(steps, by, count),
-        Spelled::Sweep(room, moment) => {
-            steps.push(Step::Expire(room, moment))?;
-            Ok(())
-        }
-        Spelled::Pieces(firm, moment, messages) => push_messages(steps, firm, moment, messages),
-    }
+    count_line(heard, &spelled)?;
+    push_steps(steps, spelled)?;
+    Ok(())
+}
+
+/// Counts a line whose number was written for it.
+fn count_line(heard: &mut Heard, spelled: &Spelled) -> Result<(), Memory>
+    ensures { OnOk result (heard.new ≡ spec.counted spelled.now heard.old) }
+{
+    let Spelled::Said(firm, _, _, true) = spelled else {
+        return Ok(());
+    };
+    heard.count(*firm)?;
+    Ok(())
 }
 
 /// Puts the steps of a line behind other steps.
-pub(crate) fn push_steps(steps: &mut Vec<Step>, spelled: Spelled) -> Result<(), Memory>
+fn push_steps(steps: &mut Vec<Step>, spelled: Spelled) -> Result<(), Memory>
     ensures { OnOk result (steps.new.items ≡ steps.old.items ++ spec.steps_in spelled) }
 {
     match spelled {

@@ -12,6 +12,6 @@ returns-then-not-woven-clause-ok g c =
       inboxes = map (λ inbox. inbox.items) c.in_ok-day.day.inboxes.items;
       sweeps = c.in_ok-day.day.sweeps.items;
       spelled = c.in_ok-day.ensures.ok;
-      kept = c.in-Ok.ensures;
+      kept = c.in-Ok.ensures.day;
     } in
     day_unwoven c.args.with_frames c.args.woven c.args.input.now c.in_ok-text.text.items config c.in-Ok.record printed c.if-not-woven.true recorded

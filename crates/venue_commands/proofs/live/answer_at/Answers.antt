@@ -1,4 +1,4 @@
-use Rattle.std.proofs.Common.{◌≡◌, rules, refl, subst, Option, Some}
+use Rattle.std.proofs.Common.{◌≡◌, rules, refl, subst, Some}
 use Rattle.venue_commands.specs.LiveStages.{IsNext}
 use Rattle.venue_commands.specs.declared.live.Stage.TheVariants as stage
 use Rattle.venue_commands.proofs.LiveLemmas.{same_fault, stage_bad, stage_opens}

@@ -4,12 +4,9 @@ use Rattle.venue_text.specs.Faults.{told_line}
 use Rattle.venue_text.specs.Lines.{is_skipped}
 use Rattle.venue_text.specs.declared.faults.ProgramFault.TheVariants.{Memory}
 use Rattle.venue_commands.specs.Written.{GainsPart}
-use Rattle.venue_commands.proofs.LiveLemmas.{after_answer, day_answered, day_out_of_memory, day_refused, day_unprinted, is_false, on_err_both, on_ok}
+use Rattle.venue_commands.proofs.LiveLemmas.{after_answer, day_answered, day_out_of_memory, day_refused, day_unprinted, is_false, on_err_both}
 use Rattle.venue_commands.proofs.LiveLemmas.{on_ok_both, same_fault}
 use Rattle.venue_commands.proofs.live.answer_step.Goals as goal
-
-pub returns-in-Err-clause-few : goal.returns-in-Err-clause-few
-returns-in-Err-clause-few g c = on_ok c.refuse.result _ (c.in-Err.ensures.few c.args.number c.requires.counted)
 
 pub returns-in-Err-clause-ok : goal.returns-in-Err-clause-ok
 returns-in-Err-clause-ok g c =
@@ -40,9 +37,6 @@ returns-in_err-print_text-clause-err g c =
     c.as_slice.result.now c.in_err-print_text.ensures.err c.as_slice.ensures.value had.answers
     (after_answer c.args.number c.args.line.now text c.args.day.now c.answer.new.self c.in-Ok.ensures.skipped c.in-Ok.ensures.ok
     with_frames had.config lines at had.answers.divided had.goes) c.in_err-print_text.ensures.part)
-
-pub returns-clause-few : goal.returns-clause-few
-returns-clause-few g c = c.in-Ok.ensures.few c.args.number c.requires.counted
 
 pub returns-clause-ok : goal.returns-clause-ok
 returns-clause-ok g c with_frames lines start at had =

@@ -1,7 +1,7 @@
 use Rattle.std.proofs.Common.{◌≡◌, ◌∷◌, false, true, ap, ◌∙◌, rules}
 use Rattle.venue_config.specs.Rows.{values_of}
 use Rattle.venue_text.specs.ArrivingDays.{arrivals_from, is_of_turns}
-use Rattle.venue_text.proofs.ArrivalLemmas.{arrivals_more, fault_ends, turns_end}
+use Rattle.venue_text.proofs.ArrivalLemmas.{arrivals_more, turns_end}
 use Rattle.venue_text.proofs.StepLemmas.{behind_steps, known_more}
 use Rattle.venue_text.proofs.arriving_days.read_arrivals.Goals as goal
 
@@ -18,7 +18,6 @@ loop-line-preserved c =
           ∙ ap (λ lines. behind_steps c.loop-line.steps.items (arrivals_from config c.loop-line.heard lines)) line
           ∙ arrivals_more config c.loop-line.heard c.in-Some.line c.in-Some.text.now c.next.new.self c.loop-line.steps.items
           c.read_line.new.heard c.in_ok-spelled.spelled no_turns c.in_ok-spelled.ensures.ok);
-      few = c.in_ok-push_spelled.ensures.few;
       known = rw c.in_ok-push_spelled.ensures.steps
           (known_more c.args.config.now c.loop-line.steps.items c.in_ok-spelled.spelled c.loop-line.invariant.known c.in_ok-spelled.ensures.known);
     }

@@ -1,4 +1,4 @@
-use Rattle.std.proofs.Common.{◌≡◌, ◌+◌, ◌≤◌, All, None, length}
+use Rattle.std.proofs.Common.{◌≡◌, None}
 use Rattle.step_replay.specs.StepFaults.{first_fault}
 use Rattle.venue_config.specs.Rows.{values_of}
 use Rattle.venue_text.specs.ArrivingDays.{arrivals_of, arrivals_from}
@@ -10,6 +10,5 @@ invariant-loop-line l = record {
   next : (goal.iterator-loop-line).can_next l.line-iterator;
   ends : (goal.iterator-loop-line).is_finite l.line-iterator;
   read : arrivals_of (values_of l.config) l.fn.lines ≡ behind_steps l.steps.items (arrivals_from (values_of l.config) l.heard l.line-iterator);
-  few : All (λ n. n ≤ length l.steps.items + 1) l.heard.numbers;
   known : first_fault l.config l.steps.items ≡ None;
 }

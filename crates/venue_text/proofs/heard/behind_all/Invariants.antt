@@ -1,4 +1,4 @@
-use Rattle.std.proofs.Common.{◌≡◌, ◌++◌, ◌≤◌, List, ℕ, map, drop}
+use Rattle.std.proofs.Common.{◌≡◌, ◌++◌, List, ℕ, map, drop}
 use Rattle.std.specs.List.{concat}
 use Rattle.venue_text.proofs.heard.behind_all.Given as goal
 

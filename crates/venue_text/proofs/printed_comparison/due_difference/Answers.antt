@@ -1,4 +1,4 @@
-use Rattle.std.proofs.Common.{length, max, arith}
+use Rattle.std.proofs.Common.{length, arith}
 use Rattle.std.proofs.Math.Nat.{le-max_left, le-max_right}
 use Rattle.venue_text.proofs.CompareLemmas.{same_more, same_all}
 use Rattle.venue_text.proofs.printed_comparison.due_difference.Goals as goal

@@ -1,4 +1,4 @@
-use Rattle.std.proofs.Common.{◌≡◌, sym, ap, ◌∙◌, length, false, nat_lt, arith}
+use Rattle.std.proofs.Common.{◌≡◌, ap, ◌∙◌, length, false, nat_lt, arith}
 use Rattle.std.proofs.lemmas.Bool.Decides.{nat_tests}
 use Rattle.step_replay.specs.AuditTrail.{audit_trail, due_to}
 use Rattle.venue_text.specs.AskedDays.{dealer_by}

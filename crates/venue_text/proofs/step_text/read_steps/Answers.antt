@@ -16,7 +16,6 @@ loop-line-preserved c =
           ∙ ap (λ lines. behind_steps c.loop-line.steps.items (steps_from config c.loop-line.heard lines)) line
           ∙ steps_more config c.loop-line.heard c.read_line.new.heard c.in-Some.line c.in-Some.text.now c.next.new.self c.in_ok-spelled.spelled
           c.loop-line.steps.items c.in_ok-spelled.ensures.ok);
-      few = c.in_ok-push_spelled.ensures.few;
       known = rw c.in_ok-push_spelled.ensures.steps
           (known_more c.args.config.now c.loop-line.steps.items c.in_ok-spelled.spelled c.loop-line.invariant.known c.in_ok-spelled.ensures.known);
     }
