@@ -5,5 +5,6 @@ pub mod InboxLemmas
 pub mod KeepLemmas
 pub mod LockLemmas
 pub mod RoomLemmas
+pub mod SweptLemmas
 pub mod ToldLemmas
 pub mod ViewLemmas

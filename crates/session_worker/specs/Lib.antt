@@ -2,4 +2,5 @@ pub mod DayChecks
 pub mod Inbox
 pub mod KeptDays
 pub mod Locks
+pub mod SweptRooms
 pub mod ToldRooms

@@ -1,12 +1,8 @@
-//! What is checked of a day once its threads have ended: that each firm's own messages are its
-//! inbox, that each dealer was told how its requests ended, and that each room was swept as the
-//! clock was told.
-ghost use Rattle.std.specs.Prelude.{◌≡◌, ◌≤◌, ◌↔◌, [], ◌∷◌, count_by, find, length, not};
-ghost use Rattle.std.specs.Prelude.{IsTrue, IfOk, MatchOption};
+//! What is checked of the desks of a day once its threads have ended: that each firm's own messages
+//! are its inbox, and that each dealer was told how its requests ended.
+ghost use Rattle.std.specs.Prelude.{◌≡◌, ◌≤◌, ◌↔◌, count_by, length, IsTrue, IfOk};
 ghost use Rattle.std.specs.BTreeMap.{get};
 ghost use Rattle.std.specs.List.{list_all};
-ghost use Rattle.std.specs.Option.{option_copied};
-ghost use Rattle.std.specs.Str.{bytes_eq};
 ghost use Rattle.session_worker.specs.DayChecks as spec;
 ghost use Rattle.session_worker.specs.ToldRooms as kept;
 ghost use Rattle.session_worker.specs.ToldRooms.{room_cmp};
@@ -19,8 +15,7 @@ use fix_fields::{Memory, Moment};
 use investor_desk::InvestorEvent;
 use market_terms::{Close, RoomRef};
 use quote_messages::Message;
-use recorded_days::{DealerDay, Inbound, Sweep};
-use request_room::RoomEvent;
+use recorded_days::{DealerDay, Inbound};
 use std::alloc::Global;
 use std::collections::BTreeMap;
 use venue_config::VenueConfig;
@@ -177,13 +172,6 @@ fn is_told_of(by_room: &BTreeMap<RoomRef, Told>, room: RoomRef, due: Option<Clos
     is_once(by_room, room, close)
 }
 
-/// Whether two rooms are the same.
-fn is_same_room(room: RoomRef, other: RoomRef) -> bool
-    ensures { result ≡ spec.same_room room other }
-{
-    room.investor == other.investor && room.n == other.n
-}
-
 /// How a room ended for a dealer, where it ended and its request names the dealer.
 fn close_due(dealer: u16, room: &DayRoom) -> Option<Close>
     ensures { result ≡ spec.close_due dealer room.now }
@@ -193,65 +181,4 @@ fn close_due(dealer: u16, room: &DayRoom) -> Option<Close>
     }
     let end = room.end()?;
     Some(close_for(&end, dealer))
-}
-
-/// The first room, in the order of the list, that was not swept as the clock was told: the moments
-/// of its sweeps, by its events, are not those of the sweeps of that room, in their order.
-pub(crate) fn sweep_fault(rooms: &[DayRoom], sweeps: &[Sweep]) -> Option<RoomRef>
-    ensures { result ≡ spec.first_unswept sweeps.now rooms.now }
-{
-    let room = first_unswept(rooms, sweeps)?;
-    Some(room.at())
-}
-
-/// The same as the room itself.
-fn first_unswept<'a>(rooms: &'a [DayRoom], sweeps: &[Sweep]) -> Option<&'a DayRoom>
-    ensures { option_copied result
-        ≡ find (λ room. not (spec.is_swept sweeps.now room)) rooms.entry.now }
-{
-    rooms.iter().find(|room| !is_swept(room, sweeps))
-}
-
-/// Whether a room was swept as the clock was told.
-fn is_swept(room: &DayRoom, sweeps: &[Sweep]) -> bool
-    ensures { result ≡ spec.is_swept sweeps.now room.now }
-{
-    is_swept_at(room.events(), room.at(), sweeps)
-}
-
-/// Whether the moments of the sweeps among these events of a room are those of its sweeps.
-fn is_swept_at(events: &[RoomEvent], at: RoomRef, sweeps: &[Sweep]) -> bool
-    ensures { result ≡ bytes_eq (spec.times_swept events.now) (spec.times_for at sweeps.now) }
-{
-    let mut events = events;
-    let mut sweeps = sweeps;
-    while let Some((sweep, later)) = sweeps.split_first() {
-        sweeps = later;
-        if !is_same_room(at, sweep.room) {
-            continue;
-        }
-        let Some((moment, behind)) = next_sweep(events) else {
-            return false;
-        };
-        if moment != sweep.moment {
-            return false;
-        }
-        events = behind;
-    }
-    next_sweep(events).is_none()
-}
-
-/// The moment of the first sweep among some events, and the events behind it.
-fn next_sweep(events: &[RoomEvent]) -> Option<(Moment, &[RoomEvent])>
-    ensures { MatchOption result (spec.times_swept events.now ≡ [])
-        (λ next. spec.times_swept events.now ≡ next.0 ∷ spec.times_swept next.1.now) }
-{
-    let mut rest = events;
-    while let Some((event, later)) = rest.split_first() {
-        if let RoomEvent::Expire { moment } = event {
-            return Some((*moment, later));
-        }
-        rest = later;
-    }
-    None
 }

@@ -1,14 +1,16 @@
 //! A day on threads, from the configuration to the record.
-ghost use Rattle.std.specs.Prelude.{◌≡◌, ◌+◌, length, map, IfOk};
+ghost use Rattle.std.specs.Prelude.{◌≡◌, ◌≢◌, ◌+◌, length, map, min, Err, IfOk};
 ghost use Rattle.quote_word.specs.SettleLog.{IsLegal};
 ghost use Rattle.session_worker.specs.KeptDays.{KeepsDay};
+ghost use Rattle.session_worker.specs.declared.faults.DayFault.TheVariants as fault;
 ghost use Rattle.step_replay.specs.Actions as actions;
 
-use crate::day_checks::{sweep_fault, told_fault};
+use crate::day_checks::told_fault;
 use crate::faults::DayFault;
 use crate::gates::Gate;
 use crate::joined::{Session, dealer_days, investor_days, with_rooms};
 use crate::naming::Naming;
+use crate::swept_rooms::sweep_fault;
 use crate::threads::work;
 use crate::venue::SharedVenue;
 use fix_fields::Memory;
@@ -31,8 +33,13 @@ pub fn run_day<R: Threads + Wait + Sync, G: Gate>(
     sweeps: Vec<Sweep>,
     gate: &G,
 ) -> Result<DayRecord, DayFault>
-    ensures { IfOk result (λ day.
+    ensures day { IfOk result (λ day.
         KeepsDay config (map (λ inbox. inbox.items) inboxes.items) sweeps.items day) }
+
+    // With more or fewer inboxes than firms there is no day.
+    ensures no_day { length inboxes.items ≢ length config.dealers + length config.investors
+        → result ≡ Err (fault.Inbox
+        (min (length inboxes.items) (length config.dealers + length config.investors))) }
 {
     let firms = config.dealers().len() + config.investors().len();
     if inboxes.len() != firms {
@@ -138,7 +145,7 @@ fn recorded<J: Naming>(
     if let Some(dealer) = told_fault(alloc, dealers.as_slice(), rooms.as_slice())? {
         return Err(DayFault::Told(dealer));
     }
-    if let Some(room) = sweep_fault(rooms.as_slice(), sweeps) {
+    if let Some(room) = sweep_fault(alloc, rooms.as_slice(), sweeps)? {
         return Err(DayFault::Sweep(room));
     }
     let investors = with_rooms(alloc, &config, investors, rooms)?;

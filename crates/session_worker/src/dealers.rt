@@ -1,5 +1,5 @@
 //! What lies under the lock of a dealer's desk.
-ghost use Rattle.std.specs.Prelude.{◌≡◌, Some, All, IfOk, OnOk};
+ghost use Rattle.std.specs.Prelude.{◌≡◌, [], Some, None, All, IfOk, OnOk};
 ghost use Rattle.dealer_desk.specs.DealerOutput.{book_at, dealer_output, number_in, rooms_at};
 ghost use Rattle.dealer_desk.specs.DealerOutput.{with_notice_in};
 ghost use Rattle.dealer_desk.specs.QuoteLines.{lines_of};
@@ -100,6 +100,11 @@ impl<J: Naming> LockedDealer<J> {
             (has_word J.board.words (steps.own_word self.old.first self.old.desk moment bytes.now))
             (answer_in (λ word. entry_of word self.new.seen.log)
             (steps.own_word self.old.first self.old.desk moment bytes.now))) }
+        ensures duties { IfOk result (λ done. done.duties.items
+            ≡ steps.duties_of_own self.old.desk moment bytes.now
+            (has_word J.board.words (steps.own_word self.old.first self.old.desk moment bytes.now))
+            (answer_in (λ word. entry_of word self.new.seen.log)
+            (steps.own_word self.old.first self.old.desk moment bytes.now))) }
         ensures order { OnOk result
             (self.new.order ≡ with_action self.old.order (acting.now.by, acting.now.number)) }
     {
@@ -128,6 +133,11 @@ impl<J: Naming> LockedDealer<J> {
             (has_word J.board.words (steps.drop_word self.old.first self.old.desk last))
             (answer_in (λ word. entry_of word self.new.seen.log)
             (steps.drop_word self.old.first self.old.desk last))) }
+        ensures duties { IfOk result (λ done. done.duties.items
+            ≡ steps.duties_of_drop self.old.desk last moment
+            (has_word J.board.words (steps.drop_word self.old.first self.old.desk last))
+            (answer_in (λ word. entry_of word self.new.seen.log)
+            (steps.drop_word self.old.first self.old.desk last))) }
         ensures order { OnOk result
             (self.new.order ≡ with_action self.old.order (acting.now.by, acting.now.number)) }
     {
@@ -153,6 +163,8 @@ impl<J: Naming> LockedDealer<J> {
     ) -> Result<Done, Memory>
         ensures desk { OnOk result
             (self.new.desk ≡ steps.desk_after_show self.old.desk room ask moment) }
+        ensures duties { IfOk result (λ done. done.duties.items ≡ []) }
+        ensures unasked { IfOk result (λ done. done.word ≡ None) }
         ensures order { OnOk result (self.new.order ≡ with_action self.old.order action) }
     {
         words_are_asked_event_by_event();
@@ -173,6 +185,8 @@ impl<J: Naming> LockedDealer<J> {
     ) -> Result<Done, Memory>
         ensures desk { OnOk result (self.new.desk ≡ with_notice_in self.old.desk
             (number_in (rooms_at self.old.desk) room) close moment) }
+        ensures duties { IfOk result (λ done. done.duties.items ≡ []) }
+        ensures unasked { IfOk result (λ done. done.word ≡ None) }
         ensures order { OnOk result (self.new.order ≡ with_action self.old.order action) }
     {
         words_are_asked_event_by_event();

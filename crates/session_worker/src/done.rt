@@ -1,4 +1,6 @@
 //! What an action left.
+ghost use Rattle.std.specs.Prelude.{◌≡◌, [], None};
+
 use market_terms::Duty;
 use quote_word::Settled;
 use venue_steps::Duties;
@@ -12,12 +14,17 @@ pub(crate) struct Done {
 
 impl Done {
     /// An action that asked no word.
-    pub(crate) fn unasked(duties: Duties) -> Self {
+    pub(crate) fn unasked(duties: Duties) -> Self
+        ensures { result ≡ record { duties = duties; word = None } }
+    {
         Done { duties, word: None }
     }
 
     /// An action at a place that the venue does not have.
-    pub(crate) fn nothing() -> Self {
+    pub(crate) fn nothing() -> Self
+        ensures duties { result.duties.items ≡ [] }
+        ensures unasked { result.word ≡ None }
+    {
         Done::unasked(Duties::new())
     }
 }

@@ -1,5 +1,5 @@
 //! What lies under the lock of an investor's desk.
-ghost use Rattle.std.specs.Prelude.{◌≡◌, true, Some, is_some, IfOk, OnOk};
+ghost use Rattle.std.specs.Prelude.{◌≡◌, [], true, Some, None, is_some, IfOk, OnOk};
 ghost use Rattle.investor_desk.specs.InvestorOutput.{book_at, investor_output, market_for};
 ghost use Rattle.investor_desk.specs.RequestLines.{lines_of};
 ghost use Rattle.session_worker.specs.KeptDays.{InvestorKeeps};
@@ -64,6 +64,9 @@ impl<J: Naming> LockedInvestor<J> {
     ) -> Result<Done, Memory>
         ensures desk { OnOk result
             (self.new.desk ≡ steps.desk_after_own self.old.desk moment bytes.now) }
+        ensures duties { IfOk result (λ done. done.duties.items
+            ≡ steps.duties_of_own self.old.desk moment bytes.now) }
+        ensures unasked { IfOk result (λ done. done.word ≡ None) }
         ensures order { OnOk result (self.new.order ≡ with_action self.old.order action) }
     {
         self.order.reserve(1)?;
@@ -82,6 +85,8 @@ impl<J: Naming> LockedInvestor<J> {
     ) -> Result<Done, Memory>
         ensures desk { OnOk result
             (self.new.desk ≡ steps.desk_after_relay self.old.desk request offer.now moment) }
+        ensures duties { IfOk result (λ done. done.duties.items ≡ []) }
+        ensures unasked { IfOk result (λ done. done.word ≡ None) }
         ensures order { OnOk result (self.new.order ≡ with_action self.old.order action) }
     {
         self.order.reserve(1)?;
@@ -100,6 +105,8 @@ impl<J: Naming> LockedInvestor<J> {
     ) -> Result<Done, Memory>
         ensures desk { OnOk result
             (self.new.desk ≡ steps.desk_after_gone self.old.desk request word moment) }
+        ensures duties { IfOk result (λ done. done.duties.items ≡ []) }
+        ensures unasked { IfOk result (λ done. done.word ≡ None) }
         ensures order { OnOk result (self.new.order ≡ with_action self.old.order action) }
     {
         self.order.reserve(1)?;
@@ -118,6 +125,8 @@ impl<J: Naming> LockedInvestor<J> {
     ) -> Result<Done, Memory>
         ensures desk { OnOk result
             (self.new.desk ≡ steps.desk_after_declined self.old.desk request dealer moment) }
+        ensures duties { IfOk result (λ done. done.duties.items ≡ []) }
+        ensures unasked { IfOk result (λ done. done.word ≡ None) }
         ensures order { OnOk result (self.new.order ≡ with_action self.old.order action) }
     {
         self.order.reserve(1)?;
@@ -137,6 +146,8 @@ impl<J: Naming> LockedInvestor<J> {
     ) -> Result<Done, Memory>
         ensures desk { OnOk result (self.new.desk
             ≡ steps.desk_after_answer self.old.desk request response.now reply moment) }
+        ensures duties { IfOk result (λ done. done.duties.items ≡ []) }
+        ensures unasked { IfOk result (λ done. done.word ≡ None) }
         ensures order { OnOk result (self.new.order ≡ with_action self.old.order action) }
     {
         self.order.reserve(1)?;
@@ -154,6 +165,8 @@ impl<J: Naming> LockedInvestor<J> {
     ) -> Result<Done, Memory>
         ensures desk { OnOk result
             (self.new.desk ≡ steps.desk_after_close self.old.desk request moment) }
+        ensures duties { IfOk result (λ done. done.duties.items ≡ []) }
+        ensures unasked { IfOk result (λ done. done.word ≡ None) }
         ensures order { OnOk result (self.new.order ≡ with_action self.old.order action) }
     {
         self.order.reserve(1)?;

@@ -21,6 +21,7 @@ mod laws;
 mod naming;
 mod notices;
 mod rooms;
+mod swept_rooms;
 mod threads;
 mod told_rooms;
 mod venue;

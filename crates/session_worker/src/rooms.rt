@@ -1,5 +1,5 @@
 //! What lies under the lock of a room.
-ghost use Rattle.std.specs.Prelude.{◌≡◌, [], ◌∷◌, ◌++◌, All, OnOk};
+ghost use Rattle.std.specs.Prelude.{◌≡◌, [], ◌∷◌, ◌++◌, None, All, IfOk, OnOk};
 ghost use Rattle.quote_word.specs.SettleLog.{entry_of};
 ghost use Rattle.request_room.specs.Book.{room_after};
 ghost use Rattle.request_room.specs.RoomFacts.{hears, is_opening};
@@ -72,6 +72,10 @@ impl<J: Naming> LockedRoom<J> {
     ) -> Result<Done, Memory>
         ensures room { OnOk result (self.new.events
             ≡ steps.room_after_open self.old.events ask dealers) }
+        ensures duties { IfOk result (λ done. done.duties.items
+            ≡ steps.duties_of_open (room_after self.old.events) self.old.at
+            ask dealers moment) }
+        ensures unasked { IfOk result (λ done. done.word ≡ None) }
         ensures order { OnOk result
             (self.new.order ≡ with_action self.old.order action) }
     {
@@ -86,6 +90,8 @@ impl<J: Naming> LockedRoom<J> {
         ensures room { OnOk result (self.new.events
             ≡ steps.where_done (is_opening (room_after self.old.events)) self.old.events
             event.Ready) }
+        ensures duties { IfOk result (λ done. done.duties.items ≡ []) }
+        ensures unasked { IfOk result (λ done. done.word ≡ None) }
         ensures order { OnOk result
             (self.new.order ≡ with_action self.old.order action) }
     {
@@ -106,6 +112,10 @@ impl<J: Naming> LockedRoom<J> {
         ensures room { OnOk result (self.new.events
             ≡ steps.where_done (hears (room_after self.old.events) dealer) self.old.events
             (event.Post dealer offer.word offer.price offer.valid_until)) }
+        ensures duties { IfOk result (λ done. done.duties.items
+            ≡ steps.duties_of_post (room_after self.old.events) self.old.at
+            dealer offer moment) }
+        ensures unasked { IfOk result (λ done. done.word ≡ None) }
         ensures order { OnOk result
             (self.new.order ≡ with_action self.old.order action) }
     {
@@ -126,6 +136,10 @@ impl<J: Naming> LockedRoom<J> {
         ensures room { OnOk result (self.new.events
             ≡ steps.where_done (hears (room_after self.old.events) dealer) self.old.events
             (event.Unpost dealer word)) }
+        ensures duties { IfOk result (λ done. done.duties.items
+            ≡ steps.duties_of_unpost (room_after self.old.events) self.old.at
+            dealer word moment) }
+        ensures unasked { IfOk result (λ done. done.word ≡ None) }
         ensures order { OnOk result
             (self.new.order ≡ with_action self.old.order action) }
     {
@@ -145,6 +159,10 @@ impl<J: Naming> LockedRoom<J> {
         ensures room { OnOk result (self.new.events
             ≡ steps.where_done (hears (room_after self.old.events) dealer) self.old.events
             (event.Decline dealer)) }
+        ensures duties { IfOk result (λ done. done.duties.items
+            ≡ steps.duties_of_decline (room_after self.old.events) self.old.at
+            dealer moment) }
+        ensures unasked { IfOk result (λ done. done.word ≡ None) }
         ensures order { OnOk result
             (self.new.order ≡ with_action self.old.order action) }
     {
@@ -168,6 +186,12 @@ impl<J: Naming> LockedRoom<J> {
             (steps.hit_word (room_after self.old.events) word moment)) self.old.events
             (event.Hit word moment (answer_in (λ w. entry_of w self.new.seen.log)
             (steps.hit_word (room_after self.old.events) word moment)))) }
+        ensures duties { IfOk result (λ done. done.duties.items
+            ≡ steps.duties_of_hit (room_after self.old.events) self.old.at
+            response word moment (has_word J.board.words
+            (steps.hit_word (room_after self.old.events) word moment))
+            (answer_in (λ w. entry_of w self.new.seen.log)
+            (steps.hit_word (room_after self.old.events) word moment))) }
         ensures order { OnOk result
             (self.new.order ≡ with_action self.old.order (acting.now.by, acting.now.number)) }
     {
@@ -193,6 +217,10 @@ impl<J: Naming> LockedRoom<J> {
     ) -> Result<Done, Memory>
         ensures room { OnOk result (self.new.events
             ≡ self.old.events ++ event.Pass moment ∷ []) }
+        ensures duties { IfOk result (λ done. done.duties.items
+            ≡ steps.duties_of_pass (room_after self.old.events) self.old.at
+            response moment) }
+        ensures unasked { IfOk result (λ done. done.word ≡ None) }
         ensures order { OnOk result
             (self.new.order ≡ with_action self.old.order action) }
     {
@@ -206,6 +234,9 @@ impl<J: Naming> LockedRoom<J> {
     pub(crate) fn expire(&mut self, action: (Actor, u64), moment: Moment) -> Result<Done, Memory>
         ensures room { OnOk result (self.new.events
             ≡ self.old.events ++ event.Expire moment ∷ []) }
+        ensures duties { IfOk result (λ done. done.duties.items
+            ≡ steps.duties_of_expire (room_after self.old.events) self.old.at moment) }
+        ensures unasked { IfOk result (λ done. done.word ≡ None) }
         ensures order { OnOk result
             (self.new.order ≡ with_action self.old.order action) }
     {

@@ -1,9 +1,8 @@
-use Rattle.std.proofs.Common.{◌∙◌, ℕ, List, Option, Some, ap, sym}
+use Rattle.std.proofs.Common.{◌∙◌, ℕ, List, Some, ap, sym}
 use Rattle.std.specs.Option.{option_map}
 use Rattle.step_replay.specs.AuditTrail as venue
 use Rattle.recorded_days.specs.DayDues.{day_dues_of}
 use Rattle.step_replay.specs.DealerView.{dealer_view}
-use Rattle.step_replay.specs.declared.dues.Due.{Due}
 use Rattle.session_worker.proofs.ViewLemmas.{is_sent_on}
 use Rattle.session_worker.proofs.laws.dealers_are_isolated_on_threads.Goals as goal
 
