@@ -1,0 +1,270 @@
+#!/usr/bin/env python3
+"""Holds a program against the model: status, output and standard error on inputs that are drawn.
+
+usage: compare.py PROGRAM INPUTS [FIRST_SEED [PROCESSES]]
+       compare.py --write SEED          writes the inputs of a seed to the working directory
+
+A seed has one or more inputs. The first that differs is written to the working directory, as SEED-N.in and its
+words, beside both answers; the status is then 1.
+"""
+
+import collections
+import io
+import multiprocessing
+import re
+import subprocess
+import sys
+import traceback
+
+sys.dont_write_bytecode = True
+
+import faults
+import venue
+from days import Day, Draw
+from lines import due_text
+
+
+# ---------------------------------------------------------------- the inputs of a seed
+
+
+def inputs(seed):
+    """Pairs of arguments and standard input."""
+    draw = Draw(seed)
+    kinds = [a_day] * 10 + [two_days] * 2 + [due_list] * 3 + [made_up] * 4 + [spoilt] * 3 + [configurations] * 2 + [streams] * 2 + [rarely]
+    return draw.choice(kinds)(draw)
+
+
+def joined(*parts):
+    return b"\n%%\n".join(parts)
+
+
+def ended(draw, data):
+    """With a line feed at its end, or without."""
+    return data + draw.of(b"\n", b"\n", b"")
+
+
+def head(day):
+    return "\n".join(day.head).encode()
+
+
+def firm_word(draw, day, dealer=False):
+    """A firm of the day, for the most part."""
+    rows = day.configuration.dealers if dealer else day.configuration.firms
+    if not rows or draw.chance(0.02):
+        return draw.of("NOBODY", "CLOCK", "INV1", "DLR99")
+    return draw.choice(rows).name.decode()
+
+
+def commands(draw, day):
+    """Some commands that read a day."""
+    all_of_them = [["replay"], ["replay", firm_word(draw, day)], ["replay", "--frames"], ["due", firm_word(draw, day, True)],
+                   ["blotter", firm_word(draw, day)]]
+    return draw.sample(all_of_them, draw.of(2, 3, 5))
+
+
+def a_day(draw):
+    day = Day(draw)
+    data = ended(draw, joined(head(day), day.text()))
+    found = [(words, data) for words in commands(draw, day)]
+    if draw.chance(0.3):
+        found.append((draw.of(["live"], ["live", "--frames"]), without_turns(draw, data)))
+    return found
+
+
+def without_turns(draw, data):
+    """For the most part without the lines `turn`, which the answer line by line has no use for."""
+    return data if draw.chance(0.05) else b"\n".join(line for line in data.split(b"\n") if not line.startswith(b"turn "))
+
+
+def two_days(draw):
+    """A day against itself with something changed, or against another of the same firms."""
+    day = Day(draw, length=draw.randint(1, 40))
+    first, second = day.text(), day.text()
+    other = head(day)
+    if draw.chance(0.3):
+        second = Day(draw, lines=day.head).text()
+    elif draw.chance(0.8):
+        lines = second.split(b"\n")
+        place = draw.randrange(len(lines))
+        what = draw.randrange(4)
+        if what == 0:
+            del lines[place]
+        elif what == 1:
+            lines.insert(place, lines[draw.randrange(len(lines))])
+        elif what == 2:
+            lines[place] = re.sub(rb"(13[23]=)[0-9.]+", rb"\g<1>99.5", lines[place])
+        else:
+            lines = lines[:place]
+        second = b"\n".join(lines)
+    if draw.chance(0.3):
+        other = re.sub(rb"exposure = [0-9]+", b"exposure = %d" % draw.of(5, 2_000_000), other, count=draw.of(0, 1))
+    data = ended(draw, joined(head(day), first, other, second))
+    return [(["compare", firm_word(draw, day, True)], data)]
+
+
+def due_list(draw):
+    """What was due to a dealer of a day, as it was or with something changed."""
+    day = Day(draw)
+    if not day.configuration.dealers:
+        return []
+    dealer = draw.choice(day.dealers())
+    configuration = day.configuration
+    data = b"\n".join(due_text(configuration.date, configuration.firms[dealer], day.venue.due[dealer]))
+    found = [(["alone"], data + b"\n"), (["alone", "--frames"], data), ([], ended(draw, faults.spoilt_input(draw, data)))]
+    return draw.sample(found, draw.of(1, 2))
+
+
+def made_up(draw):
+    data = faults.MadeUp(draw).text()
+    found = [(draw.of(["alone"], [], ["alone", "--frames"]), ended(draw, data))]
+    if draw.chance(0.5):
+        found.append((["alone"], ended(draw, faults.spoilt_input(draw, data))))
+    return found
+
+
+def spoilt(draw):
+    """A lawful input with some bytes, words or lines changed."""
+    day = Day(draw, length=draw.randint(1, 20))
+    found = []
+    for _ in range(3):
+        steps = day.text()
+        if draw.chance(0.1):
+            steps += b"\n" + faults.exact_frames(draw, day)
+        steps = faults.spoilt_input(draw, steps)
+        top = head(day) if draw.chance(0.9) else faults.spoilt_input(draw, head(day))
+        words = draw.of(["replay"], ["replay"], ["replay"], ["due", firm_word(draw, day, True)], ["live"], ["blotter", firm_word(draw, day)])
+        found.append((words, ended(draw, joined(top, steps))))
+    return found
+
+
+def configurations(draw):
+    day, found = Day(draw, length=2), []
+    for _ in range(4):
+        lines = faults.crowded_configuration(draw) if draw.chance(0.05) else faults.spoilt_configuration(draw)
+        data = joined("\n".join(lines).encode(), day.text() if draw.chance(0.3) else b"")
+        found.append((draw.of(["replay"], ["replay", "DLR1"], ["live"], ["due", "DLR1"]), ended(draw, data)))
+    return found
+
+
+def streams(draw):
+    """Streams in pieces, lawful or not."""
+    top, found = "\n".join(faults.STREAM_FIRMS).encode(), []
+    for _ in range(3):
+        words = draw.of(["replay"], ["replay"], ["live"], ["due", "DLR1"], ["replay", "--frames"])
+        found.append((words, ended(draw, joined(top, faults.stream_lines(draw)))))
+    return found
+
+
+def rarely(draw):
+    day = Day(draw, length=3)
+    parts = [head(day), day.text()] * draw.of(0, 1, 2, 3) + draw.of([], [b""], [b"x"])
+    words = draw.of(["replay"], ["alone"], ["compare", "DLR1"], ["due", "DLR1"], ["live"], ["blotter", "INV1"])
+    found = [(words, ended(draw, joined(*parts))), (draw.choice(faults.WRONG_ARGUMENTS), joined(head(day), day.text()))]
+    if draw.chance(0.01):
+        data = b"#" * draw.of(16_777_215, 16_777_216, 16_777_217)
+        found.append((draw.of(["alone"], ["replay"]), data))
+    return found
+
+
+# ---------------------------------------------------------------- both answers
+
+
+def model_answer(words, data):
+    out, err = io.BytesIO(), io.BytesIO()
+    words = [word.decode("utf-8", "surrogateescape") if isinstance(word, bytes) else word for word in words]
+    status = venue.run(words, data, out, err)
+    return status, out.getvalue(), err.getvalue()
+
+
+def program_answer(program, words, data):
+    run = subprocess.run([program, *words], input=data, capture_output=True)
+    return run.returncode, run.stdout, run.stderr
+
+
+def same(mine, other):
+    """Whether both answers are equal; what is said of wrong arguments is not held against one another."""
+    return mine == other or (mine[0] == 2 and mine[:2] == other[:2])
+
+
+def kinds_of(words, answer):
+    """What kinds of answers there are: for the count behind a run."""
+    status, out, err = answer
+    kinds = collections.Counter({"%s, status %d" % (words[0] if words and words[0] in venue.COMMANDS else "other", status): 1})
+    for line in err.decode(errors="replace").splitlines() if status != 2 else []:
+        kinds["fault " + re.sub(r"line \d+", "line K", line) if not line.startswith("firm") else "fault firm"] += 1
+    if words and words[0] in ("replay", "live") or not words or words[0] == "alone":
+        for line in out.splitlines():
+            parts = line.decode(errors="replace").split(" ", 4)
+            if len(parts) == 5 and parts[1].isdigit():
+                tags = re.findall(r"(?:^|\|)((?:297|300|58|658|694|371|373)=[^|]*)", parts[4])
+                kinds["%s %s" % (parts[3], " ".join(tags))] += 1
+    return kinds
+
+
+def compared(work):
+    """The first difference of a seed's inputs, if any; how many there are; the kinds of their answers."""
+    program, seed = work
+    count, kinds = 0, collections.Counter()
+    try:
+        for number, (words, data) in enumerate(inputs(seed), 1):
+            mine, count = model_answer(words, data), count + 1
+            kinds += kinds_of(words, mine)
+            other = program_answer(program, words, data)
+            if mine != other and b"config: Toml\n" in (mine[2], other[2]):
+                kinds["TOML that one reader takes and the other not: seed %d, input %d" % (seed, number)] += 1
+            elif not same(mine, other):
+                return seed, (number, words, data, mine, other), count, kinds
+    except Exception:
+        return seed, traceback.format_exc(), count, kinds
+    return seed, None, count, kinds
+
+
+def report(seed, difference):
+    if isinstance(difference, str):
+        return "seed %d: the model fails\n%s" % (seed, difference)
+    number, words, data, mine, other = difference
+    with open("%d-%d.in" % (seed, number), "wb") as file:
+        file.write(data)
+    text = "seed %d, input %d, written to %d-%d.in: %r\n" % (seed, number, seed, number, words)
+    for name, answer in (("model", mine), ("program", other)):
+        text += "%s: status %d, %d bytes, standard error %r\n" % (name, answer[0], len(answer[1]), answer[2][:300])
+    for position, (a, b) in enumerate(zip(mine[1].split(b"\n"), other[1].split(b"\n")), 1):
+        if a != b:
+            return text + "line %d\n  model   %r\n  program %r" % (position, a, b)
+    return text
+
+
+def write_inputs(seed):
+    for number, (words, data) in enumerate(inputs(seed), 1):
+        with open("%d-%d.in" % (seed, number), "wb") as file:
+            file.write(data)
+        print("%d-%d.in: %r" % (seed, number, words))
+
+
+def main():
+    if sys.argv[1] == "--write":
+        return write_inputs(int(sys.argv[2]))
+    program, wanted = sys.argv[1], int(sys.argv[2])
+    first = int(sys.argv[3]) if len(sys.argv) > 3 else 1
+    processes = int(sys.argv[4]) if len(sys.argv) > 4 else 1
+    total, kinds = 0, collections.Counter()
+    with multiprocessing.Pool(processes) as pool:
+        for seed, difference, count, found in pool.imap(compared, ((program, seed) for seed in range(first, 2**62)), 16):
+            if total // 1000 < (total + count) // 1000:
+                print("%d inputs, up to seed %d" % (total + count, seed), file=sys.stderr, flush=True)
+            total += count
+            kinds += found
+            if difference:
+                pool.terminate()
+                sys.exit(report(seed, difference) + "\n%d inputs, seeds %d to %d" % (total, first, seed))
+            if total >= wanted:
+                pool.terminate()
+                break
+    for kind, count in sorted(kinds.items()):
+        print("%8d %s" % (count, kind))
+    print("%d inputs, seeds %d to %d: no difference" % (total, first, seed))
+    return None
+
+
+if __name__ == "__main__":
+    main()

@@ -1,0 +1,181 @@
+"""The configuration of a venue, and each of its faults: Toml, Missing, Name, Twice, Limit."""
+
+import re
+import tomllib
+from dataclasses import dataclass
+
+from frames import is_date
+from prices import GRIDS
+
+NAME = re.compile(r"[A-Z][A-Z0-9]{0,7}\Z")
+BOND = re.compile(r"[A-Z0-9]{12}\Z")
+NO_FIRMS = ("VENUE", "CLOCK")
+MOST_BONDS, MOST_DEALERS, MOST_INVESTORS, MOST_TRADERS = 1024, 64, 64, 16
+MOST_QUOTES, MOST_EXPOSURE = 4096, 10**15
+MOST_REQUESTS, MOST_OPEN, MOST_QUANTITY = 1024, 1024, 10**12
+ALL_QUOTES, ALL_REQUESTS = 65_536, 4_096
+
+
+class ConfigFault(Exception):
+    pass
+
+
+@dataclass(frozen=True)
+class Bond:
+    id: bytes
+    grid: int
+
+
+@dataclass(frozen=True)
+class Dealer:
+    name: bytes
+    traders: tuple
+    quotes: int
+    exposure: int
+
+
+@dataclass(frozen=True)
+class Investor:
+    name: bytes
+    traders: tuple
+    requests: int
+    open: int
+    quantity: int
+
+
+class Configuration:
+    def __init__(self, date, bonds, dealers, investors):
+        self.date, self.bonds, self.dealers, self.investors = date, bonds, dealers, investors
+        self.firms = dealers + investors
+        self.numbers = {row.name: number for number, row in enumerate(self.firms)}
+
+    def firm(self, name):
+        """The number of a firm, dealers first, or None."""
+        return self.numbers.get(name)
+
+    def is_dealer(self, firm):
+        return firm < len(self.dealers)
+
+    def has_room(self, firm, n):
+        return not self.is_dealer(firm) and 1 <= n <= self.firms[firm].requests
+
+
+def is_name(text):
+    return bool(NAME.match(text))
+
+
+def is_firm_name(text):
+    return is_name(text) and text not in NO_FIRMS
+
+
+def is_bond(text):
+    return bool(BOND.match(text))
+
+
+# ---------------------------------------------------------------- values of a table, each by its kind
+
+
+def value_of(table, key, kind):
+    """The value of a key, of this kind; truth values are no integers."""
+    value = table.get(key)
+    if type(value) is not kind:
+        raise ConfigFault("Missing")
+    return value
+
+
+def integer(table, key, most):
+    value = value_of(table, key, int)
+    if not 1 <= value <= most:
+        raise ConfigFault("Limit")
+    return value
+
+
+def new_name(value, lawful, earlier):
+    """A text of a lawful form that was not named before; joins those that were."""
+    if type(value) is not str:
+        raise ConfigFault("Missing")
+    if not lawful(value):
+        raise ConfigFault("Name")
+    if value in earlier:
+        raise ConfigFault("Twice")
+    earlier.add(value)
+    return value.encode()
+
+
+def rows(table, key, most):
+    """The tables of an array, in order; absent it is empty. What is no table is found in its turn."""
+    if key not in table:
+        return
+    array = value_of(table, key, list)
+    if len(array) > most:
+        raise ConfigFault("Limit")
+    for row in array:
+        if type(row) is not dict:
+            raise ConfigFault("Missing")
+        yield row
+
+
+def traders_of(row):
+    array = value_of(row, "traders", list)
+    if not 1 <= len(array) <= MOST_TRADERS:
+        raise ConfigFault("Limit")
+    named = set()
+    return tuple(new_name(trader, is_name, named) for trader in array)
+
+
+# ---------------------------------------------------------------- the whole
+
+
+def read_toml(data):
+    try:
+        table = tomllib.loads(data.decode("utf-8"))
+    except (ValueError, RecursionError):
+        raise ConfigFault("Toml") from None
+    if has_wide_integer(table):
+        raise ConfigFault("Toml")
+    return table
+
+
+def has_wide_integer(value):
+    """Whether an integer stands in it that has no place in 64 bits."""
+    if type(value) is dict:
+        return any(has_wide_integer(item) for item in value.values())
+    if type(value) is list:
+        return any(has_wide_integer(item) for item in value)
+    return type(value) is int and not -(2**63) <= value < 2**63
+
+
+def read_configuration(data):
+    """The configuration that these bytes spell; ConfigFault with the name of its first fault."""
+    table = read_toml(data)
+    version = value_of(table, "version", int)
+    if version not in (1, 2):
+        raise ConfigFault("Limit")
+    date = value_of(table, "date", str).encode()
+    if not is_date(date):
+        raise ConfigFault("Name")
+    ids, bonds = set(), []
+    for row in rows(table, "bond", MOST_BONDS):
+        bond, grid = new_name(row.get("id"), is_bond, ids), 256
+        if version == 2:
+            grid = value_of(row, "grid", int)
+            if grid not in GRIDS:
+                raise ConfigFault("Limit")
+        bonds.append(Bond(bond, grid))
+    names, dealers, investors = set(), [], []
+    for row in rows(table, "dealer", MOST_DEALERS):
+        name = new_name(row.get("name"), is_firm_name, names)
+        traders = traders_of(row)
+        quotes = integer(row, "quotes", MOST_QUOTES)
+        dealers.append(Dealer(name, traders, quotes, integer(row, "exposure", MOST_EXPOSURE)))
+    for row in rows(table, "investor", MOST_INVESTORS):
+        name = new_name(row.get("name"), is_firm_name, names)
+        traders = traders_of(row)
+        requests = integer(row, "requests", MOST_REQUESTS)
+        opened = integer(row, "open", MOST_OPEN)
+        investors.append(Investor(name, traders, requests, opened, integer(row, "quantity", MOST_QUANTITY)))
+    if sum(row.quotes for row in dealers) > ALL_QUOTES:
+        raise ConfigFault("Limit")
+    if sum(row.requests for row in investors) > ALL_REQUESTS:
+        raise ConfigFault("Limit")
+    return Configuration(date, bonds, dealers, investors)

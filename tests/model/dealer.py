@@ -1,0 +1,233 @@
+"""The desk of one dealer: requests shown to it, its quotes, cancels and declines, and its closing notices.
+
+A desk asks the word of an own quote by calling `ask_word(q)`, which answers 'withdrawn' or 'lifted'.
+"""
+
+from dataclasses import dataclass
+
+from desk import Desk, first, party, price_field, price_tag, terms
+from frames import moment_text
+from prices import is_price, on_grid, thirty_seconds
+from session import DEALER_TYPES
+
+HIT, EXPIRED, COVER, DONE_AWAY, PASS = 1, 3, 4, 5, 6  # 694 of a closing notice
+INVESTOR_ROLE = 13
+
+
+@dataclass
+class Request:
+    """A request that was shown to this dealer."""
+
+    k: int  # the dealer's own number
+    room: object
+    ask: object
+    declined: bool = False
+    closed: int = None  # 694 of the closing notice
+
+
+@dataclass
+class Quote:
+    """An accepted quote."""
+
+    q: int
+    id: bytes
+    request: Request
+    ticks: int
+    moment: int
+    trader: bytes
+    ended: str = None  # withdrawn or replaced
+    known_lifted: bool = False
+
+    def is_live(self):
+        return self.ended is None and self.request.closed is None
+
+    def is_droppable(self):
+        return self.is_live() and not self.known_lifted
+
+
+class DealerDesk(Desk):
+    types = DEALER_TYPES
+
+    def __init__(self, date, row, ask_word):
+        super().__init__(date, row)
+        self.ask_word = ask_word
+        self.requests, self.quotes, self.notices = [], [], 0
+
+    # ------------------------------------------------------------ what the desk knows
+
+    def request(self, name):
+        """The request shown under this name, R and its number."""
+        return next((request for request in self.requests if name == b"R%d" % request.k), None)
+
+    def request_in(self, room):
+        return next((request for request in self.requests if request.room == room), None)
+
+    def quote(self, name):
+        return next((quote for quote in self.quotes if quote.id == name), None)
+
+    def live_quote(self, request):
+        return next((quote for quote in self.quotes if quote.request is request and quote.is_live()), None)
+
+    def is_known_lifted(self, request):
+        return any(quote.request is request and quote.known_lifted for quote in self.quotes)
+
+    def exposure_without(self, request):
+        others = [quote for quote in self.quotes if quote.is_live() and quote.request is not request]
+        return sum(quote.request.ask.quantity for quote in others)
+
+    def found_lifted(self, quote, ended):
+        """Asks the quote's word by a withdrawal; it has ended so, or is known to be lifted."""
+        if self.ask_word(quote.q) == "lifted":
+            quote.known_lifted = True
+            return True
+        quote.ended = ended
+        return False
+
+    # ------------------------------------------------------------ own messages; each answers the duties that follow
+
+    def take(self, moment, data):
+        message = self.receive(moment, data)
+        if message is None:
+            return []
+        if message[35] == b"S":
+            return self.take_quote(moment, message)
+        if message[35] == b"Z":
+            return self.take_cancel_all(moment, message) if message[298] == 4 else self.take_cancel(moment, message)
+        return self.take_decline(moment, message)
+
+    def take_quote(self, moment, message):
+        request = self.request(message[131])
+        refusal = first(self.quote_refusals(moment, message, request))
+        answer = [(131, message[131]), (117, message[117])]
+        if refusal is not None:
+            self.send(moment, b"AI", answer + refused(refusal))
+            return []
+        ticks, until = message[price_tag(request.ask.side)], message.get(62)
+        quote = Quote(len(self.quotes) + 1, message[117], request, ticks, moment, message[50])
+        self.quotes.append(quote)
+        self.send(moment, b"AI", answer + [(297, b"0")])
+        return [("Post", request.room, quote.q, ticks, until, moment)]
+
+    def quote_refusals(self, moment, message, request):
+        yield request is None, 99
+        ask = request.ask
+        yield request.declined, 99
+        yield request.closed is not None or self.is_known_lifted(request), 4
+        yield moment >= ask.deadline, 4
+        yield message[48] != ask.bond, 1
+        yield not is_asked_price(message, ask), 8
+        yield any(message.get(tag, ask.quantity) != ask.quantity for tag in (134, 135)), 99
+        yield message.get(537, 1) != 1, 99
+        yield self.quote(message[117]) is not None, 6
+        yield 62 in message and message[62] <= moment, 99
+        yield len(self.quotes) >= self.row.quotes, 3
+        yield ask.quantity + self.exposure_without(request) > self.row.exposure, 3
+        replaced = self.live_quote(request)
+        yield replaced is not None and self.found_lifted(replaced, "replaced"), 4
+
+    def take_cancel(self, moment, message):
+        answer = [(117, message.get(117))]
+        quote = self.quote(message.get(117))
+        result = first(self.cancel_refusals(message, quote))
+        if result is None:
+            self.send(moment, b"AI", answer + [(297, b"17")])
+            return [("Unpost", quote.request.room, quote.q, moment)]
+        self.send(moment, b"AI", answer + ([(297, b"9")] if result == "unknown" else refused(result)))
+        return []
+
+    def cancel_refusals(self, message, quote):
+        yield message[298] != 5, 99
+        yield quote is None, "unknown"
+        yield quote.ended is not None, 99
+        yield quote.request.closed is not None or quote.known_lifted, 4
+        yield self.found_lifted(quote, "withdrawn"), 4
+
+    def take_decline(self, moment, message):
+        request = self.request(message[131])
+        refusal = first(self.decline_refusals(request))
+        answer = [(131, message[131])]
+        if refusal is not None:
+            self.send(moment, b"AI", answer + refused(refusal))
+            return []
+        request.declined = True
+        self.send(moment, b"AI", answer + [(297, b"11")])
+        return [("Decline", request.room, moment)]
+
+    def decline_refusals(self, request):
+        yield request is None, 99
+        yield request.declined, 99
+        yield request.closed is not None, 4
+        yield self.live_quote(request) is not None, 99
+
+    # ------------------------------------------------------------ the cancel of all quotes
+
+    def take_cancel_all(self, moment, message):
+        if not any(quote.is_droppable() for quote in self.quotes):
+            self.send(moment, b"AI", [(117, message.get(117)), (297, b"9")])
+            return []
+        return [("Drop", len(self.quotes), moment)]
+
+    def drop(self, last, moment):
+        """Drops the first droppable quote up to number `last`, and goes on where another is left."""
+        quotes = [quote for quote in self.quotes if quote.is_droppable() and quote.q <= last]
+        if not quotes:
+            return []
+        quote, duties = quotes[0], []
+        if self.found_lifted(quote, "withdrawn"):
+            self.send(moment, b"AI", [(117, quote.id)] + refused(4))
+        else:
+            self.send(moment, b"AI", [(117, quote.id), (297, b"17")])
+            duties.append(("Unpost", quote.request.room, quote.q, moment))
+        if len(quotes) > 1:
+            duties.append(("Drop", last, moment))
+        return duties
+
+    # ------------------------------------------------------------ what comes from rooms
+
+    def show(self, room, ask, moment):
+        request = Request(len(self.requests) + 1, room, ask)
+        self.requests.append(request)
+        fields = [(131, b"R%d" % request.k), (146, b"1")] + terms(ask)
+        fields.append((126, moment_text(self.date, ask.deadline)))
+        self.send(moment, b"R", fields + party(ask.investor, INVESTOR_ROLE))
+
+    def tell(self, request, close, moment):
+        """The closing notice; False, and nothing sent, where the request was not shown or was told already."""
+        if request is None or request.closed is not None:
+            return False
+        quote = self.live_quote(request) if close == HIT else None
+        self.notices += 1
+        fields = [(693, b"N%d" % self.notices), (131, b"R%d" % request.k)]
+        fields += [(117, quote.id if quote else None), (694, b"%d" % close)] + terms(request.ask)
+        if quote:
+            fields.append(price_field(request.ask.side, quote.ticks))
+        self.send(moment, b"AJ", fields)
+        request.closed = close
+        return True
+
+    # ------------------------------------------------------------ the blotter
+
+    def state(self, quote):
+        if quote.ended:
+            return quote.ended
+        if quote.known_lifted or quote.request.closed == HIT:
+            return "lifted"
+        return "live" if quote.is_live() else "ended"
+
+    def blotter(self):
+        """Each quote: its number, moment, trader, request, terms, price and state."""
+        for quote in self.quotes:
+            yield quote, thirty_seconds(quote.ticks), self.state(quote)
+
+
+def refused(reason):
+    return [(297, b"5"), (300, b"%d" % reason)]
+
+
+def is_asked_price(message, ask):
+    """The price of the asked side, on the bond's grid, and none of the other."""
+    asked = price_tag(ask.side)
+    other = 132 + 133 - asked
+    if asked not in message or other in message:
+        return False
+    return is_price(message[asked]) and on_grid(message[asked], ask.grid)

@@ -1,0 +1,74 @@
+"""What the desks of dealers and investors have in common: their numbers, and what they have sent."""
+
+from dataclasses import dataclass
+
+from frames import moment_text, read_frame, write_frame
+from prices import price_text
+from session import Inbox, Reject
+
+
+@dataclass(frozen=True)
+class Ask:
+    """What a request asks for; side 1 buys, 2 sells, as the investor has it."""
+
+    investor: bytes
+    bond: bytes
+    side: int
+    quantity: int
+    deadline: int
+    grid: int
+
+
+def first(refusals):
+    """The reason of the first condition that holds, looking at no later one; None where none does."""
+    for condition, reason in refusals:
+        if condition:
+            return reason
+    return None
+
+
+def price_tag(side):
+    """Who buys asks for offers, who sells for bids."""
+    return 133 if side == 1 else 132
+
+
+class Desk:
+    types = {}  # the message types that the firm's role sends
+
+    def __init__(self, date, row):
+        self.date, self.row = date, row
+        self.inbox, self.sent = Inbox(), []
+
+    def send(self, moment, kind, fields):
+        """Sends a message; fields without a value are left out."""
+        head = [(35, kind), (49, b"VENUE"), (56, self.row.name), (34, b"%d" % (len(self.sent) + 1))]
+        head.append((52, moment_text(self.date, moment)))
+        self.sent.append(head + [field for field in fields if field[1] is not None])
+
+    def receive(self, moment, data):
+        """The message that passed the session checks, or None: dropped, or answered by a Reject."""
+        message = self.inbox.receive(data, read_frame, self.date, self.row, self.types)
+        if isinstance(message, Reject):
+            self.send(moment, b"3", message.fields)
+            return None
+        return message
+
+    def frames(self):
+        return [write_frame(fields) for fields in self.sent]
+
+
+def instrument(bond):
+    return [(55, b"[N/A]"), (48, bond), (22, b"4")]
+
+
+def terms(ask):
+    """The instrument, the investor's side and the quantity."""
+    return instrument(ask.bond) + [(54, b"%d" % ask.side), (38, b"%d" % ask.quantity)]
+
+
+def party(name, role):
+    return [(453, b"1"), (448, name), (447, b"D"), (452, b"%d" % role)]
+
+
+def price_field(side, ticks):
+    return (price_tag(side), price_text(ticks))

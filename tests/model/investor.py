@@ -1,0 +1,175 @@
+"""The desk of one investor: its requests, the quotes that it is shown, its hits and passes."""
+
+from dataclasses import dataclass
+
+from desk import Ask, Desk, first, instrument, party, price_field, terms
+from frames import moment_text
+from prices import thirty_seconds
+from session import INVESTOR_TYPES
+
+DEALER_ROLE = 35
+MOST_DEALERS = 8
+
+
+@dataclass
+class Request:
+    """An accepted request."""
+
+    n: int
+    id: bytes
+    ask: Ask
+    moment: int
+    trader: bytes
+    closed: str = None  # passed, expired, or won and from whom
+
+    def is_open(self):
+        return self.closed is None
+
+
+@dataclass
+class Shown:
+    """A quote that the investor was shown."""
+
+    k: int
+    request: Request
+    dealer: bytes
+    word: object
+    ticks: int
+    gone: bool = False
+
+
+class InvestorDesk(Desk):
+    types = INVESTOR_TYPES
+
+    def __init__(self, configuration, firm):
+        super().__init__(configuration.date, configuration.firms[firm])
+        self.configuration, self.firm = configuration, firm
+        self.requests, self.shown = [], []
+
+    def request(self, name):
+        return next((request for request in self.requests if request.id == name), None)
+
+    def quote(self, name):
+        return next((quote for quote in self.shown if name == b"Q%d" % quote.k), None)
+
+    def bond(self, name):
+        return next((bond for bond in self.configuration.bonds if bond.id == name), None)
+
+    def dealer(self, name):
+        """The number of a dealer, or None: of an investor too."""
+        firm = self.configuration.firm(name)
+        return firm if firm is not None and self.configuration.is_dealer(firm) else None
+
+    # ------------------------------------------------------------ own messages; each answers the duties that follow
+
+    def take(self, moment, data):
+        message = self.receive(moment, data)
+        if message is None:
+            return []
+        if message[35] == b"R":
+            return self.take_request(moment, message)
+        return self.take_hit(moment, message) if message[694] == 1 else self.take_pass(moment, message)
+
+    def take_request(self, moment, message):
+        refusal = first(self.request_refusals(moment, message))
+        answer = [(131, message[131])]
+        if refusal is not None:
+            answer += [(658, b"%d" % refusal), (146, b"1")] + instrument(message[48])
+            self.send(moment, b"AG", answer)
+            return []
+        bond = self.bond(message[48])
+        ask = Ask(self.row.name, bond.id, int(message[54]), message[38], message[126], bond.grid)
+        request = Request(len(self.requests) + 1, message[131], ask, moment, message[50])
+        self.requests.append(request)
+        self.send(moment, b"AI", answer + [(297, b"0")])
+        dealers = [self.dealer(name) for name in message["dealers"]]
+        return [("Open", (self.firm, request.n), ask, dealers, moment)]
+
+    def request_refusals(self, moment, message):
+        dealers = message["dealers"]
+        yield self.request(message[131]) is not None, 99
+        yield self.bond(message[48]) is None, 1
+        yield message[38] > self.row.quantity, 3
+        yield not dealers, 99
+        yield any(self.dealer(name) is None for name in dealers), 99
+        yield len(set(dealers)) < len(dealers), 99
+        yield len(dealers) > MOST_DEALERS, 99
+        yield message[126] <= moment, 4
+        yield len(self.requests) >= self.row.requests, 3
+        yield sum(request.is_open() for request in self.requests) >= self.row.open, 3
+
+    def take_hit(self, moment, message):
+        quote = self.quote(message[117])
+        if quote is None:
+            self.send(moment, b"AI", [(693, message[693]), (117, message[117]), (297, b"9")])
+            return []
+        return [("Hit", (self.firm, quote.request.n), (message[693], quote.k), quote.word, moment)]
+
+    def take_pass(self, moment, message):
+        request = self.request(message[131])
+        if request is None:
+            self.send(moment, b"AI", [(693, message[693]), (131, message[131]), (297, b"9")])
+            return []
+        return [("Pass", (self.firm, request.n), (message[693], None), moment)]
+
+    # ------------------------------------------------------------ what comes from rooms
+
+    def quote_came(self, n, dealer, word, ticks, until, moment):
+        request = self.requests[n - 1]
+        if not request.is_open():
+            return
+        for quote in self.shown:
+            if quote.request is request and quote.dealer == dealer and not quote.gone:
+                self.report_gone(quote, moment)
+        quote = Shown(len(self.shown) + 1, request, dealer, word, ticks)
+        self.shown.append(quote)
+        ask = request.ask
+        fields = [(131, request.id), (117, b"Q%d" % quote.k)] + instrument(ask.bond)
+        fields += [(54, b"%d" % ask.side), price_field(ask.side, ticks)]
+        fields.append((135 if ask.side == 1 else 134, b"%d" % ask.quantity))
+        fields.append((62, None if until is None else moment_text(self.date, until)))
+        self.send(moment, b"S", fields + [(537, b"1")] + party(dealer, DEALER_ROLE))
+
+    def report_gone(self, quote, moment):
+        quote.gone = True
+        self.send(moment, b"AI", [(131, quote.request.id), (117, b"Q%d" % quote.k), (297, b"17")])
+
+    def quote_gone(self, n, word, moment):
+        request = self.requests[n - 1]
+        if not request.is_open():
+            return
+        for quote in self.shown:
+            if quote.request is request and quote.word == word and not quote.gone:
+                self.report_gone(quote, moment)
+                return
+
+    def dealer_declined(self, n, dealer, moment):
+        request = self.requests[n - 1]
+        if request.is_open():
+            self.send(moment, b"AI", [(131, request.id), (297, b"11")] + party(dealer, DEALER_ROLE))
+
+    def answered(self, n, response, reply, moment):
+        """The room's answer to a hit or a pass."""
+        request, (name, k) = self.requests[n - 1], response
+        fields = [(693, name), (131, request.id), (117, None if k is None else b"Q%d" % k)]
+        if reply == "Awarded":
+            quote = self.shown[k - 1]
+            self.close(request, "won %s %s" % (quote.dealer.decode(), thirty_seconds(quote.ticks).decode()))
+            fields.append((297, b"0"))
+        elif reply == "Passed":
+            self.close(request, "passed")
+            fields.append((297, b"11"))
+        else:
+            fields += [(297, b"5"), (300, b"4"), (58, reply.encode())]
+        self.send(moment, b"AI", fields)
+
+    def closed(self, n, moment):
+        """The request has expired."""
+        request = self.requests[n - 1]
+        self.close(request, "expired")
+        self.send(moment, b"AI", [(131, request.id), (297, b"7")])
+
+    @staticmethod
+    def close(request, how):
+        if request.is_open():
+            request.closed = how

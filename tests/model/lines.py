@@ -1,0 +1,279 @@
+"""The lines that the program reads and writes: steps, due text, messages, blotters."""
+
+import re
+
+from configuration import MOST_EXPOSURE, MOST_QUANTITY, MOST_QUOTES, MOST_TRADERS, Dealer, is_bond, is_firm_name, is_name
+from desk import Ask
+from frames import LONGEST, SOH, Stream, StreamFault, is_date, moment_text, read_fields, read_time, time_text, write_frame
+from prices import GRIDS
+from replay import CLOCK
+
+MOST_TURNS = 1000
+OWN_TAGS = (49, 56, 34, 52, 50)  # the program's own fields of a `say` line, where BODY has none
+
+
+class LineFault(Exception):
+    """What is wrong with a line: form, unknown firm, unknown room or stream."""
+
+
+def number_of(text, digits=9):
+    if not re.match(rb"[0-9]{1,%d}\Z" % digits, text):
+        raise LineFault("form")
+    return int(text)
+
+
+def limited(text, most, digits=9):
+    value = number_of(text, digits)
+    if not 1 <= value <= most:
+        raise LineFault("form")
+    return value
+
+
+def time_of(text):
+    moment = read_time(text)
+    if moment is None:
+        raise LineFault("form")
+    return moment
+
+
+def named(text, lawful):
+    """A text of this form, as bytes."""
+    if not text.isascii() or not lawful(text.decode()):
+        raise LineFault("form")
+    return text
+
+
+def one_of(text, values):
+    if text not in values:
+        raise LineFault("form")
+    return text
+
+
+def parts_of(line, count, rest=False):
+    """The parts of a line, none of them empty; with `rest` the last is the rest of the line."""
+    parts = line.split(b" ", count - 1) if rest else line.split(b" ")
+    if len(parts) != count or b"" in parts:
+        raise LineFault("form")
+    return parts
+
+
+def bars(data):
+    return data.replace(SOH, b"|")
+
+
+def unbarred(text):
+    return text.replace(b"|", SOH)
+
+
+def numbered(lines, first):
+    """The lines that say something, each with its number."""
+    for number, line in enumerate(lines, first):
+        if line and not line.startswith(b"#"):
+            yield number, line
+
+
+# ---------------------------------------------------------------- say
+
+
+class Framer:
+    """Frames `say` lines, and counts those of each firm whose BODY has no 34."""
+
+    def __init__(self, date):
+        self.date, self.counts = date, {}
+
+    def frame(self, firm, trader, time, kind, body):
+        """The moment, the message, and whether it used a number of the firm's count."""
+        moment = time_of(time)
+        for word in (trader, kind):
+            if b"|" in word or SOH in word:
+                raise LineFault("form")
+        fields = None if SOH in body else read_fields(body if body.endswith(b"|") else body + b"|", b"|")
+        if fields is None:
+            raise LineFault("form")
+        there = {tag for tag, _ in fields}
+        own = [(49, firm), (56, b"VENUE"), (34, b"%d" % (self.counts.get(firm, 0) + 1))]
+        own += [(52, moment_text(self.date, moment)), (50, trader)]
+        data = write_frame([(35, kind)] + [field for field in own if field[0] not in there] + fields)
+        if len(data) > LONGEST:
+            raise LineFault("form")
+        return moment, data, 34 not in there
+
+    def count(self, firm):
+        self.counts[firm] = self.counts.get(firm, 0) + 1
+
+
+# ---------------------------------------------------------------- steps
+
+
+class StepReader:
+    """Reads the lines of steps, one after the other, of one configuration."""
+
+    def __init__(self, configuration):
+        self.configuration = configuration
+        self.framer, self.streams = Framer(configuration.date), {}
+
+    def firm(self, word):
+        firm = self.configuration.firm(word)
+        if firm is None:
+            raise LineFault("unknown firm")
+        return firm
+
+    def steps(self, line):
+        """The steps of a line: ("came", firm, moment, bytes), ("turn", actor, n) and ("expire", firm, n, moment)."""
+        keyword = line.split(b" ", 1)[0]
+        if keyword == b"say":
+            _, name, *rest = parts_of(line, 6, rest=True)
+            moment, data, counts = self.framer.frame(name, *rest)
+            firm = self.firm(name)
+            if counts:
+                self.framer.count(name)
+            return [("came", firm, moment, data)]
+        if keyword in (b"in", b"piece"):
+            _, name, time, data = parts_of(line, 4, rest=True)
+            moment, firm = time_of(time), self.firm(name)
+            messages = [unbarred(data)] if keyword == b"in" else self.cut(firm, unbarred(data))
+            return [("came", firm, moment, message) for message in messages]
+        if keyword == b"turn":
+            _, name, times = parts_of(line, 3)
+            times = limited(times, MOST_TURNS)
+            return [("turn", CLOCK if name == b"CLOCK" else self.firm(name), times)]
+        if keyword == b"expire":
+            _, name, n, time = parts_of(line, 4)
+            n, moment = number_of(n), time_of(time)
+            firm = self.firm(name)
+            if not self.configuration.has_room(firm, n):
+                raise LineFault("unknown room")
+            return [("expire", firm, n, moment)]
+        raise LineFault("form")
+
+    def cut(self, firm, piece):
+        try:
+            messages, self.streams[firm] = self.streams.get(firm, Stream()).feed(piece)
+        except StreamFault:
+            raise LineFault("stream") from None
+        return messages
+
+
+# ---------------------------------------------------------------- due text
+
+
+def read_due_text(lines, first):
+    """The date, the dealer and the due list; LineFault and the number of the line at fault."""
+    said, number = list(numbered(lines, first)), first + len(lines)
+    try:
+        number, line = said[0] if said else (number, b"")
+        keyword, date = parts_of(line, 2)
+        one_of(keyword, (b"date",))
+        if not is_date(date):
+            raise LineFault("form")
+        number, line = said[1] if len(said) > 1 else (first + len(lines), b"")
+        row, framer, due = read_dealer_line(line), Framer(date), []
+        for number, line in said[2:]:
+            due.append(read_due_line(line, row.name, framer))
+        return date, row, due
+    except LineFault as fault:
+        raise LineFault(fault.args[0], number) from None
+
+
+def read_dealer_line(line):
+    parts = line.split(b" ")
+    if len(parts) < 5 or parts[0] != b"dealer":
+        raise LineFault("form")
+    _, name, quotes, exposure, *traders = parts
+    named(name, is_firm_name)
+    for trader in traders:
+        named(trader, is_name)
+    if len(traders) > MOST_TRADERS or len(set(traders)) < len(traders):
+        raise LineFault("form")
+    return Dealer(name, tuple(traders), limited(quotes, MOST_QUOTES), limited(exposure, MOST_EXPOSURE, 16))
+
+
+def read_due_line(line, name, framer):
+    keyword = line.split(b" ", 1)[0]
+    if keyword == b"say":
+        moment, data, counts = framer.frame(name, *parts_of(line, 5, rest=True)[1:])
+        if counts:
+            framer.count(name)
+        return "own", moment, data
+    if keyword == b"own":
+        _, time, data = parts_of(line, 3, rest=True)
+        return "own", time_of(time), unbarred(data)
+    if keyword == b"shown":
+        return read_shown(line)
+    if keyword == b"lifted":
+        return "lifted", number_of(parts_of(line, 2)[1])
+    if keyword == b"closed":
+        _, k, close, time = parts_of(line, 4)
+        return "closed", number_of(k), int(one_of(close, (b"1", b"3", b"4", b"5", b"6"))), time_of(time)
+    if keyword == b"drop":
+        _, last, time = parts_of(line, 3)
+        return "drop", number_of(last), time_of(time)
+    raise LineFault("form")
+
+
+def read_shown(line):
+    grid = b"256"
+    if line.count(b" ") == 7:
+        line, grid = line.rsplit(b" ", 1)
+    _, investor, bond, side, quantity, deadline, time = parts_of(line, 7)
+    grid = number_of(grid)
+    if grid not in GRIDS:
+        raise LineFault("form")
+    named(investor, is_firm_name)
+    named(bond, is_bond)
+    one_of(side, (b"1", b"2"))
+    ask = Ask(investor, bond, int(side), limited(quantity, MOST_QUANTITY, 16), time_of(deadline), grid)
+    return "shown", ask, time_of(time)
+
+
+def due_text(date, row, due):
+    yield b"date " + date
+    yield b" ".join([b"dealer", row.name, b"%d" % row.quotes, b"%d" % row.exposure, *row.traders])
+    for item in due:
+        yield due_line(*item)
+
+
+def due_line(kind, *item):
+    if kind == "own":
+        return b"own %s %s" % (time_text(item[0]), bars(item[1]))
+    if kind == "shown":
+        ask, moment = item
+        words = [b"shown", ask.investor, ask.bond, b"%d" % ask.side, b"%d" % ask.quantity, time_text(ask.deadline), time_text(moment)]
+        return b" ".join(words + ([] if ask.grid == 256 else [b"%d" % ask.grid]))
+    if kind == "lifted":
+        return b"lifted %d" % item[0]
+    if kind == "drop":
+        return b"drop %d %s" % (item[0], time_text(item[1]))
+    return b"closed %d %d %s" % (item[0], item[1], time_text(item[2]))
+
+
+# ---------------------------------------------------------------- messages and blotters
+
+
+def message_line(firm, fields, frames):
+    """A message that the venue has sent; its first five fields are 35, 49, 56, 34 and 52."""
+    if frames:
+        return firm + b" " + bars(write_frame(fields))
+    kind, _, _, number, sending = (value for _, value in fields[:5])
+    body = b"|".join(b"%d=%s" % field for field in fields[5:])
+    return b" ".join([firm, number, sending.split(b"-", 1)[1], kind, body])
+
+
+def side_letter(ask):
+    return "B" if ask.side == 1 else "S"
+
+
+def dealer_blotter(desk):
+    for quote, price, state in desk.blotter():
+        request, moment = quote.request, time_text(quote.moment).decode()
+        line = f"{quote.q:>4} {moment} {quote.trader.decode():<8} {f'R{request.k}':<5} {request.ask.bond.decode()} "
+        line += f"{side_letter(request.ask)} {request.ask.quantity:>13} {price.decode():>7} {state}"
+        yield line.encode()
+
+
+def investor_blotter(desk):
+    for request in desk.requests:
+        ask, moment = request.ask, time_text(request.moment).decode()
+        line = f"{request.n:>4} {moment} {request.trader.decode():<8} {ask.bond.decode()} "
+        line += f"{side_letter(ask)} {ask.quantity:>13} {request.closed or 'open'}"
+        yield line.encode()

@@ -1,0 +1,162 @@
+"""The venue of a day, step by step; what was due to a dealer; and a dealer's view of such a list."""
+
+from dealer import DealerDesk
+from investor import InvestorDesk
+from room import Room
+
+CLOCK = "CLOCK"
+
+
+class Words:
+    """One word for each quote that a dealer may have: open, or settled once for all."""
+
+    def __init__(self):
+        self.settled = {}
+
+    def withdraw(self, word):
+        return self.settled.setdefault(word, "withdrawn")
+
+    def lift(self, word):
+        return self.settled.setdefault(word, "lifted")
+
+
+class Venue:
+    def __init__(self, configuration):
+        self.configuration, self.words = configuration, Words()
+        self.desks = [self.desk(firm) for firm in range(len(configuration.firms))]
+        self.rooms = {}
+        self.queues = {actor: [] for actor in [*range(len(self.desks)), CLOCK]}
+        self.due = {firm: [] for firm in range(len(configuration.dealers))}
+        self.log = []  # (firm, fields) of each message, in the order in which they were sent
+
+    def desk(self, firm):
+        if self.configuration.is_dealer(firm):
+            row = self.configuration.firms[firm]
+            return DealerDesk(self.configuration.date, row, lambda q: self.words.withdraw((firm, q)))
+        return InvestorDesk(self.configuration, firm)
+
+    def room(self, room):
+        return self.rooms.setdefault(room, Room())
+
+    def logged(self, firm, act):
+        """Does something at a firm's desk, and logs what the desk sends."""
+        before = len(self.desks[firm].sent)
+        result = act(self.desks[firm])
+        self.log += [(firm, fields) for fields in self.desks[firm].sent[before:]]
+        return result
+
+    # ------------------------------------------------------------ steps
+
+    def came(self, firm, moment, data):
+        if self.configuration.is_dealer(firm):
+            self.due[firm].append(("own", moment, data))
+        self.queues[firm] += self.logged(firm, lambda desk: desk.take(moment, data))
+
+    def turn(self, actor):
+        """Does the oldest duty of the actor; whether there was one."""
+        if not self.queues[actor]:
+            return False
+        name, *rest = self.queues[actor].pop(0)
+        self.queues[actor] += getattr(self, "do_" + name.lower())(actor, *rest) or []
+        return True
+
+    def expire(self, investor, n, moment):
+        room = (investor, n)
+        if self.room(room).expire(moment):
+            self.queues[CLOCK] += [("Close", room, moment)] + self.notices(room, moment)
+
+    def notices(self, room, moment):
+        return [("Tell", dealer, room, close, moment) for dealer, close in self.room(room).notices]
+
+    # ------------------------------------------------------------ duties; each answers those that follow
+
+    def do_open(self, _actor, room, ask, dealers, moment):
+        self.room(room).open(ask, dealers)
+        return [("Show", dealer, room, ask, moment) for dealer in dealers] + [("Ready", room)]
+
+    def do_show(self, _actor, dealer, room, ask, moment):
+        self.due[dealer].append(("shown", ask, moment))
+        self.logged(dealer, lambda desk: desk.show(room, ask, moment))
+
+    def do_ready(self, _actor, room):
+        self.room(room).ready()
+
+    def do_post(self, dealer, room, q, ticks, until, moment):
+        if self.room(room).post(dealer, (dealer, q), ticks, until):
+            return [("Relay", room, (dealer, q), ticks, until, moment)]
+
+    def do_relay(self, dealer, room, word, ticks, until, moment):
+        name, (investor, n) = self.configuration.firms[dealer].name, room
+        self.logged(investor, lambda desk: desk.quote_came(n, name, word, ticks, until, moment))
+
+    def do_unpost(self, dealer, room, q, moment):
+        if self.room(room).unpost((dealer, q)):
+            return [("Gone", room, (dealer, q), moment)]
+
+    def do_gone(self, _dealer, room, word, moment):
+        investor, n = room
+        self.logged(investor, lambda desk: desk.quote_gone(n, word, moment))
+
+    def do_decline(self, _dealer, room, moment):
+        if self.room(room).takes():
+            return [("Declined", room, moment)]
+
+    def do_declined(self, dealer, room, moment):
+        name, (investor, n) = self.configuration.firms[dealer].name, room
+        self.logged(investor, lambda desk: desk.dealer_declined(n, name, moment))
+
+    def do_drop(self, dealer, last, moment):
+        self.due[dealer].append(("drop", last, moment))
+        return self.logged(dealer, lambda desk: desk.drop(last, moment))
+
+    def do_hit(self, _investor, room, response, word, moment):
+        reply = self.room(room).hit(word, moment, self.lift)
+        duties = [("Answer", room, response, reply, moment)]
+        return duties + (self.notices(room, moment) if reply == "Awarded" else [])
+
+    def lift(self, word):
+        dealer, q = word
+        before = word in self.words.settled
+        answer = self.words.lift(word)
+        if not before:
+            self.due[dealer].append(("lifted", q))
+        return answer
+
+    def do_pass(self, _investor, room, response, moment):
+        reply = self.room(room).leave()
+        duties = [("Answer", room, response, reply, moment)]
+        return duties + (self.notices(room, moment) if reply == "Passed" else [])
+
+    def do_answer(self, _investor, room, response, reply, moment):
+        investor, n = room
+        self.logged(investor, lambda desk: desk.answered(n, response, reply, moment))
+
+    def do_close(self, _actor, room, moment):
+        investor, n = room
+        self.logged(investor, lambda desk: desk.closed(n, moment))
+
+    def do_tell(self, _actor, dealer, room, close, moment):
+        request = self.desks[dealer].request_in(room)
+        if self.logged(dealer, lambda desk: desk.tell(request, close, moment)):
+            self.due[dealer].append(("closed", request.k, close, moment))
+
+
+def alone(date, row, due):
+    """The desk of a dealer to whom this is due, and nothing else is known of the venue."""
+    words = Words()
+    desk = DealerDesk(date, row, words.withdraw)
+    for kind, *item in due:
+        if kind == "own":
+            desk.take(*item)
+        elif kind == "shown":
+            ask, moment = item
+            desk.show(None, ask, moment)
+        elif kind == "lifted":
+            if 1 <= item[0] <= row.quotes:
+                words.lift(item[0])
+        elif kind == "drop":
+            desk.drop(*item)
+        else:
+            k, close, moment = item
+            desk.tell(desk.requests[k - 1] if 1 <= k <= len(desk.requests) else None, close, moment)
+    return desk

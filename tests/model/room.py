@@ -1,0 +1,90 @@
+"""The room of one request: who is asked, the book of their quotes, and how it ends."""
+
+from dataclasses import dataclass
+
+from dealer import COVER, DONE_AWAY, EXPIRED, HIT, PASS
+
+
+@dataclass
+class Posted:
+    dealer: int
+    word: object
+    ticks: int
+    until: int
+
+
+class Room:
+    def __init__(self):
+        self.phase, self.ask, self.dealers = "vacant", None, []
+        self.book = []  # the quotes that stand, in the order in which they were posted
+        self.notices = []  # of a room that ended: each dealer and its 694
+
+    def open(self, ask, dealers):
+        self.phase, self.ask, self.dealers = "opening", ask, dealers
+
+    def ready(self):
+        self.phase = "open"
+
+    def takes(self):
+        return self.phase in ("opening", "open")
+
+    def post(self, dealer, word, ticks, until):
+        """Whether it took effect; a dealer's quote replaces the one before."""
+        if not self.takes():
+            return False
+        self.book = [quote for quote in self.book if quote.dealer != dealer]
+        self.book.append(Posted(dealer, word, ticks, until))
+        return True
+
+    def unpost(self, word):
+        """Whether it took effect: where the quote stands in a room that has not ended."""
+        if not self.takes() or self.standing(word) is None:
+            return False
+        self.book.remove(self.standing(word))
+        return True
+
+    def standing(self, word):
+        return next((quote for quote in self.book if quote.word == word), None)
+
+    def hit(self, word, moment, lift):
+        """Awarded, or the name of the first refusal; the word is asked by `lift` where none was before it."""
+        if self.phase != "open":
+            return "NotOpen"
+        if moment >= self.ask.deadline:
+            return "Deadline"
+        quote = self.standing(word)
+        if quote is None:
+            return "Gone"
+        if quote.until is not None and quote.until <= moment:
+            return "Expired"
+        if lift(word) == "withdrawn":
+            return "Withdrawn"
+        self.award(quote)
+        return "Awarded"
+
+    def award(self, winner):
+        others = [quote for quote in self.book if quote is not winner]
+        better = (lambda quote: quote.ticks) if self.ask.side == 1 else (lambda quote: -quote.ticks)
+        cover = min(others, key=better, default=None)  # of equals the first posted
+        kinds = {dealer: DONE_AWAY for dealer in self.dealers}
+        if cover:
+            kinds[cover.dealer] = COVER
+        kinds[winner.dealer] = HIT
+        self.end(kinds)
+
+    def leave(self):
+        """The investor passes: Passed, or the refusal."""
+        if self.phase != "open":
+            return "NotOpen"
+        self.end({dealer: PASS for dealer in self.dealers})
+        return "Passed"
+
+    def expire(self, moment):
+        if self.phase != "open" or moment < self.ask.deadline:
+            return False
+        self.end({dealer: EXPIRED for dealer in self.dealers})
+        return True
+
+    def end(self, kinds):
+        self.phase = "ended"
+        self.notices = [(dealer, kinds[dealer]) for dealer in self.dealers]
