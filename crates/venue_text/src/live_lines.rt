@@ -58,7 +58,7 @@ impl LiveDay {
     /// and the messages that are sent for them are answered, a line each in their order. A line at
     /// fault ([`ProgramFault::Form`], [`ProgramFault::UnknownFirm`], [`ProgramFault::UnknownRoom`]
     /// or [`ProgramFault::Stream`]) changes nothing, and the day goes on. After
-    /// [`ProgramFault::Memory`] it can't.
+    /// [`ProgramFault::Memory`] it can't: memory was refused, or the firm has said 10^15 lines.
     pub fn answer(
         &mut self,
         alloc: Global,
