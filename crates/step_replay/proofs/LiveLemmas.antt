@@ -221,7 +221,7 @@ module _ (config : Configuration) (firm : ℕ) where
 
 -- What the places have of it.
 
-dealer_day_get : (facts : List Fact) (number : ℕ) (rows : List DealerRow) (i : ℕ)
+pub dealer_day_get : (facts : List Fact) (number : ℕ) (rows : List DealerRow) (i : ℕ)
     → i < length rows
     → slice_get (dealer_days facts number rows) i ≡ Some (dealer_day facts (number + i))
 dealer_day_get facts number [] i within = absurd (omega arith)
@@ -233,12 +233,12 @@ dealer_day_get facts number (row ∷ rows) (suc i) within =
     let same : number + 1 + i ≡ number + suc i = omega arith in
     dealer_day_get facts (number + 1) rows i inner ∙ ap (λ (n : ℕ). Some (dealer_day facts n)) same
 
-dealer_day_count : (facts : List Fact) (number : ℕ) (rows : List DealerRow)
+pub dealer_day_count : (facts : List Fact) (number : ℕ) (rows : List DealerRow)
     → length (dealer_days facts number rows) ≡ length rows
 dealer_day_count facts number [] = refl
 dealer_day_count facts number (row ∷ rows) = ap suc (dealer_day_count facts (number + 1) rows)
 
-investor_day_get : (facts : List Fact) (number : ℕ) (rows : List InvestorRow) (i : ℕ)
+pub investor_day_get : (facts : List Fact) (number : ℕ) (rows : List InvestorRow) (i : ℕ)
     → i < length rows
     → slice_get (investor_days facts number rows) i ≡ Some (investor_day facts (number + i))
 investor_day_get facts number [] i within = absurd (omega arith)
@@ -259,14 +259,14 @@ investor_day_none facts number (row ∷ rows) (suc i) beyond =
     let inner : length rows ≤ i = omega arith in
     investor_day_none facts (number + 1) rows i inner
 
-has_item : {X : Type 0} (xs : List X) (i : ℕ) → i < length xs → is_some (slice_get xs i) ≡ true
+pub has_item : {X : Type 0} (xs : List X) (i : ℕ) → i < length xs → is_some (slice_get xs i) ≡ true
 has_item [] i within = absurd (omega arith)
 has_item (x ∷ xs) zero within = refl
 has_item (x ∷ xs) (suc i) within =
     let inner : i < length xs = omega arith in
     has_item xs i inner
 
-has_no_item : {X : Type 0} (xs : List X) (i : ℕ) → length xs ≤ i → is_some (slice_get xs i) ≡ false
+pub has_no_item : {X : Type 0} (xs : List X) (i : ℕ) → length xs ≤ i → is_some (slice_get xs i) ≡ false
 has_no_item [] i beyond = refl
 has_no_item (x ∷ xs) zero beyond = absurd (omega arith)
 has_no_item (x ∷ xs) (suc i) beyond =

@@ -2,7 +2,6 @@
 use Rattle.std.specs.Prelude.{ℕ, ◌+◌, ◌-◌, Bool, false, ◌==◌, ◌&&◌, not, List, [], ◌∷◌, ◌++◌, length}
 use Rattle.std.specs.Prelude.{map, nat_le, codes, position, replicate, slice_get, slice_index}
 use Rattle.std.specs.Prelude.{slice_set, Option, Some, None, Result, Ok, Err, if◌then◌else◌}
-use Rattle.std.specs.Prelude.{zero, suc}
 use Rattle.std.specs.Option.{option_and_then, option_map}
 use Rattle.fix_fields.specs.Envelope.{envelopes_of}
 use Rattle.fix_fields.specs.declared.fault.StreamFault.{StreamFault}
@@ -10,6 +9,7 @@ use Rattle.venue_config.specs.Rows.{ConfigValues, DealerValues, InvestorValues}
 use Rattle.venue_config.specs.Texts.{same_text, text_if}
 use Rattle.market_terms.specs.declared.rooms.RoomRef.{RoomRef}
 use Rattle.quote_messages.specs.Texts.{number_of}
+use Rattle.step_replay.specs.VenueRooms.{rooms_from}
 use Rattle.step_replay.specs.declared.steps.Actor.{Actor}
 use Rattle.step_replay.specs.declared.steps.Actor.TheVariants as actor
 use Rattle.step_replay.specs.declared.steps.Step.{Step}
@@ -64,20 +64,10 @@ is_request_of (Some row) n = nat_le 1 n && nat_le n row.requests
 abbrev pub is_room : ConfigValues → ℕ → ℕ → Bool
 is_room config firm n = is_request_of (investor_numbered config firm) n
 
--- the rooms of an investor's first n requests, in their order
-abbrev pub rooms_up_to : ℕ → ℕ → List RoomRef
-rooms_up_to investor zero = []
-rooms_up_to investor (suc n) =
-    rooms_up_to investor n ++ record { investor = investor; n = n + 1 } ∷ []
-
--- those of investors, of which the first has this number among the firms
-abbrev pub rooms_from : ℕ → List InvestorValues → List RoomRef
-rooms_from firm [] = []
-rooms_from firm (row ∷ rows) = rooms_up_to firm row.requests ++ rooms_from (firm + 1) rows
-
 -- every room of the venue, in the order of the investors and of their requests
-abbrev pub rooms_of : ConfigValues → List RoomRef
-rooms_of config = rooms_from (length config.dealers) config.investors
+abbrev pub venue_rooms : ConfigValues → List RoomRef
+venue_rooms config = rooms_from (length config.dealers)
+    (map (λ (row : InvestorValues). row.requests) config.investors)
 
 -- What was heard so far of the firms, each at its number: the MsgSeqNum (34) of its next `say` line
 -- whose BODY has none, and the bytes of its pieces behind the last message that they end.
@@ -217,7 +207,7 @@ sweeps_at moment rooms = map (λ room. step.Expire room moment) rooms
 unfoldable pub clock_steps : ConfigValues → Heard → ℕ → List ℕ → Read
 clock_steps config heard k text = do
   moment ← at_line k (time_of config.date text)
-  Ok (sweeps_at moment (rooms_of config), heard)
+  Ok (sweeps_at moment (venue_rooms config), heard)
 
 -- each message that a piece ends, at the moment of the piece
 abbrev pub in_steps : ℕ → ℕ → List (List ℕ) → List Step

@@ -10,7 +10,7 @@ use Rattle.step_replay.specs.declared.steps.Actor.TheVariants as actor
 use Rattle.step_replay.specs.declared.steps.Step.{Step}
 use Rattle.step_replay.specs.declared.steps.Step.TheVariants as step
 use Rattle.venue_text.specs.StepLines.{Heard, in_steps, number_for, with_number, Read}
-use Rattle.venue_text.specs.StepLines.{rooms_of, sweeps_at}
+use Rattle.venue_text.specs.StepLines.{sweeps_at, venue_rooms}
 use Rattle.venue_text.specs.declared.spelled.Spelled.{Spelled}
 use Rattle.venue_text.specs.declared.spelled.Spelled.TheVariants as spelled
 
@@ -20,7 +20,7 @@ steps_in config (spelled.Said firm moment message is_counted) = step.In firm mom
 steps_in config (spelled.Came firm moment message) = step.In firm moment message ∷ []
 steps_in config (spelled.Turns by count) = replicate count (step.Turn by)
 steps_in config (spelled.Sweep room moment) = step.Expire room moment ∷ []
-steps_in config (spelled.Sweeps moment) = sweeps_at moment (rooms_of config)
+steps_in config (spelled.Sweeps moment) = sweeps_at moment (venue_rooms config)
 steps_in config (spelled.Pieces firm moment messages) = in_steps firm moment messages
 
 -- what was heard once a line is counted

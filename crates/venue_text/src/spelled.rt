@@ -1,8 +1,9 @@
 //! What a line of steps spells, before its steps are put behind the others.
-ghost use Rattle.std.specs.Prelude.{◌≡◌, ◌+◌, ◌<◌, ◌++◌, length, map, replicate, OnOk};
+ghost use Rattle.std.specs.Prelude.{◌≡◌, ◌+◌, ◌<◌, ◌++◌, length, replicate, OnOk};
 ghost use Rattle.step_replay.specs.declared.steps.Step.TheVariants as step;
-ghost use Rattle.venue_config.specs.Rows.{investor_values, values_of};
-ghost use Rattle.venue_text.specs.StepLines.{in_steps, rooms_from, rooms_of, rooms_up_to, sweeps_at};
+ghost use Rattle.venue_config.specs.Rows.{values_of};
+ghost use Rattle.step_replay.specs.VenueRooms as rooms;
+ghost use Rattle.venue_text.specs.StepLines.{in_steps, sweeps_at, venue_rooms};
 ghost use Rattle.venue_text.specs.StepReading as spec;
 
 use crate::heard::Heard;
@@ -93,7 +94,7 @@ fn push_turns(steps: &mut Vec<Step>, by: Actor, count: u64) -> Result<(), Memory
 /// Puts a sweep of every room behind other steps.
 fn push_sweeps(config: &VenueConfig, steps: &mut Vec<Step>, moment: Moment) -> Result<(), Memory>
     ensures { OnOk result (steps.new.items
-        ≡ steps.old.items ++ sweeps_at moment (rooms_of (values_of config.now))) }
+        ≡ steps.old.items ++ sweeps_at moment (venue_rooms (values_of config.now))) }
 {
     let first = config.dealers().len() as u16;
     push_sweeps_from(steps, first, config.investors(), moment)?;
@@ -110,7 +111,7 @@ fn push_sweeps_from(
 ) -> Result<(), Memory>
     requires { first + length investors.now < 65536 }
     ensures { OnOk result (steps.new.items
-        ≡ steps.old.items ++ sweeps_at moment (rooms_from first (map investor_values investors.now))) }
+        ≡ steps.old.items ++ sweeps_at moment (rooms.rooms_from first (rooms.requests_of investors.now))) }
 {
     let mut investor = first;
     for row in investors {
@@ -128,7 +129,7 @@ fn push_sweeps_of(
     moment: Moment,
 ) -> Result<(), Memory>
     ensures { OnOk result (steps.new.items
-        ≡ steps.old.items ++ sweeps_at moment (rooms_up_to investor requests)) }
+        ≡ steps.old.items ++ sweeps_at moment (rooms.rooms_behind investor 0 requests)) }
 {
     for before in 0..requests {
         let room = RoomRef {
