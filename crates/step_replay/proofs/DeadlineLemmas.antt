@@ -14,7 +14,7 @@ use Rattle.step_replay.specs.Deadlines.{deadline_of, earlier, next_deadline}
 use Rattle.step_replay.specs.FloorDeadlines.{deadlines_at}
 use Rattle.step_replay.specs.Standing.{InvestorStands, InvestorStandsIn, RoomStandsIn, Stands}
 use Rattle.step_replay.specs.VenueFacts.{Fact, of_room}
-use Rattle.step_replay.specs.VenueRooms.{requests_of, rooms_behind, rooms_from, rooms_of}
+use Rattle.step_replay.specs.VenueRooms.{requests_of, rooms_behind, rooms_from}
 use Rattle.step_replay.specs.declared.floor.Floor.{Floor}
 use Rattle.step_replay.specs.declared.floor.InvestorPlace.{InvestorPlace}
 use Rattle.step_replay.proofs.InvestorPlaceLemmas.{numbered_at}

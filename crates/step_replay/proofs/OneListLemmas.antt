@@ -1,7 +1,7 @@
 -- A firm's messages are one list: those of its day, those of the audit trail, and those that a venue
 -- tells that answers as steps come.
-use Rattle.std.proofs.Common.{◌≡◌, ◌<◌, ◌≤◌, ℕ, ◌+◌, ◌-◌, Bool, true, false, List, length, map, refl, ap, sym, subst, ◌∙◌, arith}
-use Rattle.std.proofs.Common.{Option, Some, None, nat_lt, option_map}
+use Rattle.std.proofs.Common.{◌≡◌, ◌<◌, ◌≤◌, ℕ, ◌+◌, ◌-◌, Bool, true, false, List, length, refl, ap, sym, subst, ◌∙◌, arith}
+use Rattle.std.proofs.Common.{Option, Some, nat_lt, option_map}
 use Rattle.std.specs.Prelude.{slice_get}
 use Rattle.std.proofs.lemmas.Bool.Decides.{nat_tests}
 use Rattle.venue_config.specs.Rows.{Configuration}

@@ -1,9 +1,7 @@
-use Rattle.std.proofs.Common.{◌≡◌, ◌∙◌, ℕ, List, true, ap}
+use Rattle.std.proofs.Common.{◌∙◌, ap}
 use Rattle.std.proofs.Common.{Some}
-use Rattle.std.specs.Prelude.{nat_lt}
 use Rattle.step_replay.specs.AuditTrail.{audit_trail}
 use Rattle.step_replay.specs.LiveDays.{live_steps, live_trail}
-use Rattle.step_replay.specs.StepFaults.{firms_of}
 use Rattle.step_replay.proofs.IsolationLemmas.{is_sent_its_view}
 use Rattle.step_replay.proofs.LiveEffects.{dealer_within}
 use Rattle.step_replay.proofs.LiveLemmas.{own_part}

@@ -1,4 +1,3 @@
-use Rattle.std.proofs.Common.{ℕ, List}
 use Rattle.step_replay.specs.AuditTrail.{audit_trail}
 use Rattle.step_replay.specs.LiveDays.{live_trail}
 use Rattle.step_replay.proofs.LiveLemmas.{own_part}
