@@ -13,7 +13,7 @@ use Rattle.venue_text.specs.ResultSteps.{◌>>=◌}
 use Rattle.venue_text.specs.Lines.{first_part, behind_part}
 use Rattle.venue_text.specs.MessageLines.{with_bar}
 use Rattle.venue_text.specs.SayLine.{Said, has_tag, said_of, said_message}
-use Rattle.venue_text.specs.StepLines.{said_step, firm_named, Heard, with_number, number_for, steps_of_line, steps_from, in_steps, sweeps_at, rooms_of}
+use Rattle.venue_text.specs.StepLines.{said_step, firm_named, Heard, with_number, number_for, steps_of_line, steps_from, in_steps}
 use Rattle.venue_text.specs.StepReading.{counted, read_as, steps_in, is_actor, is_known}
 use Rattle.venue_text.specs.DueText.{Lines}
 use Rattle.venue_text.specs.declared.faults.ProgramFault.{ProgramFault}

@@ -6,6 +6,6 @@ use Rattle.venue_text.proofs.spelled.push_sweeps_of.Given as goal
 abbrev pub invariant-loop-before : goal.invariant-loop-before
 invariant-loop-before l = record {
   items : l.fn.steps.items ++ sweeps_at l.moment (rooms_behind l.investor 0 l.requests)
-      ≡ l.steps.items ++ sweeps_at l.moment (rooms_behind l.investor l.counter (l.requests - l.counter));
-  within : l.counter ≤ l.requests;
+      ≡ l.steps.items ++ sweeps_at l.moment (rooms_behind l.investor l.before (l.requests - l.before));
+  within : l.before ≤ l.requests;
 }
