@@ -108,8 +108,9 @@ fn numbers_of(alloc: Global, line: &str) -> Result<Vec<u16>, CaseFault> {
 
 /// Numbers in a line.
 fn push_numbers(answer: &mut String, numbers: &[u16]) -> Result<(), CaseFault> {
-    for number in numbers {
-        write!(answer, "{number} ")?;
+    for (place, number) in numbers.iter().enumerate() {
+        answer.push_str(if place == 0 { "" } else { " " })?;
+        write!(answer, "{number}")?;
     }
     push_line(answer, "")
 }
