@@ -4,7 +4,7 @@ use crate::parts::{bond_of, name_of, quantity_of, side_of};
 use crate::prices::price_of;
 use crate::printing::{len_of, push_number, u32_of};
 use blotter::blotter_text;
-use case_lines::{CaseFault, Place, Words};
+use case_lines::{CaseFault, Words};
 use market_terms::{FirmLines, QuoteLine, QuoteState, RequestLine, RequestState};
 use std::alloc::Global;
 
@@ -21,24 +21,17 @@ pub struct BlotterCases {
     requests: Vec<RequestLine>,
 }
 
-impl Place for BlotterCases {
-    fn new(alloc: Global) -> Result<Self, CaseFault> {
-        Ok(BlotterCases {
+impl BlotterCases {
+    /// The place before its first call.
+    pub(crate) fn begun(alloc: Global) -> Self {
+        BlotterCases {
             quotes: Vec::new(alloc),
             requests: Vec::new(alloc),
-        })
+        }
     }
 
-    fn call(&mut self, alloc: Global, call: &str, answer: &mut String) -> Result<(), CaseFault> {
-        let mut words = Words::of(call);
-        self.make(alloc, &mut words, answer)?;
-        words.end()
-    }
-}
-
-impl BlotterCases {
     /// Makes a call.
-    fn make(
+    pub(crate) fn make(
         &mut self,
         alloc: Global,
         words: &mut Words,

@@ -7,7 +7,7 @@ use crate::configuration_rows::{
 use crate::printing::{
     len_of, push_line, push_number, push_number_or_none, push_truth, u16_of, u32_of,
 };
-use case_lines::{CaseFault, Place, Words, bytes_of, push_text};
+use case_lines::{CaseFault, Words, bytes_of, push_text};
 use std::alloc::Global;
 use std::fmt::Write;
 use std::str;
@@ -33,25 +33,18 @@ pub struct ConfigCases {
     kept: Option<VenueConfig>,
 }
 
-impl Place for ConfigCases {
-    fn new(alloc: Global) -> Result<Self, CaseFault> {
-        Ok(ConfigCases {
+impl ConfigCases {
+    /// The place before its first call.
+    pub(crate) fn begun(alloc: Global) -> Self {
+        ConfigCases {
             text: String::new(alloc),
             config: None,
             kept: None,
-        })
+        }
     }
 
-    fn call(&mut self, alloc: Global, call: &str, answer: &mut String) -> Result<(), CaseFault> {
-        let mut words = Words::of(call);
-        self.make(alloc, &mut words, answer)?;
-        words.end()
-    }
-}
-
-impl ConfigCases {
     /// Makes a call.
-    fn make(
+    pub(crate) fn make(
         &mut self,
         alloc: Global,
         words: &mut Words,

@@ -4,7 +4,7 @@ use crate::buffers::ByteBuffer;
 use crate::printing::{
     garbled_name, push_field, push_line, push_number, push_value_or_none, u32_of,
 };
-use case_lines::{CaseFault, Place, Words};
+use case_lines::{CaseFault, Words};
 use fix_fields::{Frame, Garbled, read_frame};
 use std::alloc::Global;
 use std::fmt::Write;
@@ -24,23 +24,16 @@ pub struct FrameCases {
     buffer: ByteBuffer,
 }
 
-impl Place for FrameCases {
-    fn new(alloc: Global) -> Result<Self, CaseFault> {
-        Ok(FrameCases {
-            buffer: ByteBuffer::new(alloc),
-        })
-    }
-
-    fn call(&mut self, alloc: Global, call: &str, answer: &mut String) -> Result<(), CaseFault> {
-        let mut words = Words::of(call);
-        self.make(alloc, &mut words, answer)?;
-        words.end()
-    }
-}
-
 impl FrameCases {
+    /// The place before its first call.
+    pub(crate) fn begun(alloc: Global) -> Self {
+        FrameCases {
+            buffer: ByteBuffer::new(alloc),
+        }
+    }
+
     /// Makes a call.
-    fn make(
+    pub(crate) fn make(
         &mut self,
         alloc: Global,
         words: &mut Words,

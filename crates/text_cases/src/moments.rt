@@ -1,7 +1,7 @@
 //! Dates and moments.
 
 use crate::printing::{push_line, push_number, push_number_or_none, push_truth, u32_of};
-use case_lines::{CaseFault, Place, Words, bytes_of};
+use case_lines::{CaseFault, Words, bytes_of};
 use fix_fields::{Date, Moment, MomentFault, moment_text, read_moment, time_text};
 use std::alloc::Global;
 use std::str;
@@ -15,21 +15,14 @@ use std::str;
 #[derive(Drop)]
 pub struct MomentCases {}
 
-impl Place for MomentCases {
-    fn new(_alloc: Global) -> Result<Self, CaseFault> {
-        Ok(MomentCases {})
-    }
-
-    fn call(&mut self, alloc: Global, call: &str, answer: &mut String) -> Result<(), CaseFault> {
-        let mut words = Words::of(call);
-        self.make(alloc, &mut words, answer)?;
-        words.end()
-    }
-}
-
 impl MomentCases {
+    /// The place before its first call.
+    pub(crate) fn begun(_alloc: Global) -> Self {
+        MomentCases {}
+    }
+
     /// Makes a call.
-    fn make(
+    pub(crate) fn make(
         &mut self,
         alloc: Global,
         words: &mut Words,

@@ -2,7 +2,7 @@
 
 use crate::printing::{push_line, push_number, push_number_or_none, push_truth, u32_of};
 use bond_prices::{Grid, PriceFault, Ticks, on_grid, price_text, read_price, thirty_seconds};
-use case_lines::{CaseFault, Place, Words, bytes_of};
+use case_lines::{CaseFault, Words, bytes_of};
 use std::alloc::Global;
 use std::fmt::Write;
 
@@ -20,21 +20,14 @@ use std::fmt::Write;
 #[derive(Drop)]
 pub struct PriceCases {}
 
-impl Place for PriceCases {
-    fn new(_alloc: Global) -> Result<Self, CaseFault> {
-        Ok(PriceCases {})
-    }
-
-    fn call(&mut self, alloc: Global, call: &str, answer: &mut String) -> Result<(), CaseFault> {
-        let mut words = Words::of(call);
-        self.make(alloc, &mut words, answer)?;
-        words.end()
-    }
-}
-
 impl PriceCases {
+    /// The place before its first call.
+    pub(crate) fn begun(_alloc: Global) -> Self {
+        PriceCases {}
+    }
+
     /// Makes a call.
-    fn make(
+    pub(crate) fn make(
         &mut self,
         alloc: Global,
         words: &mut Words,

@@ -3,7 +3,7 @@
 use crate::printing::{push_field, push_line, push_number_field};
 use crate::received_from_dealers::{dealer_row, push_dealer_message};
 use crate::received_from_investors::{investor_row, push_investor_message};
-use case_lines::{CaseFault, Place, Words, day, frame_of, piped_bytes_of};
+use case_lines::{CaseFault, Words, day, frame_of, piped_bytes_of};
 use fix_fields::{Date, read_frame};
 use quote_messages::{
     Arrival, Reject, SessionFault, read_dealer, read_investor, receive_dealer, receive_investor,
@@ -28,23 +28,16 @@ pub struct ReceivedCases {
     body: String,
 }
 
-impl Place for ReceivedCases {
-    fn new(alloc: Global) -> Result<Self, CaseFault> {
-        Ok(ReceivedCases {
-            body: String::new(alloc),
-        })
-    }
-
-    fn call(&mut self, alloc: Global, call: &str, answer: &mut String) -> Result<(), CaseFault> {
-        let mut words = Words::of(call);
-        self.make(alloc, &mut words, answer)?;
-        words.end()
-    }
-}
-
 impl ReceivedCases {
+    /// The place before its first call.
+    pub(crate) fn begun(alloc: Global) -> Self {
+        ReceivedCases {
+            body: String::new(alloc),
+        }
+    }
+
     /// Makes a call.
-    fn make(
+    pub(crate) fn make(
         &mut self,
         alloc: Global,
         words: &mut Words,
@@ -150,12 +143,11 @@ fn push_dealer_arrival(
 ) -> Result<(), CaseFault> {
     let expected = words.number()?;
     let row = dealer_row()?;
-    match &receive_dealer(&today()?, &row, expected, bytes.as_slice()) {
-        Arrival::Dropped => push_line(answer, "dropped"),
-        Arrival::OutOfSequence(reject) => push_reject(answer, "out_of_sequence ", reject),
-        Arrival::Rejected(reject) => push_reject(answer, "rejected ", reject),
-        Arrival::Taken(message) => push_dealer_message(answer, message),
-    }
+    let arrival = receive_dealer(&today()?, &row, expected, bytes.as_slice());
+    let Some(message) = taken(answer, &arrival)? else {
+        return Ok(());
+    };
+    push_dealer_message(answer, message)
 }
 
 /// What becomes of an investor's bytes.
@@ -166,12 +158,25 @@ fn push_investor_arrival(
 ) -> Result<(), CaseFault> {
     let expected = words.number()?;
     let row = investor_row()?;
-    match &receive_investor(&today()?, &row, expected, bytes.as_slice()) {
-        Arrival::Dropped => push_line(answer, "dropped"),
-        Arrival::OutOfSequence(reject) => push_reject(answer, "out_of_sequence ", reject),
-        Arrival::Rejected(reject) => push_reject(answer, "rejected ", reject),
-        Arrival::Taken(message) => push_investor_message(answer, message),
+    let arrival = receive_investor(&today()?, &row, expected, bytes.as_slice());
+    let Some(message) = taken(answer, &arrival)? else {
+        return Ok(());
+    };
+    push_investor_message(answer, message)
+}
+
+/// The message that is taken, where it is; what else becomes of the bytes is a line.
+fn taken<'s, 'a, M: Drop>(
+    answer: &mut String,
+    arrival: &'s Arrival<'a, M>,
+) -> Result<Option<&'s M>, CaseFault> {
+    match arrival {
+        Arrival::Dropped => push_line(answer, "dropped")?,
+        Arrival::OutOfSequence(reject) => push_reject(answer, "out_of_sequence ", reject)?,
+        Arrival::Rejected(reject) => push_reject(answer, "rejected ", reject)?,
+        Arrival::Taken(message) => return Ok(Some(message)),
     }
+    Ok(None)
 }
 
 /// What a Reject says: RefSeqNum (45), RefTagID (371), RefMsgType (372) where it stands, and

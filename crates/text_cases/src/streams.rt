@@ -2,7 +2,7 @@
 
 use crate::buffers::ByteBuffer;
 use crate::printing::{len_of, push_bytes_line, push_line, push_number, stream_fault_name};
-use case_lines::{CaseFault, Place, Words, piped_bytes_of};
+use case_lines::{CaseFault, Words, piped_bytes_of};
 use fix_fields::{Messages, Splitter, StreamFault};
 use std::alloc::Global;
 use std::fmt::Write;
@@ -27,24 +27,17 @@ pub struct StreamCases {
     splitter: Splitter,
 }
 
-impl Place for StreamCases {
-    fn new(alloc: Global) -> Result<Self, CaseFault> {
-        Ok(StreamCases {
+impl StreamCases {
+    /// The place before its first call.
+    pub(crate) fn begun(alloc: Global) -> Self {
+        StreamCases {
             buffer: ByteBuffer::new(alloc),
             splitter: Splitter::new(alloc),
-        })
+        }
     }
 
-    fn call(&mut self, alloc: Global, call: &str, answer: &mut String) -> Result<(), CaseFault> {
-        let mut words = Words::of(call);
-        self.make(alloc, &mut words, answer)?;
-        words.end()
-    }
-}
-
-impl StreamCases {
     /// Makes a call.
-    fn make(
+    pub(crate) fn make(
         &mut self,
         alloc: Global,
         words: &mut Words,

@@ -5,7 +5,7 @@ use crate::printing::{
     push_bytes_line, push_field, push_line, push_number, push_number_field, push_number_or_none,
     push_time_field, push_truth, u16_of,
 };
-use case_lines::{CaseFault, Place, Words, bytes_of};
+use case_lines::{CaseFault, Words, bytes_of};
 use market_terms::{Ask, AskedDealers, Close, HitRefusal, Id, IdBuf, Quantity, Side};
 use std::alloc::Global;
 use std::cmp::Ordering;
@@ -23,21 +23,14 @@ use std::fmt::Write;
 #[derive(Drop)]
 pub struct TermCases {}
 
-impl Place for TermCases {
-    fn new(_alloc: Global) -> Result<Self, CaseFault> {
-        Ok(TermCases {})
-    }
-
-    fn call(&mut self, alloc: Global, call: &str, answer: &mut String) -> Result<(), CaseFault> {
-        let mut words = Words::of(call);
-        self.make(alloc, &mut words, answer)?;
-        words.end()
-    }
-}
-
 impl TermCases {
+    /// The place before its first call.
+    pub(crate) fn begun(_alloc: Global) -> Self {
+        TermCases {}
+    }
+
     /// Makes a call.
-    fn make(
+    pub(crate) fn make(
         &mut self,
         alloc: Global,
         words: &mut Words,

@@ -1,8 +1,9 @@
 //! The texts and numbers of fields.
 
+use crate::buffers::bytes_times;
 use crate::parts::{quote_reason_of, request_reason_of, session_reason_of};
 use crate::printing::{push_bytes_line, push_line, push_number, push_number_or_none};
-use case_lines::{CaseFault, Place, Words, bytes_of, piped_bytes_of};
+use case_lines::{CaseFault, Words, bytes_of, piped_bytes_of};
 use quote_messages::{
     Message, MsgType, SeqNum, expected_number, read_long_number, read_number, read_quantity,
 };
@@ -18,24 +19,18 @@ use std::fmt::Write;
 /// - `expected USED`: the number that is expected next.
 /// - `session_reason NAME`, `quote_reason NAME`, `request_reason NAME`: the codes (373, 300, 658).
 /// - `message BYTES`: a message of them, copied, and one of the list that it is kept in.
+///   `message_times N BYTES`: the length of the copy of a message of these bytes N times.
 #[derive(Drop)]
 pub struct ValueCases {}
 
-impl Place for ValueCases {
-    fn new(_alloc: Global) -> Result<Self, CaseFault> {
-        Ok(ValueCases {})
-    }
-
-    fn call(&mut self, alloc: Global, call: &str, answer: &mut String) -> Result<(), CaseFault> {
-        let mut words = Words::of(call);
-        self.make(alloc, &mut words, answer)?;
-        words.end()
-    }
-}
-
 impl ValueCases {
+    /// The place before its first call.
+    pub(crate) fn begun(_alloc: Global) -> Self {
+        ValueCases {}
+    }
+
     /// Makes a call.
-    fn make(
+    pub(crate) fn make(
         &mut self,
         alloc: Global,
         words: &mut Words,
@@ -51,7 +46,8 @@ impl ValueCases {
             "session_reason" => push_number(answer, session_reason_of(words.word()?)?.code()),
             "quote_reason" => push_number(answer, quote_reason_of(words.word()?)?.code()),
             "request_reason" => push_number(answer, request_reason_of(words.word()?)?.code()),
-            "message" => push_message(alloc, answer, words.rest()),
+            "message" => push_message(alloc, answer, &piped_bytes_of(alloc, words.rest())?),
+            "message_times" => push_message_len(alloc, answer, &bytes_times(alloc, words)?),
             _ => Err(CaseFault::Form),
         }
     }
@@ -108,10 +104,18 @@ fn push_expected(answer: &mut String, words: &mut Words) -> Result<(), CaseFault
 }
 
 /// `message BYTES`: a message of them, copied, and one of the list that it is kept in.
-fn push_message(alloc: Global, answer: &mut String, text: &str) -> Result<(), CaseFault> {
-    let bytes = piped_bytes_of(alloc, text)?;
-    let copy = Message::copy_of(alloc, bytes.as_slice())?;
+fn push_message(alloc: Global, answer: &mut String, bytes: &[u8]) -> Result<(), CaseFault> {
+    let copy = Message::copy_of(alloc, bytes)?;
     push_bytes_line(answer, copy.as_bytes())?;
     let again = Message::new(copy.into_bytes());
     push_bytes_line(answer, again.as_bytes())
+}
+
+/// `message_times N BYTES`: the length of a message of these bytes N times, copied.
+fn push_message_len(alloc: Global, answer: &mut String, bytes: &[u8]) -> Result<(), CaseFault> {
+    let copy = Message::copy_of(alloc, bytes)?;
+    if copy.as_bytes() != bytes {
+        return push_line(answer, "other");
+    }
+    push_number(answer, copy.as_bytes().len() as u64)
 }

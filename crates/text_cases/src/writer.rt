@@ -2,7 +2,7 @@
 
 use crate::buffers::bytes_times;
 use crate::printing::{len_of, push_bytes_line, push_line, push_number, push_truth, u32_of};
-use case_lines::{CaseFault, Place, Words, piped_bytes_of};
+use case_lines::{CaseFault, Words, piped_bytes_of};
 use fix_fields::{FrameWriter, MOST_BODY, decimal_len, fits, is_tag, is_value, read_frame};
 use std::alloc::Global;
 
@@ -13,27 +13,19 @@ use std::alloc::Global;
 /// - `text TAG VALUE`, `text_times TAG N BYTES`, `number TAG NUMBER`: one field more.
 /// - `finish`: the frame. `finish_len`: its length, of a frame that is read back.
 /// - `is_tag TAG`, `is_value BYTES`, `fits TAG LENGTH LEFT`, `decimal_len NUMBER`: the tests.
-/// - `most_body`, `most_frame`: the limits.
 #[derive(Drop)]
 pub struct WriterCases {
     writer: Option<FrameWriter>,
 }
 
-impl Place for WriterCases {
-    fn new(_alloc: Global) -> Result<Self, CaseFault> {
+impl WriterCases {
+    /// The place before its first call.
+    pub(crate) fn begun(_alloc: Global) -> Self {
         Ok(WriterCases { writer: None })
     }
 
-    fn call(&mut self, alloc: Global, call: &str, answer: &mut String) -> Result<(), CaseFault> {
-        let mut words = Words::of(call);
-        self.make(alloc, &mut words, answer)?;
-        words.end()
-    }
-}
-
-impl WriterCases {
     /// Makes a call.
-    fn make(
+    pub(crate) fn make(
         &mut self,
         alloc: Global,
         words: &mut Words,
@@ -42,8 +34,14 @@ impl WriterCases {
         match words.word()? {
             "new" => self.begin(alloc, piped_bytes_of(alloc, words.rest())?, answer),
             "new_times" => self.begin(alloc, bytes_times(alloc, words)?, answer),
-            "text" => self.text(alloc, words, answer),
-            "text_times" => self.text_times(alloc, words, answer),
+            "text" => {
+                let tag = tag_of(words)?;
+                self.text(tag, piped_bytes_of(alloc, words.rest())?, answer)
+            }
+            "text_times" => {
+                let tag = tag_of(words)?;
+                self.text(tag, bytes_times(alloc, words)?, answer)
+            }
             "number" => self.number(words, answer),
             "finish" => self.finish(answer),
             "finish_len" => self.finish_len(answer),
@@ -71,32 +69,9 @@ impl WriterCases {
         push_number(answer, left)
     }
 
-    /// `text TAG VALUE`: one field more.
-    fn text(
-        &mut self,
-        alloc: Global,
-        words: &mut Words,
-        answer: &mut String,
-    ) -> Result<(), CaseFault> {
-        let tag = u32_of(words.number()?)?;
-        let value = piped_bytes_of(alloc, words.rest())?;
-        self.add(tag, value.as_slice(), answer)
-    }
-
-    /// `text_times TAG N BYTES`: one field more, whose value is these bytes N times.
-    fn text_times(
-        &mut self,
-        alloc: Global,
-        words: &mut Words,
-        answer: &mut String,
-    ) -> Result<(), CaseFault> {
-        let tag = u32_of(words.number()?)?;
-        let value = bytes_times(alloc, words)?;
-        self.add(tag, value.as_slice(), answer)
-    }
-
-    /// One field more.
-    fn add(&mut self, tag: u32, value: &[u8], answer: &mut String) -> Result<(), CaseFault> {
+    /// One field more, whose value is a text.
+    fn text(&mut self, tag: u32, value: Vec<u8>, answer: &mut String) -> Result<(), CaseFault> {
+        let value = value.as_slice();
         let Some(writer) = &mut self.writer else {
             return Err(CaseFault::NotOpen);
         };
@@ -109,7 +84,7 @@ impl WriterCases {
 
     /// `number TAG NUMBER`: one field more, whose value is a number.
     fn number(&mut self, words: &mut Words, answer: &mut String) -> Result<(), CaseFault> {
-        let tag = u32_of(words.number()?)?;
+        let tag = tag_of(words)?;
         let value = words.number()?;
         let Some(writer) = &mut self.writer else {
             return Err(CaseFault::NotOpen);
@@ -146,9 +121,14 @@ impl WriterCases {
     }
 }
 
+/// The tag that a word is.
+fn tag_of(words: &mut Words) -> Result<u32, CaseFault> {
+    u32_of(words.number()?)
+}
+
 /// `is_tag TAG`: whether it may stand in a body.
 fn push_is_tag(answer: &mut String, words: &mut Words) -> Result<(), CaseFault> {
-    let tag = u32_of(words.number()?)?;
+    let tag = tag_of(words)?;
     push_truth(answer, is_tag(tag))
 }
 
@@ -160,7 +140,7 @@ fn push_is_value(alloc: Global, answer: &mut String, text: &str) -> Result<(), C
 
 /// `fits TAG LENGTH LEFT`: whether a field fits.
 fn push_fits(answer: &mut String, words: &mut Words) -> Result<(), CaseFault> {
-    let tag = u32_of(words.number()?)?;
+    let tag = tag_of(words)?;
     let len = len_of(words.number()?)?;
     let left = len_of(words.number()?)?;
     push_truth(answer, fits(tag, len, left))

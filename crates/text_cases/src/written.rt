@@ -1,7 +1,7 @@
 //! Messages that a firm is sent.
 
 use crate::parts::name_of;
-use crate::printing::{push_bytes_line, push_number};
+use crate::printing::{push_bytes_line, push_number, u32_of};
 use crate::written_to_dealers::{
     cancel_answer, closing_notice, decline_answer, quote_answer, reject, shown_request,
 };
@@ -9,7 +9,7 @@ use crate::written_to_investors::{
     dealer_declined, hit_answer, hit_unknown, pass_answer, quote_gone, request_accepted,
     request_expired, request_refused, shown_quote,
 };
-use case_lines::{CaseFault, Place, Words, day};
+use case_lines::{CaseFault, Words, day};
 use fix_fields::Memory;
 use quote_messages::{Head, OutMessage, SentMessage, write_out};
 use std::alloc::Global;
@@ -33,24 +33,17 @@ pub struct WrittenCases {
     last: Option<SentMessage>,
 }
 
-impl Place for WrittenCases {
-    fn new(_alloc: Global) -> Result<Self, CaseFault> {
-        Ok(WrittenCases {
+impl WrittenCases {
+    /// The place before its first call.
+    pub(crate) fn begun(_alloc: Global) -> Self {
+        WrittenCases {
             head: None,
             last: None,
-        })
+        }
     }
 
-    fn call(&mut self, alloc: Global, call: &str, answer: &mut String) -> Result<(), CaseFault> {
-        let mut words = Words::of(call);
-        self.make(alloc, &mut words, answer)?;
-        words.end()
-    }
-}
-
-impl WrittenCases {
     /// Makes a call.
-    fn make(
+    pub(crate) fn make(
         &mut self,
         alloc: Global,
         words: &mut Words,
@@ -94,7 +87,7 @@ impl WrittenCases {
 
     /// `times TAG`: how many fields of the last message have it.
     fn times(&self, words: &mut Words, answer: &mut String) -> Result<(), CaseFault> {
-        let tag = crate::printing::u32_of(words.number()?)?;
+        let tag = u32_of(words.number()?)?;
         let last = self.last.as_ref().ok_or(CaseFault::NotOpen)?;
         push_number(answer, last.frame().times(tag) as u64)
     }
