@@ -21,7 +21,7 @@ pub struct WriterCases {
 impl WriterCases {
     /// The place before its first call.
     pub(crate) fn begun(_alloc: Global) -> Self {
-        Ok(WriterCases { writer: None })
+        WriterCases { writer: None }
     }
 
     /// Makes a call.
