@@ -23,8 +23,8 @@ use venue_config::{ConfigFault, DealerRow, InvestorRow, Traders, VenueConfig, re
 ///   `has_room NUMBER NUMBER`: what is found.
 /// - `trader DEALER NAME`, `has_trader DEALER NAME`, `trader_at DEALER PLACE`: of a dealer.
 /// - `copy`: a copy takes the place of what was read, which is kept; `keep`: it is kept.
-///   `is_same DEALER DEALER`: whether a dealer has the row of one of the kept; `is_own_copy DEALER`:
-///   of its own copy.
+///   `is_same DEALER DEALER`: whether a dealer has the row of one of the kept;
+///   `is_own_copy DEALER`: whether it has that of its own copy.
 /// - `limits`, `faults`: the constants, and the texts of the faults.
 #[derive(Drop)]
 pub struct ConfigCases {

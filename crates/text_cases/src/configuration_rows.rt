@@ -7,8 +7,7 @@ use venue_config::{BondRow, DealerRow, InvestorRow, Traders, VenueConfig};
 
 /// A bond: ID GRID.
 fn push_bond_row(answer: &mut String, row: &BondRow) -> Result<(), CaseFault> {
-    push_text(answer, row.id.as_bytes())?;
-    writeln!(answer, " {}", row.grid.get())?;
+    writeln!(answer, "{} {}", row.id.as_str(), row.grid.get())?;
     Ok(())
 }
 
@@ -22,7 +21,7 @@ fn push_dealer_row(answer: &mut String, row: &DealerRow) -> Result<(), CaseFault
 
 /// An investor: NAME TRADERS REQUESTS OPEN QUANTITY.
 fn push_investor_row(answer: &mut String, row: &InvestorRow) -> Result<(), CaseFault> {
-    push_text(answer, row.name.as_bytes())?;
+    answer.push_str(row.name.as_str())?;
     push_traders(answer, &row.traders)?;
     writeln!(
         answer,

@@ -20,9 +20,9 @@ use std::fmt::Write;
 ///   fault, a tag (371) and a reason (373).
 /// - `dealer_with PART FORM`, `investor_with PART FORM`: the same of the body with FORM for PART,
 ///   where PART stands first. `change PART FORM`: the body itself is so changed.
-/// - `from_dealer EXPECTED`, `from_investor EXPECTED`: what becomes of the message where this number
-///   is expected; `raw_from_dealer EXPECTED`, `raw_from_investor EXPECTED`: of the body alone, that
-///   is no frame.
+/// - `from_dealer EXPECTED`, `from_investor EXPECTED`: what becomes of the message where this
+///   number is expected; `raw_from_dealer EXPECTED`, `raw_from_investor EXPECTED`: of the body
+///   alone, that is no frame.
 #[derive(Drop)]
 pub struct ReceivedCases {
     body: String,

@@ -3,7 +3,9 @@
 use crate::buffers::bytes_times;
 use crate::printing::{len_of, push_bytes_line, push_line, push_number, push_truth, u32_of};
 use case_lines::{CaseFault, Words, piped_bytes_of};
-use fix_fields::{FrameWriter, MOST_BODY, decimal_len, fits, is_tag, is_value, read_frame};
+use fix_fields::{
+    FrameWriter, MOST_BODY, MOST_FRAME, decimal_len, fits, is_tag, is_value, read_frame,
+};
 use std::alloc::Global;
 
 /// The place `frame_writer`: a frame that is written field by field. What changes it answers how
@@ -13,6 +15,7 @@ use std::alloc::Global;
 /// - `text TAG VALUE`, `text_times TAG N BYTES`, `number TAG NUMBER`: one field more.
 /// - `finish`: the frame. `finish_len`: its length, of a frame that is read back.
 /// - `is_tag TAG`, `is_value BYTES`, `fits TAG LENGTH LEFT`, `decimal_len NUMBER`: the tests.
+/// - `limits`: the longest frame, and the longest body.
 #[derive(Drop)]
 pub struct WriterCases {
     writer: Option<FrameWriter>,
@@ -49,6 +52,7 @@ impl WriterCases {
             "is_value" => push_is_value(alloc, answer, words.rest()),
             "fits" => push_fits(answer, words),
             "decimal_len" => push_decimal_len(answer, words),
+            "limits" => push_limits(answer),
             _ => Err(CaseFault::Form),
         }
     }
@@ -150,4 +154,10 @@ fn push_fits(answer: &mut String, words: &mut Words) -> Result<(), CaseFault> {
 fn push_decimal_len(answer: &mut String, words: &mut Words) -> Result<(), CaseFault> {
     let number = words.number()?;
     push_number(answer, decimal_len(number) as u64)
+}
+
+/// `limits`: the longest frame, and the longest body.
+fn push_limits(answer: &mut String) -> Result<(), CaseFault> {
+    push_number(answer, MOST_FRAME as u64)?;
+    push_number(answer, MOST_BODY as u64)
 }
