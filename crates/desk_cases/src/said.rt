@@ -72,12 +72,7 @@ impl Speaker {
 }
 
 /// A field of the header, unless it stands in `fields`.
-fn push_unless(
-    header: &mut String,
-    fields: &str,
-    tag: &str,
-    value: &str,
-) -> Result<(), CaseFault> {
+fn push_unless(header: &mut String, fields: &str, tag: &str, value: &str) -> Result<(), CaseFault> {
     if has_field(fields, tag) {
         return Ok(());
     }

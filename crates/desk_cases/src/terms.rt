@@ -2,9 +2,7 @@
 use bond_prices::{Grid, Ticks};
 use case_lines::{CaseFault, Words};
 use fix_fields::Moment;
-use market_terms::{
-    Ask, Close, HitRefusal, Id, IdBuf, Quantity, QuoteState, Reply, RoomRef, Side,
-};
+use market_terms::{Ask, Close, HitRefusal, Id, IdBuf, Quantity, QuoteState, Reply, RoomRef, Side};
 use std::str;
 use venue_config::{BondId, Name};
 

@@ -94,11 +94,7 @@ fn shown(opened: &mut Opened, words: &mut Words<'_>) -> Result<(), CaseFault> {
 }
 
 /// `ROOM INVESTOR ..`.
-fn show(
-    opened: &mut Opened,
-    words: &mut Words<'_>,
-    answer: &mut String,
-) -> Result<(), CaseFault> {
+fn show(opened: &mut Opened, words: &mut Words<'_>, answer: &mut String) -> Result<(), CaseFault> {
     let room = room(words)?;
     let (ask, moment) = ask(words)?;
     let number = opened.desk.show(room, ask, moment)?;
@@ -195,11 +191,7 @@ fn tell_request(
 }
 
 /// `ROOM KIND TIME`.
-fn tell(
-    opened: &mut Opened,
-    words: &mut Words<'_>,
-    answer: &mut String,
-) -> Result<(), CaseFault> {
+fn tell(opened: &mut Opened, words: &mut Words<'_>, answer: &mut String) -> Result<(), CaseFault> {
     let room = room(words)?;
     let close = close(words)?;
     let moment = words.moment()?;

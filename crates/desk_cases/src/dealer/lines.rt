@@ -34,11 +34,7 @@ pub(crate) fn push_line_numbered(
 }
 
 /// `N TIME TRADER REQUEST SIDE BOND QUANTITY PRICE STATE`: the price in 256ths.
-fn push_quote_line(
-    alloc: Global,
-    answer: &mut String,
-    line: &QuoteLine,
-) -> Result<(), CaseFault> {
+fn push_quote_line(alloc: Global, answer: &mut String, line: &QuoteLine) -> Result<(), CaseFault> {
     let time = clock(alloc, line.moment)?;
     let trader = ascii(line.trader.as_bytes());
     let side = side_word(line.side);

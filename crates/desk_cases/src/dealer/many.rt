@@ -101,7 +101,11 @@ pub(crate) fn push_quotes(
 fn quoted(opened: &mut Opened, alloc: Global, n: u64, moment: Moment) -> Result<String, CaseFault> {
     let came = quote(opened, alloc, n, moment)?;
     let (asked, left) = opened.take(&came)?;
-    let posted = if left.is_some() { "posted" } else { "not posted" };
+    let posted = if left.is_some() {
+        "posted"
+    } else {
+        "not posted"
+    };
     let word = word_text(alloc, n, asked)?;
     let exposure = opened.desk.exposure();
     let text = format!(in alloc; "{posted}, {word}, exposure {exposure}")?;

@@ -99,42 +99,28 @@ pub(crate) fn push_event(
     let Some(event) = events.get(nth(words)?) else {
         return Err(CaseFault::Condition);
     };
-    match event {
-        InvestorEvent::Own { moment, message } => {
-            push_event_line(alloc, answer, "own", *moment, message.as_bytes())
-        }
-        InvestorEvent::QuoteCame { moment, .. } => {
-            push_event_line(alloc, answer, "quote_came", *moment, b"")
-        }
-        InvestorEvent::QuoteGone { moment, .. } => {
-            push_event_line(alloc, answer, "quote_gone", *moment, b"")
-        }
-        InvestorEvent::DealerDeclined { moment, .. } => {
-            push_event_line(alloc, answer, "dealer_declined", *moment, b"")
-        }
-        InvestorEvent::Answered { moment, .. } => {
-            push_event_line(alloc, answer, "answered", *moment, b"")
-        }
-        InvestorEvent::Closed { moment, .. } => {
-            push_event_line(alloc, answer, "closed", *moment, b"")
-        }
-    }
-}
-
-/// `KIND TIME BYTES`.
-fn push_event_line(
-    alloc: Global,
-    answer: &mut String,
-    kind: &str,
-    moment: Moment,
-    bytes: &[u8],
-) -> Result<(), CaseFault> {
+    let (kind, moment) = kind_of(event);
     let time = clock(alloc, moment)?;
-    let text = format!(in alloc; "{kind} {time} ")?;
+    let text = format!(in alloc; "{kind} {time}")?;
     answer.push_str(text.as_str())?;
-    push_bytes(answer, bytes)?;
+    if let InvestorEvent::Own { message, .. } = event {
+        answer.push(' ')?;
+        push_bytes(answer, message.as_bytes())?;
+    }
     answer.push('\n')?;
     Ok(())
+}
+
+/// The call that brought an event, and its moment.
+fn kind_of(event: &InvestorEvent) -> (&'static str, Moment) {
+    match event {
+        InvestorEvent::Own { moment, .. } => ("own", *moment),
+        InvestorEvent::QuoteCame { moment, .. } => ("quote_came", *moment),
+        InvestorEvent::QuoteGone { moment, .. } => ("quote_gone", *moment),
+        InvestorEvent::DealerDeclined { moment, .. } => ("dealer_declined", *moment),
+        InvestorEvent::Answered { moment, .. } => ("answered", *moment),
+        InvestorEvent::Closed { moment, .. } => ("closed", *moment),
+    }
 }
 
 /// How many events, messages and lines a desk gives away.
