@@ -13,7 +13,7 @@ pub(crate) fn push_new(
     sent: &[SentMessage],
     shown: usize,
 ) -> Result<usize, CaseFault> {
-    for message in sent.iter().skip(shown) {
+    for message in &sent[shown.min(sent.len())..] {
         push_message(answer, message)?;
     }
     Ok(sent.len())
@@ -81,8 +81,8 @@ pub(crate) fn push_frames(
     sent: &[SentMessage],
     words: &mut Words<'_>,
 ) -> Result<(), CaseFault> {
-    let before = nth(words)?;
-    for message in sent.iter().skip(before) {
+    let before = nth(words)?.min(sent.len());
+    for message in &sent[before..] {
         push_bytes(answer, message.as_bytes())?;
         answer.push('\n')?;
     }
