@@ -74,8 +74,8 @@ impl<'a, H: Threads + Wait + Sync + Drop> Commands<'a, H> {
         first_lines(self.last.err.as_slice(), lines, answer)
     }
 
-    /// `each read WORDS`, `each write WORDS` or `each stop WORDS`: a run for each count of bytes
-    /// behind which a stream fails.
+    /// `each read STEP WORDS`, `each write STEP WORDS` or `each stop STEP WORDS`: a run for each count
+    /// of bytes behind which a stream fails.
     fn each(
         &self,
         alloc: Global,
@@ -84,9 +84,9 @@ impl<'a, H: Threads + Wait + Sync + Drop> Commands<'a, H> {
     ) -> Result<(), CaseFault> {
         let input = self.inputs.bytes.as_slice();
         match words.word()? {
-            "read" => each_read(self.rt, alloc, words.rest(), input, answer),
-            "write" => each_write(self.rt, alloc, words.rest(), input, false, answer),
-            "stop" => each_write(self.rt, alloc, words.rest(), input, true, answer),
+            "read" => each_read(self.rt, alloc, words, input, answer),
+            "write" => each_write(self.rt, alloc, words, input, false, answer),
+            "stop" => each_write(self.rt, alloc, words, input, true, answer),
             _ => Err(CaseFault::Form),
         }
     }

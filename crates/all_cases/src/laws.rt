@@ -1,26 +1,30 @@
 //! Runs that are held against each other.
+ghost use Rattle.std.specs.Prelude.{◌<◌, IfOk};
+
 use crate::in_row::InRow;
 use crate::runs::{Ended, Paces, ran, words_of};
 use crate::streams::Pace;
-use case_lines::CaseFault;
+use case_lines::{CaseFault, Words};
 use std::alloc::Global;
 use std::marker::Sync;
 use std::sync::Wait;
 use std::thread::Threads;
 
-/// Runs the program once for each count of bytes behind which its reader fails, up to all of them.
-/// Each answer stands behind the first and the last count that has it.
+/// `STEP WORDS`: runs the program once for each count of bytes, a multiple of the step, behind which
+/// its reader fails, up to all of them. Each answer stands behind the first and the last count that
+/// has it.
 pub(crate) fn each_read<H: Threads + Wait + Sync>(
     rt: &H,
     alloc: Global,
-    words: &str,
+    words: &mut Words<'_>,
     input: &[u8],
     answer: &mut String,
 ) -> Result<(), CaseFault> {
-    let words = words_of(alloc, words)?;
+    let step = step_of(words)?;
+    let words = words_of(alloc, words.rest())?;
     let mut in_row = InRow::new(alloc);
     let mut paces = Paces::whole();
-    for count in 0..=input.len() {
+    for count in (0..=input.len()).step_by(step) {
         paces.input = Pace::up_to(count);
         let ended = ran(rt, alloc, words.as_slice(), input, paces);
         let mut text = String::new(alloc);
@@ -30,28 +34,43 @@ pub(crate) fn each_read<H: Threads + Wait + Sync>(
     in_row.end(answer)
 }
 
-/// Runs the program once for each count of bytes behind which its writer fails, or takes nothing
-/// any more. Each answer says whether the writer holds these first bytes of what is printed whole.
+/// `STEP WORDS`: the same with a writer that fails, or takes nothing any more. Each answer says
+/// whether the writer holds these first bytes of what is printed whole.
 pub(crate) fn each_write<H: Threads + Wait + Sync>(
     rt: &H,
     alloc: Global,
-    words: &str,
+    words: &mut Words<'_>,
     input: &[u8],
     stops: bool,
     answer: &mut String,
 ) -> Result<(), CaseFault> {
-    let words = words_of(alloc, words)?;
+    let step = step_of(words)?;
+    let words = words_of(alloc, words.rest())?;
     let mut paces = Paces::whole();
     let whole = ran(rt, alloc, words.as_slice(), input, paces);
     let mut in_row = InRow::new(alloc);
     paces.out.stops = stops;
-    for count in 0..whole.out.len() {
+    for count in (0..whole.out.len()).step_by(step) {
         paces.out.left = count;
         let ended = ran(rt, alloc, words.as_slice(), input, paces);
         let text = told_of_prefix(alloc, &ended, whole.out.as_slice(), count)?;
         in_row.take(count, text, answer)?;
     }
     in_row.end(answer)
+}
+
+/// The step between two counts.
+fn step_of(words: &mut Words<'_>) -> Result<usize, CaseFault>
+    ensures { IfOk result (λ step. 0 < step) }
+{
+    let number = words.number()?;
+    let Ok(step) = usize::try_from(number) else {
+        return Err(CaseFault::Condition);
+    };
+    if step == 0 {
+        return Err(CaseFault::Condition);
+    }
+    Ok(step)
 }
 
 /// How a run ended, and whether it printed the first `count` bytes of a text.

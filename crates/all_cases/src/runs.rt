@@ -149,22 +149,23 @@ fn cut_behind(text: &[u8], lines: u64) -> (&[u8], &[u8]) {
 }
 
 /// Appends the lines of a text, each behind `front`. A last line without its line feed has `\c` at
-/// its end.
+/// its end, and a space at the end of a line is `\x20`.
 fn push_lines(answer: &mut String, front: &str, text: &[u8]) -> Result<(), CaseFault> {
-    let mut starts = true;
-    for byte in text {
-        if starts {
-            answer.push_str(front)?;
-        }
-        starts = *byte == b'\n';
-        if starts {
-            answer.push('\n')?;
-        } else {
-            push_text(answer, &[*byte])?;
-        }
+    for line in text.split_inclusive(|byte| *byte == b'\n') {
+        answer.push_str(front)?;
+        push_line(answer, line)?;
     }
-    if !starts {
-        answer.push_str("\\c\n")?;
-    }
+    Ok(())
+}
+
+/// Appends a line, with its line feed or without.
+fn push_line(answer: &mut String, line: &[u8]) -> Result<(), CaseFault> {
+    let (text, end) = match line {
+        [text @ .., b' ', b'\n'] => (text, "\\x20\n"),
+        [text @ .., b'\n'] => (text, "\n"),
+        text => (text, "\\c\n"),
+    };
+    push_text(answer, text)?;
+    answer.push_str(end)?;
     Ok(())
 }
