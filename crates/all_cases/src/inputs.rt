@@ -7,6 +7,9 @@ use std::alloc::Global;
 /// How many times at most a text is put into an input by one call.
 const MOST_TIMES: u64 = 20_000_000;
 
+/// How many of them are put at once.
+const AT_ONCE: u64 = 4_096;
+
 /// The input and the streams of the runs to come.
 #[derive(Drop)]
 pub(crate) struct Inputs {
@@ -31,8 +34,8 @@ impl Inputs {
         words: &mut Words<'_>,
     ) -> Result<bool, CaseFault> {
         match word {
-            "<" => self.put(alloc, 1, words.rest(), "\n")?,
-            "<+" => self.put(alloc, 1, words.rest(), "")?,
+            "<" => self.put(alloc, words.rest(), "\n")?,
+            "<+" => self.put(alloc, words.rest(), "")?,
             "<*" => self.put_often(alloc, words, "\n")?,
             "<+*" => self.put_often(alloc, words, "")?,
             "empty" => self.empty(words)?,
@@ -44,13 +47,11 @@ impl Inputs {
         Ok(true)
     }
 
-    /// Puts a text and its end behind the input, so many times.
-    fn put(&mut self, alloc: Global, times: u64, text: &str, end: &str) -> Result<(), CaseFault> {
-        let mut bytes = bytes_of(alloc, text)?;
-        bytes.extend_from_slice(end.as_bytes())?;
-        for _ in 0..times {
-            self.bytes.extend_from_slice(bytes.as_slice())?;
-        }
+    /// Puts a text and its end behind the input.
+    fn put(&mut self, alloc: Global, text: &str, end: &str) -> Result<(), CaseFault> {
+        let bytes = bytes_of(alloc, text)?;
+        self.bytes.extend_from_slice(bytes.as_slice())?;
+        self.bytes.extend_from_slice(end.as_bytes())?;
         Ok(())
     }
 
@@ -65,7 +66,11 @@ impl Inputs {
         if times > MOST_TIMES {
             return Err(CaseFault::Condition);
         }
-        self.put(alloc, times, words.rest(), end)
+        let mut text = bytes_of(alloc, words.rest())?;
+        text.extend_from_slice(end.as_bytes())?;
+        let many = repeated(alloc, text.as_slice(), AT_ONCE)?;
+        put_repeated(&mut self.bytes, many.as_slice(), times / AT_ONCE)?;
+        put_repeated(&mut self.bytes, text.as_slice(), times % AT_ONCE)
     }
 
     /// `empty`: the input is empty again.
@@ -74,6 +79,21 @@ impl Inputs {
         self.bytes.clear();
         Ok(())
     }
+}
+
+/// A text so many times.
+fn repeated(alloc: Global, text: &[u8], times: u64) -> Result<Vec<u8>, CaseFault> {
+    let mut all = Vec::new(alloc);
+    put_repeated(&mut all, text, times)?;
+    Ok(all)
+}
+
+/// Puts a text so many times behind another.
+fn put_repeated(all: &mut Vec<u8>, text: &[u8], times: u64) -> Result<(), CaseFault> {
+    for _ in 0..times {
+        all.extend_from_slice(text)?;
+    }
+    Ok(())
 }
 
 /// `most N`, `fails N`, `stops N` or `unflushed`: how a stream behaves from now on.
