@@ -119,25 +119,25 @@ pub record Line : Type 0 where
   pub words : Words
   pub asks : Option Text → Flags → Command
 
-abbrev pub frames : Text
-frames = codes "frames"
+abbrev pub frames_flag : Text
+frames_flag = codes "frames"
 
-abbrev pub woven : Text
-woven = codes "woven"
+abbrev pub woven_flag : Text
+woven_flag = codes "woven"
 
 abbrev pub line : Text → List Text → Words → (Option Text → Flags → Command) → Line
 line name flags words asks = record { name = name; flags = flags; words = words; asks = asks }
 
 abbrev pub commands : List Line
 commands =
-    line (codes "alone") (frames ∷ []) no_word (λ word flags. alone flags.frames)
-    ∷ line (codes "replay") (frames ∷ []) one_or_none (λ word flags. replay word flags.frames)
-    ∷ line (codes "day") (frames ∷ woven ∷ []) no_word
+    line (codes "alone") (frames_flag ∷ []) no_word (λ word flags. alone flags.frames)
+    ∷ line (codes "replay") (frames_flag ∷ []) one_or_none (λ word flags. replay word flags.frames)
+    ∷ line (codes "day") (frames_flag ∷ woven_flag ∷ []) no_word
     (λ word flags. day flags.frames flags.woven)
     ∷ line (codes "due") [] one_word (λ word flags. due (unwrap_or word []))
     ∷ line (codes "compare") [] one_word (λ word flags. compare (unwrap_or word []))
     ∷ line (codes "blotter") [] one_word (λ word flags. blotter (unwrap_or word []))
-    ∷ line (codes "live") (frames ∷ []) no_word (λ word flags. live flags.frames)
+    ∷ line (codes "live") (frames_flag ∷ []) no_word (λ word flags. live flags.frames)
     ∷ []
 
 -- the line of a name
