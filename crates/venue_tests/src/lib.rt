@@ -1,0 +1,12 @@
+//! What no file of cases can say: days on threads, with the races that a gate forces; memory that is
+//! refused, at each allocation in turn; readers and writers that fail.
+//!
+//! All other cases are lines (`crates/all_cases/data`).
+#![tactic(auto)]
+
+#[cfg(test)]
+mod boards;
+#[cfg(test)]
+mod days;
+#[cfg(test)]
+mod memory;
