@@ -1,0 +1,46 @@
+//! Cases as lines of text: what drives a place by calls, and what runs a file of them.
+//!
+//! ```text
+//! # Cancels of one quote.
+//! place dealer_desk
+//!
+//! let <a> 48=BONDA0000001|22=4
+//!
+//! block ONE_QUOTED
+//! open DLR1 4 2000000 T1
+//! say T1 09:00:10 S 131=R1|117=a1|<a>|133=99.5
+//! > DLR1 1 09:00:10.000 AI 131=R1|117=a1|297=0
+//!
+//! case of no quote
+//! << ONE_QUOTED
+//! say T1 09:00:20 Z 298=1|117=a1
+//! > DLR1 2 09:00:20.000 AI 117=a1|297=5|300=99
+//! ```
+//!
+//! - A line that begins with `#` says nothing. An empty line ends a block or a case.
+//! - `place NAME` stands first, and once: [`place_of`].
+//! - `let NAME TEXT`: in the lines below, TEXT stands wherever NAME does.
+//! - `block NAME`: a line `<< NAME` in a case or a block below stands for the lines of it.
+//! - `case NAME`: its calls, each with the lines of its answer below it, each behind `> `; `>` alone
+//!   is an empty line.
+//!
+//! A [`Place`] makes the calls, one by one. A case has passed where each call answered exactly the
+//! lines that stand below it. A call that could not be made is never one that passed.
+#![tactic(auto)]
+
+mod bytes;
+mod expanded;
+mod faults;
+mod frames;
+mod place;
+mod report;
+mod run;
+mod words;
+
+pub use bytes::{bytes_of, piped_bytes_of, push_bytes, push_text};
+pub use faults::CaseFault;
+pub use frames::{day, frame_of};
+pub use place::{Driver, Place};
+pub use report::Report;
+pub use run::{place_of, run_driver, run_file};
+pub use words::Words;
