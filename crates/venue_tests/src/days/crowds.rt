@@ -1,5 +1,5 @@
 //! Days of many firms, again and again.
-use crate::fixtures::{Open, are_views, is_woven, runs};
+use super::fixtures::{Open, are_views, is_woven, runs};
 use recorded_days::DayRecord;
 use std::process::Abort;
 use std::test::Fail;

@@ -1,5 +1,4 @@
 //! Days as texts: a configuration, a line `%%` and the lines of a day, and what each firm is sent.
-use message_fixtures::VENUE;
 use quote_messages::SentMessage;
 use recorded_days::{DayRecord, Inbound, Sweep, weave};
 use session_worker::{DayFault, Gate, Point, run_day};
@@ -10,6 +9,44 @@ use std::thread::Threads;
 use step_replay::{Step, alone, run};
 use venue_config::{Name, VenueConfig};
 use venue_text::{MOST_INPUT, day_parts, messages_text, read_steps, read_venue};
+
+/// The venue: two bonds, the dealers DLR1, DLR2 and DLR3, firms 0 to 2, and the investors INV1 and
+/// INV2, firms 3 and 4; and the line that divides it from the lines of a day.
+pub(crate) const VENUE: &str = "version = 1
+date = \"20250314\"
+[[bond]]
+id = \"BONDA0000001\"
+[[bond]]
+id = \"BONDB0000002\"
+[[dealer]]
+name = \"DLR1\"
+traders = [\"T1\"]
+quotes = 4
+exposure = 10000000
+[[dealer]]
+name = \"DLR2\"
+traders = [\"T2\"]
+quotes = 4
+exposure = 10000000
+[[dealer]]
+name = \"DLR3\"
+traders = [\"T3\"]
+quotes = 4
+exposure = 10000000
+[[investor]]
+name = \"INV1\"
+traders = [\"T8\"]
+requests = 3
+open = 2
+quantity = 5000000
+[[investor]]
+name = \"INV2\"
+traders = [\"T9\"]
+requests = 3
+open = 2
+quantity = 5000000
+%%
+";
 
 /// A gate that holds nobody.
 pub(crate) struct Open;
@@ -124,14 +161,14 @@ fn fault_name(fault: DayFault) -> &'static str {
     }
 }
 
-/// Runs a day of these lines of the configuration of the tests, and compares what is sent.
+/// Runs a day of these lines of [`VENUE`], and compares what is sent.
 pub(crate) fn sends<T: Threads + Wait + Sync + Abort + AllocGlobal, G: Gate>(
     rt: &T,
     lines: &str,
     gate: &G,
     sent: &str,
 ) -> Result<(), Fail> {
-    let input = format!(in rt.alloc(); "{VENUE}%%\n{lines}")?;
+    let input = format!(in rt.alloc(); "{VENUE}{lines}")?;
     let (config, record) = runs(rt, input.as_str(), gate)?;
     let text = day_text(rt, &config, &record)?;
     assert_eq!(rt; text.as_str(), sent);

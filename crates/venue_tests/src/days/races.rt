@@ -1,8 +1,7 @@
 //! Races between a dealer, its investor and the clock, each forced by a gate. Each day is woven into
 //! steps that send every firm the same bytes, and each dealer's list gives the dealer's.
-use crate::fixtures::{are_views, day_text, is_woven, runs};
-use crate::flags::Flag;
-use message_fixtures::VENUE;
+use super::fixtures::{VENUE, are_views, day_text, is_woven, runs};
+use super::flags::Flag;
 use recorded_days::Kind;
 use session_worker::{Gate, Point};
 use std::process::Abort;
@@ -260,7 +259,7 @@ fn race_ends<T: Threads + Wait + Sync + Abort + AllocGlobal>(
     ends: Ends,
 ) -> Result<(), Fail> {
     let gate = Starter::new(race);
-    let mut day = format!(in rt.alloc(); "{VENUE}%%\n{ASKED_AND_QUOTED}")?;
+    let mut day = format!(in rt.alloc(); "{VENUE}{ASKED_AND_QUOTED}")?;
     for line in lines {
         day.push_str(*line)?;
     }
@@ -307,82 +306,96 @@ const SWEEP_BEFORE_READY: Race = Race {
     other: Place::BeforeSweep,
 };
 
-#[test]
-fn a_cancel_comes_before_a_hit(rt: HostRuntime) -> Result<(), Fail> {
-    let ends = Ends {
-        dealer: &["09:00:20.000 AI 117=a1|297=17"],
-        investor: &[HIT_REFUSED, QUOTE_GONE],
-        or_else: &[QUOTE_GONE, HIT_REFUSED],
-    };
-    race_ends(&rt, DEALER_FIRST, &[CANCELS, HITS], ends)
-}
+/// A race, the lines of its day behind the quote, and what the firms are sent.
+type Raced = (Race, &'static [&'static str], Ends);
+
+const RACES: &[Raced] = &[
+    // a cancel comes before a hit
+    (
+        DEALER_FIRST,
+        &[CANCELS, HITS],
+        Ends {
+            dealer: &["09:00:20.000 AI 117=a1|297=17"],
+            investor: &[HIT_REFUSED, QUOTE_GONE],
+            or_else: &[QUOTE_GONE, HIT_REFUSED],
+        },
+    ),
+    // a hit comes before a cancel
+    (
+        INVESTOR_FIRST,
+        &[CANCELS, HITS],
+        Ends {
+            dealer: &["09:00:20.000 AI 117=a1|297=5|300=4", TRADED],
+            investor: &[HIT_ACCEPTED],
+            or_else: &[HIT_ACCEPTED],
+        },
+    ),
+    // a hit comes before a replacement
+    (
+        INVESTOR_FIRST,
+        &[REPLACES, HITS],
+        Ends {
+            dealer: &["09:00:20.000 AI 131=R1|117=a2|297=5|300=4", TRADED],
+            investor: &[HIT_ACCEPTED],
+            or_else: &[HIT_ACCEPTED],
+        },
+    ),
+    // a replacement comes before a hit
+    (
+        DEALER_FIRST,
+        &[REPLACES, HITS],
+        Ends {
+            dealer: &["09:00:20.000 AI 131=R1|117=a2|297=0"],
+            investor: &[HIT_REFUSED, QUOTE_GONE, SECOND_QUOTE],
+            or_else: &[QUOTE_GONE, SECOND_QUOTE, HIT_REFUSED],
+        },
+    ),
+    // a hit comes before a cancel of all
+    (
+        INVESTOR_FIRST,
+        &[CANCELS_ALL, HITS],
+        Ends {
+            dealer: &["09:00:20.000 AI 117=a1|297=5|300=4", TRADED],
+            investor: &[HIT_ACCEPTED],
+            or_else: &[HIT_ACCEPTED],
+        },
+    ),
+    // a hit comes before a sweep
+    (
+        HIT_BEFORE_SWEEP,
+        &[HITS, EXPIRES],
+        Ends {
+            dealer: &[TRADED],
+            investor: &[HIT_ACCEPTED],
+            or_else: &[HIT_ACCEPTED],
+        },
+    ),
+    // a sweep comes before a hit
+    (
+        SWEEP_BEFORE_HIT,
+        &[HITS, EXPIRES],
+        Ends {
+            dealer: &[EXPIRED],
+            investor: &[HIT_TOO_LATE, REQUEST_EXPIRED],
+            or_else: &[REQUEST_EXPIRED, HIT_TOO_LATE],
+        },
+    ),
+    // a sweep of an opening room does nothing
+    (
+        SWEEP_BEFORE_READY,
+        &[EXPIRES],
+        Ends {
+            dealer: &[],
+            investor: &[],
+            or_else: &[],
+        },
+    ),
+];
 
 #[test]
-fn a_hit_comes_before_a_cancel(rt: HostRuntime) -> Result<(), Fail> {
-    let ends = Ends {
-        dealer: &["09:00:20.000 AI 117=a1|297=5|300=4", TRADED],
-        investor: &[HIT_ACCEPTED],
-        or_else: &[HIT_ACCEPTED],
-    };
-    race_ends(&rt, INVESTOR_FIRST, &[CANCELS, HITS], ends)
-}
-
-#[test]
-fn a_hit_comes_before_a_replacement(rt: HostRuntime) -> Result<(), Fail> {
-    let ends = Ends {
-        dealer: &["09:00:20.000 AI 131=R1|117=a2|297=5|300=4", TRADED],
-        investor: &[HIT_ACCEPTED],
-        or_else: &[HIT_ACCEPTED],
-    };
-    race_ends(&rt, INVESTOR_FIRST, &[REPLACES, HITS], ends)
-}
-
-#[test]
-fn a_replacement_comes_before_a_hit(rt: HostRuntime) -> Result<(), Fail> {
-    let ends = Ends {
-        dealer: &["09:00:20.000 AI 131=R1|117=a2|297=0"],
-        investor: &[HIT_REFUSED, QUOTE_GONE, SECOND_QUOTE],
-        or_else: &[QUOTE_GONE, SECOND_QUOTE, HIT_REFUSED],
-    };
-    race_ends(&rt, DEALER_FIRST, &[REPLACES, HITS], ends)
-}
-
-#[test]
-fn a_hit_comes_before_a_cancel_of_all(rt: HostRuntime) -> Result<(), Fail> {
-    let ends = Ends {
-        dealer: &["09:00:20.000 AI 117=a1|297=5|300=4", TRADED],
-        investor: &[HIT_ACCEPTED],
-        or_else: &[HIT_ACCEPTED],
-    };
-    race_ends(&rt, INVESTOR_FIRST, &[CANCELS_ALL, HITS], ends)
-}
-
-#[test]
-fn a_hit_comes_before_a_sweep(rt: HostRuntime) -> Result<(), Fail> {
-    let ends = Ends {
-        dealer: &[TRADED],
-        investor: &[HIT_ACCEPTED],
-        or_else: &[HIT_ACCEPTED],
-    };
-    race_ends(&rt, HIT_BEFORE_SWEEP, &[HITS, EXPIRES], ends)
-}
-
-#[test]
-fn a_sweep_comes_before_a_hit(rt: HostRuntime) -> Result<(), Fail> {
-    let ends = Ends {
-        dealer: &[EXPIRED],
-        investor: &[HIT_TOO_LATE, REQUEST_EXPIRED],
-        or_else: &[REQUEST_EXPIRED, HIT_TOO_LATE],
-    };
-    race_ends(&rt, SWEEP_BEFORE_HIT, &[HITS, EXPIRES], ends)
-}
-
-#[test]
-fn a_sweep_of_an_opening_room_does_nothing(rt: HostRuntime) -> Result<(), Fail> {
-    let ends = Ends {
-        dealer: &[],
-        investor: &[],
-        or_else: &[],
-    };
-    race_ends(&rt, SWEEP_BEFORE_READY, &[EXPIRES], ends)
+fn either_may_come_first(rt: HostRuntime) -> Result<(), Fail> {
+    for (race, lines, ends) in RACES {
+        race_ends(&rt, *race, lines, *ends)?;
+    }
+    Ok(())
 }

@@ -32,6 +32,7 @@ type Called = (Call, u32, bool, u64);
 
 /// A day: the exposure that it allows, the number of the quote whose word is lifted, the calls, and
 /// how many events and messages there are at its end.
+#[derive(Drop)]
 struct Day {
     exposure: u64,
     lifted: u32,
@@ -47,29 +48,78 @@ const MESSAGES: &[Called] = &[
     // no frame
     (Call::Take(b"8=FIXT.1.1\x019=1\x01"), 0, false, 0),
     // no type of a dealer
-    (Call::Take(b"8=FIXT.1.1\x019=65\x0135=R\x0149=DLR1\x0156=VENUE\x0134=1\x01\
-        52=20250314-09:00:10.000\x0150=T1\x01131=a1\x0110=085\x01"), 0, false, 0),
+    (
+        Call::Take(
+            b"8=FIXT.1.1\x019=65\x0135=R\x0149=DLR1\x0156=VENUE\x0134=1\x01\
+        52=20250314-09:00:10.000\x0150=T1\x01131=a1\x0110=085\x01",
+        ),
+        0,
+        false,
+        0,
+    ),
     // a quote
-    (Call::Take(b"8=FIXT.1.1\x019=109\x0135=S\x0149=DLR1\x0156=VENUE\x0134=2\x01\
+    (
+        Call::Take(
+            b"8=FIXT.1.1\x019=109\x0135=S\x0149=DLR1\x0156=VENUE\x0134=2\x01\
         52=20250314-09:00:10.000\x0150=T1\x01117=a1\x01131=R1\x0148=BONDA0000001\x01\
-        22=4\x01133=99.50390625\x0110=040\x01"), 0, true, 2_000_000),
+        22=4\x01133=99.50390625\x0110=040\x01",
+        ),
+        0,
+        true,
+        2_000_000,
+    ),
     // one that replaces it
-    (Call::Take(b"8=FIXT.1.1\x019=100\x0135=S\x0149=DLR1\x0156=VENUE\x0134=3\x01\
+    (
+        Call::Take(
+            b"8=FIXT.1.1\x019=100\x0135=S\x0149=DLR1\x0156=VENUE\x0134=3\x01\
         52=20250314-09:00:10.000\x0150=T1\x01117=a2\x01131=R1\x0148=BONDA0000001\x01\
-        22=4\x01133=99\x0110=085\x01"), 1, true, 2_000_000),
+        22=4\x01133=99\x0110=085\x01",
+        ),
+        1,
+        true,
+        2_000_000,
+    ),
     // its cancel
-    (Call::Take(b"8=FIXT.1.1\x019=71\x0135=Z\x0149=DLR1\x0156=VENUE\x0134=4\x01\
-        52=20250314-09:00:10.000\x0150=T1\x01298=5\x01117=a2\x0110=120\x01"), 2, true, 0),
+    (
+        Call::Take(
+            b"8=FIXT.1.1\x019=71\x0135=Z\x0149=DLR1\x0156=VENUE\x0134=4\x01\
+        52=20250314-09:00:10.000\x0150=T1\x01298=5\x01117=a2\x0110=120\x01",
+        ),
+        2,
+        true,
+        0,
+    ),
     // a decline
-    (Call::Take(b"8=FIXT.1.1\x019=73\x0135=AG\x0149=DLR1\x0156=VENUE\x0134=5\x01\
-        52=20250314-09:00:10.000\x0150=T1\x01131=R1\x01658=10\x0110=193\x01"), 0, true, 0),
+    (
+        Call::Take(
+            b"8=FIXT.1.1\x019=73\x0135=AG\x0149=DLR1\x0156=VENUE\x0134=5\x01\
+        52=20250314-09:00:10.000\x0150=T1\x01131=R1\x01658=10\x0110=193\x01",
+        ),
+        0,
+        true,
+        0,
+    ),
     // a quote on the second request
-    (Call::Take(b"8=FIXT.1.1\x019=100\x0135=S\x0149=DLR1\x0156=VENUE\x0134=6\x01\
+    (
+        Call::Take(
+            b"8=FIXT.1.1\x019=100\x0135=S\x0149=DLR1\x0156=VENUE\x0134=6\x01\
         52=20250314-09:00:10.000\x0150=T1\x01117=a3\x01131=R2\x0148=BONDA0000001\x01\
-        22=4\x01133=99\x0110=090\x01"), 0, true, 2_000_000),
+        22=4\x01133=99\x0110=090\x01",
+        ),
+        0,
+        true,
+        2_000_000,
+    ),
     // its cancel, which finds it lifted
-    (Call::Take(b"8=FIXT.1.1\x019=71\x0135=Z\x0149=DLR1\x0156=VENUE\x0134=7\x01\
-        52=20250314-09:00:10.000\x0150=T1\x01298=5\x01117=a3\x0110=124\x01"), 3, false, 2_000_000),
+    (
+        Call::Take(
+            b"8=FIXT.1.1\x019=71\x0135=Z\x0149=DLR1\x0156=VENUE\x0134=7\x01\
+        52=20250314-09:00:10.000\x0150=T1\x01298=5\x01117=a3\x0110=124\x01",
+        ),
+        3,
+        false,
+        2_000_000,
+    ),
     (Call::Tell(FIRST_ROOM), 0, true, 2_000_000),
     (Call::Tell(FIRST_ROOM), 0, false, 2_000_000),
     (Call::Tell(SECOND_ROOM), 0, true, 0),
@@ -87,15 +137,36 @@ const DROPS: &[Called] = &[
     (Call::Show(FIRST_ROOM), 0, false, 0),
     (Call::Show(SECOND_ROOM), 0, false, 0),
     // two quotes
-    (Call::Take(b"8=FIXT.1.1\x019=100\x0135=S\x0149=DLR1\x0156=VENUE\x0134=1\x01\
+    (
+        Call::Take(
+            b"8=FIXT.1.1\x019=100\x0135=S\x0149=DLR1\x0156=VENUE\x0134=1\x01\
         52=20250314-09:00:10.000\x0150=T1\x01117=a1\x01131=R1\x0148=BONDA0000001\x01\
-        22=4\x01133=99\x0110=082\x01"), 0, true, 2_000_000),
-    (Call::Take(b"8=FIXT.1.1\x019=100\x0135=S\x0149=DLR1\x0156=VENUE\x0134=2\x01\
+        22=4\x01133=99\x0110=082\x01",
+        ),
+        0,
+        true,
+        2_000_000,
+    ),
+    (
+        Call::Take(
+            b"8=FIXT.1.1\x019=100\x0135=S\x0149=DLR1\x0156=VENUE\x0134=2\x01\
         52=20250314-09:00:10.000\x0150=T1\x01117=a2\x01131=R2\x0148=BONDA0000001\x01\
-        22=4\x01133=99\x0110=085\x01"), 0, true, 4_000_000),
+        22=4\x01133=99\x0110=085\x01",
+        ),
+        0,
+        true,
+        4_000_000,
+    ),
     // a cancel of all
-    (Call::Take(b"8=FIXT.1.1\x019=64\x0135=Z\x0149=DLR1\x0156=VENUE\x0134=3\x01\
-        52=20250314-09:00:10.000\x0150=T1\x01298=4\x0110=014\x01"), 0, true, 4_000_000),
+    (
+        Call::Take(
+            b"8=FIXT.1.1\x019=64\x0135=Z\x0149=DLR1\x0156=VENUE\x0134=3\x01\
+        52=20250314-09:00:10.000\x0150=T1\x01298=4\x0110=014\x01",
+        ),
+        0,
+        true,
+        4_000_000,
+    ),
     (Call::Drop(2), 1, true, 2_000_000),
     (Call::Drop(2), 2, false, 2_000_000),
     (Call::Drop(2), 0, false, 2_000_000),

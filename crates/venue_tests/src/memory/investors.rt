@@ -50,25 +50,49 @@ enum Call {
 /// The calls of a day, and how many messages each sends: a request of two dealers, a hit of Q2 that
 /// comes twice, and a pass that comes twice.
 const CALLS: &[(Call, usize)] = &[
-    (Call::Take(b"8=FIXT.1.1\x019=169\x0135=R\x0149=INV1\x0156=VENUE\x0134=1\x01\
+    (
+        Call::Take(
+            b"8=FIXT.1.1\x019=169\x0135=R\x0149=INV1\x0156=VENUE\x0134=1\x01\
         52=20250314-09:00:00\x0150=T8\x01131=A\x01146=1\x0148=BONDA0000001\x0122=4\x01\
         54=1\x0138=1\x01126=20250314-09:05:00\x01453=2\x01448=DLR1\x01447=D\x01452=35\x01\
-        448=DLR2\x01447=D\x01452=35\x0110=103\x01", true), 1),
+        448=DLR2\x01447=D\x01452=35\x0110=103\x01",
+            true,
+        ),
+        1,
+    ),
     (Call::QuoteCame(7), 1),
     // in the place of the first one
     (Call::QuoteCame(8), 2),
-    (Call::Take(b"8=FIXT.1.1\x019=74\x0135=AJ\x0149=INV1\x0156=VENUE\x0134=2\x01\
-        52=20250314-09:00:00\x0150=T8\x01693=h\x01117=Q2\x01694=1\x0110=049\x01", true), 0),
+    (
+        Call::Take(
+            b"8=FIXT.1.1\x019=74\x0135=AJ\x0149=INV1\x0156=VENUE\x0134=2\x01\
+        52=20250314-09:00:00\x0150=T8\x01693=h\x01117=Q2\x01694=1\x0110=049\x01",
+            true,
+        ),
+        0,
+    ),
     (Call::Answered(Reply::Refused(HitRefusal::Withdrawn)), 1),
     (Call::QuoteGone(7), 0),
     (Call::QuoteGone(8), 1),
     (Call::Declined, 1),
     (Call::Answered(Reply::Awarded), 1),
-    (Call::Take(b"8=FIXT.1.1\x019=73\x0135=AJ\x0149=INV1\x0156=VENUE\x0134=3\x01\
-        52=20250314-09:00:00\x0150=T8\x01693=p\x01131=A\x01694=6\x0110=248\x01", true), 0),
+    (
+        Call::Take(
+            b"8=FIXT.1.1\x019=73\x0135=AJ\x0149=INV1\x0156=VENUE\x0134=3\x01\
+        52=20250314-09:00:00\x0150=T8\x01693=p\x01131=A\x01694=6\x0110=248\x01",
+            true,
+        ),
+        0,
+    ),
     (Call::Closed, 1),
-    (Call::Take(b"8=FIXT.1.1\x019=73\x0135=AJ\x0149=INV1\x0156=VENUE\x0134=3\x01\
-        52=20250314-09:00:00\x0150=T8\x01693=p\x01131=A\x01694=6\x0110=248\x01", false), 1),
+    (
+        Call::Take(
+            b"8=FIXT.1.1\x019=73\x0135=AJ\x0149=INV1\x0156=VENUE\x0134=3\x01\
+        52=20250314-09:00:00\x0150=T8\x01693=p\x01131=A\x01694=6\x0110=248\x01",
+            false,
+        ),
+        1,
+    ),
 ];
 
 /// The desk of INV1 at the start of the day, or none where memory is refused.

@@ -44,7 +44,11 @@ const HIT: Calls = &[
 
 const PASSED: Calls = &[(Call::Open, true), (Call::Ready, true), (Call::Pass, true)];
 
-const EXPIRED: Calls = &[(Call::Open, true), (Call::Ready, true), (Call::Expire, true)];
+const EXPIRED: Calls = &[
+    (Call::Open, true),
+    (Call::Ready, true),
+    (Call::Expire, true),
+];
 
 /// The end by a pass or an expiry.
 fn ended(kind: EndKind) -> End {

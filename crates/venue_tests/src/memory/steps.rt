@@ -66,72 +66,136 @@ type Turn = (u32, Step, &'static [Line]);
 
 /// INV1 asks two dealers, and both quote.
 const QUOTED: &[Turn] = &[
-    (32_400_000, Step::Investor(b"8=FIXT.1.1\x019=175\x0135=R\x0149=INV1\x0156=VENUE\x0134=1\x01\
+    (
+        32_400_000,
+        Step::Investor(
+            b"8=FIXT.1.1\x019=175\x0135=R\x0149=INV1\x0156=VENUE\x0134=1\x01\
         52=20250314-09:00:00\x0150=T8\x01131=A\x01146=1\x0148=BONDA0000001\x0122=4\x01\
         54=1\x0138=2000000\x01126=20250314-09:05:00\x01453=2\x01448=DLR1\x01447=D\x01\
-        452=35\x01448=DLR2\x01447=D\x01452=35\x0110=133\x01"), &[("open", 1, 2, 2_000_000)]),
-    (32_400_000, Step::Open(&[0, 1]), &[("show", 1, 0, 2_000_000), ("show", 1, 1, 2_000_000), ("ready", 1, 0, 0)]),
+        452=35\x01448=DLR2\x01447=D\x01452=35\x0110=133\x01",
+        ),
+        &[("open", 1, 2, 2_000_000)],
+    ),
+    (
+        32_400_000,
+        Step::Open(&[0, 1]),
+        &[
+            ("show", 1, 0, 2_000_000),
+            ("show", 1, 1, 2_000_000),
+            ("ready", 1, 0, 0),
+        ],
+    ),
     (32_400_000, Step::Show(0, 1), &[]),
     (32_400_000, Step::Show(1, 1), &[]),
     (32_400_000, Step::Ready, &[]),
-    (32_410_000, Step::First(b"8=FIXT.1.1\x019=105\x0135=S\x0149=DLR1\x0156=VENUE\x0134=1\x01\
+    (
+        32_410_000,
+        Step::First(
+            b"8=FIXT.1.1\x019=105\x0135=S\x0149=DLR1\x0156=VENUE\x0134=1\x01\
         52=20250314-09:00:00\x0150=T1\x01117=a1\x01131=R1\x0148=BONDA0000001\x0122=4\x01\
-        133=99.50390625\x0110=100\x01"), &[("post", 1, 1, 25_473)]),
-    (32_410_000, Step::Post(0, "DLR1", 0, 25_473), &[("relay", 1, 0, 25_473)]),
+        133=99.50390625\x0110=100\x01",
+        ),
+        &[("post", 1, 1, 25_473)],
+    ),
+    (
+        32_410_000,
+        Step::Post(0, "DLR1", 0, 25_473),
+        &[("relay", 1, 0, 25_473)],
+    ),
     (32_410_000, Step::Relay(1, "DLR1", 0, 25_473), &[]),
-    (32_420_000, Step::Second(b"8=FIXT.1.1\x019=103\x0135=S\x0149=DLR2\x0156=VENUE\x0134=1\x01\
+    (
+        32_420_000,
+        Step::Second(
+            b"8=FIXT.1.1\x019=103\x0135=S\x0149=DLR2\x0156=VENUE\x0134=1\x01\
         52=20250314-09:00:00\x0150=T2\x01117=b1\x01131=R1\x0148=BONDA0000001\x0122=4\x01\
-        133=99.515625\x0110=255\x01"), &[("post", 1, 1, 25_476)]),
-    (32_420_000, Step::Post(1, "DLR2", 4, 25_476), &[("relay", 1, 4, 25_476)]),
+        133=99.515625\x0110=255\x01",
+        ),
+        &[("post", 1, 1, 25_476)],
+    ),
+    (
+        32_420_000,
+        Step::Post(1, "DLR2", 4, 25_476),
+        &[("relay", 1, 4, 25_476)],
+    ),
     (32_420_000, Step::Relay(1, "DLR2", 4, 25_476), &[]),
 ];
 
 /// DLR1 cancels its quote: its word is withdrawn.
-const CANCELLED: &[Turn] = &[
-    (32_430_000, Step::First(b"8=FIXT.1.1\x019=67\x0135=Z\x0149=DLR1\x0156=VENUE\x0134=2\x01\
-        52=20250314-09:00:00\x0150=T1\x01298=5\x01117=a1\x0110=187\x01"), &[("unpost", 1, 1, 0)]),
-];
+const CANCELLED: &[Turn] = &[(
+    32_430_000,
+    Step::First(
+        b"8=FIXT.1.1\x019=67\x0135=Z\x0149=DLR1\x0156=VENUE\x0134=2\x01\
+        52=20250314-09:00:00\x0150=T1\x01298=5\x01117=a1\x0110=187\x01",
+    ),
+    &[("unpost", 1, 1, 0)],
+)];
 
 /// It quotes once more, and cancels all.
 const QUOTES_AGAIN: &[Turn] = &[
-    (32_440_000, Step::First(b"8=FIXT.1.1\x019=98\x0135=S\x0149=DLR1\x0156=VENUE\x0134=3\x01\
+    (
+        32_440_000,
+        Step::First(
+            b"8=FIXT.1.1\x019=98\x0135=S\x0149=DLR1\x0156=VENUE\x0134=3\x01\
         52=20250314-09:00:00\x0150=T1\x01117=a2\x01131=R1\x0148=BONDA0000001\x0122=4\x01\
-        133=99.5\x0110=217\x01"), &[("post", 1, 2, 25_472)]),
-    (32_450_000, Step::First(b"8=FIXT.1.1\x019=60\x0135=Z\x0149=DLR1\x0156=VENUE\x0134=4\x01\
-        52=20250314-09:00:00\x0150=T1\x01298=4\x0110=076\x01"), &[("drop", 0, 2, 0)]),
+        133=99.5\x0110=217\x01",
+        ),
+        &[("post", 1, 2, 25_472)],
+    ),
+    (
+        32_450_000,
+        Step::First(
+            b"8=FIXT.1.1\x019=60\x0135=Z\x0149=DLR1\x0156=VENUE\x0134=4\x01\
+        52=20250314-09:00:00\x0150=T1\x01298=4\x0110=076\x01",
+        ),
+        &[("drop", 0, 2, 0)],
+    ),
 ];
 
 /// The second quote is dropped.
-const DROPPED: &[Turn] = &[
-    (32_450_000, Step::Drop(2), &[("unpost", 1, 2, 0)]),
-];
+const DROPPED: &[Turn] = &[(32_450_000, Step::Drop(2), &[("unpost", 1, 2, 0)])];
 
 /// INV1 hits the quote of DLR2.
-const HITS: &[Turn] = &[
-    (32_460_000, Step::Investor(b"8=FIXT.1.1\x019=75\x0135=AJ\x0149=INV1\x0156=VENUE\x0134=2\x01\
-        52=20250314-09:00:00\x0150=T8\x01693=h2\x01117=Q2\x01694=1\x0110=100\x01"), &[("hit", 1, 2, 4)]),
-];
+const HITS: &[Turn] = &[(
+    32_460_000,
+    Step::Investor(
+        b"8=FIXT.1.1\x019=75\x0135=AJ\x0149=INV1\x0156=VENUE\x0134=2\x01\
+        52=20250314-09:00:00\x0150=T8\x01693=h2\x01117=Q2\x01694=1\x0110=100\x01",
+    ),
+    &[("hit", 1, 2, 4)],
+)];
 
 /// The room awards, where the withdrawn quote still stands as the cover. It is the fifth event
 /// there, for which the room takes memory.
-const AWARDED: &[Turn] = &[
-    (32_460_000, Step::Hit("h2", 2, 4), &[("awarded", 1, 2, 0), ("tell", 1, 0, 4), ("tell", 1, 1, 1)]),
-];
+const AWARDED: &[Turn] = &[(
+    32_460_000,
+    Step::Hit("h2", 2, 4),
+    &[("awarded", 1, 2, 0), ("tell", 1, 0, 4), ("tell", 1, 1, 1)],
+)];
 
 /// The first quote is taken out of the room, which has ended, and DLR1 declines before it is told.
 /// All are told, INV1 passes too late, and the room is swept.
 const ENDED: &[Turn] = &[
     (32_430_000, Step::Unpost(0, 0), &[]),
     (32_430_000, Step::Gone(1, 0), &[]),
-    (32_461_000, Step::First(b"8=FIXT.1.1\x019=69\x0135=AG\x0149=DLR1\x0156=VENUE\x0134=5\x01\
-        52=20250314-09:00:00\x0150=T1\x01131=R1\x01658=10\x0110=007\x01"), &[("decline", 1, 0, 0)]),
+    (
+        32_461_000,
+        Step::First(
+            b"8=FIXT.1.1\x019=69\x0135=AG\x0149=DLR1\x0156=VENUE\x0134=5\x01\
+        52=20250314-09:00:00\x0150=T1\x01131=R1\x01658=10\x0110=007\x01",
+        ),
+        &[("decline", 1, 0, 0)],
+    ),
     (32_461_000, Step::Decline(0), &[]),
     (32_461_000, Step::Declined(1, "DLR1"), &[]),
     (32_460_000, Step::Answer(1, "h2", 2, Reply::Awarded), &[]),
     (32_460_000, Step::Tell(0, 1, Close::Cover), &[]),
     (32_460_000, Step::Tell(1, 1, Close::Hit), &[]),
     (32_470_000, Step::Pass("p1"), &[("not open", 1, 0, 0)]),
-    (32_470_000, Step::Answer(1, "p1", 0, Reply::Refused(HitRefusal::NotOpen)), &[]),
+    (
+        32_470_000,
+        Step::Answer(1, "p1", 0, Reply::Refused(HitRefusal::NotOpen)),
+        &[],
+    ),
     (32_700_000, Step::Expire, &[]),
     (32_700_000, Step::Close(1), &[]),
 ];

@@ -4,8 +4,7 @@ use std::process::Abort;
 use std::test::Fail;
 
 /// A Quote of 133 bytes.
-const QUOTE: &[u8; 133] =
-    b"8=FIXT.1.1\x019=109\x0135=S\x0149=DLR1\x0156=VENUE\x0134=1\x01\
+const QUOTE: &[u8; 133] = b"8=FIXT.1.1\x019=109\x0135=S\x0149=DLR1\x0156=VENUE\x0134=1\x01\
     52=20250314-09:00:10.000\x0150=T1\x01117=a1\x01131=R1\x0148=BONDA0000001\x0122=4\x01\
     133=99.50390625\x0110=039\x01";
 

@@ -4,8 +4,9 @@ use super::values::{ask, at, name};
 use blotter::blotter_text;
 use bond_prices::Ticks;
 use fix_fields::Date;
-use market_terms::{FirmLines, Id, IdBuf, Quantity, QuoteLine, QuoteState, Side};
-use market_terms::{RequestLine, RequestState};
+use market_terms::{
+    FirmLines, Id, IdBuf, Quantity, QuoteLine, QuoteState, RequestLine, RequestState, Side,
+};
 use quote_messages::{
     Close, ClosingNotice, Head, Message, OutMessage, QuotedPrice, Request, SentMessage, write_out,
 };
