@@ -14,13 +14,26 @@ pub(crate) fn put(answer: &mut String, line: &str) -> Result<(), CaseFault> {
     Ok(())
 }
 
-/// Puts a text of lines, with what is no printed character escaped.
+/// Puts a text of lines, with what is no printed character escaped, and a space at a line's end, too.
 pub(crate) fn put_text(answer: &mut String, text: &[u8]) -> Result<(), CaseFault> {
     for line in Parts::new(text, b'\n') {
-        push_text(answer, line)?;
-        answer.push('\n')?;
+        put_escaped(answer, line)?;
     }
     Ok(())
+}
+
+/// Puts a line of a text.
+fn put_escaped(answer: &mut String, line: &[u8]) -> Result<(), CaseFault> {
+    match line {
+        [front @ .., b' '] => {
+            push_text(answer, front)?;
+            put(answer, "\\x20")
+        }
+        _ => {
+            push_text(answer, line)?;
+            put(answer, "")
+        }
+    }
 }
 
 /// Puts the time of a moment, and a space.

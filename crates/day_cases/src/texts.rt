@@ -18,8 +18,8 @@ use venue_text::{
 /// | call | what it does |
 /// |---|---|
 /// | `< TEXT` | a line more of the input |
-/// | `+ TEXT` | a text more behind it, without a line feed |
-/// | `times N TEXT` | the same N times |
+/// | `<+ TEXT` | a text more behind it, without a line feed |
+/// | `<+* N TEXT` | the same N times |
 /// | `spoken` | answers each line that is spoken, behind its number, and the number one past the last line |
 /// | `divider` | answers whether a line `%%` stands in the input |
 /// | `steps` | answers the steps of a day, or the fault |
@@ -51,8 +51,8 @@ impl Place for Texts {
         let mut words = Words::of(call);
         match words.word()? {
             "<" => self.put_line(alloc, words.rest()),
-            "+" => self.put_times(alloc, 1, words.rest()),
-            "times" => {
+            "<+" => self.put_times(alloc, 1, words.rest()),
+            "<+*" => {
                 let count = words.number()?;
                 self.put_times(alloc, count, words.rest())
             }
