@@ -6,6 +6,7 @@
 //! to be as before, and the same call made again has to answer as if the first one had not been
 //! made. So each test passes whichever allocation is refused.
 mod dealers;
+mod frames;
 mod investors;
 mod lines;
 mod rooms;
