@@ -31,7 +31,7 @@ fn a_refused_configuration_is_read_again(rt: HostRuntime) -> Result<(), Fail> {
         assert_eq!(rt; rows.dealers().len(), 2);
         assert!(rt;
             rows.dealer(1)
-                .is_some_and(|row| row.name.as_bytes() == b"DLR2")
+                .is_some_and(|row| row.name.as_bytes() == b"DLR2".as_slice())
         );
         assert!(rt;
             rows.investor(2)
