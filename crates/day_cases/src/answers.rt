@@ -14,7 +14,7 @@ pub(crate) fn put(answer: &mut String, line: &str) -> Result<(), CaseFault> {
     Ok(())
 }
 
-/// Puts a text of lines, with what is no printed character escaped, and a space at a line's end, too.
+/// Puts a text of lines, with what is no printed character escaped, and so a space at a line's end.
 pub(crate) fn put_text(answer: &mut String, text: &[u8]) -> Result<(), CaseFault> {
     for line in Parts::new(text, b'\n') {
         put_escaped(answer, line)?;
@@ -93,8 +93,8 @@ pub(crate) fn put_frames(answer: &mut String, messages: &[SentMessage]) -> Resul
     Ok(())
 }
 
-/// Puts steps, a line each: `in FIRM TIME BYTES`, `turn FIRM`, `turn CLOCK` or `expire FIRM N TIME`,
-/// with firms by their numbers.
+/// Puts steps, a line each: `in FIRM TIME BYTES`, `turn FIRM`, `turn CLOCK` or `expire FIRM N
+/// TIME`, with firms by their numbers.
 pub(crate) fn put_steps(
     alloc: Global,
     answer: &mut String,

@@ -12,7 +12,7 @@ use std::alloc::Global;
 /// | call | what it does |
 /// |---|---|
 /// | `piece TIME BYTES` | a piece more of the firm's stream |
-/// | `bytes BYTES` | a piece for each byte, the first at midnight, each a millisecond later than the one before |
+/// | `bytes BYTES` | a piece for each byte, a millisecond apart, the first at midnight |
 /// | `inbox` | answers the messages, each behind its time, and the fault of the stream |
 #[derive(Drop)]
 pub struct Inboxes {

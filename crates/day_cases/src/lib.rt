@@ -13,6 +13,8 @@
 #![tactic(auto)]
 
 mod answers;
+mod cycles;
+mod empty_days;
 mod events;
 mod inboxes;
 mod records;

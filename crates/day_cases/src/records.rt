@@ -1,5 +1,7 @@
 //! Recorded days that are made by lines.
 use crate::answers::{put, put_count, put_steps, put_text};
+use crate::cycles::put_cycle;
+use crate::empty_days::{empty_dealer, empty_investor, empty_room};
 use crate::events::{event_in, is_event};
 use crate::values::{actor_in, firm_in, kind_in, last_moment, only_firm, settled_in, small_in};
 use crate::venues::Venue;
@@ -7,9 +9,7 @@ use case_lines::{CaseFault, Place, Words, frame_of, piped_bytes_of};
 use dealer_desk::DealerEvent;
 use investor_desk::InvestorDesk;
 use quote_messages::{Message, SentMessage};
-use recorded_days::{
-    Action, DayRecord, DealerDay, Inbound, InvestorDay, RoomDay, WeaveFault, weave,
-};
+use recorded_days::{Action, DayRecord, DealerDay, Inbound, InvestorDay, WeaveFault, weave};
 use std::alloc::Global;
 use std::mem::replace;
 use step_replay::{Actor, alone, due};
@@ -21,21 +21,29 @@ use venue_text::due_lines;
 ///
 /// | call | what it does |
 /// |---|---|
-/// | `< LINE`, `- LINE`, `read` .. | a configuration, and steps of a day, as of the place `replay` |
+/// | `< LINE`, `open`, `- LINE`, `read` .. | as of the place `replay` |
 /// | `begin` | the record of a day in which nothing happens, with a room for each request |
-/// | `action ACTOR KIND TIME`, `.. WORD ANSWER` | an action more of an actor, and the word that it asked, with what that word is then, `lifted` or `withdrawn` |
+/// | `action ACTOR KIND TIME` | an action more of an actor |
+/// | `action ACTOR KIND TIME WORD ANSWER` | one that asked a word, which is so then |
 /// | `at FIRM ACTOR N` | that action is the next one at the desk of a firm |
 /// | `room FIRM R ACTOR N` | it is the next one in the room of an investor's R-th request |
 /// | `inbox FIRM TIME BODY` | a message more of a firm: the frame of a body |
-/// | `own FIRM TIME ANSWER BODY`, `shown FIRM INVESTOR N LINE`, `closed FIRM N CODE TIME`, `drop FIRM LAST TIME ANSWER` | an event more at a dealer's desk, with the answer of the word that it asked, or `-`; LINE is as behind `shown` in due text |
+/// | `own FIRM TIME ANSWER BODY` | an event more at a dealer's desk: a message |
+/// | `shown FIRM INVESTOR N LINE` | a request is shown, as LINE behind `shown` in due text |
+/// | `closed FIRM N CODE TIME` | the dealer is told |
+/// | `drop FIRM LAST TIME ANSWER` | a quote is dropped |
 /// | `replayed FIRM` | the dealer was sent what the steps of the day send it |
-/// | `desk FIRM`, `take TIME BODY`, `closes N TIME`, `told FIRM` | the investor was sent what a desk sends that takes messages, and whose requests close |
+/// | `desk FIRM` | a desk of an investor, beside the record |
+/// | `take TIME BODY`, `closes N TIME` | a message comes to it; a request of it closes |
+/// | `told FIRM` | the investor was sent what that desk sent |
 /// | `without` | the record lacks the last investor |
 /// | `more FIRM` | it has a room more of an investor |
 /// | `end` | the record ends |
 /// | `count FIRM` | answers how many messages a firm was sent |
 /// | `due FIRM` | answers what was due to a dealer by the record, or `none` |
-/// | `weave` | answers the steps; or `malformed`; or `cycle` and its actions in their order; or `differs FIRM` |
+/// | `weave` | answers the steps, `malformed`, `cycle` and its actions, or `differs FIRM` |
+///
+/// An ANSWER is `lifted` or `withdrawn`, and of an event `-` where it asked no word.
 #[derive(Drop)]
 pub struct Records {
     venue: Venue,
@@ -359,80 +367,4 @@ fn word_in(words: &mut Words<'_>) -> Result<Option<(u32, quote_word::Settled)>, 
     let settled = settled_in(words)?;
     words.end()?;
     Ok(Some((word, settled)))
-}
-
-/// A dealer's day in which nothing happens.
-fn empty_dealer(alloc: Global) -> DealerDay {
-    DealerDay {
-        sent: Vec::new(alloc),
-        lines: Vec::new(alloc),
-        events: Vec::new(alloc),
-        order: Vec::new(alloc),
-        inbox: Vec::new(alloc),
-        actions: Vec::new(alloc),
-    }
-}
-
-/// An investor's, with so many rooms.
-fn empty_investor(alloc: Global, requests: u32) -> Result<InvestorDay, CaseFault> {
-    let mut rooms = Vec::new(alloc);
-    for _ in 0..requests {
-        rooms.push(empty_room(alloc))?;
-    }
-    Ok(InvestorDay {
-        sent: Vec::new(alloc),
-        lines: Vec::new(alloc),
-        events: Vec::new(alloc),
-        order: Vec::new(alloc),
-        inbox: Vec::new(alloc),
-        actions: Vec::new(alloc),
-        rooms,
-    })
-}
-
-/// A room in which nothing happens.
-fn empty_room(alloc: Global) -> RoomDay {
-    RoomDay {
-        events: Vec::new(alloc),
-        order: Vec::new(alloc),
-    }
-}
-
-/// Puts the actions of a circle: the firms' in the order of their numbers, and those of the clock.
-fn put_cycle(
-    alloc: Global,
-    answer: &mut String,
-    actions: &[(Actor, u64)],
-) -> Result<(), CaseFault> {
-    put(answer, "cycle")?;
-    let mut keys = Vec::new(alloc);
-    for (by, number) in actions {
-        keys.push((rank_of(*by), *number))?;
-    }
-    keys.sort()?;
-    for (rank, number) in keys.as_slice() {
-        put_action(alloc, answer, *rank, *number)?;
-    }
-    Ok(())
-}
-
-/// The number of a firm, or the number behind all of them for the clock.
-fn rank_of(by: Actor) -> u32 {
-    match by {
-        Actor::Firm(firm) => u32::from(firm),
-        Actor::Clock => CLOCK,
-    }
-}
-
-/// The rank of the clock.
-const CLOCK: u32 = 65_536;
-
-/// Puts an action.
-fn put_action(alloc: Global, answer: &mut String, rank: u32, number: u64) -> Result<(), CaseFault> {
-    let line = if rank == CLOCK {
-        format!(in alloc; "CLOCK {number}")?
-    } else {
-        format!(in alloc; "{rank} {number}")?
-    };
-    put(answer, line.as_str())
 }

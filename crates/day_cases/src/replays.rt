@@ -20,20 +20,21 @@ use venue_text::{due_lines, messages_text};
 /// | `open` | reads the configuration; answers the name of its fault |
 /// | `- LINE` | a line more of the day |
 /// | `* LINE` | a line more of a pattern |
-/// | `each A B` | puts the pattern for each number from A to B as lines of the day: `{k}` is the number, `{2k}` its double |
+/// | `each A B` | the pattern for each number, in place of `{k}`, `{2k}` its double |
 /// | `read` | reads the lines of the day; answers how many steps they are, or their fault |
 /// | `in FIRM TIME BODY` | a step more: the frame of a body comes |
 /// | `turn FIRM`, `turn CLOCK` | a step more |
 /// | `expire FIRM N TIME` | a step more |
 /// | `steps` | answers the steps |
 /// | `run` | replays them; answers the fault |
-/// | `sent FIRM`, `frames FIRM`, `last FIRM` | answers what the firm was sent, as lines or as frames; the last frame |
+/// | `sent FIRM`, `frames FIRM` | answers what the firm was sent, as lines or as frames |
+/// | `last FIRM` | answers the last message, as a frame |
 /// | `count FIRM` | answers how many messages it was sent, and how many lines its blotter has |
 /// | `blotter FIRM` | answers its blotter |
 /// | `due FIRM` | answers what was due to it, or the fault |
 /// | `view FIRM` | answers whether it was sent the dealer view of what was due to it |
 /// | `live` | opens a venue that answers step by step |
-/// | `take` | it takes the steps so far, one by one; answers each message with its firm, and faults |
+/// | `take` | it takes the steps so far; answers each message with its firm, and faults |
 ///
 /// A reader answers `none` where no firm has the number.
 #[derive(Drop)]

@@ -20,13 +20,14 @@ use venue_text::{
 /// | `< TEXT` | a line more of the input |
 /// | `<+ TEXT` | a text more behind it, without a line feed |
 /// | `<+* N TEXT` | the same N times |
-/// | `spoken` | answers each line that is spoken, behind its number, and the number one past the last line |
+/// | `spoken` | answers each spoken line behind its number, and the one past the last line |
 /// | `divider` | answers whether a line `%%` stands in the input |
 /// | `steps` | answers the steps of a day, or the fault |
 /// | `days` | answers the steps of two days, or the fault of each |
-/// | `firm NAME`, `asked NAME`, `dealer NAME` | answers the number of the firm, or `none`; the firm or dealer that an argument names, or the fault |
+/// | `firm NAME` | answers the number of the firm, or `none` |
+/// | `asked NAME`, `dealer NAME` | answers that of the firm or dealer, or the fault |
 /// | `fields TEXT` | answers the fields of a BODY, or `none` |
-/// | `said FIRM N TEXT` | answers what a `say` line says, and the frame with the N-th number; or `none` |
+/// | `said FIRM N TEXT` | answers the moment and the N-th frame of a `say` line, or `none` |
 /// | `received TEXT` | answers the moment and the bytes of an `own` line, or `none` |
 /// | `cut TEXT` | answers the first part, and what is left |
 /// | `parts TEXT` | answers how many parts one space divides |
