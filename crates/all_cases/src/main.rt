@@ -6,12 +6,14 @@ mod commands;
 mod in_row;
 mod inputs;
 mod laws;
+mod places;
 mod process;
 mod runs;
 mod streams;
 
 use case_lines::{CaseFault, Report, place_of, run_driver};
 use commands::Commands;
+use places::run_place;
 use std::marker::Sync;
 use std::process::ExitCode;
 use std::rt::{Env, Files};
@@ -57,8 +59,9 @@ fn run_text<H: Threads + Wait + Sync + AllocGlobal + Drop>(
     let alloc = rt.alloc();
     match place_of(text) {
         Some("commands") => run_driver(alloc, text, &mut Commands::new(rt, alloc), report),
-        place => {
-            report.refuse(place.unwrap_or(""), "no such place")?;
+        Some(place) => run_place(alloc, place, text, report),
+        None => {
+            report.refuse("", "names no place")?;
             Ok(())
         }
     }
