@@ -6,13 +6,16 @@ ghost use Rattle.venue_text.specs.WrittenDues as spec;
 use crate::message_lines::push_barred;
 use bond_prices::Grid;
 use fix_fields::{Memory, Moment, time_text};
+use hex::encode;
 use itoa::Buffer;
+use memchr::memchr3;
 use quote_messages::{Ask, Close};
 use std::alloc::Global;
 use step_replay::Due;
 
 /// The lines of due text that spell a list, an item each: a message of the dealer's own as an
-/// `own` line, with a vertical bar for each SOH, and times with milliseconds.
+/// `own` line, with a vertical bar for each SOH, or, where it has a vertical bar, a line feed or a
+/// carriage return, as a `hex` line; and times with milliseconds.
 pub fn due_lines(alloc: Global, dues: &[Due]) -> Result<Vec<u8>, Memory>
     ensures { IfOk result (λ text. text.items ≡ spec.due_lines dues.now) }
 {
@@ -44,10 +47,37 @@ fn push_due(text: &mut Vec<u8>, due: &Due) -> Result<(), Memory>
     }
 }
 
-/// `own TIME FRAME`.
+/// `own TIME FRAME`, or `hex TIME HEX` where FRAME could not be read back.
+#[tactic(auto, unfolding(crate::specs::WrittenDues::own_line))]
 fn push_own(text: &mut Vec<u8>, moment: Moment, message: &[u8]) -> Result<(), Memory>
+    ensures { OnOk result (text.new.items ≡ text.old.items ++ spec.own_line moment message.now) }
+{
+    if memchr3(b'|', b'\n', b'\r', message).is_some() {
+        push_digits(text, moment, message)?;
+        return Ok(());
+    }
+    push_bytes(text, moment, message)?;
+    Ok(())
+}
+
+/// `hex TIME HEX`.
+fn push_digits(text: &mut Vec<u8>, moment: Moment, message: &[u8]) -> Result<(), Memory>
     ensures { OnOk result (text.new.items
-        ≡ text.old.items ++ spec.due_line (Due.Own moment message.now)) }
+        ≡ text.old.items ++ spec.hex_line moment message.now) }
+{
+    let digits = encode(*text.allocator(), message)?;
+    text.extend_from_slice(b"hex ")?;
+    push_time(text, moment)?;
+    text.push(b' ')?;
+    text.extend_from_slice(digits.as_bytes())?;
+    text.push(b'\n')?;
+    Ok(())
+}
+
+/// `own TIME FRAME`.
+fn push_bytes(text: &mut Vec<u8>, moment: Moment, message: &[u8]) -> Result<(), Memory>
+    ensures { OnOk result (text.new.items
+        ≡ text.old.items ++ spec.bytes_line moment message.now) }
 {
     text.extend_from_slice(b"own ")?;
     push_time(text, moment)?;
