@@ -393,15 +393,3 @@ pub arguments_read : {A : Type 0} (text : A → Text) (arguments : List A) → 0
 arguments_read text [] some none met found flags given = absurd (omega arith)
 arguments_read text (argument ∷ arguments) some none met found flags given =
     asked_by_rows (text argument) (map text arguments) (line_of (text argument) commands) refl none met found flags given
-
-found_by : (word : Text) (rest : List Text) (o : Option Line) → line_of word commands ≡ o → arguments_fault (word ∷ rest) ≡ []
-    → subcommand_of venue_app (word ∷ rest) ≡ None → ⊥
-found_by word rest None lost none met = unnamed word rest lost none
-found_by word rest (Some l) named none met =
-    let bad : None ≡ Some _ = sym met ∙ named_rows word rest l named (is_named word commands l lines_are_lawful named) in cc
-
-pub arguments_found : {A : Type 0} (text : A → Text) (arguments : List A) → 0 < length arguments → arguments_fault (map text arguments) ≡ []
-    → subcommand_of venue_app (map text arguments) ≡ None → ⊥
-arguments_found text [] some none = absurd (omega arith)
-arguments_found text (argument ∷ arguments) some none =
-    found_by (text argument) (map text arguments) (line_of (text argument) commands) refl none

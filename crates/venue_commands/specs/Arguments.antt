@@ -119,6 +119,7 @@ pub record Line : Type 0 where
   pub words : Words
   pub asks : Option Text → Flags → Command
 
+-- the names of the flags
 abbrev pub frames_flag : Text
 frames_flag = codes "frames"
 
@@ -202,7 +203,8 @@ leaf_app name flags words =
 abbrev pub line_app : Line → App
 line_app l = leaf_app l.name l.flags l.words
 
--- a command of the code's table
+-- how many words a command of the code's table takes, the command itself, and a program with such
+-- commands more
 abbrev pub words_of : Option WordLine → Words
 words_of None = no_word
 words_of (Some word) = if word.required then one_word else one_or_none
