@@ -1,5 +1,6 @@
 //! What is due to a dealer, written as lines of due text.
 ghost use Rattle.std.specs.Prelude.{◌≡◌, ◌++◌, [], decimal, IfOk, OnOk};
+ghost use Rattle.std.specs.List.{list_any};
 ghost use Rattle.fix_fields.specs.TimeOfDay as times;
 ghost use Rattle.venue_text.specs.WrittenDues as spec;
 
@@ -8,7 +9,6 @@ use bond_prices::Grid;
 use fix_fields::{Memory, Moment, time_text};
 use hex::encode;
 use itoa::Buffer;
-use memchr::memchr3;
 use quote_messages::{Ask, Close};
 use std::alloc::Global;
 use step_replay::Due;
@@ -52,12 +52,26 @@ fn push_due(text: &mut Vec<u8>, due: &Due) -> Result<(), Memory>
 fn push_own(text: &mut Vec<u8>, moment: Moment, message: &[u8]) -> Result<(), Memory>
     ensures { OnOk result (text.new.items ≡ text.old.items ++ spec.own_line moment message.now) }
 {
-    if memchr3(b'|', b'\n', b'\r', message).is_some() {
+    if has_unsayable(message) {
         push_digits(text, moment, message)?;
         return Ok(());
     }
     push_bytes(text, moment, message)?;
     Ok(())
+}
+
+/// Whether a message has a byte that an `own` line can't say of itself.
+fn has_unsayable(message: &[u8]) -> bool
+    ensures { result ≡ list_any spec.is_unsayable message.now }
+{
+    message.iter().any(|c| is_unsayable(*c))
+}
+
+/// A vertical bar, a line feed or a carriage return.
+fn is_unsayable(c: u8) -> bool
+    ensures { result ≡ spec.is_unsayable c }
+{
+    c == b'|' || c == b'\n' || c == b'\r'
 }
 
 /// `hex TIME HEX`.

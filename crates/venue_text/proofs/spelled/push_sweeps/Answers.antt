@@ -1,4 +1,4 @@
-use Rattle.std.proofs.Common.{◌≡◌, ◌++◌, List, ℕ, length, ap, ap₂, sym, ◌∙◌}
+use Rattle.std.proofs.Common.{◌≡◌, ◌++◌, List, length, ap, ap₂, sym, ◌∙◌}
 use Rattle.market_terms.specs.declared.rooms.RoomRef.{RoomRef}
 use Rattle.venue_config.specs.declared.dealer_rows.DealerRow.{DealerRow}
 use Rattle.venue_config.specs.declared.investor_rows.InvestorRow.{InvestorRow}
@@ -11,7 +11,7 @@ pub returns : goal.returns
 returns c =
     let config = c.args.config.now in
     let rooms : rooms_from (length c.dealers.result.now) (requests_of c.investors.result.now)
-        ≡ rooms_from (length config.dealers) (requests_of config.investors) =
+    ≡ rooms_from (length config.dealers) (requests_of config.investors) =
     ap₂ (λ (dealers : List DealerRow) (rows : List InvestorRow). rooms_from (length dealers) (requests_of rows))
     c.dealers.ensures.value c.investors.ensures.value in
     c.in_ok-push_sweeps_from.ensures
