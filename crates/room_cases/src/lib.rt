@@ -5,21 +5,17 @@
 //! |---|---|
 //! | [`RoomPlace`] | a room, vacant before the first call |
 //! | [`RowPlace`] | a row of words in a list |
-//! | [`BoardPlace`] | a board of words, with its tokens and receipts under names |
-//! | [`StepPlace`] | each step, over the desks of DLR1, DLR2 and INV1, a room, and a row or a board |
 //!
 //! A call makes one call of the place. It answers what the place answers: `yes` or `no` where that
 //! is whether it took effect, and a refusal by its name. What a call requires is tested first, and
 //! a call that may not be made is a fault of its case.
 #![tactic(auto)]
 
-mod board;
 mod events;
 mod replies;
 mod room;
 mod row;
 mod terms;
 
-pub use board::BoardPlace;
 pub use room::RoomPlace;
 pub use row::RowPlace;
