@@ -3,7 +3,7 @@ use crate::inputs::Inputs;
 use crate::laws::{each_read, each_write, same_alone, same_live};
 use crate::process::ended_process;
 use crate::runs::{Ended, first_lines, ran, words_of};
-use case_lines::{CaseFault, Driver, Words};
+use case_lines::{CaseFault, Report, Running, Step, Words, text_of_cases};
 use std::alloc::Global;
 use std::marker::Sync;
 use std::sync::Wait;
@@ -11,59 +11,70 @@ use std::thread::Threads;
 
 /// The commands of the program, as far as a case has come.
 #[derive(Drop)]
-pub(crate) struct Commands<'a, H: Threads + Wait + Sync + Drop> {
-    rt: &'a H,
+struct Commands {
     inputs: Inputs,
     /// How the last run ended.
     last: Ended,
 }
 
-impl<'a, H: Threads + Wait + Sync + Drop> Commands<'a, H> {
+impl Commands {
     /// Before the first case.
-    pub(crate) fn new(rt: &'a H, alloc: Global) -> Commands<'a, H> {
+    fn new(alloc: Global) -> Commands {
         Commands {
-            rt,
             inputs: Inputs::new(alloc),
             last: Ended::nothing(alloc),
         }
     }
 
     /// Runs the program with these words.
-    fn run(&mut self, alloc: Global, words: &str) -> Result<(), CaseFault> {
+    fn run<H: Threads + Wait + Sync>(
+        &mut self,
+        rt: &H,
+        alloc: Global,
+        words: &str,
+    ) -> Result<(), CaseFault> {
         let words = words_of(alloc, words)?;
         let input = self.inputs.bytes.as_slice();
-        self.last = ran(self.rt, alloc, words.as_slice(), input, self.inputs.paces);
+        self.last = ran(rt, alloc, words.as_slice(), input, self.inputs.paces);
         Ok(())
     }
 
     /// `run WORDS`: the status, what was told, and what was printed.
-    fn show(&mut self, alloc: Global, words: &str, answer: &mut String) -> Result<(), CaseFault> {
-        self.run(alloc, words)?;
+    fn show<H: Threads + Wait + Sync>(
+        &mut self,
+        rt: &H,
+        alloc: Global,
+        words: &str,
+        answer: &mut String,
+    ) -> Result<(), CaseFault> {
+        self.run(rt, alloc, words)?;
         self.last.show(alloc, answer)
     }
 
     /// `ends FIRST LAST WORDS`: the same with the first and the last lines of what was printed.
-    fn show_ends(
+    fn show_ends<H: Threads + Wait + Sync>(
         &mut self,
+        rt: &H,
         alloc: Global,
         words: &mut Words<'_>,
         answer: &mut String,
     ) -> Result<(), CaseFault> {
         let first = words.number()?;
         let last = words.number()?;
-        self.run(alloc, words.rest())?;
+        self.run(rt, alloc, words.rest())?;
         self.last.show_ends(alloc, first, last, answer)
     }
 
     /// `process WORDS`: the same of a process with these arguments, which may be any bytes.
-    fn show_process(
+    fn show_process<H: Threads + Wait + Sync>(
         &mut self,
+        rt: &H,
         alloc: Global,
         words: &str,
         answer: &mut String,
     ) -> Result<(), CaseFault> {
         let input = self.inputs.bytes.as_slice();
-        self.last = ended_process(self.rt, alloc, words, input)?;
+        self.last = ended_process(rt, alloc, words, input)?;
         self.last.show(alloc, answer)
     }
 
@@ -76,58 +87,103 @@ impl<'a, H: Threads + Wait + Sync + Drop> Commands<'a, H> {
 
     /// `each read STEP WORDS`, `each write STEP WORDS` or `each stop STEP WORDS`: a run for each count
     /// of bytes behind which a stream fails.
-    fn each(
+    fn each<H: Threads + Wait + Sync>(
         &self,
+        rt: &H,
         alloc: Global,
         words: &mut Words<'_>,
         answer: &mut String,
     ) -> Result<(), CaseFault> {
         let input = self.inputs.bytes.as_slice();
         match words.word()? {
-            "read" => each_read(self.rt, alloc, words, input, answer),
-            "write" => each_write(self.rt, alloc, words, input, false, answer),
-            "stop" => each_write(self.rt, alloc, words, input, true, answer),
+            "read" => each_read(rt, alloc, words, input, answer),
+            "write" => each_write(rt, alloc, words, input, false, answer),
+            "stop" => each_write(rt, alloc, words, input, true, answer),
             _ => Err(CaseFault::Form),
         }
     }
 
     /// `same live ..` or `same alone ..`: what one command prints is held against another.
-    fn same(
+    fn same<H: Threads + Wait + Sync>(
         &self,
+        rt: &H,
         alloc: Global,
         words: &mut Words<'_>,
         answer: &mut String,
     ) -> Result<(), CaseFault> {
         let input = self.inputs.bytes.as_slice();
         match words.word()? {
-            "live" => same_live(self.rt, alloc, words.rest(), input, answer),
-            "alone" => same_alone(self.rt, alloc, words.rest(), input, answer),
+            "live" => same_live(rt, alloc, words.rest(), input, answer),
+            "alone" => same_alone(rt, alloc, words.rest(), input, answer),
             _ => Err(CaseFault::Form),
         }
     }
-}
 
-impl<'a, H: Threads + Wait + Sync + Drop> Driver for Commands<'a, H> {
-    fn begin(&mut self, alloc: Global) -> Result<(), CaseFault> {
+    /// A case begins: nothing is left of the case before it.
+    fn begin(&mut self, alloc: Global) {
         self.inputs = Inputs::new(alloc);
         self.last = Ended::nothing(alloc);
-        Ok(())
     }
 
-    fn call(&mut self, alloc: Global, call: &str, answer: &mut String) -> Result<(), CaseFault> {
+    /// Makes one call, and appends the lines of its answer, each with its line feed.
+    fn call<H: Threads + Wait + Sync>(
+        &mut self,
+        rt: &H,
+        alloc: Global,
+        call: &str,
+        answer: &mut String,
+    ) -> Result<(), CaseFault> {
         let mut words = Words::of(call);
         let word = words.word()?;
         if self.inputs.take(alloc, word, &mut words)? {
             return Ok(());
         }
         match word {
-            "run" => self.show(alloc, words.rest(), answer),
-            "ends" => self.show_ends(alloc, &mut words, answer),
-            "process" => self.show_process(alloc, words.rest(), answer),
+            "run" => self.show(rt, alloc, words.rest(), answer),
+            "ends" => self.show_ends(rt, alloc, &mut words, answer),
+            "process" => self.show_process(rt, alloc, words.rest(), answer),
             "told" => self.told(&mut words, answer),
-            "each" => self.each(alloc, &mut words, answer),
-            "same" => self.same(alloc, &mut words, answer),
+            "each" => self.each(rt, alloc, &mut words, answer),
+            "same" => self.same(rt, alloc, &mut words, answer),
             _ => Err(CaseFault::Form),
+        }
+    }
+}
+
+/// Runs the cases of a file.
+pub(crate) fn run_commands<H: Threads + Wait + Sync>(
+    rt: &H,
+    alloc: Global,
+    file: &str,
+    report: &mut Report,
+) -> Result<(), CaseFault> {
+    let Some(text) = text_of_cases(alloc, file, report)? else {
+        return Ok(());
+    };
+    let mut running = Running::new(alloc);
+    let mut commands = Commands::new(alloc);
+    for line in text.as_str().lines() {
+        let step = running.take(line, report)?;
+        take_step(rt, alloc, step, &mut commands, &mut running);
+    }
+    running.end(report)
+}
+
+/// Makes what a line asks for.
+fn take_step<H: Threads + Wait + Sync>(
+    rt: &H,
+    alloc: Global,
+    step: Step<'_>,
+    commands: &mut Commands,
+    running: &mut Running<'_>,
+) {
+    match step {
+        Step::Nothing => {}
+        Step::Begin => commands.begin(alloc),
+        Step::Call(call) => {
+            if let Err(fault) = commands.call(rt, alloc, call, running.answer()) {
+                running.fail(fault);
+            }
         }
     }
 }

@@ -11,8 +11,8 @@ mod process;
 mod runs;
 mod streams;
 
-use case_lines::{CaseFault, Report, place_of, run_driver};
-use commands::Commands;
+use case_lines::{CaseFault, Report, place_of};
+use commands::run_commands;
 use places::run_place;
 use std::marker::Sync;
 use std::process::ExitCode;
@@ -58,7 +58,7 @@ fn run_text<H: Threads + Wait + Sync + AllocGlobal + Drop>(
 ) -> Result<(), CaseFault> {
     let alloc = rt.alloc();
     match place_of(text) {
-        Some("commands") => run_driver(alloc, text, &mut Commands::new(rt, alloc), report),
+        Some("commands") => run_commands(rt, alloc, text, report),
         Some(place) => run_place(alloc, place, text, report),
         None => {
             report.refuse("", "names no place")?;
