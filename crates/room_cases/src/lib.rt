@@ -1,5 +1,4 @@
-//! The places of a request, driven by lines of text: its room, the words of its quotes, and the
-//! steps of the venue.
+//! The places of a request, driven by lines of text: its room, and words in a list.
 //!
 //! | place | what it drives |
 //! |---|---|
