@@ -28,6 +28,7 @@ class Received:
 
     raw: bytes
     fields: tuple[tuple[int, bytes], ...]
+    moment: int  # nanoseconds of the machine's monotonic clock
 
     def value(self, tag: int) -> bytes | None:
         return next((value for other, value in self.fields if other == tag), None)
@@ -50,13 +51,18 @@ class Received:
         return tuple(item for item in self.fields if item[0] not in SESSION_TAGS + (VENUE_NUMBER, VENUE_MOMENT))
 
 
-def read_received(line: bytes) -> Received:
-    raw = bytes.fromhex(line.decode())
+def received_of(raw: bytes, moment: int = 0) -> Received:
     fields = []
-    for part in raw.rstrip(SOH).split(SOH):
+    for part in raw.removesuffix(SOH).split(SOH):
         tag, _, value = part.partition(b"=")
         fields.append((int(tag), value))
-    return Received(raw, tuple(fields))
+    return Received(raw, tuple(fields), moment)
+
+
+def read_received(line: bytes) -> Received:
+    """A line of a player's file."""
+    moment, digits = line.split(b" ")
+    return received_of(bytes.fromhex(digits.decode()), int(moment))
 
 
 def frame(kind: str, fields: list[tuple[int, bytes]]) -> bytes:
@@ -100,6 +106,7 @@ class Firm:
     refused: dict[str, str] = field(default_factory=dict)
     admin: list[Received] = field(default_factory=list)  # the engine's own Rejects and Logouts
     is_on: bool = False
+    times_on: int = 0
     process: subprocess.Popen | None = None
     _read: int = 0
     _printed: bytes = b""
@@ -164,12 +171,13 @@ class Firm:
     def _take(self, words: list[str]) -> None:
         if words[0] in ("on", "off"):
             self.is_on = words[0] == "on"
+            self.times_on += self.is_on
         elif words[0] == "sent":
             self.sent[words[1]] = int(words[2])
         elif words[0] == "refused":
             self.refused[words[1]] = words[2]
         elif words[0] == "admin":
-            self.admin.append(read_received(words[1].encode()))
+            self.admin.append(received_of(bytes.fromhex(words[1])))
 
     def logged_on(self) -> bool:
         self.look()

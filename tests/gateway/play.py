@@ -14,33 +14,25 @@ import shutil
 import sys
 import tempfile
 import time
-from dataclasses import dataclass
 from pathlib import Path
 
 HERE = Path(__file__).resolve().parent
 ROOT = HERE.parent.parent
+sys.dont_write_bytecode = True
 sys.path.insert(0, str(ROOT / "tests" / "model"))
 
 from door import Door, Programs
 from firm import Firm, Identity, Places
-from held import count_of, differences, unkept, unlogged
-from ledger import answers
+from held import count_of
 from market import Act, Market, play
-from wait import until, within
+from settle import settled, wait_all_on
+from wait import TooLong, until, within
 
 DEALERS = [Identity("DLR%d" % n, "T%d" % n, "dealer-%d-secret" % n) for n in range(1, 5)]
 INVESTORS = [Identity("INV%d" % n, "V%d" % n, "investor-%d-secret" % n) for n in range(1, 3)]
 VENUE_ENDS_A_MINUTE = 2  # the gateway takes the third within a minute for a fault of the venue
+SHORT_DEADLINE = 2.0  # seconds: for so long the log is still in the end
 DICTIONARIES = (ROOT / "fix" / "FIXT11.xml", ROOT / "fix" / "MIRESEASON.xml")
-
-
-@dataclass
-class Count:
-    """What a day had."""
-
-    messages: int = 0
-    again: int = 0
-    ends: dict[str, int] | None = None
 
 
 class Day:
@@ -96,19 +88,11 @@ class Day:
             firm.kill()
             firm.start()
         if self.draw.random() < 0.7:
-            self.wait_all_on()
+            wait_all_on(self.door, self.firms)
 
     def may_end_venue(self) -> bool:
         now = time.monotonic()
         return sum(now - then < 70 for then in self.venue_ends) < VENUE_ENDS_A_MINUTE
-
-    def wait_all_on(self) -> None:
-        def all_on() -> bool:
-            if self.door.has_ended():
-                raise RuntimeError("the gateway ended: %s" % self.door.last_words())
-            return all([firm.logged_on() for firm in self.firms])
-
-        until("all firms are logged on", 60, all_on)
 
     def play(self, messages: int, ends: int) -> None:
         places = set(self.draw.sample(range(1, messages + 1), ends))
@@ -119,39 +103,6 @@ class Day:
                 self.end_one()
 
         play(self.market, messages, send)
-
-    def settle(self, venue: tuple[str, ...]) -> list[str]:
-        """Waits until the log has what was sent and the firms what it brings about; what is wrong with it."""
-        self.wait_all_on()
-        within(30, lambda: not any(True for firm in self.firms for _ in unlogged(firm, self.door.ledger())))
-        self.wait_deadlines()
-        wanted = answers(list(venue), self.door.ledger().day())
-        within(30, lambda: all([self.has_all(firm, wanted) for firm in self.firms]))
-        status, ledger = self.door.stop(), self.door.ledger()
-        wanted = answers(list(venue), ledger.day())
-        faults = [] if status == 0 else ["the gateway ended with status %d" % status]
-        for firm in self.firms:
-            firm.look()
-            faults += differences(firm, wanted.get(firm.name, []), ledger)
-            faults += unlogged(firm, ledger)
-        return faults + list(unkept(ledger, wanted))
-
-    def wait_deadlines(self) -> None:
-        """Waits until the log has been still for as long as a short deadline: its clock lines have come."""
-        seen = [0, time.monotonic()]
-
-        def still() -> bool:
-            count = len(self.door.ledger().entries)
-            if count != seen[0]:
-                seen[:] = [count, time.monotonic()]
-            return time.monotonic() - seen[1] > 2
-
-        within(15, still)
-
-    @staticmethod
-    def has_all(firm: Firm, wanted: dict[str, list[bytes]]) -> bool:
-        firm.look()
-        return count_of(firm) >= len(wanted.get(firm.name, []))
 
     def close(self) -> None:
         for firm in self.firms:
@@ -165,11 +116,13 @@ def one_day(programs: Programs, player: Path, folder: Path, seed: int, messages:
     try:
         day.open()
         day.play(messages, ends)
-        faults = day.settle(programs.venue)
+        faults = settled(day.door, day.firms, SHORT_DEADLINE)
         count, again = sum(count_of(firm) for firm in day.firms), sum(len(firm.received) for firm in day.firms)
         print("day %d: %d messages of 6 firms, %d distinct ones to them, %d came again; ended %s; %.0f s" % (
             seed, messages, count, again - count, ", ".join("%s %d" % item for item in day.ends.items()), time.monotonic() - began))
         return faults
+    except (TooLong, RuntimeError) as fault:
+        return ["%s; the gateway's last words: %s" % (fault, day.door.last_words())]
     finally:
         day.close()
 

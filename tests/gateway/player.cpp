@@ -12,7 +12,8 @@
 //           refused NAME WHY the engine does not send it
 //           got              the file has one message more
 //           admin HEX        a Reject of the engine itself or a Logout came
-// RECEIVED  a line for each message of the venue: its bytes as they came, in hexadecimal digits
+// RECEIVED  a line for each message of the venue: the nanoseconds of the monotonic clock and, behind
+//           one space, its bytes as they came, in hexadecimal digits
 //
 // QuickFIX's headers are those of C++14, so this file is too.
 #include <quickfix/Application.h>
@@ -26,6 +27,7 @@
 #include <fcntl.h>
 #include <unistd.h>
 
+#include <chrono>
 #include <cstdlib>
 #include <iostream>
 #include <map>
@@ -172,7 +174,9 @@ private:
         return bytes.empty() ? message.toString() : bytes;
     }
     void record(const FIX::Message &message) {
-        m_received.put(to_hex(bytes_of(message)));
+        const auto now = std::chrono::steady_clock::now().time_since_epoch();
+        const auto moment = std::chrono::duration_cast<std::chrono::nanoseconds>(now).count();
+        m_received.put(std::to_string(moment) + " " + to_hex(bytes_of(message)));
         m_out.put("got");
     }
 

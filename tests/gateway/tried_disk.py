@@ -1,0 +1,164 @@
+"""The disk under the log: full at a commit, and cut back to what was synced."""
+
+import functools
+import shutil
+import sqlite3
+import subprocess
+from collections.abc import Callable
+from dataclasses import dataclass
+from pathlib import Path
+
+from firm import Received
+from ledger import Ledger, read_ledger, rows
+from market import Act, Market
+from settle import settled
+from stage import Stage, check
+from wait import within
+
+MESSAGES = 60  # of a short day
+FULL_AT = [1, 2, 3, 4, 5, 6, 7, 8, 9, 10, 12, 14, 17, 20, 25, 30, 40, 50]
+SLOW = "4"  # milliseconds that a sync takes longer: a message that did not wait for it comes before its end
+
+
+def shim(stage: Stage, **values: str) -> dict[str, str]:
+    return {"LD_PRELOAD": str(stage.tools.shim), **values}
+
+
+def traded(stage: Stage, seed: int, goes_on: Callable[[], bool]) -> None:
+    """Firms send what the market draws; each waits a little for an answer."""
+    market = Market(seed, [stage.dealer, stage.other], [stage.investor])
+    for count in range(MESSAGES):
+        if not goes_on():
+            return
+        market.look()
+        send(market.next(), "t%d" % count)
+
+
+def send(act: Act, name: str) -> None:
+    before = len(act.firm.received)
+    act.firm.send(name, act.kind, act.fields)
+    act.firm.wait_sent(name)
+    within(0.1, lambda: act.firm.look() is None and len(act.firm.received) > before)
+
+
+# ---------------------------------------------------------------- full
+
+
+def full_disk(stage: Stage, at: int) -> None:
+    """From the commit `at` on nothing can be written: the gateway ends and says so, and with room again nothing was lost."""
+    stage.door.write()
+    stage.door.environment = shim(stage, DISK_FULL=str(at))
+    stage.door.start()
+    for firm in stage.firms:
+        firm.start()
+    traded(stage, at, lambda: not stage.door.has_ended())
+    check(stage.door.wait_end(30) == 1, "the gateway ended with status %s" % stage.door.process.returncode)
+    check("full" in stage.door.last_words() or "disk" in stage.door.last_words(), "it does not say why: %s" % stage.door.last_words())
+    stage.door.environment = {}
+    stage.door.start()
+    faults = settled(stage.door, stage.firms)
+    check(not faults, "; ".join(faults[:3]))
+
+
+# ---------------------------------------------------------------- cut back
+
+
+@dataclass(frozen=True)
+class Sync:
+    number: int
+    kind: str
+    ended: int
+
+
+def syncs_of(folder: Path) -> list[Sync]:
+    found = []
+    for line in (folder / "syncs").read_text().splitlines():
+        number, kind, _, ended = line.split()
+        found.append(Sync(int(number), kind, int(ended)))
+    return sorted(found, key=lambda sync: sync.number)
+
+
+def cut_back(stage: Stage) -> None:
+    """At every commit: each message that a firm had is in the answers of the log that a cut of power leaves."""
+    copies = stage.folder / "copies"
+    copies.mkdir()
+    stage.door.environment = shim(stage, DISK_COPIES=str(copies), DISK_SLOW=SLOW)
+    stage.open(*stage.firms)
+    traded(stage, 7, lambda: True)
+    faults = settled(stage.door, stage.firms)
+    check(not faults, "; ".join(faults[:3]))
+    tried = cuts(stage, copies)
+    check(tried > MESSAGES / 2, "%d cuts alone were tried" % tried)
+
+
+def cuts(stage: Stage, copies: Path) -> int:
+    """Tries each cut; how many there were."""
+    final, all_syncs, state, tried = stage.door.ledger(), syncs_of(copies), {}, 0
+    counts = counts_by_place(stage, final)
+    ends = [sync.ended for sync in all_syncs[1:]] + [2**63]
+    for sync, end in zip(all_syncs, ends):
+        state[sync.kind] = copies / ("%d.%s" % (sync.number, sync.kind))
+        known = {firm.name: [message for message in firm.received if message.moment < end] for firm in stage.firms}
+        database = left(stage.folder / "left", state)
+        if database is None:
+            check(not any(known.values()), "a firm was sent something before there was a log")
+            continue
+        tried += 1
+        cut(sync, database, final, counts, known)
+    return tried
+
+
+def left(folder: Path, state: dict[str, Path]) -> Path | None:
+    """The database as it is left by a cut, if it has its tables."""
+    if "db" not in state:
+        return None
+    shutil.rmtree(folder, ignore_errors=True)
+    folder.mkdir()
+    shutil.copy(state["db"], folder / "day.db")
+    if "wal" in state:
+        shutil.copy(state["wal"], folder / "day.db-wal")
+    connection = sqlite3.connect(folder / "day.db")
+    tables = connection.execute("SELECT count(*) FROM sqlite_master WHERE name IN ('entry', 'sent', 'outgoing')").fetchone()[0]
+    check(connection.execute("PRAGMA integrity_check").fetchone()[0] == "ok", "the database that is left is broken")
+    connection.close()
+    return folder / "day.db" if tables == 3 else None
+
+
+def cut(sync: Sync, database: Path, final: Ledger, counts: list[dict[str, int]], known: dict[str, list[Received]]) -> None:
+    ledger = read_ledger(database)
+    places = len(ledger.entries)
+    check(ledger.entries == final.entries[:places], "sync %d: the log that is left is no beginning of the log" % sync.number)
+    carried = {tuple(row) for row in rows(database, "SELECT firm, number, sent FROM outgoing WHERE sent IS NOT NULL")}
+    for name, messages in known.items():
+        for message in messages:
+            given = counts[places - 1].get(name, 0) if places else 0
+            check(message.venue_number <= given, "sync %d: %s had %d, and the log that is left gives %d" % (
+                sync.number, name, message.venue_number, given))
+            check((name, message.session_number, message.venue_number) in carried, "sync %d: %s had %d under the session's %d, and the store has it not" % (
+                sync.number, name, message.venue_number, message.session_number))
+
+
+def counts_by_place(stage: Stage, ledger: Ledger) -> list[dict[str, int]]:
+    """How many messages the venue has given each firm behind each place."""
+    day = ledger.day()
+    words = [*stage.door.programs.venue, "live", "--frames", "--marks"]
+    run = subprocess.run(words, input=day, capture_output=True, check=True)
+    counts: list[dict[str, int]] = [{}]
+    now: dict[str, int] = {}
+    for line in run.stdout.splitlines():
+        word = line.split(b" ", 1)[0].decode()
+        if word in ("done", "fault"):
+            counts.append(dict(now))
+        else:
+            now[word] = now.get(word, 0) + 1
+    return counts
+
+
+def at_commit(at: int) -> Callable[[Stage], None]:
+    test = functools.partial(full_disk, at=at)
+    functools.update_wrapper(test, full_disk)
+    test.__name__ = "full_disk_at_commit_%d" % at
+    return test
+
+
+TRIED = [cut_back] + [at_commit(at) for at in FULL_AT]
