@@ -1,7 +1,7 @@
 #!/usr/bin/env python3
 """Puts faults in by hand and looks whether what happens is what docs/CONNECTING.md says.
 
-usage: tried.py GATEWAY PLAYER SHIM [--only WORD] [--keep FOLDER] -- VENUE WORDS ..
+usage: tried.py GATEWAY PLAYER SHIM [--only WORD] [--keep FOLDER] [--jobs N] -- VENUE WORDS ..
 """
 
 import argparse
@@ -11,6 +11,7 @@ import tempfile
 import time
 import traceback
 from collections.abc import Callable
+from concurrent.futures import ThreadPoolExecutor
 from pathlib import Path
 
 HERE = Path(__file__).resolve().parent
@@ -63,6 +64,7 @@ def read_words() -> argparse.Namespace:
         parser.add_argument(name, type=Path)
     parser.add_argument("--only", default="", help="tests with this word in their names alone")
     parser.add_argument("--keep", type=Path, help="where the files of tests that fail are put")
+    parser.add_argument("--jobs", type=int, default=1, help="how many tests are done at one time")
     parser.add_argument("venue", nargs="+")
     return parser.parse_args()
 
@@ -73,7 +75,8 @@ def main() -> None:
     tools = Tools(programs, words.player.resolve(), DICTIONARIES, words.shim.resolve())
     tests = [test for module in (tried_log, tried_logon, tried_messages, tried_disk) for test in module.TRIED]
     chosen = [test for test in tests if words.only in test.__name__]
-    passed = sum([tried(test, tools, words.keep) for test in chosen])
+    with ThreadPoolExecutor(words.jobs) as jobs:
+        passed = sum(jobs.map(lambda test: tried(test, tools, words.keep), chosen))
     print("%d passed, %d failed" % (passed, len(chosen) - passed))
     sys.exit(1 if passed < len(chosen) else 0)
 
