@@ -57,7 +57,7 @@ class Door:
     environment: dict[str, str] = field(default_factory=dict)
     cancelled: dict[str, str] = field(default_factory=dict)  # of a dealer: the trader that cancels when it is gone
     process: subprocess.Popen | None = None
-    _venues: list[int] = field(default_factory=list)
+    _hashes: dict[str, str] = field(default_factory=dict)
 
     @property
     def database(self) -> Path:
@@ -84,14 +84,14 @@ class Door:
         self.write_credentials()
 
     def write_credentials(self) -> None:
-        file = self.folder / "credentials.toml"
-        if file.exists():
-            return
         text = ""
         for who in self.dealers + self.investors:
-            text += '[%s]\nusername = "%s"\npassword = "%s"\n' % (who.name, who.name, self.hashed(who.password))
+            if who.name not in self._hashes:
+                self._hashes[who.name] = self.hashed(who.password)
+            text += '[%s]\nusername = "%s"\npassword = "%s"\n' % (who.name, who.name, self._hashes[who.name])
             if who.name in self.cancelled:
                 text += 'cancel_on_disconnect = "%s"\n' % self.cancelled[who.name]
+        file = self.folder / "credentials.toml"
         file.write_text(text)
         file.chmod(0o600)
 

@@ -59,12 +59,13 @@ def differences(firm: Firm, answers: list[bytes], ledger: Ledger) -> Iterator[st
 
 
 def unlogged(firm: Firm, ledger: Ledger) -> Iterator[str]:
-    """Messages that the firm's engine has sent and the log lacks, or has twice."""
+    """Messages that the firm's engine has sent, the gateway has not rejected, and the log lacks, or has twice."""
     numbers = [entry.number for entry in ledger.messages_of(firm.name)]
     if len(set(numbers)) != len(numbers):
         yield "%s: a number of the session stands twice in the log" % firm.name
+    rejected = {message.value(REF_NUMBER) for message in firm.admin if message.kind == b"3"}
     for name, number in firm.sent.items():
-        if number not in numbers:
+        if number not in numbers and b"%d" % number not in rejected:
             yield "%s: %s, the session's %d, is not in the log" % (firm.name, name, number)
 
 

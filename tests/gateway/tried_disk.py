@@ -109,14 +109,11 @@ def cuts(stage: Stage, copies: Path) -> int:
 
 
 def left(folder: Path, state: dict[str, Path]) -> Path | None:
-    """The database as it is left by a cut, if it has its tables."""
-    if "db" not in state:
-        return None
+    """The database as it is left by a cut, if it has its tables. A file that was never synced is empty."""
     shutil.rmtree(folder, ignore_errors=True)
     folder.mkdir()
-    shutil.copy(state["db"], folder / "day.db")
-    if "wal" in state:
-        shutil.copy(state["wal"], folder / "day.db-wal")
+    for kind, name in (("db", "day.db"), ("wal", "day.db-wal")):
+        (folder / name).write_bytes(state[kind].read_bytes() if kind in state else b"")
     connection = sqlite3.connect(folder / "day.db")
     tables = connection.execute("SELECT count(*) FROM sqlite_master WHERE name IN ('entry', 'sent', 'outgoing')").fetchone()[0]
     check(connection.execute("PRAGMA integrity_check").fetchone()[0] == "ok", "the database that is left is broken")
