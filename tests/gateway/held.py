@@ -3,9 +3,10 @@
 from collections.abc import Iterator
 
 from firm import SESSION_TAGS, VENUE_MOMENT, Firm, Received
-from frames import read_frame
-from ledger import Ledger, fields_of
+from frames import read_frame, read_time
+from ledger import Ledger, Mark, fields_of
 
+MOST_LATE = 10_000  # milliseconds that a clock line may be late: the gateway may have been away
 REF_NUMBER = 45  # of a Reject: the number of the message that is meant
 
 
@@ -74,6 +75,24 @@ def unkept(ledger: Ledger, answers: dict[str, list[bytes]]) -> Iterator[str]:
     for firm in {*ledger.sent, *answers}:
         if ledger.sent.get(firm, []) != list(enumerate(answers.get(firm, []), 1)):
             yield "%s: `sent` is not what the venue gives" % firm
+
+
+def clock_faults(ledger: Ledger, marks: list[Mark]) -> Iterator[str]:
+    """Clock lines that nothing is due for, and deadlines that no clock line came for."""
+    last = 0
+    for entry, before in zip(ledger.entries[1:], marks):
+        now, due = milliseconds(entry.moment), None if before.deadline is None else milliseconds(before.deadline)
+        if now < last:
+            yield "place %d has an earlier moment than the one before" % entry.place
+        if entry.is_clock and (due is None or due > now):
+            yield "place %d: a clock line, and nothing is due before %s" % (entry.place, before.deadline)
+        if not entry.is_clock and due is not None and due + MOST_LATE < now:
+            yield "place %d: no clock line came for the deadline %s" % (entry.place, before.deadline)
+        last = now
+
+
+def milliseconds(moment: str) -> int:
+    return read_time(moment.encode())
 
 
 def count_of(firm: Firm) -> int:

@@ -16,6 +16,15 @@ class Entry:
     line: bytes
 
     @property
+    def is_clock(self) -> bool:
+        return self.line.startswith(b"clock ")
+
+    @property
+    def moment(self) -> str:
+        """The TIME of a step line."""
+        return self.line.split(b" ")[1 if self.is_clock else 2].decode()
+
+    @property
     def message(self) -> bytes:
         """The bytes that the venue was given: those of a `hex` line."""
         return bytes.fromhex(self.line.rsplit(b" ", 1)[1].decode())
@@ -67,6 +76,27 @@ def answers(program: list[str], day: bytes) -> dict[str, list[bytes]]:
     for line in run.stdout.splitlines():
         firm, _, text = line.partition(b" ")
         found.setdefault(firm.decode(), []).append(text.replace(b"|", SOH))
+    return found
+
+
+@dataclass(frozen=True)
+class Mark:
+    """Where the venue stands behind an entry."""
+
+    given: dict[str, int]  # how many messages each firm was given until then
+    deadline: str | None  # the earliest of a room that has not ended
+
+
+def marks(program: list[str], day: bytes) -> list[Mark]:
+    """The marks behind the entries of a day, by their places; behind place 0 nothing has come about."""
+    run = subprocess.run([*program, "live", "--frames", "--marks"], input=day, capture_output=True, check=True)
+    found, given = [Mark({}, None)], {}
+    for line in run.stdout.splitlines():
+        words = line.decode(errors="replace").split(" ")
+        if words[0] in ("done", "fault"):
+            found.append(Mark(dict(given), words[2] if words[0] == "done" and len(words) > 2 else None))
+        else:
+            given[words[0]] = given.get(words[0], 0) + 1
     return found
 
 

@@ -103,18 +103,21 @@ public:
         if (at == std::string::npos) return;
         const std::lock_guard<std::mutex> lock(m_mutex);
         m_bytes[std::atoi(bytes.c_str() + at + 4)] = bytes;
+        if (m_bytes.size() > MOST_MESSAGES) m_bytes.erase(m_bytes.begin());
     }
-    // The bytes under this number, and of no earlier one from now on.
+    // The bytes that came under this number last. A message that came ahead of others waits in the engine,
+    // so the numbers are not asked for in their order.
     std::string take(int number) {
         const std::lock_guard<std::mutex> lock(m_mutex);
         const auto found = m_bytes.find(number);
         if (found == m_bytes.end()) return std::string();
         const std::string bytes = found->second;
-        m_bytes.erase(m_bytes.begin(), std::next(found));
+        m_bytes.erase(found);
         return bytes;
     }
 
 private:
+    static const std::size_t MOST_MESSAGES = 10000; // messages, those of the session itself among them
     std::mutex m_mutex;
     std::map<int, std::string> m_bytes;
 };

@@ -5,8 +5,8 @@ from collections.abc import Iterator
 
 from door import Door
 from firm import Firm
-from held import count_of, differences, unkept, unlogged
-from ledger import Ledger, answers
+from held import clock_faults, count_of, differences, unkept, unlogged
+from ledger import Ledger, answers, marks
 from wait import until, within
 
 LOOKS = 5  # how often a day is looked at until no deadline comes behind its last message
@@ -45,7 +45,7 @@ def settled(door: Door, firms: list[Firm], still: float = 0.3) -> list[str]:
         within(20, lambda: all([has_all(firm, wanted) for firm in firms]))
         status, ledger = door.stop(), door.ledger()
         if len(ledger.entries) == len(before.entries):
-            return list(faults(firms, status, ledger, answers(list(door.programs.venue), ledger.day())))
+            return list(faults(door, firms, status, ledger))
         door.start()  # a deadline came in the meantime
     return ["the log is never still"]
 
@@ -55,7 +55,9 @@ def has_all(firm: Firm, wanted: dict[str, list[bytes]]) -> bool:
     return count_of(firm) >= len(wanted.get(firm.name, []))
 
 
-def faults(firms: list[Firm], status: int, ledger: Ledger, wanted: dict[str, list[bytes]]) -> Iterator[str]:
+def faults(door: Door, firms: list[Firm], status: int, ledger: Ledger) -> Iterator[str]:
+    program, day = list(door.programs.venue), ledger.day()
+    wanted = answers(program, day)
     if status != 0:
         yield "the gateway ended with status %d" % status
     for firm in firms:
@@ -63,3 +65,4 @@ def faults(firms: list[Firm], status: int, ledger: Ledger, wanted: dict[str, lis
         yield from differences(firm, wanted.get(firm.name, []), ledger)
         yield from unlogged(firm, ledger)
     yield from unkept(ledger, wanted)
+    yield from clock_faults(ledger, marks(program, day))

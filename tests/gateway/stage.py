@@ -45,6 +45,7 @@ class Stage:
     other: Firm = field(init=False)
     investor: Firm = field(init=False)
     asked: bytes = b""  # the investor's name of the last request
+    deadline: str = ""  # of the last request, HH:MM:SS.sss
     _named: int = 0
 
     def __post_init__(self) -> None:
@@ -139,9 +140,10 @@ class Stage:
 
     def ask_of(self, dealers: list[Firm], seconds: float = 600) -> None:
         """A request of the investor to these dealers."""
-        self.asked = self.name("A")
+        self.asked, deadline = self.name("A"), moment_in(seconds)
+        self.deadline = deadline[9:].decode()
         fields = [(131, self.asked), (146, b"1"), (55, b"[N/A]"), (48, BOND), (22, b"4"), (54, b"1"), (38, b"2000000")]
-        fields += [(126, moment_in(seconds)), (453, b"%d" % len(dealers))]
+        fields += [(126, deadline), (453, b"%d" % len(dealers))]
         for dealer in dealers:
             fields += [(448, dealer.name.encode()), (447, b"D"), (452, b"35")]
         self.say(self.investor, "R", fields)

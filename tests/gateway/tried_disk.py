@@ -3,13 +3,12 @@
 import functools
 import shutil
 import sqlite3
-import subprocess
 from collections.abc import Callable
 from dataclasses import dataclass
 from pathlib import Path
 
 from firm import Received
-from ledger import Ledger, read_ledger, rows
+from ledger import Ledger, marks, read_ledger, rows
 from market import Act, Market
 from settle import settled
 from stage import Stage, check
@@ -94,7 +93,7 @@ def cut_back(stage: Stage) -> None:
 def cuts(stage: Stage, copies: Path) -> int:
     """Tries each cut; how many there were."""
     final, all_syncs, state, tried = stage.door.ledger(), syncs_of(copies), {}, 0
-    counts = counts_by_place(stage, final)
+    counts = [mark.given for mark in marks(list(stage.door.programs.venue), final.day())]
     ends = [sync.ended for sync in all_syncs[1:]] + [2**63]
     for sync, end in zip(all_syncs, ends):
         state[sync.kind] = copies / ("%d.%s" % (sync.number, sync.kind))
@@ -133,22 +132,6 @@ def cut(sync: Sync, database: Path, final: Ledger, counts: list[dict[str, int]],
                 sync.number, name, message.venue_number, given))
             check((name, message.session_number, message.venue_number) in carried, "sync %d: %s had %d under the session's %d, and the store has it not" % (
                 sync.number, name, message.venue_number, message.session_number))
-
-
-def counts_by_place(stage: Stage, ledger: Ledger) -> list[dict[str, int]]:
-    """How many messages the venue has given each firm behind each place."""
-    day = ledger.day()
-    words = [*stage.door.programs.venue, "live", "--frames", "--marks"]
-    run = subprocess.run(words, input=day, capture_output=True, check=True)
-    counts: list[dict[str, int]] = [{}]
-    now: dict[str, int] = {}
-    for line in run.stdout.splitlines():
-        word = line.split(b" ", 1)[0].decode()
-        if word in ("done", "fault"):
-            counts.append(dict(now))
-        else:
-            now[word] = now.get(word, 0) + 1
-    return counts
 
 
 def at_commit(at: int) -> Callable[[Stage], None]:

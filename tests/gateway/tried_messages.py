@@ -2,7 +2,9 @@
 
 from firm import Received
 from frames import read_frame
+from held import milliseconds
 from ledger import answers
+from market import moment_in
 from stage import DEALER, Stage, check, quiet
 from wait import until
 from wire import Fields, Wire, framed, now
@@ -169,6 +171,33 @@ def sent_while_away(stage: Stage) -> None:
     stage.whole()
 
 
+def deadline_passes(stage: Stage) -> None:
+    """At a deadline one clock line is committed, and the request's end is told; without a deadline none is."""
+    stage.open(*stage.firms)
+    stage.ask(600)
+    stage.ask(1.5)
+    end = stage.answer(stage.investor, "that a request expired", lambda message: message.value(297) == b"7", limit=5)
+    for dealer in (stage.dealer, stage.other):
+        stage.answer(dealer, "that a request expired", lambda message: message.value(694) == b"3")
+    clocks = [entry for entry in stage.door.ledger().entries if entry.is_clock]
+    check(len(clocks) == 1, "%d clock lines" % len(clocks))
+    before, after = milliseconds(clocks[0].moment) - milliseconds(stage.deadline), milliseconds(end.value(60)[9:].decode())
+    check(0 <= before < 1000, "the clock line is %d ms behind the deadline" % before)
+    check(after == milliseconds(clocks[0].moment), "60 of the end is %r" % end.value(60))
+    stage.whole()
+
+
+def deadline_while_away(stage: Stage) -> None:
+    """A deadline that passes while there is no gateway is told once it is back."""
+    stage.open(*stage.firms)
+    stage.ask(1.5)
+    stage.door.kill()
+    until("the deadline has passed", 5, lambda: moment_in(0)[9:].decode() > stage.deadline)
+    stage.door.start()
+    stage.answer(stage.investor, "that a request expired", lambda message: message.value(297) == b"7")
+    stage.whole()
+
+
 def cancelled_for_one_gone(stage: Stage) -> None:
     """The quotes of a dealer that is gone are cancelled by the trader that the configuration names, if it names one."""
     stage.door.cancelled = {DEALER.name: DEALER.trader}
@@ -301,5 +330,6 @@ def one_that_does_not_read(stage: Stage) -> None:
 
 
 TRIED = [every_byte_in_text, another_firms_words, five_thousand_bytes, about_the_longest_frame, microseconds, poss_resend,
-         unknown_trader, reject_for_one_away, one_that_was_away, sent_while_away, cancelled_for_one_gone, poss_dup, no_frames,
+         unknown_trader, reject_for_one_away, one_that_was_away, sent_while_away,
+         deadline_passes, deadline_while_away, cancelled_for_one_gone, poss_dup, no_frames,
          no_numbers_of_the_venue, longer_than_the_limit, one_that_does_not_read]
