@@ -25,7 +25,7 @@ work=$(mktemp -d)
 trap 'rm -rf "$work"' EXIT
 gateway=${GATEWAY:-}
 if [ -z "$gateway" ]; then
-    cmake -S "$root/gateway" -B "$root/gateway/out" -DCMAKE_BUILD_TYPE=Release >"$work/built" 2>&1 &&
+    cmake -S "$root/gateway" -B "$root/gateway/out" >"$work/built" 2>&1 &&
         cmake --build "$root/gateway/out" -j 2 >>"$work/built" 2>&1 || { tail -50 "$work/built" >&2; exit 1; }
     gateway=$root/gateway/out/mireseason-gateway
 fi

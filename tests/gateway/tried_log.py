@@ -93,7 +93,7 @@ def byte_of_sent(stage: Stage) -> None:
 def another_log_form(stage: Stage) -> None:
     ended_day(stage)
     changed(stage, "UPDATE form SET number = 99")
-    nothing_sent(stage, lambda: stage.refused("99"))
+    nothing_sent(stage, lambda: stage.refused("form"))
 
 
 def venue_that_ends(stage: Stage) -> None:

@@ -223,10 +223,13 @@ def cancelled_for_one_gone(stage: Stage) -> None:
 # ---------------------------------------------------------------- what no stock engine sends
 
 
-def on_a_wire(stage: Stage) -> Wire:
+def on_a_wire(stage: Stage, number: int = 1) -> Wire:
+    """A session of DLR1 that begins with this number of its own, and is ready."""
     wire = Wire(stage.door.port)
+    wire.number = number
     wire.logon(DEALER.name.encode(), DEALER.password.encode())
     check(wire.read_kind(b"A") is not None, "no Logon on a wire")
+    wire.read_kind(b"1", limit=1)  # a TestRequest, if one comes behind the Logon
     return wire
 
 
@@ -266,23 +269,16 @@ def no_frames(stage: Stage) -> None:
         lambda wire: framed(b"35=Z\x0149=DLR1\x0156=VENUE\x0134=%d\x0152=%s\x01nothing\x01" % (wire.number, now())),
         lambda wire: framed(b"35=Z\x0149=DLR1\x0156=VENUE\x0134=%d\x0152=%s\x01=x\x01" % (wire.number, now())),
     ]
+    number = 1
     for place, bytes_of in enumerate(odd):
         before = stage.entries_of(stage.dealer)
-        with on_a_wire_again(stage, place) as wire:
+        with on_a_wire(stage, number) as wire:
             wire.raw(bytes_of(wire))
             wire.raw(wire.message(b"Z", b"DLR1", cancel(b"n%d" % place)))
             check(answered(wire, b"n%d" % place).value(297) == b"9", "the message behind no frame %d is not answered" % place)
+            number = wire.number
         check(stage.entries_of(stage.dealer) == before + 1, "no frame %d is in the log" % place)
     stage.whole()
-
-
-def on_a_wire_again(stage: Stage, place: int) -> Wire:
-    """A wire whose numbers go on where the last one's ended."""
-    wire = Wire(stage.door.port)
-    wire.number = place * 2 + 1
-    wire.logon(DEALER.name.encode(), DEALER.password.encode())
-    check(wire.read_kind(b"A") is not None, "no Logon on a wire")
-    return wire
 
 
 def no_numbers_of_the_venue(stage: Stage) -> None:

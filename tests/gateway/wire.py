@@ -27,7 +27,7 @@ class Wire:
         plain = socket.create_connection(("127.0.0.1", port), timeout=10)
         plain.setsockopt(socket.IPPROTO_TCP, socket.TCP_NODELAY, 1)
         self.socket = context.wrap_socket(plain, server_hostname="localhost") if context else plain
-        self.number, self.waiting, self.is_over = 1, b"", False
+        self.name, self.number, self.waiting, self.is_over = b"", 1, b"", False
 
     def __enter__(self) -> "Wire":
         return self
@@ -52,19 +52,25 @@ class Wire:
         return framed(b"".join(b"%d=%s\x01" % item for item in head + fields) + tail)
 
     def logon(self, name: bytes, password: bytes | None, user: bytes | None = None, more: Fields | None = None) -> bool:
-        fields = [(98, b"0"), (108, b"30"), *(more or [])]
+        self.name, fields = name, [(98, b"0"), (108, b"30"), *(more or [])]
         if password is not None:
             fields += [(553, name if user is None else user), (554, password)]
         return self.raw(self.message(b"A", name, fields + [(1137, b"9")]))
 
     def read(self, limit: float = 5) -> Received | None:
-        """The next message; None where the connection has ended or nothing came within the limit."""
+        """The next message; None where the connection has ended or nothing came within the limit.
+
+        A TestRequest is answered on the way.
+        """
         until = time.monotonic() + limit
         while (end := self._first_end()) is None:
             if self.is_over or not self._more(until - time.monotonic()):
                 return None
         data, self.waiting = self.waiting[:end], self.waiting[end:]
-        return received_of(data)
+        message = received_of(data)
+        if message.kind == b"1":  # a TestRequest wants its Heartbeat
+            self.raw(self.message(b"0", self.name, [(112, message.value(112))]))
+        return message
 
     def _first_end(self) -> int | None:
         """Where the first message that came ends, if all of it came."""
