@@ -115,6 +115,9 @@ class Stage:
     def entries_of(self, firm: Firm) -> int:
         return len(self.door.ledger().messages_of(firm.name))
 
+    def has_entry(self, firm: Firm, number: int) -> bool:
+        return any(entry.number == number for entry in self.door.ledger().messages_of(firm.name))
+
     # ------------------------------------------------------------ messages
 
     def name(self, letter: str) -> bytes:

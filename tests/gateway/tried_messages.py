@@ -37,7 +37,7 @@ def every_byte_in_text(stage: Stage) -> None:
                 continue
             text = b"a" + bytes([byte]) + b"z"
             number = stage.say(stage.dealer, "Z", cancel + [(TEXT, text)])
-            until("an entry", 10, lambda: stage.entries_of(stage.dealer) >= number - 1)
+            until("an entry for the byte %d" % byte, 10, lambda: stage.has_entry(stage.dealer, number))
             check(text_of(logged(stage, number)) == text, "58 with the byte %d is %r in the log" % (byte, logged(stage, number)))
 
     quiet(stage, [stage.other, stage.investor], send_all)
