@@ -20,7 +20,7 @@ ROOT = Path(__file__).resolve().parent.parent
 sys.dont_write_bytecode = True
 sys.path[:0] = [str(ROOT / "tests" / "gateway"), str(ROOT / "tests" / "model")]
 
-from door import Door, Programs, free_port
+from door import Door, Programs, free_port, programs_of
 from firm import Identity, Places, settings_text
 from market import moment_in
 
@@ -112,7 +112,7 @@ def main() -> None:
         parser.add_argument(name, type=int, default=usual)
     parser.add_argument("venue", nargs="+")
     words = parser.parse_args()
-    bench = Bench(Programs(words.gateway.resolve(), tuple(words.venue)), words.load.resolve(), words.one_by_one, words.burst)
+    bench = Bench(programs_of(words.gateway, words.venue), words.load.resolve(), words.one_by_one, words.burst)
     pairs = [(bench.echo(), bench.gateway()) for _ in range(words.rounds)]
     echo, gateway = best([pair[0] for pair in pairs]), best([pair[1] for pair in pairs])
     for name, one in (("echo", echo), ("gateway", gateway)):

@@ -21,6 +21,12 @@ class Programs:
     venue: tuple[str, ...]
 
 
+def programs_of(gateway: Path, venue: list[str]) -> Programs:
+    """With whole paths: the gateway's configuration is in another folder."""
+    words = [str(Path(word).resolve()) if Path(word).exists() else word for word in venue]
+    return Programs(gateway.resolve(), tuple(words))
+
+
 def today() -> str:
     return datetime.now(timezone.utc).strftime("%Y%m%d")
 

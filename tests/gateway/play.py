@@ -21,7 +21,7 @@ ROOT = HERE.parent.parent
 sys.dont_write_bytecode = True
 sys.path.insert(0, str(ROOT / "tests" / "model"))
 
-from door import Door, Programs
+from door import Door, Programs, programs_of
 from firm import Firm, Identity, Places
 from held import count_of
 from market import Act, Market, play
@@ -140,7 +140,7 @@ def read_words() -> argparse.Namespace:
 
 def main() -> None:
     words, failed = read_words(), 0
-    programs = Programs(words.gateway.resolve(), tuple(words.venue))
+    programs = programs_of(words.gateway, words.venue)
     for seed in range(words.seed, words.seed + words.days):
         with tempfile.TemporaryDirectory() as name:
             folder = Path(name)

@@ -23,7 +23,7 @@ import tried_disk
 import tried_log
 import tried_logon
 import tried_messages
-from door import Programs
+from door import programs_of
 from stage import Stage, Tools, Wrong
 from wait import TooLong
 
@@ -71,7 +71,7 @@ def read_words() -> argparse.Namespace:
 
 def main() -> None:
     words = read_words()
-    programs = Programs(words.gateway.resolve(), tuple(words.venue))
+    programs = programs_of(words.gateway, words.venue)
     tools = Tools(programs, words.player.resolve(), DICTIONARIES, words.shim.resolve())
     tests = [test for module in (tried_log, tried_logon, tried_messages, tried_disk) for test in module.TRIED]
     chosen = [test for test in tests if words.only in test.__name__]

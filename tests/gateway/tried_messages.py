@@ -171,6 +171,26 @@ def sent_while_away(stage: Stage) -> None:
     stage.whole()
 
 
+def gaps_on_both_sides(stage: Stage) -> None:
+    """A firm that missed messages, and whose own were not taken: both are made good within seconds of its Logon."""
+    stage.open(*stage.firms)
+    stage.auction()
+    stage.dealer.kill()
+    stage.ask_of([stage.dealer, stage.other])
+    until("the request is in the log", 10, lambda: len(stage.door.ledger().sent.get("DLR1", [])) == 4)
+    stage.door.kill()
+    stage.dealer.start()
+    names = [stage.name("x") for _ in range(5)]
+    for name in names:
+        stage.say(stage.dealer, "Z", [(298, b"5"), (117, name)])
+    stage.door.start()
+    stage.dealer.wait_on()
+    for name in names:
+        stage.answer(stage.dealer, "what became of a cancel", lambda message: message.value(117) == name, limit=8)
+    stage.answer(stage.dealer, "a request", lambda message: message.kind == b"R" and message.value(131) == b"R2")
+    stage.whole()
+
+
 def deadline_passes(stage: Stage) -> None:
     """At a deadline one clock line is committed, and the request's end is told; without a deadline none is."""
     stage.open(*stage.firms)
@@ -326,6 +346,6 @@ def one_that_does_not_read(stage: Stage) -> None:
 
 
 TRIED = [every_byte_in_text, another_firms_words, five_thousand_bytes, about_the_longest_frame, microseconds, poss_resend,
-         unknown_trader, reject_for_one_away, one_that_was_away, sent_while_away,
+         unknown_trader, reject_for_one_away, one_that_was_away, sent_while_away, gaps_on_both_sides,
          deadline_passes, deadline_while_away, cancelled_for_one_gone, poss_dup, no_frames,
          no_numbers_of_the_venue, longer_than_the_limit, one_that_does_not_read]
