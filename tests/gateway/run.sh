@@ -14,7 +14,11 @@ here=$(cd "$(dirname "$0")" && pwd)
 root=$(cd "$here/../.." && pwd)
 venue=${VENUE:-$root/crates/rfq_venue/out/rfq_venue}
 days="--days 3 --messages 2000 --ends 40"
-[ "${1:-}" != short ] || days="--days 1 --messages 400 --ends 8"
+quick=
+if [ "${1:-}" = short ]; then
+    days="--days 1 --messages 400 --ends 8"
+    quick=--quick
+fi
 
 program=${venue%% *}
 if ! command -v "$program" >/dev/null; then
@@ -33,9 +37,9 @@ g++ -std=c++14 -DHAVE_SSL=1 -O1 -Wall -Wextra -Werror -o "$work/player" "$here/p
 g++ -std=c++20 -O1 -shared -fPIC -Wall -Wextra -Werror -o "$work/disk.so" "$here/disk.cpp" -ldl
 
 keep=${KEEP:+--keep $KEEP}
-# shellcheck disable=SC2086 # the words of $days, $keep and $venue
+# shellcheck disable=SC2086 # the words of $days, $keep, $quick and $venue
 {
-    python3 "$here/tried.py" "$gateway" "$work/player" "$work/disk.so" $keep --jobs 2 -- $venue >"$work/tried" || true
+    python3 "$here/tried.py" "$gateway" "$work/player" "$work/disk.so" $keep $quick --jobs 3 -- $venue >"$work/tried" || true
     python3 "$here/play.py" "$gateway" "$work/player" $days $keep -- $venue >"$work/played" || true
 }
 cat "$work/tried" "$work/played"

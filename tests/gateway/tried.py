@@ -1,7 +1,7 @@
 #!/usr/bin/env python3
 """Puts faults in by hand and looks whether what happens is what docs/CONNECTING.md says.
 
-usage: tried.py GATEWAY PLAYER SHIM [--only WORD] [--keep FOLDER] [--jobs N] -- VENUE WORDS ..
+usage: tried.py GATEWAY PLAYER SHIM [--only WORD] [--quick] [--keep FOLDER] [--jobs N] -- VENUE WORDS ..
 """
 
 import argparse
@@ -63,6 +63,7 @@ def read_words() -> argparse.Namespace:
     for name in ("gateway", "player", "shim"):
         parser.add_argument(name, type=Path)
     parser.add_argument("--only", default="", help="tests with this word in their names alone")
+    parser.add_argument("--quick", action="store_true", help="the disk is full at a few commits alone")
     parser.add_argument("--keep", type=Path, help="where the files of tests that fail are put")
     parser.add_argument("--jobs", type=int, default=1, help="how many tests are done at one time")
     parser.add_argument("venue", nargs="+")
@@ -73,7 +74,8 @@ def main() -> None:
     words = read_words()
     programs = programs_of(words.gateway, words.venue)
     tools = Tools(programs, words.player.resolve(), DICTIONARIES, words.shim.resolve())
-    tests = [test for module in (tried_log, tried_logon, tried_messages, tried_disk) for test in module.TRIED]
+    tests = tried_log.TRIED + tried_logon.TRIED + tried_messages.TRIED
+    tests += tried_disk.QUICK if words.quick else tried_disk.TRIED
     chosen = [test for test in tests if words.only in test.__name__]
     with ThreadPoolExecutor(words.jobs) as jobs:
         passed = sum(jobs.map(lambda test: tried(test, tools, words.keep), chosen))

@@ -18,6 +18,7 @@ from wait import within
 MESSAGES = 60  # of a short day
 FULL_AT = [1, 2, 3, 4, 5, 6, 7, 8, 9, 10, 12, 14, 17, 20, 25, 30, 40, 50]
 CUTS = 12  # of power, in a day of three times as many messages
+QUICK_FULL_AT = [2, 6, 14, 30]
 SLOW = "4"  # milliseconds that a sync takes longer: a message that did not wait for it comes before its end
 
 
@@ -199,3 +200,4 @@ def at_commit(at: int) -> Callable[[Stage], None]:
 
 
 TRIED = [cut_back, power_cuts] + [at_commit(at) for at in FULL_AT]
+QUICK = [cut_back, power_cuts] + [at_commit(at) for at in QUICK_FULL_AT]

@@ -5,6 +5,7 @@ import signal
 import sqlite3
 from collections.abc import Callable
 
+from door import Door
 from stage import Stage, check
 from wait import until
 
@@ -96,6 +97,24 @@ def another_log_form(stage: Stage) -> None:
     nothing_sent(stage, lambda: stage.refused("form"))
 
 
+def two_gateways(stage: Stage) -> None:
+    """A second gateway on the log of one that runs ends by itself, and the first goes on."""
+    stage.open(*stage.firms)
+    stage.auction()
+    second = Door(stage.door.programs, stage.folder, stage.door.dealers, stage.door.investors)
+    before = stage.door.ledger().entries
+    second.write()
+    second.start()
+    try:
+        check(second.wait_end() == 1, "the second gateway ended with another status")
+    finally:
+        second.close()
+    check(stage.door.ledger().entries == before, "the log is another")
+    stage.door.write()
+    stage.auction()
+    stage.whole()
+
+
 def venue_that_ends(stage: Stage) -> None:
     """One that is ended is started again; more ends in a minute than the limit are the gateway's end."""
     stage.door.limits["venue_starts"] = 3
@@ -153,4 +172,4 @@ def venue_that_hangs(stage: Stage) -> None:
 
 
 TRIED = [changed_configuration, entry_taken_out, last_entry_taken_out, byte_of_an_entry, byte_of_sent, another_log_form,
-         venue_that_ends, venue_that_says_something, venue_that_hangs, asked_to_end, ended_at_once]
+         two_gateways, venue_that_ends, venue_that_says_something, venue_that_hangs, asked_to_end, ended_at_once]

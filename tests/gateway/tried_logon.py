@@ -78,6 +78,23 @@ def second_connection(stage: Stage) -> None:
     check(stage.dealer.is_on and stage.dealer.times_on == times, "the first connection was disturbed")
 
 
+def numbers_are_not_reset(stage: Stage) -> None:
+    """141=Y within the day, and a Logon under a number that came before: a Logout with a text, and the numbers stand."""
+    stage.open(*stage.firms)
+    stage.ping(stage.dealer)
+    stage.log_off(stage.dealer)
+    for number, more in ((1, [(141, b"Y")]), (1, [])):
+        with Wire(stage.door.port) as wire:
+            wire.number = number
+            wire.logon(DEALER.name.encode(), DEALER.password.encode(), more=more)
+            message = wire.read_kind(b"5")
+            check(message is not None and message.value(58), "no Logout with a text")
+            check(wire.closed_within(SLACK), "the connection stays")
+    stage.log_on(stage.dealer)
+    stage.auction()
+    stage.whole()
+
+
 def half_a_logon(stage: Stage) -> None:
     """Connections that say nothing, or half a Logon, end at the limit; nobody waits for them."""
     stage.open()
@@ -230,5 +247,5 @@ def plain_to_tls(stage: Stage) -> None:
     check(INVESTOR.name == stage.investor.name and stage.investor.is_on, "another session was disturbed")
 
 
-TRIED = [wrong_password, wrong_words, unknown_firm, second_connection, half_a_logon, endless_logon, many_connections,
+TRIED = [wrong_password, wrong_words, unknown_firm, second_connection, numbers_are_not_reset, half_a_logon, endless_logon, many_connections,
          beyond_the_loopback, by_tls, certificate_of_another_firm, certificate_of_another_authority, plain_to_tls]

@@ -1,5 +1,7 @@
 """Messages of a session that stands: what is odd in them, and firms that are away."""
 
+import threading
+
 from firm import Received
 from frames import read_frame
 from held import milliseconds
@@ -259,11 +261,9 @@ def cancel(name: bytes) -> Fields:
 
 def answered(wire: Wire, name: bytes) -> Received:
     """The venue's answer to a cancel of this name."""
-    while (message := wire.read(5)) is not None:
-        if message.value(117) == name:
-            return message
-    check(False, "no answer to %r" % name)
-    raise AssertionError
+    message = wire.read_until(lambda message: message.value(117) == name)
+    check(message is not None, "no answer to %r" % name)
+    return message
 
 
 def poss_dup(stage: Stage) -> None:
@@ -318,6 +318,41 @@ def no_numbers_of_the_venue(stage: Stage) -> None:
     stage.whole()
 
 
+def resent_as_it_was(stage: Stage) -> None:
+    """A ResendRequest of all: each message of the venue comes again under its number with 43=Y, its body, and its first 52 in 122."""
+    stage.open(stage.other, stage.investor)
+    with on_a_wire(stage) as wire:
+        wire.raw(wire.message(b"Z", b"DLR1", [(50, b"T9"), (298, b"4")]))
+        first = [wire.read_kind(b"3")]
+        for number in range(5):
+            wire.raw(wire.message(b"Z", b"DLR1", cancel(b"c%d" % number)))
+            first.append(answered(wire, b"c%d" % number))
+        wire.raw(wire.message(b"2", b"DLR1", [(7, b"1"), (16, b"0")]))
+        again = [wire.read_until(lambda message, was=was: message.session_number == was.session_number) for was in first]
+        for message, was in zip(again, first):
+            check(message is not None, "%d does not come again" % was.session_number)
+            check((message.kind, message.body, message.value(43)) == (was.kind, was.body, b"Y"), "%r is sent again as %r" % (was.raw, message.raw))
+            check(message.value(122) == was.value(52), "122 of %r is not the 52 of %r" % (message.raw, was.raw))
+    stage.whole()
+
+
+def faster_than_the_log(stage: Stage) -> None:
+    """Thousands of messages at once, on a slow disk: read no faster than they are committed, and others are served."""
+    stage.door.environment = {"LD_PRELOAD": str(stage.tools.shim), "DISK_SLOW": "20"}
+    stage.open(stage.other, stage.investor)
+    with on_a_wire(stage) as wire:
+        before, count = stage.memory(), 4000
+        data = b"".join(wire.message(b"Z", b"DLR1", cancel(b"c%d" % number) + [(TEXT, b"x" * 3000)]) for number in range(count))
+        sender = threading.Thread(target=wire.raw, args=(data,))
+        sender.start()
+        stage.ping(stage.other)
+        check(wire.read_until(lambda message: message.value(117) == b"c%d" % (count - 1), 60) is not None, "the last is not answered")
+        sender.join()
+        check(stage.memory() - before < 64 * 2**20, "%d bytes of memory more" % (stage.memory() - before))
+    check(stage.entries_of(stage.dealer) == count, "%d of %d are in the log" % (stage.entries_of(stage.dealer), count))
+    stage.whole()
+
+
 def longer_than_the_limit(stage: Stage) -> None:
     """A message past `message_bytes` ends the connection, and memory does not grow with it."""
     stage.open(stage.other, stage.investor)
@@ -348,4 +383,4 @@ def one_that_does_not_read(stage: Stage) -> None:
 TRIED = [every_byte_in_text, another_firms_words, five_thousand_bytes, about_the_longest_frame, microseconds, poss_resend,
          unknown_trader, reject_for_one_away, one_that_was_away, sent_while_away, gaps_on_both_sides,
          deadline_passes, deadline_while_away, cancelled_for_one_gone, poss_dup, no_frames,
-         no_numbers_of_the_venue, longer_than_the_limit, one_that_does_not_read]
+         no_numbers_of_the_venue, resent_as_it_was, faster_than_the_log, longer_than_the_limit, one_that_does_not_read]

@@ -4,6 +4,7 @@ import select
 import socket
 import ssl
 import time
+from collections.abc import Callable
 from datetime import datetime, timezone
 
 from firm import Received, received_of
@@ -78,13 +79,17 @@ class Wire:
         end = at + len("\x0110=000\x01")
         return end if at >= 0 and len(self.waiting) >= end else None
 
-    def read_kind(self, kind: bytes, limit: float = 5) -> Received | None:
-        """The next message of this kind; others are passed over."""
-        end = time.monotonic() + limit
-        while (message := self.read(max(0.0, end - time.monotonic()))) is not None:
-            if message.kind == kind:
+    def read_until(self, fits: Callable[[Received], bool], limit: float = 5) -> Received | None:
+        """The next message that fits; others are passed over."""
+        until = time.monotonic() + limit
+        while (message := self.read(max(0.0, until - time.monotonic()))) is not None:
+            if fits(message):
                 return message
         return None
+
+    def read_kind(self, kind: bytes, limit: float = 5) -> Received | None:
+        """The next message of this kind."""
+        return self.read_until(lambda message: message.kind == kind, limit)
 
     def closed_within(self, limit: float) -> bool:
         """Whether the other side ends the connection within this time; what it still says is kept."""
