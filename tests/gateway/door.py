@@ -1,5 +1,6 @@
 """The gateway of a test: its configuration, its process, and the process of the venue behind it."""
 
+import json
 import os
 import signal
 import socket
@@ -47,7 +48,7 @@ def venue_text(dealers: list[Identity], investors: list[Identity]) -> str:
 
 
 def quoted(words: tuple[str, ...]) -> str:
-    return "[%s]" % ", ".join('"%s"' % word for word in words)
+    return json.dumps(words)  # texts of JSON are texts of TOML
 
 
 @dataclass

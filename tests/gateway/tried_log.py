@@ -5,7 +5,7 @@ import signal
 import sqlite3
 from collections.abc import Callable
 
-from door import Door
+from door import Door, Programs
 from stage import Stage, check
 from wait import until
 
@@ -91,6 +91,20 @@ def byte_of_sent(stage: Stage) -> None:
     nothing_sent(stage, lambda: stage.refused("DLR1", str(number)))
 
 
+def another_program(stage: Stage) -> None:
+    """A venue that answers otherwise than it did: the first answer that differs is named, and no firm sees it."""
+    ended_day(stage)
+    programs = stage.door.programs
+    script = stage.folder / "altered.sh"
+    script.write_text('"$@" | sed -u "s/|297=0|/|297=5|/"\n')
+    stage.door.programs = Programs(programs.gateway, ("sh", str(script), *programs.venue))
+    stage.door.write()
+    nothing_sent(stage, lambda: stage.refused("DLR1|INV1", "2|1"))
+    stage.door.programs = programs
+    stage.door.write()
+    goes_on(stage)
+
+
 def another_log_form(stage: Stage) -> None:
     ended_day(stage)
     changed(stage, "UPDATE form SET number = 99")
@@ -171,5 +185,5 @@ def venue_that_hangs(stage: Stage) -> None:
     stage.whole()
 
 
-TRIED = [changed_configuration, entry_taken_out, last_entry_taken_out, byte_of_an_entry, byte_of_sent, another_log_form,
-         two_gateways, venue_that_ends, venue_that_says_something, venue_that_hangs, asked_to_end, ended_at_once]
+TRIED = [changed_configuration, entry_taken_out, last_entry_taken_out, byte_of_an_entry, byte_of_sent, another_program,
+         another_log_form, two_gateways, venue_that_ends, venue_that_says_something, venue_that_hangs, asked_to_end, ended_at_once]
