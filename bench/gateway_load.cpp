@@ -5,9 +5,10 @@
 //     gateway_load investor SETTINGS USERNAME PASSWORD DEADLINE
 //         asks DLR1 once, prints `asked`, and stays until its input ends
 //     gateway_load dealer SETTINGS USERNAME PASSWORD ONE_BY_ONE BURST [REQUEST]
-//         quotes REQUEST, or else the request that it is shown: first ONE_BY_ONE times, each quote behind the
-//         answer of the one before, then BURST times at once. Prints the median and the 99th percentile of the
-//         time to an answer, in microseconds, and how many answers a second came in the burst
+//         quotes REQUEST, or else the request that it is shown: first ONE_BY_ONE times, each quote
+//         behind the answer of the one before, then BURST times at once. Prints the median and the
+//         99th percentile of the time to an answer, in microseconds, and how many answers a second
+//         came in the burst
 //
 // QuickFIX's headers are those of C++14, so this file is too.
 #include <quickfix/Application.h>
@@ -73,7 +74,8 @@ public:
     void fromApp(const FIX::Message &message, const FIX::SessionID &) noexcept override {
         const std::string bytes = message.toString();
         const auto size = static_cast<ssize_t>(bytes.size());
-        if (::write(m_file, bytes.data(), bytes.size()) != size || ::fdatasync(m_file) != 0) std::abort();
+        if (::write(m_file, bytes.data(), bytes.size()) != size || ::fdatasync(m_file) != 0)
+            std::abort();
         FIX50SP2::QuoteStatusReport answer;
         answer.setField(131, field(message, 131));
         answer.setField(117, field(message, 117));
@@ -96,7 +98,9 @@ public:
         message.setField(553, m_username);
         message.setField(554, m_password);
     }
-    void onLogon(const FIX::SessionID &) override { change([this] { m_is_on = true; }); }
+    void onLogon(const FIX::SessionID &) override {
+        change([this] { m_is_on = true; });
+    }
     void fromApp(const FIX::Message &message, const FIX::SessionID &) noexcept override {
         const std::string type = field(message.getHeader(), 35);
         change([&] {
@@ -106,7 +110,9 @@ public:
         });
     }
 
-    void wait_on() { wait([this] { return m_is_on; }); }
+    void wait_on() {
+        wait([this] { return m_is_on; });
+    }
     std::string wait_request() {
         wait([this] { return !m_request.empty(); });
         return m_request;
@@ -120,8 +126,9 @@ public:
         FIX50SP2::QuoteRequest request;
         request.setField(131, "A1");
         FIX50SP2::QuoteRequest::NoRelatedSym row;
-        for (const auto &item : {std::make_pair(55, "[N/A]"), std::make_pair(48, "BONDA0000001"),
-                                 std::make_pair(22, "4"), std::make_pair(54, "1"), std::make_pair(38, "2000000")})
+        for (const auto &item :
+             {std::make_pair(55, "[N/A]"), std::make_pair(48, "BONDA0000001"),
+              std::make_pair(22, "4"), std::make_pair(54, "1"), std::make_pair(38, "2000000")})
             row.setField(item.first, item.second);
         row.setField(126, deadline);
         FIX50SP2::QuoteRequest::NoRelatedSym::NoPartyIDs dealer;
@@ -154,7 +161,8 @@ private:
     template <typename Holds>
     void wait(Holds holds) {
         std::unique_lock<std::mutex> lock(m_mutex);
-        if (!m_changed.wait_for(lock, LONGEST_WAIT, holds)) throw std::runtime_error("no answer in 60 s");
+        if (!m_changed.wait_for(lock, LONGEST_WAIT, holds))
+            throw std::runtime_error("no answer in 60 s");
     }
 
     std::string m_username, m_password;
@@ -179,7 +187,8 @@ void measure(Firm &firm, const std::string &request, std::size_t one_by_one, std
     }
     std::sort(times.begin(), times.end());
     const auto began = Clock::now();
-    for (std::size_t number = 1; number <= burst; ++number) firm.quote(request, one_by_one + number);
+    for (std::size_t number = 1; number <= burst; ++number)
+        firm.quote(request, one_by_one + number);
     firm.wait_answers(one_by_one + burst);
     const double seconds = microseconds(Clock::now() - began) / 1e6;
     std::cout << times[times.size() / 2] << ' ' << times[times.size() * 99 / 100] << ' '
@@ -233,8 +242,10 @@ int main(int count, char **words) {
         return 2;
     }
     try {
-        if (role == "echo") run_echo(words);
-        else run_firm(count, words);
+        if (role == "echo")
+            run_echo(words);
+        else
+            run_firm(count, words);
         return 0;
     } catch (const std::exception &fault) {
         std::cerr << role << ": " << fault.what() << std::endl;

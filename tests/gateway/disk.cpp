@@ -1,11 +1,12 @@
-// Stands between a process and its database's files, by LD_PRELOAD: it keeps what is on the disk behind
-// each sync, and makes the disk full from a given sync on.
+// Stands between a process and its database's files, by LD_PRELOAD: it keeps what is on the disk
+// behind each sync, makes syncs slow, and makes the disk full from a given sync on.
 //
-//     DISK_COPIES=FOLDER  behind each sync of a file *.db or *.db-wal: a copy of the file, FOLDER/N.db or
-//                         FOLDER/N.wal, and a line `N NAME BEGAN ENDED` in FOLDER/syncs, the nanoseconds of
-//                         the monotonic clock at which the sync began and ended. N counts the syncs from 1
+//     DISK_COPIES=FOLDER  behind each sync of a file *.db or *.db-wal: a copy of the file,
+//                         FOLDER/N.db or FOLDER/N.wal, and a line `N KIND BEGAN ENDED` in
+//                         FOLDER/syncs, the nanoseconds of the monotonic clock at which the sync
+//                         began and ended. N counts the syncs from 1
 //     DISK_SLOW=MS        each sync of such a file takes so much longer
-//     DISK_FULL=N         from the end of the Nth sync on, every write to such a file fails with ENOSPC
+//     DISK_FULL=N         from the end of the Nth sync on, each write to such a file fails: ENOSPC
 #include <dlfcn.h>
 #include <fcntl.h>
 #include <sys/uio.h>
@@ -29,7 +30,8 @@ std::string path_of(int file) {
 }
 
 bool ends_with(const std::string &text, const std::string &end) {
-    return text.size() >= end.size() && text.compare(text.size() - end.size(), end.size(), end) == 0;
+    return text.size() >= end.size() &&
+           text.compare(text.size() - end.size(), end.size(), end) == 0;
 }
 
 // `db`, `wal`, or nothing where the file is none of the database's.
@@ -96,8 +98,12 @@ Call real(const char *name) {
 
 extern "C" {
 
-int fsync(int file) { return synced(file, "fsync"); }
-int fdatasync(int file) { return synced(file, "fdatasync"); }
+int fsync(int file) {
+    return synced(file, "fsync");
+}
+int fdatasync(int file) {
+    return synced(file, "fdatasync");
+}
 
 ssize_t write(int file, const void *data, size_t size) {
     static const auto call = real<ssize_t (*)(int, const void *, size_t)>("write");

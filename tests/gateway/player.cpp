@@ -4,7 +4,7 @@
 //
 //     player SETTINGS RECEIVED USERNAME PASSWORD [tls]
 //
-// reads     send NAME HEX    sends the message of these bytes (its 49, 56, 34 and 52 are the engine's)
+// reads     send NAME HEX    sends the message of these bytes; 49, 56, 34 and 52 are the engine's
 //           logoff, logon    ends the session, and lets it begin again
 //           quit             logs out and ends; so does the end of the input
 // prints    on, off          the session has begun, has ended
@@ -12,8 +12,8 @@
 //           refused NAME WHY the engine does not send it
 //           got              the file has one message more
 //           admin HEX        a Reject of the engine itself or a Logout came
-// RECEIVED  a line for each message of the venue: the nanoseconds of the monotonic clock and, behind
-//           one space, its bytes as they came, in hexadecimal digits
+// RECEIVED  a line for each message of the venue: the nanoseconds of the monotonic clock and,
+//           behind one space, its bytes as they came, in hexadecimal digits
 //
 // QuickFIX's headers are those of C++14, so this file is too.
 #include <quickfix/Application.h>
@@ -105,8 +105,8 @@ public:
         m_bytes[std::atoi(bytes.c_str() + at + 4)] = bytes;
         if (m_bytes.size() > MOST_MESSAGES) m_bytes.erase(m_bytes.begin());
     }
-    // The bytes that came under this number last. A message that came ahead of others waits in the engine,
-    // so the numbers are not asked for in their order.
+    // The bytes that came under this number last. A message that came ahead of others waits in the
+    // engine, so the numbers are not asked for in their order.
     std::string take(int number) {
         const std::lock_guard<std::mutex> lock(m_mutex);
         const auto found = m_bytes.find(number);
@@ -117,7 +117,7 @@ public:
     }
 
 private:
-    static const std::size_t MOST_MESSAGES = 10000; // messages, those of the session itself among them
+    static const std::size_t MOST_MESSAGES = 10000; // those of the session itself among them
     std::mutex m_mutex;
     std::map<int, std::string> m_bytes;
 };
@@ -136,8 +136,8 @@ private:
 class Player : public FIX::Application {
 public:
     Player(Wire &wire, const std::string &received, std::string username, std::string password)
-        : m_wire(wire), m_received(received), m_out(STDOUT_FILENO),
-          m_username(std::move(username)), m_password(std::move(password)) {}
+        : m_wire(wire), m_received(received), m_out(STDOUT_FILENO), m_username(std::move(username)),
+          m_password(std::move(password)) {}
 
     void onCreate(const FIX::SessionID &session) override { m_session = session; }
     void onLogon(const FIX::SessionID &) override { m_out.put("on"); }
@@ -150,8 +150,10 @@ public:
     }
     void fromAdmin(const FIX::Message &message, const FIX::SessionID &) noexcept override {
         const std::string type = field(message.getHeader(), 35);
-        if (type == "3" && message.isSetField(VENUE_NUMBER)) record(message);
-        else if (type == "3" || type == "5") m_out.put("admin " + to_hex(bytes_of(message)));
+        if (type == "3" && message.isSetField(VENUE_NUMBER))
+            record(message);
+        else if (type == "3" || type == "5")
+            m_out.put("admin " + to_hex(bytes_of(message)));
     }
     void fromApp(const FIX::Message &message, const FIX::SessionID &) noexcept override {
         record(message);
@@ -161,7 +163,8 @@ public:
         try {
             const FIX::DataDictionaryProvider &dictionaries = session().getDataDictionaryProvider();
             FIX::Message message;
-            message.setString(bytes, false, &dictionaries.getSessionDataDictionary(FIX::BeginString("FIXT.1.1")),
+            message.setString(bytes, false,
+                              &dictionaries.getSessionDataDictionary(FIX::BeginString("FIXT.1.1")),
                               &dictionaries.getApplicationDataDictionary(FIX::ApplVerID("9")));
             FIX::Session::sendToTarget(message, m_session);
             m_out.put("sent " + name + " " + field(message.getHeader(), 34));
@@ -195,16 +198,23 @@ void obey(Player &player) {
         std::istringstream words(line);
         std::string what, name, digits;
         words >> what >> name >> digits;
-        if (what == "send") player.send(name, from_hex(digits));
-        else if (what == "logoff") player.session().logout();
-        else if (what == "logon") player.session().logon();
-        else throw std::runtime_error("no such order: " + line);
+        if (what == "send")
+            player.send(name, from_hex(digits));
+        else if (what == "logoff")
+            player.session().logout();
+        else if (what == "logon")
+            player.session().logon();
+        else
+            throw std::runtime_error("no such order: " + line);
     }
 }
 
-std::unique_ptr<FIX::Initiator> initiator(bool tls, Player &player, FIX::MessageStoreFactory &stores,
-                                          const FIX::SessionSettings &settings, FIX::LogFactory &logs) {
-    if (tls) return std::make_unique<FIX::ThreadedSSLSocketInitiator>(player, stores, settings, logs);
+std::unique_ptr<FIX::Initiator> initiator(bool tls, Player &player,
+                                          FIX::MessageStoreFactory &stores,
+                                          const FIX::SessionSettings &settings,
+                                          FIX::LogFactory &logs) {
+    if (tls)
+        return std::make_unique<FIX::ThreadedSSLSocketInitiator>(player, stores, settings, logs);
     return std::make_unique<FIX::SocketInitiator>(player, stores, settings, logs);
 }
 
