@@ -143,7 +143,7 @@ def venue_that_ends(stage: Stage) -> None:
 
 def venue_that_says_something(stage: Stage) -> None:
     """A venue that can't go on: its last words are the gateway's."""
-    words = "import sys; sys.stderr.write('the last words of a venue\\\\n'); sys.exit(9)"
+    words = "import sys; sys.stderr.write('the last words of a venue\\n'); sys.exit(9)"
     stage.door.programs = type(stage.door.programs)(stage.door.programs.gateway, ("python3", "-c", words))
     stage.door.write()
     stage.door.start()
