@@ -19,10 +19,7 @@ class Connection;
 // QuickFIX's session, with what it needs of an application, a store and a log, for one firm. At most one
 // connection has it. The thread of that connection calls take() and tick(); deliver() is called by the
 // one thread that delivers to the firm.
-class FirmSession final : private FIX::Application,
-                          private FIX::MessageStoreFactory,
-                          private FIX::LogFactory,
-                          private FIX::Log {
+class FirmSession final : private FIX::Application, private FIX::Log {
   public:
     FirmSession(const SessionStart &start, const EngineSettings &settings, SessionHost &host);
     ~FirmSession() override;
@@ -40,6 +37,8 @@ class FirmSession final : private FIX::Application,
     void tick();
     void deliver(const Delivery &delivery);
     bool is_settling() const { return settling_; }
+    // Since it was attached.
+    bool has_logged_on() const { return has_logged_on_; }
     // Ends the connection, if there is one.
     void shut();
     // Logs out, at the next tick.
@@ -49,7 +48,8 @@ class FirmSession final : private FIX::Application,
 
   private:
     void take_logon(const FIX::Message &message);
-    void take_resend_request(FIX::Message message);
+    void take_resend_request(FIX::Message message, Connection &connection);
+    Connection &own_connection();
     void take_application(const FIX::Message &message, const std::string &bytes);
     std::string refusal_of(const FIX::Message &logon);
     void refuse(const std::string &why);
@@ -67,12 +67,6 @@ class FirmSession final : private FIX::Application,
     void fromApp(const FIX::Message &, const FIX::SessionID &) throw(
         FIX::FieldNotFound, FIX::IncorrectDataFormat, FIX::IncorrectTagValue,
         FIX::UnsupportedMessageType) override;
-    // FIX::MessageStoreFactory
-    FIX::MessageStore *create(const FIX::SessionID &) override { return &store_; }
-    void destroy(FIX::MessageStore *) override {}
-    // FIX::LogFactory
-    FIX::Log *create() override { return this; }
-    void destroy(FIX::Log *) override {}
     // FIX::Log
     void clear() override {}
     void backup() override {}
@@ -80,7 +74,16 @@ class FirmSession final : private FIX::Application,
     void onOutgoing(const std::string &) override {}
     void onEvent(const std::string &text) override;
 
-    // QuickFIX has two factories with a create() of a session's name; this one is the log's.
+    // QuickFIX asks a factory for what stands here already.
+    class Stores final : public FIX::MessageStoreFactory {
+      public:
+        explicit Stores(FIX::MessageStore &store) : store_(store) {}
+        FIX::MessageStore *create(const FIX::SessionID &) override { return &store_; }
+        void destroy(FIX::MessageStore *) override {}
+
+      private:
+        FIX::MessageStore &store_;
+    };
     class Logs final : public FIX::LogFactory {
       public:
         explicit Logs(FIX::Log &log) : log_(log) {}
@@ -96,7 +99,10 @@ class FirmSession final : private FIX::Application,
     const EngineSettings &settings_;
     SessionHost &host_;
     SessionStore store_;
+    Stores stores_{store_};
+    Logs logs_{*this};
     std::atomic<bool> settling_{false};
+    std::atomic<bool> has_logged_on_{false};
     unsigned logons_ = 0;
 
     std::mutex mutex_;
