@@ -12,8 +12,14 @@ namespace gateway {
 
 namespace {
 
-// The answer to this TestRequest tells that a firm that has logged on has filled its gap.
+using Clock = std::chrono::steady_clock;
+
+// The answer to this TestRequest tells that a firm that has logged on has filled its gap. It is waited for
+// so long, and longer once the firm has asked for a gap: a stock engine that is sent a Reject while it
+// fills one counts wrong.
 const std::string settle = "MIRESEASON-";
+constexpr auto settling = std::chrono::seconds(1);
+constexpr auto filling = std::chrono::seconds(30);
 
 // Resent at once: so much of a firm's day is in memory at a time.
 constexpr int resent_at_once = 500;
@@ -97,7 +103,7 @@ bool FirmSession::attach(Connection &connection) {
 void FirmSession::detach(Connection &connection) {
     // Takes the connection away from the engine, under the engine's own lock, and tells onLogout().
     session_->disconnect();
-    settling_ = false;
+    settled_at_ = Clock::time_point();
     ahead_.clear();
     const std::lock_guard<std::mutex> lock(mutex_);
     if (connection_ == &connection) {
@@ -210,6 +216,9 @@ void FirmSession::take_resend_request(FIX::Message message, Connection &connecti
         next(message);
         return;
     }
+    if (is_settling()) {
+        settled_at_ = Clock::now() + filling;
+    }
     const int last = asked == 0 ? last_sent : std::min(asked, last_sent);
     bool there = true;
     for (int from = first; there && from <= last; from += resent_at_once) {
@@ -245,6 +254,8 @@ void FirmSession::take_application(const FIX::Message &message, const std::strin
 
 void FirmSession::tick() { session_->next(); }
 
+bool FirmSession::is_settling() const { return Clock::now() < settled_at_.load(); }
+
 void FirmSession::deliver(const Delivery &delivery) {
     FIX::Message message;
     message.getHeader().setField(FIX::MsgType(delivery.type));
@@ -266,7 +277,7 @@ void FirmSession::onLogon(const FIX::SessionID &) {
 }
 
 void FirmSession::onLogout(const FIX::SessionID &) {
-    settling_ = false;
+    settled_at_ = Clock::time_point();
     host_.logged_off(firm_);
 }
 
@@ -296,11 +307,11 @@ void FirmSession::fromAdmin(const FIX::Message &message, const FIX::SessionID &)
     const std::string type = text_in(message.getHeader(), FIX::FIELD::MsgType);
     if (type == "A") {
         ++logons_;
-        settling_ = true;
+        settled_at_ = Clock::now() + settling;
         has_logged_on_ = true;
     } else if (type == "0" &&
                text_in(message, FIX::FIELD::TestReqID) == settle + std::to_string(logons_)) {
-        settling_ = false;
+        settled_at_ = Clock::time_point();
     }
 }
 

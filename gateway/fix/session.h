@@ -9,6 +9,7 @@
 #include <quickfix/Session.h>
 
 #include <atomic>
+#include <chrono>
 #include <mutex>
 #include <set>
 
@@ -36,7 +37,8 @@ class FirmSession final : private FIX::Application, private FIX::Log {
     // Heartbeats, and what else time brings about.
     void tick();
     void deliver(const Delivery &delivery);
-    bool is_settling() const { return settling_; }
+    // Between a Logon and the answer to the TestRequest behind it the firm may be filling a gap.
+    bool is_settling() const;
     // Since it was attached.
     bool has_logged_on() const { return has_logged_on_; }
     // Ends the connection, if there is one.
@@ -101,7 +103,7 @@ class FirmSession final : private FIX::Application, private FIX::Log {
     SessionStore store_;
     Stores stores_{store_};
     Logs logs_{*this};
-    std::atomic<bool> settling_{false};
+    std::atomic<std::chrono::steady_clock::time_point> settled_at_{};
     std::atomic<bool> has_logged_on_{false};
     unsigned logons_ = 0;
 

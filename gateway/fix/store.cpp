@@ -14,32 +14,32 @@ const std::string marks_body = "\x01"
 // `10=`, three digits and SOH.
 constexpr std::size_t trailer = 7;
 
-std::string type_of(const std::string &bytes) {
-    const std::size_t begin = bytes.find("\x01"
-                                         "35=");
+// The value behind `TAG=` in a header, empty without one.
+std::string value_in(const std::string &bytes, const std::string &field) {
+    const std::size_t begin = bytes.find("\x01" + field);
     if (begin == std::string::npos) {
         return {};
     }
-    return bytes.substr(begin + 4, bytes.find('\x01', begin + 1) - begin - 4);
-}
-
-std::string time_of(const std::string &bytes) {
-    const std::size_t begin = bytes.find("\x01"
-                                         "52=");
-    if (begin == std::string::npos) {
-        return {};
-    }
-    return bytes.substr(begin + 4, bytes.find('\x01', begin + 1) - begin - 4);
+    const std::size_t value = begin + 1 + field.size();
+    return bytes.substr(value, bytes.find('\x01', value) - value);
 }
 
 // The header alone, for the engine's resend: it asks for the type, the number and the time. A message of
 // the venue gets a type that the engine sends again whatever its own is: a Reject would be left out.
-std::string header_for_resend(const StoredMessage &message) {
-    return "8=FIXT.1.1\x01"
-           "9=0\x01"
-           "35=" +
-           std::string(message.carries ? "U" : "0") + "\x01" + "34=" + std::to_string(message.number) +
-           "\x01" + "52=" + time_of(message.bytes) + "\x01" + "10=000\x01";
+std::string header_for_resend(const std::string &firm, const StoredMessage &message) {
+    std::string header;
+    const auto add = [&header](const char *field, const std::string &value) {
+        header.append(field).append(value).append("\x01");
+    };
+    add("8=", "FIXT.1.1");
+    add("9=", "0");
+    add("35=", message.carries ? "U" : "0");
+    add("34=", std::to_string(message.number));
+    add("49=", "VENUE");
+    add("52=", value_in(message.bytes, "52="));
+    add("56=", firm);
+    add("10=", "000");
+    return header;
 }
 
 } // namespace
@@ -73,11 +73,11 @@ void SessionStore::get(int first, int last, std::vector<std::string> &messages) 
         for (const StoredMessage &message :
              host_.stored_messages(firm_, static_cast<std::uint32_t>(first),
                                    static_cast<std::uint32_t>(last))) {
-            messages.push_back(header_for_resend(message));
+            messages.push_back(header_for_resend(firm_, message));
             const std::size_t body = message.bytes.find(marks_body);
             if (message.carries && body != std::string::npos) {
                 read_[static_cast<int>(message.number)] = {
-                    type_of(message.bytes),
+                    value_in(message.bytes, "35="),
                     message.bytes.substr(body + 1, message.bytes.size() - body - 1 - trailer)};
             }
         }

@@ -20,6 +20,9 @@ using namespace std::chrono_literals;
 // Rows of `sent` that are read at once for the comparison.
 constexpr std::uint32_t chunk = 512;
 
+// Milliseconds by which a sweep is late where messages never cease.
+constexpr int latest_sweep = 1000;
+
 // How long the venue has to answer what came, at the end.
 constexpr auto longest_end = 10s;
 
@@ -103,7 +106,10 @@ Gateway::Gateway(Config config, std::shared_ptr<spdlog::logger> events)
     for (auto &[name, firm] : firms_) {
         firm.mailbox =
             std::make_unique<Mailbox>(name, *engine_, config_.waiting_messages,
-                                      [this](const std::string &cause) { fail(cause); });
+                                      [this](const std::string &cause) {
+                                          const std::string log = log_->failure();
+                                          fail(log.empty() ? cause : log);
+                                      });
     }
     Venue::Settings settings{config_.command, config_.configuration, config_.venue_starts};
     VenueListener &listener = *this;
@@ -308,30 +314,39 @@ std::optional<std::string> Gateway::run() {
     return failure_;
 }
 
-// A sweep is committed when a deadline has come, and the next one is looked at when it is answered.
+// A sweep is committed when a deadline has come, behind the entry whose mark told it: what came since may
+// have ended the request. Where messages come so fast that there is always one, it is committed all the
+// same, a little late.
 void Gateway::watch_clock(std::stop_token stop) {
-    std::uint32_t swept = 0;
     std::unique_lock lock(mutex_);
     while (!stop.stop_requested()) {
-        if (!deadline_ || answered_ < swept) {
-            changed_.wait(lock, stop, [&] { return deadline_ && answered_ >= swept; });
+        if (!deadline_) {
+            changed_.wait(lock, stop, [&] { return deadline_.has_value(); });
             continue;
         }
         const Moment deadline = *deadline_;
-        const auto left = clock_.until(deadline);
-        if (left > 0ms) {
-            changed_.wait_for(lock, stop, left, [&] { return deadline_ != deadline; });
+        const std::uint32_t answered = answered_;
+        const auto news = [&] { return answered_ != answered || deadline_ != deadline; };
+        if (const auto left = clock_.until(deadline); left > 0ms) {
+            changed_.wait_for(lock, stop, left, news);
             continue;
         }
         lock.unlock();
+        const bool late = clock_.now().milliseconds - deadline.milliseconds >= latest_sweep;
         try {
-            log_->append_clock();
+            if (late) {
+                log_->append_clock();
+            } else if (!log_->append_clock_behind(answered)) {
+                lock.lock();
+                changed_.wait_for(lock, stop, 10ms, news);
+                continue;
+            }
         } catch (const std::exception &) {
             return; // The log has told it.
         }
-        const std::uint32_t last = log_->last_place();
+        const std::uint32_t swept = log_->last_place();
         lock.lock();
-        swept = last;
+        changed_.wait(lock, stop, [&] { return answered_ >= swept; });
     }
 }
 

@@ -40,10 +40,26 @@ Log::Ticket Log::append_message(const std::string &firm, std::optional<std::uint
 
 Log::Ticket Log::append_clock() { return append(Entry{}, "clock ", ""); }
 
+bool Log::append_clock_behind(std::uint32_t place) {
+    const auto now = std::chrono::steady_clock::now();
+    std::unique_lock lock(mutex_);
+    wait_for_room(lock);
+    if (next_place_ != place + 1) {
+        return false;
+    }
+    append_here(Entry{}, "clock ", "", now);
+    return true;
+}
+
 Log::Ticket Log::append(Entry entry, std::string_view verb, std::string_view rest) {
     const auto received = std::chrono::steady_clock::now();
     std::unique_lock lock(mutex_);
     wait_for_room(lock);
+    return append_here(std::move(entry), verb, rest, received);
+}
+
+Log::Ticket Log::append_here(Entry entry, std::string_view verb, std::string_view rest,
+                             std::chrono::steady_clock::time_point received) {
     entry.place = next_place_++;
     // Under the lock, so that places and moments rise together.
     entry.moment = text_of(clock_.now());
@@ -126,9 +142,9 @@ std::uint32_t Log::last_place() {
     return next_place_ - 1;
 }
 
-std::size_t Log::waiting() {
+std::string Log::failure() {
     const std::lock_guard lock(mutex_);
-    return filling_.size;
+    return failure_;
 }
 
 void Log::wait_for_room(std::unique_lock<std::mutex> &lock) {

@@ -50,7 +50,9 @@ class Log {
     // nothing where the gateway speaks for the firm.
     Ticket append_message(const std::string &firm, std::optional<std::uint32_t> number,
                           std::string_view frame);
-    // A sweep of the clock, at the moment of now.
+    // A sweep of the clock, at the moment of now, if this place is the last one. Whether it was.
+    bool append_clock_behind(std::uint32_t place);
+    // A sweep of the clock, whatever came.
     Ticket append_clock();
 
     // A message of a session, with the venue's message that it carries.
@@ -69,7 +71,8 @@ class Log {
 
     std::uint32_t last_place();
 
-    std::size_t waiting();
+    // Why nothing is written any more; empty where it is.
+    std::string failure();
 
   private:
     struct Filling {
@@ -79,6 +82,9 @@ class Log {
     };
 
     Ticket append(Entry entry, std::string_view verb, std::string_view rest);
+    // The lock is held.
+    Ticket append_here(Entry entry, std::string_view verb, std::string_view rest,
+                       std::chrono::steady_clock::time_point received);
     // Waits for room; the lock is held before and behind.
     void wait_for_room(std::unique_lock<std::mutex> &lock);
     void throw_if_failed() const;

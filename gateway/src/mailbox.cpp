@@ -4,14 +4,7 @@
 
 namespace gateway {
 
-namespace {
-
 using namespace std::chrono_literals;
-
-// A firm that logs on has so long to fill its gap before it is sent what is new.
-constexpr auto longest_settling = 5s;
-
-} // namespace
 
 Mailbox::Mailbox(std::string firm, Engine &engine, std::size_t limit,
                  std::function<void(const std::string &)> failed)
@@ -66,9 +59,7 @@ void Mailbox::run(const std::stop_token &stop) {
 }
 
 void Mailbox::wait_while_settling(std::unique_lock<std::mutex> &lock, const std::stop_token &stop) {
-    const auto latest = std::chrono::steady_clock::now() + longest_settling;
-    while (engine_.is_settling(firm_) && !stop.stop_requested() && waiting_.size() < limit_ / 2 &&
-           std::chrono::steady_clock::now() < latest) {
+    while (engine_.is_settling(firm_) && !stop.stop_requested() && waiting_.size() < limit_ / 2) {
         lock.unlock();
         std::this_thread::sleep_for(2ms);
         lock.lock();

@@ -339,8 +339,10 @@ class Sqlite final : public Database {
             execute(connection_.get(), text.c_str());
         }
         Statement form(connection_.get(), "SELECT number FROM form");
-        if (!form.step() || form.number(0) != 1) {
-            throw std::runtime_error(fmt::format("{} has tables of another form", path));
+        const std::uint32_t number = form.step() ? form.number(0) : 0;
+        if (number != 1) {
+            throw std::runtime_error(
+                fmt::format("{} has tables of form {}, and this gateway's are of form 1", path, number));
         }
     }
 
