@@ -229,6 +229,17 @@ void FirmSession::take_resend_request(FIX::Message message, Connection &connecti
         connection.drain();
         there = session_->isLoggedOn();
     }
+    if (there && is_settling()) {
+        // The one behind the Logon was part of the gap, and is left out of it like all of the session's.
+        ask_whether_settled();
+    }
+}
+
+void FirmSession::ask_whether_settled() {
+    FIX::Message request;
+    request.getHeader().setField(FIX::MsgType(FIX::MsgType_TestRequest));
+    request.setField(FIX::TestReqID(settle + std::to_string(++questions_)));
+    session_->send(request);
 }
 
 void FirmSession::take_application(const FIX::Message &message, const std::string &bytes) {
@@ -270,10 +281,7 @@ void FirmSession::deliver(const Delivery &delivery) {
 
 void FirmSession::onLogon(const FIX::SessionID &) {
     host_.logged_on(firm_);
-    FIX::Message request;
-    request.getHeader().setField(FIX::MsgType(FIX::MsgType_TestRequest));
-    request.setField(FIX::TestReqID(settle + std::to_string(logons_)));
-    session_->send(request);
+    ask_whether_settled();
 }
 
 void FirmSession::onLogout(const FIX::SessionID &) {
@@ -306,11 +314,10 @@ void FirmSession::fromAdmin(const FIX::Message &message, const FIX::SessionID &)
     FIX::FieldNotFound, FIX::IncorrectDataFormat, FIX::IncorrectTagValue, FIX::RejectLogon) {
     const std::string type = text_in(message.getHeader(), FIX::FIELD::MsgType);
     if (type == "A") {
-        ++logons_;
         settled_at_ = Clock::now() + settling;
         has_logged_on_ = true;
     } else if (type == "0" &&
-               text_in(message, FIX::FIELD::TestReqID) == settle + std::to_string(logons_)) {
+               text_in(message, FIX::FIELD::TestReqID) == settle + std::to_string(questions_)) {
         settled_at_ = Clock::time_point();
     }
 }

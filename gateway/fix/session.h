@@ -55,6 +55,7 @@ class FirmSession final : private FIX::Application, private FIX::Log {
     void take_application(const FIX::Message &message, const std::string &bytes);
     std::string refusal_of(const FIX::Message &logon);
     void refuse(const std::string &why);
+    void ask_whether_settled();
     void next(const FIX::Message &message);
 
     // FIX::Application
@@ -105,7 +106,7 @@ class FirmSession final : private FIX::Application, private FIX::Log {
     Logs logs_{*this};
     std::atomic<std::chrono::steady_clock::time_point> settled_at_{};
     std::atomic<bool> has_logged_on_{false};
-    unsigned logons_ = 0;
+    unsigned questions_ = 0; // of the connection's thread
 
     std::mutex mutex_;
     Connection *connection_ = nullptr;
