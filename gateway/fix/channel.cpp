@@ -139,6 +139,14 @@ Channel::Progress Channel::write(const char *bytes, std::size_t size, std::size_
     return ended(std::strerror(errno));
 }
 
+std::size_t Channel::write_at_once(const char *bytes, std::size_t size) const {
+    if (tls_) {
+        return 0;
+    }
+    const ssize_t result = ::send(socket_.number(), bytes, size, MSG_DONTWAIT | MSG_NOSIGNAL);
+    return result > 0 ? static_cast<std::size_t>(result) : 0;
+}
+
 void Channel::shut() { ::shutdown(socket_.number(), SHUT_RDWR); }
 
 std::string Channel::common_name() const {

@@ -64,8 +64,14 @@ bool Connection::send(const std::string &bytes) {
         if (shut_) {
             return false;
         }
-        waiting_ += bytes;
-        unwritten_ += bytes.size();
+        // Where nothing waits, no other thread writes.
+        const std::size_t written =
+            unwritten_ == 0 ? channel_.write_at_once(bytes.data(), bytes.size()) : 0;
+        if (written == bytes.size()) {
+            return true;
+        }
+        waiting_.append(bytes, written, std::string::npos);
+        unwritten_ += bytes.size() - written;
         full = unwritten_ > settings_.waiting_bytes;
     }
     if (is_own_thread()) {

@@ -66,4 +66,28 @@ Cutter::Result Cutter::next(std::string &message) {
     }
 }
 
+bool is_frame(const std::string &message) {
+    static const std::string begin = "8=FIXT.1.1\x01"
+                                     "9=";
+    constexpr std::size_t trailer = 7; // `10=`, three digits and SOH
+    if (message.compare(0, begin.size(), begin) != 0 || message.size() < begin.size() + trailer) {
+        return false;
+    }
+    const std::size_t end = message.find(soh, begin.size());
+    const std::size_t body = end + 1;
+    const std::size_t sum_at = message.size() - trailer;
+    std::size_t length = 0;
+    if (end == std::string::npos || body > sum_at ||
+        !read_length(message, begin.size(), end, length) || length != sum_at - body ||
+        message.compare(body, 3, "35=") != 0 || message.compare(sum_at, 3, "10=") != 0) {
+        return false;
+    }
+    unsigned sum = 0;
+    for (std::size_t at = 0; at < sum_at; ++at) {
+        sum += static_cast<unsigned char>(message[at]);
+    }
+    std::size_t told = 0;
+    return read_length(message, sum_at + 3, message.size() - 1, told) && told == sum % 256;
+}
+
 } // namespace gateway

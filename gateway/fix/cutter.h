@@ -28,6 +28,9 @@ class Cutter {
     std::string kept_;
 };
 
+// Whether what was cut is a frame: 8=FIXT.1.1, the length and the sum are right, and 35 stands third.
+bool is_frame(const std::string &message);
+
 } // namespace gateway
 
 #endif

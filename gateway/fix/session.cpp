@@ -1,6 +1,7 @@
 #include "session.h"
 
 #include "connection.h"
+#include "cutter.h"
 
 #include <quickfix/DataDictionaryProvider.h>
 #include <quickfix/TimeRange.h>
@@ -37,8 +38,6 @@ std::string text_in(const FIX::FieldMap &fields, int tag) {
 // What the session itself looks at. All other fields are the venue's to judge.
 bool is_of_session(int tag) {
     switch (tag) {
-    case FIX::FIELD::BeginString:
-    case FIX::FIELD::BodyLength:
     case FIX::FIELD::MsgType:
     case FIX::FIELD::SenderCompID:
     case FIX::FIELD::TargetCompID:
@@ -135,7 +134,10 @@ void FirmSession::log_out(const std::string &reason) {
 void FirmSession::take(const std::string &bytes) {
     FIX::Message message;
     try {
-        message.setString(bytes, true);
+        if (!is_frame(bytes)) {
+            throw FIX::InvalidMessage("no frame of FIXT.1.1");
+        }
+        message.setString(bytes, false);
     } catch (const FIX::InvalidMessage &fault) {
         host_.dropped("no message", firm_ + ": " + fault.what());
         return;
@@ -254,6 +256,8 @@ void FirmSession::take_application(const FIX::Message &message, const std::strin
         ahead_.insert(number);
     }
     FIX::Message light;
+    // The first one: another in the body is no matter of the session.
+    light.getHeader().setField(FIX::BeginString(bytes.substr(2, bytes.find('\x01') - 2)));
     for (const FIX::FieldBase &field : header) {
         if (is_of_session(field.getTag())) {
             light.getHeader().setField(field, false);

@@ -212,7 +212,7 @@ void Gateway::start() {
     const std::uint32_t last = log_->last_place();
     {
         std::unique_lock lock(mutex_);
-        changed_.wait(lock, [&] { return answered_ >= last || stopping_; });
+        changed_.wait(lock, [&] { return has_answered(last) || stopping_; });
         if (stopping_) {
             return;
         }
@@ -301,7 +301,7 @@ std::optional<std::string> Gateway::run() {
     const std::uint32_t last = log_->last_place();
     {
         std::unique_lock lock(mutex_);
-        changed_.wait_for(lock, longest_end, [&] { return answered_ >= last || failure_; });
+        changed_.wait_for(lock, longest_end, [&] { return has_answered(last) || failure_; });
     }
     for (auto &[name, firm] : firms_) {
         firm.mailbox->wait_until_empty();
@@ -325,7 +325,7 @@ void Gateway::watch_clock(std::stop_token stop) {
             continue;
         }
         const Moment deadline = *deadline_;
-        const std::uint32_t answered = answered_;
+        const auto answered = answered_;
         const auto news = [&] { return answered_ != answered || deadline_ != deadline; };
         if (const auto left = clock_.until(deadline); left > 0ms) {
             changed_.wait_for(lock, stop, left, news);
@@ -336,7 +336,7 @@ void Gateway::watch_clock(std::stop_token stop) {
         try {
             if (late) {
                 log_->append_clock();
-            } else if (!log_->append_clock_behind(answered)) {
+            } else if (!log_->append_clock_behind(answered.value_or(0))) {
                 lock.lock();
                 changed_.wait_for(lock, stop, 10ms, news);
                 continue;
@@ -346,7 +346,7 @@ void Gateway::watch_clock(std::stop_token stop) {
         }
         const std::uint32_t swept = log_->last_place();
         lock.lock();
-        changed_.wait(lock, stop, [&] { return answered_ >= swept; });
+        changed_.wait(lock, stop, [&] { return has_answered(swept); });
     }
 }
 
@@ -469,7 +469,7 @@ void Gateway::venue_starts() {
     }
     log_->flush();
     const std::lock_guard lock(mutex_);
-    answered_ = 0;
+    answered_.reset();
     deadline_.reset();
 }
 

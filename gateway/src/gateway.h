@@ -64,6 +64,8 @@ class Gateway final : private SessionHost, private VenueListener {
     void cancel_all_of(const std::string &name, Firm &firm);
     void watch_clock(std::stop_token stop);
     void fail(const std::string &cause);
+    // mutex_ is held.
+    bool has_answered(std::uint32_t place) const { return answered_ && *answered_ >= place; }
     Firm &firm_of(const std::string &name);
     std::vector<SessionStart> session_starts() const;
 
@@ -106,7 +108,8 @@ class Gateway final : private SessionHost, private VenueListener {
 
     std::mutex mutex_;
     std::condition_variable_any changed_;
-    std::uint32_t answered_ = 0; // the last place that the venue answered
+    // The last place that the venue's process answered; 0 when it has read its configuration.
+    std::optional<std::uint32_t> answered_;
     std::optional<Moment> deadline_;
     bool stopping_ = false;
     std::string stop_cause_;

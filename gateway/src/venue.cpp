@@ -244,6 +244,7 @@ void Venue::take_mark(std::string_view line) {
     }
     answered_lines_ = expected;
     if (answered_lines_ == lines_before_) {
+        listener_.venue_answered(0, std::nullopt);
         return;
     }
     std::optional<Moment> deadline;

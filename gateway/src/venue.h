@@ -30,6 +30,7 @@ class VenueListener {
     virtual void venue_gave(std::uint32_t place, std::uint32_t number, std::string firm,
                             std::string frame) = 0;
     // All messages for this entry were given. deadline is the earliest of a request, if there is one.
+    // Place 0: the configuration was read.
     virtual void venue_answered(std::uint32_t place, std::optional<Moment> deadline) = 0;
     // The venue is no more, for this cause. Told once.
     virtual void venue_failed(const std::string &cause) = 0;
