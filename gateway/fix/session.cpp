@@ -148,9 +148,19 @@ void FirmSession::take(const std::string &bytes) {
     } else if (type == "2") {
         take_resend_request(std::move(message), own_connection());
     } else if (message.isAdmin()) {
+        look_for_answer(type, message);
         next(message);
     } else {
         take_application(message, bytes);
+    }
+}
+
+// The answer tells it whatever its own number is: while the firm's messages have a gap too, the engine keeps
+// the answer, and may be told to leave it out.
+void FirmSession::look_for_answer(const std::string &type, const FIX::Message &message) {
+    if (type == "0" && session_->isLoggedOn() &&
+        text_in(message, FIX::FIELD::TestReqID) == settle + std::to_string(questions_)) {
+        settled_at_ = Clock::time_point();
     }
 }
 
@@ -320,9 +330,6 @@ void FirmSession::fromAdmin(const FIX::Message &message, const FIX::SessionID &)
     if (type == "A") {
         settled_at_ = Clock::now() + settling;
         has_logged_on_ = true;
-    } else if (type == "0" &&
-               text_in(message, FIX::FIELD::TestReqID) == settle + std::to_string(questions_)) {
-        settled_at_ = Clock::time_point();
     }
 }
 

@@ -56,6 +56,7 @@ class FirmSession final : private FIX::Application, private FIX::Log {
     std::string refusal_of(const FIX::Message &logon);
     void refuse(const std::string &why);
     void ask_whether_settled();
+    void look_for_answer(const std::string &type, const FIX::Message &message);
     void next(const FIX::Message &message);
 
     // FIX::Application

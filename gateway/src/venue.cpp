@@ -4,6 +4,7 @@
 
 #include <algorithm>
 #include <stdexcept>
+#include <utility>
 
 #include <fmt/format.h>
 
@@ -271,22 +272,28 @@ void Venue::take_mark(std::string_view line) {
 
 void Venue::listen_to_errors(Process &process) {
     std::string line;
-    for (;;) {
-        const std::string bytes = process.read_errors();
-        if (bytes.empty()) {
-            return;
+    for (std::string bytes = process.read_errors(); !bytes.empty(); bytes = process.read_errors()) {
+        line += bytes;
+        for (std::size_t end = line.find('\n'); end != std::string::npos; end = line.find('\n')) {
+            take_words(line.substr(0, end));
+            line.erase(0, end + 1);
         }
-        for (const char c : bytes) {
-            if (c != '\n') {
-                line += c;
-                continue;
-            }
-            events_->warn("venue said=\"{}\"", line);
-            const std::lock_guard lock(mutex_);
-            last_words_ = (last_words_ + (last_words_.empty() ? "" : " / ") + line)
-                              .substr(0, longest_words);
-            line.clear();
+        // A line without an end is told in pieces.
+        if (line.size() > longest_words) {
+            take_words(std::exchange(line, {}));
         }
+    }
+    if (!line.empty()) {
+        take_words(line);
+    }
+}
+
+void Venue::take_words(const std::string &line) {
+    events_->warn("venue said=\"{}\"", line);
+    const std::lock_guard lock(mutex_);
+    last_words_ += last_words_.empty() ? line : " / " + line;
+    if (last_words_.size() > longest_words) {
+        last_words_.erase(0, last_words_.size() - longest_words);
     }
 }
 

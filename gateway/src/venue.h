@@ -77,6 +77,7 @@ class Venue {
     void take_line(std::string_view line);
     void take_mark(std::string_view line);
     void listen_to_errors(Process &process);
+    void take_words(const std::string &line);
     bool may_start();
 
     Settings settings_;
