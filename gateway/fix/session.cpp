@@ -124,8 +124,8 @@ void FirmSession::shut() {
 }
 
 void FirmSession::log_out(const std::string &reason) {
-    session_->logout(reason);
     const std::lock_guard<std::mutex> lock(mutex_);
+    farewell_ = reason;
     if (connection_ != nullptr) {
         connection_->wake();
     }
@@ -277,7 +277,17 @@ void FirmSession::take_application(const FIX::Message &message, const std::strin
     next(light);
 }
 
-void FirmSession::tick() { session_->next(); }
+void FirmSession::tick() {
+    std::string farewell;
+    {
+        const std::lock_guard<std::mutex> lock(mutex_);
+        farewell.swap(farewell_);
+    }
+    if (!farewell.empty()) {
+        session_->logout(farewell);
+    }
+    session_->next();
+}
 
 bool FirmSession::is_settling() const { return Clock::now() < settled_at_.load(); }
 

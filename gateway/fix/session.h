@@ -111,6 +111,7 @@ class FirmSession final : private FIX::Application, private FIX::Log {
 
     std::mutex mutex_;
     Connection *connection_ = nullptr;
+    std::string farewell_; // why the session is to be logged out, until it is
     std::set<int> ahead_; // numbers that came while an earlier one is missing
 
     std::unique_ptr<FIX::Session> session_;
