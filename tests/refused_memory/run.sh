@@ -76,32 +76,29 @@ refuse_each() {
     echo "$name: $calls calls refused in turn, $refused runs ended with memory, $whole with the whole output"
 }
 
-# refuse_in_test CRATE TEST PASSES: refuses each call of one built test in turn. It has to pass where PASSES is `always`:
-# such a test looks at what a refused call left, and makes the call again. Else it may end with an error of memory too.
+# refuse_in_test TEST: refuses each call of one built test of venue_tests in turn. It has to pass each time: such a test
+# looks at what a refused call left, and makes the call again.
 refuse_in_test() {
-    tests=$root/crates/$1/out/$1_tests
+    tests=$root/crates/venue_tests/out/venue_tests_tests
     if [ ! -x "$tests" ]; then
-        echo "there are no built tests of $1: run 'rt test' in crates/$1 first" >&2
+        echo "there are no built tests: run 'rt test' in crates/venue_tests first" >&2
         exit 2
     fi
-    if ! REFUSE_COUNT=$work/count LD_PRELOAD=$library "$tests" "$2" >"$work/out" 2>"$work/err"; then
-        fail "$1, $2" none "the test fails with nothing refused"
+    if ! REFUSE_COUNT=$work/count LD_PRELOAD=$library "$tests" "$1" >"$work/out" 2>"$work/err"; then
+        fail "$1" none "the test fails with nothing refused"
     fi
     calls=$(cat "$work/count")
-    passed=0
     call=1
     while [ "$call" -le "$calls" ]; do
-        if REFUSE_CALL=$call LD_PRELOAD=$library "$tests" "$2" >"$work/out" 2>"$work/err"; then
-            passed=$((passed + 1))
-        elif [ "$3" = always ] || ! grep -qxE 'error: (AllocError|Memory)' "$work/err"; then
-            fail "$1, $2" "$call" "the test fails"
+        if ! REFUSE_CALL=$call LD_PRELOAD=$library "$tests" "$1" >"$work/out" 2>"$work/err"; then
+            fail "$1" "$call" "the test fails"
         fi
         call=$((call + 1))
     done
     if [ "$calls" = 0 ]; then
-        fail "$1, $2" any "the test takes no memory, so nothing was refused"
+        fail "$1" any "the test takes no memory, so nothing was refused"
     fi
-    echo "$1, $2: $calls calls refused in turn, $passed runs passed, $((calls - passed)) ended with an error of memory"
+    echo "$1: $calls calls refused in turn, and the test passed each time"
 }
 
 # What frames and help have to be is what the program prints with all its memory.
@@ -147,21 +144,12 @@ refuse_each "--help" /dev/null "$work/help" --help
 "$program" --version </dev/null >"$work/version"
 refuse_each "--version" /dev/null "$work/version" --version
 
-refuse_in_test dealer_desk_tests calls::memory::a_refused_call_leaves_the_desk always
-refuse_in_test dealer_desk_tests calls::drops::a_refused_drop_leaves_the_desk always
-refuse_in_test investor_desk_tests calls::memory::a_refused_call_leaves_the_desk always
-for test in a_refused_call_leaves_the_room a_refused_pass_leaves_the_room a_refused_expiry_leaves_the_room \
-    a_hundred_posts_are_refused_in_turn; do
-    refuse_in_test request_room_tests "rooms::memory::$test" always
-done
-refuse_in_test venue_steps_tests memory::a_refused_step_leaves_its_place always
-refuse_in_test quote_messages_tests written_to_dealers::refused_memory_changes_no_answer always
-for test in a_refused_piece_is_fed_again a_refused_piece_with_a_fault_is_fed_again; do
-    refuse_in_test fix_fields_tests "memory::$test" always
-done
-refuse_in_test fix_fields_tests writing::a_quote_is_written sometimes
-refuse_in_test fix_fields_tests frames::the_longest_frame sometimes
-refuse_in_test quote_word_tests limits::refused_memory_is_asked_for_again always
-for test in the_example_has_its_rows a_copy_has_the_same_rows; do
-    refuse_in_test venue_config_tests "values::$test" sometimes
+for test in frames::a_refused_configuration_is_read_again frames::a_refused_frame_is_written_again \
+    dealers::a_refused_call_leaves_the_desk dealers::a_refused_drop_leaves_the_desk \
+    investors::a_refused_call_leaves_the_desk rooms::a_refused_call_leaves_the_room \
+    rooms::a_hundred_posts_are_refused_in_turn steps::a_refused_step_leaves_its_place \
+    streams::a_refused_piece_is_fed_again streams::a_refused_piece_with_a_fault_is_fed_again \
+    texts::a_refused_message_is_written_again texts::a_refused_blotter_is_written_again \
+    texts::refused_steps_are_read_again words::refused_memory_is_asked_for_again; do
+    refuse_in_test "memory::$test"
 done

@@ -24,7 +24,8 @@
 //! - `case NAME`: its calls, each with the lines of its answer below it, each behind `> `; `>` alone
 //!   is an empty line.
 //!
-//! A [`Place`] makes the calls, one by one. A case has passed where each call answered exactly the
+//! A [`Place`] makes the calls, one by one, and is new for each case. What makes calls and is no place,
+//! since it holds a handle of the process, goes over the lines itself: [`Running`]. A case has passed where each call answered exactly the
 //! lines that stand below it. A call that could not be made is never one that passed.
 #![tactic(auto)]
 
@@ -40,7 +41,7 @@ mod words;
 pub use bytes::{bytes_of, piped_bytes_of, push_bytes, push_text};
 pub use faults::CaseFault;
 pub use frames::{day, frame_of};
-pub use place::{Driver, Place};
+pub use place::Place;
 pub use report::Report;
-pub use run::{place_of, run_driver, run_file};
+pub use run::{Running, Step, place_of, run_file, text_of_cases};
 pub use words::Words;

@@ -1,7 +1,7 @@
 //! A file of cases is run.
 use crate::expanded::expanded;
 use crate::faults::CaseFault;
-use crate::place::{Driver, EachNew, Place};
+use crate::place::Place;
 use crate::report::Report;
 use std::alloc::Global;
 
@@ -15,9 +15,21 @@ enum Stage {
     Failed,
 }
 
-/// The case that is run.
+/// What a line asks of who makes the calls.
+#[derive(Clone, Copy, Debug, PartialEq, Eq)]
+pub enum Step<'a> {
+    /// Nothing.
+    Nothing,
+    /// A case begins: nothing is left of the case before it.
+    Begin,
+    /// This call is made: its answer goes to [`Running::answer`], and a fault to
+    /// [`Running::fail`].
+    Call(&'a str),
+}
+
+/// A file of cases that is run line by line, by whoever makes its calls.
 #[derive(Drop)]
-struct Running<'a> {
+pub struct Running<'a> {
     stage: Stage,
     name: &'a str,
     /// The last call, empty before the first one, and why it could not be made.
@@ -34,93 +46,113 @@ pub fn place_of(file: &str) -> Option<&str> {
 
 /// Runs the cases of a file, each with a new place.
 pub fn run_file<P: Place>(alloc: Global, file: &str, report: &mut Report) -> Result<(), CaseFault> {
-    let mut each = EachNew::<P> { place: None };
-    run_driver(alloc, file, &mut each, report)
-}
-
-/// Runs the cases of a file.
-pub fn run_driver<D: Driver>(
-    alloc: Global,
-    file: &str,
-    driver: &mut D,
-    report: &mut Report,
-) -> Result<(), CaseFault> {
-    let mut at = String::new(alloc);
-    let text = match expanded(alloc, file, &mut at) {
-        Ok(text) => text,
-        Err(fault) => {
-            report.refuse(at.as_str(), fault.word())?;
-            return Ok(());
-        }
+    let Some(text) = text_of_cases(alloc, file, report)? else {
+        return Ok(());
     };
-    run_lines(alloc, text.as_str(), driver, report)
-}
-
-/// Runs the cases of a text that has no names and blocks any more.
-fn run_lines<D: Driver>(
-    alloc: Global,
-    text: &str,
-    driver: &mut D,
-    report: &mut Report,
-) -> Result<(), CaseFault> {
-    let mut running = Running {
-        stage: Stage::Outside,
-        name: "",
-        call: "",
-        fault: None,
-        answer: String::new(alloc),
-        wanted: String::new(alloc),
-    };
-    for line in text.lines() {
-        running.take(alloc, line, driver, report)?;
+    let mut running = Running::new(alloc);
+    let mut place = None;
+    for line in text.as_str().lines() {
+        let step = running.take(line, report)?;
+        take_step::<P>(alloc, step, &mut place, &mut running)?;
     }
     running.end(report)
 }
 
+/// Makes what a line asks for.
+fn take_step<P: Place>(
+    alloc: Global,
+    step: Step<'_>,
+    place: &mut Option<P>,
+    running: &mut Running<'_>,
+) -> Result<(), CaseFault> {
+    match step {
+        Step::Nothing => Ok(()),
+        Step::Begin => {
+            *place = Some(P::new(alloc)?);
+            Ok(())
+        }
+        Step::Call(call) => {
+            if let Err(fault) = call_place(alloc, call, place, running.answer()) {
+                running.fail(fault);
+            }
+            Ok(())
+        }
+    }
+}
+
+/// Makes a call on a place, where there is one.
+fn call_place<P: Place>(
+    alloc: Global,
+    call: &str,
+    place: &mut Option<P>,
+    answer: &mut String,
+) -> Result<(), CaseFault> {
+    let Some(place) = place else {
+        return Err(CaseFault::NotOpen);
+    };
+    place.call(alloc, call, answer)
+}
+
+/// The lines of a file, without comments, names and blocks. A file at fault is told, and has none.
+pub fn text_of_cases(
+    alloc: Global,
+    file: &str,
+    report: &mut Report,
+) -> Result<Option<String>, CaseFault> {
+    let mut at = String::new(alloc);
+    match expanded(alloc, file, &mut at) {
+        Ok(text) => Ok(Some(text)),
+        Err(fault) => {
+            report.refuse(at.as_str(), fault.word())?;
+            Ok(None)
+        }
+    }
+}
+
 impl<'a> Running<'a> {
-    /// The next line.
-    fn take<D: Driver>(
-        &mut self,
-        alloc: Global,
-        line: &'a str,
-        driver: &mut D,
-        report: &mut Report,
-    ) -> Result<(), CaseFault> {
+    /// Before the first line.
+    pub fn new(alloc: Global) -> Running<'a> {
+        Running {
+            stage: Stage::Outside,
+            name: "",
+            call: "",
+            fault: None,
+            answer: String::new(alloc),
+            wanted: String::new(alloc),
+        }
+    }
+
+    /// Where the answer of the last call goes.
+    pub fn answer(&mut self) -> &mut String {
+        &mut self.answer
+    }
+
+    /// The last call could not be made.
+    pub fn fail(&mut self, fault: CaseFault) {
+        self.fault = Some(fault);
+    }
+
+    /// The next line, and what it asks for.
+    pub fn take(&mut self, line: &'a str, report: &mut Report) -> Result<Step<'a>, CaseFault> {
         if line.is_empty() {
-            return self.end(report);
+            self.end(report)?;
+            return Ok(Step::Nothing);
         }
         if let Some(name) = line.strip_prefix("case ") {
             self.end(report)?;
-            return self.begin(alloc, name, driver);
+            self.stage = Stage::Going;
+            self.name = name;
+            return Ok(Step::Begin);
         }
         match self.stage {
             Stage::Outside => refuse_outside(line, report),
-            Stage::Going => self.go_on(alloc, line, driver, report),
-            Stage::Failed => Ok(()),
+            Stage::Going => self.go_on(line, report),
+            Stage::Failed => Ok(Step::Nothing),
         }
     }
 
-    /// `case NAME`.
-    fn begin<D: Driver>(
-        &mut self,
-        alloc: Global,
-        name: &'a str,
-        driver: &mut D,
-    ) -> Result<(), CaseFault> {
-        driver.begin(alloc)?;
-        self.stage = Stage::Going;
-        self.name = name;
-        Ok(())
-    }
-
     /// A line of a case: a line of an answer, or a call.
-    fn go_on<D: Driver>(
-        &mut self,
-        alloc: Global,
-        line: &'a str,
-        driver: &mut D,
-        report: &mut Report,
-    ) -> Result<(), CaseFault> {
+    fn go_on(&mut self, line: &'a str, report: &mut Report) -> Result<Step<'a>, CaseFault> {
         if line == ">" {
             return self.want("");
         }
@@ -128,18 +160,18 @@ impl<'a> Running<'a> {
             return self.want(answer);
         }
         self.settle(report)?;
-        if self.stage == Stage::Going {
-            self.call = line;
-            self.fault = driver.call(alloc, line, &mut self.answer).err();
+        if self.stage != Stage::Going {
+            return Ok(Step::Nothing);
         }
-        Ok(())
+        self.call = line;
+        Ok(Step::Call(line))
     }
 
     /// A line of the answer that the last call should give.
-    fn want(&mut self, answer: &str) -> Result<(), CaseFault> {
+    fn want(&mut self, answer: &str) -> Result<Step<'a>, CaseFault> {
         self.wanted.push_str(answer)?;
         self.wanted.push('\n')?;
-        Ok(())
+        Ok(Step::Nothing)
     }
 
     /// The last call's answer is wanted whole: it is held against what came.
@@ -159,7 +191,7 @@ impl<'a> Running<'a> {
     }
 
     /// The case ends, where one goes on.
-    fn end(&mut self, report: &mut Report) -> Result<(), CaseFault> {
+    pub fn end(&mut self, report: &mut Report) -> Result<(), CaseFault> {
         if self.stage == Stage::Going {
             self.settle(report)?;
         }
@@ -183,9 +215,9 @@ impl<'a> Running<'a> {
 }
 
 /// A line in no case: only the one that names the place may stand there.
-fn refuse_outside(line: &str, report: &mut Report) -> Result<(), CaseFault> {
+fn refuse_outside<'a>(line: &str, report: &mut Report) -> Result<Step<'a>, CaseFault> {
     if !line.starts_with("place ") {
         report.refuse(line, CaseFault::Form.word())?;
     }
-    Ok(())
+    Ok(Step::Nothing)
 }

@@ -19,6 +19,7 @@ mod ConditionRooms
 mod ConditionTable
 mod ConditionTurns
 mod CountLemmas
+mod DeadlineLemmas
 mod DealerActionLemmas
 mod DueListLemmas
 mod DutyLemmas
@@ -50,6 +51,7 @@ mod ListEnds
 mod LiveEffects
 mod LiveLemmas
 mod NoticeLemmas
+mod OneListLemmas
 mod OpeningLemmas
 mod OwnerLemmas
 mod PlaceLemmas

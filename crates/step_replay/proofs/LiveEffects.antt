@@ -1,9 +1,8 @@
 -- What a step sends, it sends to one firm.
-use Rattle.std.proofs.Common.{◌≡◌, ◌<◌, ◌≤◌, ℕ, zero, suc, ◌+◌, ◌-◌, ◌==◌, Bool, true, false, if◌then◌else◌, nat_lt, nat_le}
-use Rattle.std.proofs.Common.{List, [], ◌∷◌, ◌++◌, length, map, filter_map, drop, eq-eqb}
+use Rattle.std.proofs.Common.{◌≡◌, ◌<◌, ◌≤◌, ℕ, zero, suc, ◌-◌, Bool, true, false, if◌then◌else◌, nat_lt}
+use Rattle.std.proofs.Common.{List, [], ◌∷◌, ◌++◌, length, map, filter_map}
 use Rattle.std.proofs.Common.{Option, Some, None, option_map, refl, sym, ap, ◌∙◌, subst, arith}
 use Rattle.std.specs.Prelude.{slice_get, is_some}
-use Rattle.std.specs.Option.{option_and_then}
 use Rattle.std.proofs.lemmas.Bool.Decides.{nat_tests}
 use Rattle.std.proofs.lemmas.List.{append-nil}
 use Rattle.std.proofs.lemmas.List.Elements.{filter_map-append}
@@ -37,19 +36,17 @@ use Rattle.step_replay.specs.DealerTrail as dealer_trail
 use Rattle.step_replay.specs.DealerTrail.{DealerEntry}
 use Rattle.step_replay.specs.InvestorTrail as investor_trail
 use Rattle.step_replay.specs.InvestorTrail.{InvestorEntry}
-use Rattle.step_replay.specs.LiveDays.{Sent, actor_of, is_dealer, message_for, messages_for}
+use Rattle.step_replay.specs.LiveDays.{Sent, actor_of, is_dealer}
 use Rattle.step_replay.specs.LiveDays.{messages_in, sent_by_facts, sent_in}
-use Rattle.step_replay.specs.LiveStanding.{desk_of_duty, desk_of_step, firm_of, first_in}
+use Rattle.step_replay.specs.LiveStanding.{desk_of_duty, desk_of_step, first_in}
 use Rattle.step_replay.specs.StepFaults.{firms_of}
 use Rattle.step_replay.specs.VenueFacts.{Fact, AtDealer, InRoom, AtInvestor, of_dealer, of_investor}
-use Rattle.step_replay.specs.VenueFacts.{entry_at_dealer, entry_at_investor}
 use Rattle.step_replay.specs.declared.steps.Actor.{Actor}
 use Rattle.step_replay.specs.declared.steps.Actor.TheVariants as actor
 use Rattle.step_replay.specs.declared.steps.Step.{Step}
 use Rattle.step_replay.specs.declared.steps.Step.TheVariants as step
 use Rattle.step_replay.proofs.InvestorPlaceLemmas.{behind_dealers, numbered_at}
 use Rattle.step_replay.proofs.PlaceLemmas.{get_within, nothing_of, own_trail, own_investor}
-use Rattle.step_replay.proofs.PlaceLemmas.{trail_at_investor, investor_at_dealer}
 
 -- a message and its firm
 abbrev pub to : ℕ → List ℕ → Sent

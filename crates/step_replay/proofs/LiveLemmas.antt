@@ -1,10 +1,9 @@
 -- A venue that answers as steps come: what is told, and where it stands.
-use Rattle.std.proofs.Common.{◌≡◌, ◌<◌, ◌≤◌, ℕ, zero, suc, ◌+◌, ◌-◌, ◌==◌, Bool, true, false, if◌then◌else◌, nat_lt, nat_le}
-use Rattle.std.proofs.Common.{List, [], ◌∷◌, ◌++◌, length, map, filter_map, drop, eq-eqb, fold, replicate}
-use Rattle.std.proofs.Common.{Option, Some, None, option_map, refl, sym, ap, ◌∙◌, subst, arith}
+use Rattle.std.proofs.Common.{◌≡◌, ◌<◌, ◌≤◌, ℕ, zero, suc, ◌+◌, ◌-◌, ◌==◌, Bool, true, false, nat_lt}
+use Rattle.std.proofs.Common.{List, [], ◌∷◌, ◌++◌, length, map, filter_map, drop, fold, replicate}
+use Rattle.std.proofs.Common.{Option, Some, None, refl, sym, ap, ◌∙◌, subst, arith}
 use Rattle.std.specs.Prelude.{slice_get, is_some}
 use Rattle.std.specs.Option.{option_and_then}
-use Rattle.std.specs.List.{flat_map}
 use Rattle.std.proofs.Math.Seq.{drop-append_seam, drop-length}
 use Rattle.std.proofs.lemmas.Bool.Decides.{nat_tests}
 use Rattle.std.proofs.lemmas.List.{append-nil, append_assoc, length-map}
@@ -13,7 +12,7 @@ use Rattle.std.proofs.lemmas.List.Elements.{filter_map-append}
 use Rattle.std.proofs.lemmas.List.Concat.{flat_map-append}
 use Rattle.std.proofs.lemmas.List.Sums.{fold-append}
 use Rattle.market_terms.specs.declared.duties.Duty.{Duty}
-use Rattle.venue_config.specs.Rows.{Configuration, dealer_numbered, investor_numbered}
+use Rattle.venue_config.specs.Rows.{Configuration}
 use Rattle.venue_config.specs.declared.dealer_rows.DealerRow.{DealerRow}
 use Rattle.venue_config.specs.declared.investor_rows.InvestorRow.{InvestorRow}
 use Rattle.step_replay.specs.Actions.{nothing}
@@ -22,15 +21,14 @@ use Rattle.step_replay.specs.AuditTrail.{pending}
 use Rattle.step_replay.specs.DealerTrail as dealer_trail
 use Rattle.step_replay.specs.FirmDays.{FirmDay, dealer_day, dealer_days, firm_days, investor_day}
 use Rattle.step_replay.specs.FirmDays.{investor_days}
-use Rattle.step_replay.specs.FloorDays.{days_of_floor}
 use Rattle.step_replay.specs.Following.{ReplayStands, duties_in, index_in}
 use Rattle.step_replay.specs.InvestorTrail as investor_trail
-use Rattle.step_replay.specs.LiveDays.{Sent, actor_of, is_dealer, live_messages, live_steps}
+use Rattle.step_replay.specs.LiveDays.{Sent, actor_of, is_dealer, live_steps}
 use Rattle.step_replay.specs.LiveDays.{live_trail, message_for, messages_for, messages_in}
 use Rattle.step_replay.specs.LiveDays.{sent_by_facts, sent_in, with_turns}
 use Rattle.step_replay.specs.LiveStanding.{Answers, TellsAllOf, TellsOf, after_turns, count_at}
 use Rattle.step_replay.specs.LiveStanding.{desk_of_step, first_in, next_duty, sent_behind}
-use Rattle.step_replay.specs.LiveStanding.{IsAt, sent_on_day, sent_on_floor}
+use Rattle.step_replay.specs.LiveStanding.{sent_on_day, sent_on_floor}
 use Rattle.step_replay.specs.Queues.{is_known, queue_of}
 use Rattle.step_replay.specs.Standing.{Stands}
 use Rattle.step_replay.specs.StepFaults.{fault_of, firms_of}
@@ -45,8 +43,8 @@ use Rattle.step_replay.specs.declared.steps.Step.{Step}
 use Rattle.step_replay.specs.declared.steps.Step.TheVariants as step
 use Rattle.step_replay.specs.declared.steps.TheConstants.{MOST_TURNS_BEHIND}
 use Rattle.step_replay.proofs.FollowLemmas.{has_queue}
-use Rattle.step_replay.proofs.LiveEffects.{Adds, SendAt, messages_both, own, quiet, step_adds, to}
-use Rattle.step_replay.proofs.PlaceLemmas.{dealer_grown, investor_grown, get_beyond}
+use Rattle.step_replay.proofs.LiveEffects.{SendAt, messages_both, own, quiet, step_adds, to}
+use Rattle.step_replay.proofs.PlaceLemmas.{get_beyond}
 use Rattle.step_replay.proofs.StartLemmas.{known_actor}
 use Rattle.step_replay.proofs.TurnLemmas.{index_is, queue_pending}
 use Rattle.step_replay.proofs.WorldLemmas.{days_stand, get_first, get_second}
@@ -221,7 +219,7 @@ module _ (config : Configuration) (firm : ℕ) where
 
 -- What the places have of it.
 
-dealer_day_get : (facts : List Fact) (number : ℕ) (rows : List DealerRow) (i : ℕ)
+pub dealer_day_get : (facts : List Fact) (number : ℕ) (rows : List DealerRow) (i : ℕ)
     → i < length rows
     → slice_get (dealer_days facts number rows) i ≡ Some (dealer_day facts (number + i))
 dealer_day_get facts number [] i within = absurd (omega arith)
@@ -233,12 +231,12 @@ dealer_day_get facts number (row ∷ rows) (suc i) within =
     let same : number + 1 + i ≡ number + suc i = omega arith in
     dealer_day_get facts (number + 1) rows i inner ∙ ap (λ (n : ℕ). Some (dealer_day facts n)) same
 
-dealer_day_count : (facts : List Fact) (number : ℕ) (rows : List DealerRow)
+pub dealer_day_count : (facts : List Fact) (number : ℕ) (rows : List DealerRow)
     → length (dealer_days facts number rows) ≡ length rows
 dealer_day_count facts number [] = refl
 dealer_day_count facts number (row ∷ rows) = ap suc (dealer_day_count facts (number + 1) rows)
 
-investor_day_get : (facts : List Fact) (number : ℕ) (rows : List InvestorRow) (i : ℕ)
+pub investor_day_get : (facts : List Fact) (number : ℕ) (rows : List InvestorRow) (i : ℕ)
     → i < length rows
     → slice_get (investor_days facts number rows) i ≡ Some (investor_day facts (number + i))
 investor_day_get facts number [] i within = absurd (omega arith)
@@ -259,14 +257,14 @@ investor_day_none facts number (row ∷ rows) (suc i) beyond =
     let inner : length rows ≤ i = omega arith in
     investor_day_none facts (number + 1) rows i inner
 
-has_item : {X : Type 0} (xs : List X) (i : ℕ) → i < length xs → is_some (slice_get xs i) ≡ true
+pub has_item : {X : Type 0} (xs : List X) (i : ℕ) → i < length xs → is_some (slice_get xs i) ≡ true
 has_item [] i within = absurd (omega arith)
 has_item (x ∷ xs) zero within = refl
 has_item (x ∷ xs) (suc i) within =
     let inner : i < length xs = omega arith in
     has_item xs i inner
 
-has_no_item : {X : Type 0} (xs : List X) (i : ℕ) → length xs ≤ i → is_some (slice_get xs i) ≡ false
+pub has_no_item : {X : Type 0} (xs : List X) (i : ℕ) → length xs ≤ i → is_some (slice_get xs i) ≡ false
 has_no_item [] i beyond = refl
 has_no_item (x ∷ xs) zero beyond = absurd (omega arith)
 has_no_item (x ∷ xs) (suc i) beyond =

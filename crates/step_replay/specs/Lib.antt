@@ -2,11 +2,13 @@ pub mod Actions
 pub mod Answers
 pub mod AuditTrail
 pub mod Conditions
+pub mod Deadlines
 pub mod DealerTrail
 pub mod DealerView
 pub mod DueList
 pub mod FirmDays
 pub mod FloorDays
+pub mod FloorDeadlines
 pub mod Following
 pub mod InvestorTrail
 pub mod Liftings
@@ -21,3 +23,4 @@ pub mod RowOfWords
 pub mod Standing
 pub mod StepFaults
 pub mod VenueFacts
+pub mod VenueRooms

@@ -1,10 +1,14 @@
 //! Laws of the audit trail: what is true of every list of steps of every venue.
-ghost use Rattle.std.specs.Prelude.{◌≡◌, ℕ, List, Some, false, ◌&&◌};
+ghost use Rattle.std.specs.Prelude.{◌≡◌, ℕ, List, Some, false, ◌&&◌, nat_lt, slice_get, true};
+ghost use Rattle.std.specs.Option.{option_map};
 ghost use Rattle.venue_config.specs.Rows.{Configuration, dealer_numbered};
 ghost use Rattle.venue_config.specs.declared.dealer_rows.DealerRow.{DealerRow};
 ghost use Rattle.step_replay.specs.AuditTrail as venue;
 ghost use Rattle.step_replay.specs.DealerView.{dealer_view};
 ghost use Rattle.step_replay.specs.DealerTrail.{was_lifted, was_withdrawn};
+ghost use Rattle.step_replay.specs.FirmDays.{FirmDay, firm_days};
+ghost use Rattle.step_replay.specs.LiveDays.{live_messages, live_trail, messages_for};
+ghost use Rattle.step_replay.specs.StepFaults.{firms_of};
 ghost use Rattle.step_replay.specs.VenueFacts.{of_dealer};
 ghost use Rattle.step_replay.specs.declared.steps.Step.{Step};
 
@@ -39,4 +43,33 @@ pub fn no_quote_is_lifted_and_withdrawn()
         → (was_lifted (of_dealer dealer (venue.audit_trail config steps).facts) quote
         && was_withdrawn (of_dealer dealer (venue.audit_trail config steps).facts) quote)
         ≡ false }
+{}
+
+/// A law: a firm's messages are one list, whoever gives it. What a replay gives of its day, what it
+/// was sent by the audit trail, and, where steps come one by one, what the venue tells of it, are
+/// the same messages in one order. It does nothing.
+pub fn firms_are_sent_one_list()
+    ensures days { (config : Configuration) (steps : List Step) (firm : ℕ)
+        → nat_lt firm (firms_of config) ≡ true
+        → option_map (λ (day : FirmDay). day.sent)
+        (slice_get (firm_days config (venue.audit_trail config steps).facts) firm)
+        ≡ Some (venue.sent_to config firm (venue.audit_trail config steps)) }
+    ensures live { (config : Configuration) (steps : List Step) (firm : ℕ)
+        → messages_for firm (live_messages config steps)
+        ≡ venue.sent_to config firm (live_trail config steps) }
+{}
+
+/// A law: what a replay gives of a dealer's day, and what a venue tells it that answers as steps
+/// come, are the dealer view of what was due to it. It does nothing.
+pub fn dealers_are_given_their_view()
+    ensures days { (config : Configuration) (steps : List Step) (dealer : ℕ) (row : DealerRow)
+        → dealer_numbered config dealer ≡ Some row
+        → option_map (λ (day : FirmDay). day.sent)
+        (slice_get (firm_days config (venue.audit_trail config steps).facts) dealer)
+        ≡ Some (dealer_view config.date row
+        (venue.due_to dealer (venue.audit_trail config steps))) }
+    ensures live { (config : Configuration) (steps : List Step) (dealer : ℕ) (row : DealerRow)
+        → dealer_numbered config dealer ≡ Some row
+        → messages_for dealer (live_messages config steps)
+        ≡ dealer_view config.date row (venue.due_to dealer (live_trail config steps)) }
 {}

@@ -53,10 +53,9 @@
 //!   it, after every list of steps of every venue.
 //! - [`dealers_are_isolated`], the headline: so two venues that agree on what was due to a dealer,
 //!   its row and the date sent it the same bytes.
-//! - [`words_are_answered_as_the_view_says`]: lifted where a lifting of the quote that counts stands
-//!   before, else withdrawn.
-//! - [`notices_come_once_after_their_requests`]; [`each_named_dealer_is_told_once`] where nothing is
-//!   left to be done; [`a_hit_notice_names_the_lifted_quote`].
+//! - [`firms_are_sent_one_list`], [`dealers_are_given_their_view`]: what a replay gives of a firm,
+//!   what it was sent by the audit trail, and what a venue tells it that answers as steps come, are
+//!   one list, and of a dealer its view.
 //! - [`price_law`]: where two days are one but for the prices of other dealers, what was due to a
 //!   dealer is one in both, but that Cover may stand against Done Away.
 //! - [`no_quote_is_lifted_and_withdrawn`].
@@ -71,6 +70,7 @@
 #![tactic(auto)]
 
 mod condition_laws;
+mod deadlines;
 mod dealer_actions;
 mod dealer_view;
 mod due_lists;
@@ -97,7 +97,8 @@ pub use dealer_view::{alone, equal_lists_have_equal_views};
 pub use dues::Due;
 pub use faults::ReplayFault;
 pub use laws::{
-    dealers_are_isolated, dealers_are_sent_their_view, no_quote_is_lifted_and_withdrawn,
+    dealers_are_given_their_view, dealers_are_isolated, dealers_are_sent_their_view,
+    firms_are_sent_one_list, no_quote_is_lifted_and_withdrawn,
 };
 pub use live::LiveVenue;
 pub use notice_laws::{

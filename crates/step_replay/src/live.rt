@@ -3,6 +3,7 @@ ghost use Rattle.std.specs.Prelude.{◌≡◌, ◌++◌, List, [], None, Err, ma
 ghost use Rattle.std.specs.Prelude.{slice_get, IfOk, IfErr, IfSome, OnOk};
 ghost use Rattle.std.specs.Option.{option_copied, option_map};
 ghost use Rattle.step_replay.specs.AuditTrail as venue;
+ghost use Rattle.step_replay.specs.Deadlines.{next_deadline};
 ghost use Rattle.step_replay.specs.FirmDays.{FirmDay};
 ghost use Rattle.step_replay.specs.FloorDays.{days_of_floor};
 ghost use Rattle.step_replay.specs.LiveDays as live;
@@ -10,13 +11,15 @@ ghost use Rattle.step_replay.specs.LiveStanding as spec;
 ghost use Rattle.step_replay.specs.LiveStanding.{Answers, IsAt, Tells, TellsAll, TellsDuties};
 ghost use Rattle.step_replay.specs.StepFaults as faults;
 ghost use Rattle.step_replay.specs.declared.steps.Step.{Step};
+ghost use Rattle.venue_config.specs.Rows.{Configuration};
 
+use crate::deadlines::earliest_deadline;
 use crate::faults::{ReplayFault, fault_of};
 use crate::floor::Floor;
 use crate::replay::Replay;
 use crate::sent_to::SentTo;
 use crate::steps::{Actor, MOST_TURNS_BEHIND, Step};
-use fix_fields::Memory;
+use fix_fields::{Memory, Moment};
 use market_terms::Duty;
 use quote_messages::SentMessage;
 use std::alloc::{AllocError, Global};
@@ -59,6 +62,15 @@ impl LiveVenue {
         }
         let told = answer(alloc, &mut self.replay, step)?;
         Ok(told)
+    }
+
+    /// The earliest deadline (126) of a request whose room is opening or open, or none where no room
+    /// is. From that moment on a sweep of its room ends it.
+    pub fn next_deadline(&self) -> Option<Moment>
+        ensures { (config : Configuration) (steps : List Step) → IsAt config steps self.now
+            → result ≡ next_deadline config (live.live_trail config steps).facts }
+    {
+        earliest_deadline(self.replay.floor.investors.as_slice())
     }
 }
 

@@ -1,366 +1,395 @@
 -- Which arguments are a command, as clap reads them.
-use Rattle.std.proofs.Common.{◌≡◌, ◌∙◌, ◌↔◌, refl, sym, ap, ap₂, subst, inl, inr, Bool}
-use Rattle.std.proofs.Common.{true, false, List, [], ◌∷◌, ◌++◌, length, Option, Some, None}
-use Rattle.std.proofs.Common.{codes, fold, map, ◌<◌, arith}
-use Rattle.std.proofs.lemmas.Bool.{false≢true}
+use Rattle.std.proofs.Common.{◌≡◌, ◌∙◌, ◌↔◌, ◌||◌, ◌&&◌, ◌==◌, ◌<◌, arith, refl, sym, ap, ap₂, subst, inl, inr, ℕ, zero, suc}
+use Rattle.std.proofs.Common.{Bool, true, false, List, [], ◌∷◌, ◌++◌, length, map, Option, Some, None, cond, not, codes, fold}
+use Rattle.std.proofs.lemmas.Bool.{and_parts, false≢true, not-true}
+use Rattle.std.proofs.lemmas.List.{append-nil, append_assoc}
 use Rattle.std.proofs.lemmas.Slice.Eq.{bytes_eq-Decides}
-use Rattle.std.specs.Prelude.{if◌then◌else◌, is_some, option_and_then, unwrap_or}
-use Rattle.std.specs.Str.{bytes_eq}
+use Rattle.std.specs.List.{list_all}
+use Rattle.std.specs.Option.{option_map_or}
+use Rattle.std.specs.Prelude.{find, if◌then◌else◌, is_some, option_and_then, option_map, slice_get, unwrap_or}
+use Rattle.std.specs.Str.{bytes_eq, chars}
 use Rattle.clap.specs.declared.error.kind.ErrorKind.TheVariants as kind
-use Rattle.clap.specs.Faults.{check_fault, defaults_fault, entered_fault}
-use Rattle.clap.specs.Faults.{level_fault}
-use Rattle.clap.specs.Faults.{settle_fault, walk_fault}
+use Rattle.clap.specs.Faults.{bundle_step_fault, check_fault, defaults_fault, entered_fault, flag_word_fault, flags_fault, level_fault}
+use Rattle.clap.specs.Faults.{long_fault, other_fault, settle_fault, short_fault, step_fault, turn_fault, walk_fault}
 use Rattle.clap.specs.Kinds.{Kinds, or_else}
-use Rattle.clap.specs.Simple.{built, entered, subcommand_of}
-use Rattle.clap.specs.Walk.{Held, Row, Text, Walk}
-use Rattle.clap.specs.Walk.{finished, first_of, nothing_held, one_of}
-use Rattle.clap.specs.Walk.{settled, walked}
+use Rattle.clap.specs.Lexer.{has_byte, long_of, short_of}
+use Rattle.clap.specs.Simple.{App, Shape, built, built_leaf, entered, filled_from, help_rule, help_shape, inherited, label_of, names_of, new_app}
+use Rattle.clap.specs.Simple.{on_top, rows_at, subcommand_of, with_rule}
+use Rattle.clap.specs.Walk.{Held, Names, Row, Rule, Text, Walk, after_flag, after_step, answers_to, bundle_met, bundle_step, finished}
+use Rattle.clap.specs.Walk.{first_of, idle, long_or_other, nothing_held, one_of, plain, settled, short_or_plain, subcommand_or_other}
+use Rattle.clap.specs.Walk.{trailing, walked}
 use Rattle.clap.proofs.OnLiterals.{clap_on_literals}
 use Rattle.clap.proofs.WalkLemmas.{walk_stopped}
-use Rattle.venue_commands.specs.Arguments.{Command, alone, arguments_fault, blotter, day, day_by, live}
-use Rattle.venue_commands.specs.Arguments.{command_of, compare, due, flags_in, named_command, one_word_by}
-use Rattle.venue_commands.specs.Arguments.{no_word_by, plain_in, replay, replay_by, venue_app}
-use Rattle.venue_commands.proofs.LeafArguments.{EndIs, asked, by_leaf, command_at, end_fault, end_is}
-use Rattle.venue_commands.proofs.LeafArguments.{ended, ends, missing}
-use Rattle.venue_commands.proofs.LeafTurns.{Fits, Leaf, Spot, at_frames, at_frames_word, at_none, at_word}
-use Rattle.venue_commands.proofs.LeafTurns.{at_word_frames, held_at, of_both, of_flag, of_word, rules}
-use Rattle.venue_commands.proofs.LeafTurns.{at_frames_woven, at_woven, at_woven_frames, of_two, shape}
-use Rattle.venue_commands.proofs.FirstArgument.{Any, IsName, name_first, start, top_names, top_rules}
-use Rattle.venue_commands.proofs.FirstArgument.{top_shape}
+use Rattle.venue_commands.specs.Arguments.{Line, arguments_fault, asked_by, command_of, commands, flag_rule, flags_in, given, is_among, line_app, line_of, named_command}
+use Rattle.venue_commands.specs.Arguments.{plain_in, venue_app, word_rules}
+use Rattle.venue_commands.specs.declared.command.Flags.{Flags}
+use Rattle.venue_commands.proofs.TableEnds.{AreRead, Ends, Reads, are_lawful, ends, leaf_kinds, leaf_rows}
+use Rattle.venue_commands.proofs.TableRows.{firm, rules_are, rules_of}
+use Rattle.venue_commands.proofs.TableTurns.{AreNames, above, before, fits_first, shape, walk_at}
 use Rattle.venue_commands.proofs.WordLemmas.{neither, never, or_nothing}
+
+-- ---- the commands as clap builds them
+
+-- a command with rules more
+ruled : (app : App) (rules : List Rule) → fold with_rule app rules ≡ on_top (λ s. record s { rules = s.rules ++ rules }) app
+ruled app [] = ap (λ rs. on_top (λ s. record s { rules = rs }) app) (sym (append-nil app.top.rules))
+ruled app (rule ∷ rules) =
+    ruled (with_rule app rule) rules ∙ ap (λ rs. on_top (λ s. record s { rules = rs }) app) (append_assoc app.top.rules (rule ∷ []) rules)
+
+-- a command of the table, as it is built
+abbrev leaf : Line → Shape
+leaf l = built_leaf (inherited above (line_app l).top)
+
+abbrev leaf_shape : Line → Shape
+leaf_shape l = shape l.name (rules_of l.flags l.words)
+
+leaf_is : (l : Line) → leaf l ≡ leaf_shape l
+leaf_is l =
+    ap (λ (a : App). built_leaf (inherited above a.top)) (ruled (new_app l.name) (map flag_rule l.flags ++ word_rules l.words))
+    ∙ ap (λ rs. shape l.name (filled_from 1 rs)) (append_assoc (map flag_rule l.flags) (word_rules l.words) (help_rule ∷ []))
+    ∙ ap (shape l.name) (rules_are l.flags (word_rules l.words ++ help_rule ∷ []))
+
+leaves_are : (lines : List Line) → map leaf lines ≡ map leaf_shape lines
+leaves_are [] = refl
+leaves_are (l ∷ lines) = ap₂ (λ (s : Shape) (rest : List Shape). s ∷ rest) (leaf_is l) (leaves_are lines)
+
+abbrev top_shape : Shape
+top_shape = (built venue_app).top
+
+abbrev top_rules : List Rule
+top_rules = top_shape.rules
+
+abbrev help_leaf : Shape
+help_leaf = built_leaf help_shape
+
+abbrev label : Line → Text × List Text
+label l = (l.name, [])
+
+abbrev names : Names
+names = map label commands ++ (codes "help", []) ∷ []
+
+names_are : names_of (built venue_app) ≡ names
+names_are = refl
+
+subs_are : (built venue_app).subs ≡ map leaf_shape commands ++ help_leaf ∷ []
+subs_are = ap (λ (shapes : List Shape). shapes ++ help_leaf ∷ []) (leaves_are commands)
+
+-- ---- a line by its name
+
+module _ {X : Type 0} (f : Line → X) (p : X → Bool) (rest : List X) (name : Text) (same : (l : Line) → p (f l) ≡ bytes_eq l.name name) where
+  by_name : (lines : List Line) → find p (map f lines ++ rest) ≡ option_map_or (λ l. Some (f l)) (line_of name lines) (find p rest)
+  by_name [] = refl
+  by_name (l ∷ lines) = ap (λ b. cond b (Some (f l)) (find p (map f lines ++ rest))) (same l) ∙ go (bytes_eq l.name name) (by_name lines)
+    where
+      go : (b : Bool) → find p (map f lines ++ rest) ≡ option_map_or (λ l. Some (f l)) (line_of name lines) (find p rest)
+          → cond b (Some (f l)) (find p (map f lines ++ rest)) ≡ option_map_or (λ m. Some (f m)) (cond b (Some l) (line_of name lines)) (find p rest)
+      go true others = refl
+      go false others = others
+
+or_none : (b : Bool) → (b || false) ≡ b
+or_none true = refl
+or_none false = refl
+
+-- what each line of a table has to be
+abbrev is_lawful : Line → Bool
+is_lawful l =
+    not (bytes_eq l.name (codes "help")) && (list_all (λ name. not (has_byte 61 name)) l.flags
+    && (not (is_among firm l.flags) && not (is_among (codes "help") l.flags)))
+
+pub record IsNamed (name : Text) (l : Line) : Type 0 where
+  pub name_is : l.name ≡ name
+  pub no_help : bytes_eq l.name (codes "help") ≡ false
+  pub names : AreNames l.flags
+
+is_named : (name : Text) (lines : List Line) (l : Line) → list_all is_lawful lines ≡ true → line_of name lines ≡ Some l → IsNamed name l
+is_named name [] l lawful found = cc
+is_named name (first ∷ lines) l lawful found = go (bytes_eq first.name name) refl found (is_named name lines l parts.1)
+  where
+    parts : (is_lawful first ≡ true) × (list_all is_lawful lines ≡ true)
+    parts = and_parts (is_lawful first) _ lawful
+
+    lawful_first : IsNamed first.name first
+    lawful_first =
+        let one = and_parts (not (bytes_eq first.name (codes "help"))) _ parts.0 in
+        let two = and_parts (list_all (λ name. not (has_byte 61 name)) first.flags) _ one.1 in
+        let three = and_parts (not (is_among firm first.flags)) _ two.1 in
+        record {
+          name_is = refl;
+          no_help = not-true _ one.0;
+          names = record { plain = two.0; no_firm = not-true _ three.0; no_help = not-true _ three.1 };
+        }
+
+    go : (b : Bool) → bytes_eq first.name name ≡ b → cond b (Some first) (line_of name lines) ≡ Some l → (line_of name lines ≡ Some l → IsNamed name l) → IsNamed name l
+    go true same is others =
+        let one : first ≡ l = ap (λ o. unwrap_or o l) is in
+        subst (IsNamed name) one (record { name_is = (bytes_eq-Decides first.name name).0 same; no_help = lawful_first.no_help; names = lawful_first.names })
+    go false same is others = others is
 
 -- ---- a command's name, and the words behind it
 
-stopped_none : (name : Text) (seen words : List Text) → walk_fault top_shape top_names (record start { stopped = Some (name, seen) }) words ≡ []
+abbrev start : Walk
+start = walk_at (before []) false
+
+stopped_none : (name : Text) (seen rest : List Text) → walk_fault top_shape names (record start { stopped = Some (name, seen) }) rest ≡ []
 unfolding walk_fault walked
 stopped_none name seen [] = refl
-stopped_none name seen (word ∷ words) = stopped_none name (seen ++ word ∷ []) words
+stopped_none name seen (word ∷ rest) = stopped_none name (seen ++ word ∷ []) rest
 
-stopped_walk : (name : Text) (words : List Text)
-    → ◌≡◌ {A = Walk} (fold (walked top_rules top_names) (record start { stopped = Some (name, []) }) words) (record start { stopped = Some (name, words) })
-stopped_walk name words = sym (walk_stopped top_rules top_names start name [] words)
-
--- what is wrong at the top, by what is behind the name and by where the walk ends
+-- what is wrong at the top, by what is behind the name
 abbrev whole : Kinds → Walk → Kinds
 whole behind w =
-    or_else (or_else [] behind)
+    or_else behind
     (or_else (entered_fault (built venue_app) w.stopped)
     (or_else (settle_fault top_rules false w.held)
     (or_else (defaults_fault (settled top_rules w.held).rows top_rules) (check_fault top_shape (finished top_rules w.held) (is_some (entered (built venue_app) w.stopped))))))
 
-abbrev leaf_fault : Leaf → Text → List Text → Kinds
-leaf_fault l name words = level_fault (shape l name) [] nothing_held words false []
+-- the first word is a command's name
+module _ (word : Text) (rest : List Text) (l : Line) (found : line_of word commands ≡ Some l) (is : IsNamed word l) where
+  name_met : find (answers_to word) names ≡ Some (label l)
+  name_met = by_name label (answers_to word) ((codes "help", []) ∷ []) word (λ m. or_none (bytes_eq m.name word)) commands
+      ∙ ap (λ o. option_map_or (λ m. Some (label m)) o (find (answers_to word) ((codes "help", []) ∷ []))) found
 
--- a command by its name: its kind and what it is called with
-abbrev IsCalled : Leaf → (Text → Bool → Bool → Command) → Text → Type 0
-IsCalled l command name = (words : List Text) → (arguments_fault (name ∷ words) ≡ leaf_fault l name words)
-    × (command_of (name ∷ words) ≡ by_leaf l command (plain_in words) (flags_in words))
-    × (subcommand_of venue_app (name ∷ words) ≡ Some (name, finished (rules l) (fold (walked (rules l) []) start words).held))
+  leaf_met : find (λ s. answers_to word (label_of s)) (built venue_app).subs ≡ Some (leaf_shape l)
+  leaf_met = ap (find (λ s. answers_to word (label_of s))) subs_are
+      ∙ by_name leaf_shape (λ s. answers_to word (label_of s)) (help_leaf ∷ []) word (λ m. or_none (bytes_eq m.name word)) commands
+      ∙ ap (λ o. option_map_or (λ m. Some (leaf_shape m)) o (find (λ s. answers_to word (label_of s)) (help_leaf ∷ []))) found
 
-called_alone : IsCalled of_flag (λ firm frames woven. alone frames) (codes "alone")
+  abbrev stopped : Walk
+  stopped = record start { stopped = Some (word, rest) }
+
+  first_walk : walked top_rules names start word ≡ record start { stopped = Some (word, []) }
+  unfolding walked
+  first_walk =
+      ap (λ (o : Option (Text × List Text)). let met = subcommand_or_other top_rules (option_map (λ s. s.0) o) idle 1 word nothing_held in
+      after_step top_rules word start met.0 met.1) name_met
+      ∙ ap (λ (n : Text). record start { stopped = Some (n, []) }) is.name_is
+
+  first_fault : turn_fault top_shape names start word ≡ []
+  first_fault =
+      ap (λ (o : Option (Text × List Text)). let met = subcommand_or_other top_rules (option_map (λ s. s.0) o) idle 1 word nothing_held in
+      or_else (other_fault top_shape (option_map (λ s. s.0) o) word nothing_held) (step_fault top_shape 1 met.0 met.1)) name_met
+      ∙ ap (λ b. or_else (if b && true then kind.DisplayHelp ∷ kind.InvalidSubcommand ∷ [] else []) []) is.no_help
+
+  whole_walk : fold (walked top_rules names) start (word ∷ rest) ≡ stopped
+  whole_walk = ap (λ (w : Walk). fold (walked top_rules names) w rest) first_walk ∙ sym (walk_stopped top_rules names start word [] rest)
+
+  whole_fault : walk_fault top_shape names start (word ∷ rest) ≡ []
+  unfolding walk_fault
+  whole_fault = ap₂ (λ (ks : Kinds) (w : Walk). or_else ks (walk_fault top_shape names w rest)) first_fault first_walk ∙ stopped_none word [] rest
+
+  -- what is wrong, by the command that is found
+  abbrev found_fault : Option Shape → Kinds
+  found_fault o =
+      or_else (option_map_or (λ s. level_fault s [] nothing_held rest false []) o [])
+      (or_else (settle_fault top_rules false nothing_held)
+      (or_else (defaults_fault (settled top_rules nothing_held).rows top_rules)
+      (check_fault top_shape (finished top_rules nothing_held) (is_some (option_map (λ s. rows_at s rest) o)))))
+
+  named_fault : arguments_fault (word ∷ rest) ≡ leaf_kinds l.flags l.words l.name rest start
+  unfolding arguments_fault clap_on_literals
+  named_fault = ap₂ whole whole_fault whole_walk ∙ ap found_fault leaf_met ∙ or_nothing (leaf_kinds l.flags l.words l.name rest start)
+
+  named_rows : subcommand_of venue_app (word ∷ rest) ≡ Some (l.name, leaf_rows l.flags l.words rest start)
+  named_rows =
+      ap (λ (w : Walk). entered (built venue_app) w.stopped) whole_walk ∙ ap (λ o. option_map (λ s. rows_at s rest) o) leaf_met
+
+  pub named_ends : Ends l.flags l.words (plain_in rest) (flags_in rest) (leaf_kinds l.flags l.words l.name rest start) (leaf_rows l.flags l.words rest start)
+  named_ends = ends l.flags l.words l.name rest (before []) false is.names (fits_first l.flags l.words)
+
+-- ---- the first word, where it is no command's name
+
+abbrev found_above : Bool → Bool → Option Rule
+found_above a b = cond (a || false) (slice_get top_rules 0) (cond (b || false) (slice_get top_rules 1) None)
+
+above_long : (v : Option Text) (a b : Bool) → long_fault top_rules false (found_above a b) v nothing_held ≡ [] → ⊥
+unfolding clap_on_literals
+above_long v false false e = never kind.UnknownArgument [] e
+above_long (Some x) false true e = never kind.TooManyValues [] e
+above_long None false true e = never kind.DisplayVersion [] e
+above_long (Some x) true b e = never kind.TooManyValues [] e
+above_long None true b e = never kind.DisplayHelp [] e
+
+above_short : (a b : Bool) (rest : Text) (next : Held → Kinds) → short_fault top_rules false (found_above a b) rest nothing_held next ≡ [] → ⊥
+above_short false false rest next e = never kind.UnknownArgument [] e
+above_short false true rest next e = never kind.DisplayVersion [] e
+above_short true b rest next e = never kind.DisplayHelp [] e
+
+above_char : (word flags : Text) (k : ℕ) (x : Option ℕ)
+    → (let met = bundle_step top_rules x flags 0 plain nothing_held (bundle_met top_rules k) in
+    let after = after_flag top_rules idle word met.0 met.1 in
+    or_else (bundle_step_fault top_rules false x flags 0 nothing_held (flags_fault top_rules false k)) (step_fault top_shape 1 after.0 after.1)) ≡ [] → ⊥
+above_char word flags k None e = never kind.UnknownArgument (kind.InvalidSubcommand ∷ []) e
+above_char word flags k (Some x) e = above_short (104 == x) (86 == x) _ _ (neither _ _ e).0
+
+above_bundle : (word flags : Text) (n : ℕ)
+    → (let met = bundle_met top_rules n flags 0 plain nothing_held in
+    let after = after_flag top_rules idle word met.0 met.1 in
+    or_else (flags_fault top_rules false n flags 0 nothing_held) (step_fault top_shape 1 after.0 after.1)) ≡ [] → ⊥
+unfolding bundle_met flags_fault
+above_bundle word flags zero e = never kind.UnknownArgument (kind.InvalidSubcommand ∷ []) e
+above_bundle word flags (suc k) e = above_char word flags k (slice_get (chars flags) 0) e
+
+above_rest : (word : Text) (q : Option Text)
+    → (let met = short_or_plain top_rules idle word q nothing_held in
+    or_else (option_map_or (λ flags. flags_fault top_rules false (length flags) flags 0 nothing_held) q []) (step_fault top_shape 1 met.0 met.1)) ≡ [] → ⊥
+above_rest word None e = never kind.UnknownArgument (kind.InvalidSubcommand ∷ []) e
+above_rest word (Some flags) e = above_bundle word flags (length flags) e
+
+above_word : (word : Text) (o : Option (Text × Option Text))
+    → (let met = long_or_other top_rules idle word o nothing_held in
+    or_else (flag_word_fault top_rules false o word nothing_held) (step_fault top_shape 1 met.0 met.1)) ≡ [] → ⊥
+above_word word (Some p) e = above_long p.1 (bytes_eq (codes "help") p.0) (bytes_eq (codes "version") p.0) (neither _ _ e).0
+above_word word None e = above_rest word (short_of word) e
+
+above_dashes : (word : Text) (b : Bool)
+    → (let met = if b then (nothing_held, trailing 1) else long_or_other top_rules idle word (long_of word) nothing_held in
+    or_else (if b then [] else flag_word_fault top_rules false (long_of word) word nothing_held) (step_fault top_shape 1 met.0 met.1)) ≡ []
+    → b ≡ true
+above_dashes word true e = refl
+above_dashes word false e = absurd (above_word word (long_of word) e)
+
+-- what is wrong with a first word, by the subcommand that it names
+abbrev first_kinds : Text → Option (Text × List Text) → Kinds
+first_kinds word o =
+    let met = subcommand_or_other top_rules (option_map (λ s. s.0) o) idle 1 word nothing_held in
+    or_else (other_fault top_shape (option_map (λ s. s.0) o) word nothing_held) (step_fault top_shape 1 met.0 met.1)
+
+only_dashes : (word : Text) (b : Bool) → first_kinds word (cond (b || false) (Some (codes "help", [])) None) ≡ [] → word ≡ codes "--"
+only_dashes word true e = absurd (never kind.DisplayHelp (kind.InvalidSubcommand ∷ []) e)
+only_dashes word false e = (bytes_eq-Decides word (codes "--")).0 (above_dashes word (bytes_eq word (codes "--")) e)
+
+first_dashes : (rest : List Text) → arguments_fault (codes "--" ∷ rest) ≡ [] → ⊥
 unfolding clap_on_literals arguments_fault
-called_alone words = (
-  ap₂ whole (stopped_none (codes "alone") [] words) (stopped_walk (codes "alone") words) ∙ or_nothing (leaf_fault of_flag (codes "alone") words),
-  refl,
-  ap (λ (w : Walk). entered (built venue_app) w.stopped) (stopped_walk (codes "alone") words),
-)
+first_dashes [] e = never kind.MissingSubcommand [] e
+first_dashes (word ∷ rest) e = never kind.UnknownArgument (kind.InvalidSubcommand ∷ []) e
 
-called_day : IsCalled of_two (λ firm frames woven. day frames woven) (codes "day")
-unfolding clap_on_literals arguments_fault
-called_day words = (
-  ap₂ whole (stopped_none (codes "day") [] words) (stopped_walk (codes "day") words) ∙ or_nothing (leaf_fault of_two (codes "day") words),
-  refl,
-  ap (λ (w : Walk). entered (built venue_app) w.stopped) (stopped_walk (codes "day") words),
-)
+first_none : (word : Text) (rest : List Text) → arguments_fault (word ∷ rest) ≡ [] → turn_fault top_shape names start word ≡ []
+unfolding arguments_fault walk_fault
+first_none word rest e = (neither _ _ (neither _ _ e).0).0
 
-called_live : IsCalled of_flag (λ firm frames woven. live frames) (codes "live")
-unfolding clap_on_literals arguments_fault
-called_live words = (
-  ap₂ whole (stopped_none (codes "live") [] words) (stopped_walk (codes "live") words) ∙ or_nothing (leaf_fault of_flag (codes "live") words),
-  refl,
-  ap (λ (w : Walk). entered (built venue_app) w.stopped) (stopped_walk (codes "live") words),
-)
+-- where nothing is wrong, the first word is a command's name
+pub unnamed : (word : Text) (rest : List Text) → line_of word commands ≡ None → arguments_fault (word ∷ rest) ≡ [] → ⊥
+unnamed word rest lost e =
+    let met : find (answers_to word) names ≡ cond (bytes_eq (codes "help") word || false) (Some (codes "help", [])) None =
+    by_name label (answers_to word) ((codes "help", []) ∷ []) word (λ m. or_none (bytes_eq m.name word)) commands
+    ∙ ap (λ o. option_map_or (λ m. Some (label m)) o (find (answers_to word) ((codes "help", []) ∷ []))) lost in
+    let dashes = only_dashes word (bytes_eq (codes "help") word) (ap (first_kinds word) (sym met) ∙ first_none word rest e) in
+    first_dashes rest (subst (λ (w : Text). arguments_fault (w ∷ rest) ≡ []) dashes e)
 
-called_replay : IsCalled of_both (λ firm frames woven. due firm) (codes "replay")
-unfolding clap_on_literals arguments_fault
-called_replay words = (
-  ap₂ whole (stopped_none (codes "replay") [] words) (stopped_walk (codes "replay") words) ∙ or_nothing (leaf_fault of_both (codes "replay") words),
-  refl,
-  ap (λ (w : Walk). entered (built venue_app) w.stopped) (stopped_walk (codes "replay") words),
-)
+-- ---- which arguments are a command
 
-called_due : IsCalled of_word (λ firm frames woven. due firm) (codes "due")
-unfolding clap_on_literals arguments_fault
-called_due words = (
-  ap₂ whole (stopped_none (codes "due") [] words) (stopped_walk (codes "due") words) ∙ or_nothing (leaf_fault of_word (codes "due") words),
-  refl,
-  ap (λ (w : Walk). entered (built venue_app) w.stopped) (stopped_walk (codes "due") words),
-)
+lines_are_lawful : list_all is_lawful commands ≡ true
+lines_are_lawful = refl
 
-called_compare : IsCalled of_word (λ firm frames woven. compare firm) (codes "compare")
-unfolding clap_on_literals arguments_fault
-called_compare words = (
-  ap₂ whole (stopped_none (codes "compare") [] words) (stopped_walk (codes "compare") words) ∙ or_nothing (leaf_fault of_word (codes "compare") words),
-  refl,
-  ap (λ (w : Walk). entered (built venue_app) w.stopped) (stopped_walk (codes "compare") words),
-)
+some_lawful : (b : Bool) {X : Type 0} (x : X) → (b ≡ true) ↔ (is_some (if b then Some x else None) ≡ true)
+some_lawful true x = (λ e. refl, λ e. refl)
+some_lawful false x = (λ e. e, λ e. e)
 
-called_blotter : IsCalled of_word (λ firm frames woven. blotter firm) (codes "blotter")
-unfolding clap_on_literals arguments_fault
-called_blotter words = (
-  ap₂ whole (stopped_none (codes "blotter") [] words) (stopped_walk (codes "blotter") words) ∙ or_nothing (leaf_fault of_word (codes "blotter") words),
-  refl,
-  ap (λ (w : Walk). entered (built venue_app) w.stopped) (stopped_walk (codes "blotter") words),
-)
+none_wrong : (own : List Text) (words : _) (given flags : List Text) (kinds : Kinds) (rows : List Row) (b : Bool) → are_lawful own words given flags ≡ b
+    → Ends own words given flags kinds rows → (kinds ≡ []) ↔ (b ≡ true)
+none_wrong own words given flags kinds rows true is e = (λ none. refl, λ yes. (e.1 is).0)
+none_wrong own words given flags kinds rows false is e = (λ none. absurd (e.0 is none), λ yes. absurd (false≢true yes))
 
-starts : (l : Leaf) → Fits l at_none
-starts of_flag = tt
-starts of_both = tt
-starts of_word = tt
-starts of_two = tt
+abbrev Law : Text → List Text → Option Line → Type 0
+Law word rest o =
+    (arguments_fault (word ∷ rest) ≡ []) ↔ (is_some (option_and_then (asked_by (plain_in rest) (flags_in rest)) o) ≡ true)
 
--- ---- the two together
+law_by : (word : Text) (rest : List Text) (o : Option Line) → line_of word commands ≡ o → Law word rest o
+law_by word rest None lost = (λ e. absurd (unnamed word rest lost e), λ e. absurd (false≢true e))
+law_by word rest (Some l) found =
+    let is = is_named word commands l lines_are_lawful found in
+    let lawful = are_lawful l.flags l.words (plain_in rest) (flags_in rest) in
+    let none = none_wrong l.flags l.words _ _ _ _ lawful refl (named_ends word rest l found is) in
+    let some = some_lawful lawful (l.asks (slice_get (plain_in rest) 0) (given (flags_in rest))) in
+    (λ e. some.0 (none.0 (sym (named_fault word rest l found is) ∙ e)), λ e. named_fault word rest l found is ∙ none.1 (some.1 e))
 
--- a missing word is the only thing that may be wrong at the end, and then there is no command
-whole_at : (l : Leaf) (command : Text → Bool → Bool → Command) (s : Spot) → Fits l s → (missing l s ≡ []) ↔ (is_some (command_at l command s) ≡ true)
-whole_at of_flag command at_none fit = (λ e. refl, λ e. refl)
-whole_at of_flag command at_frames fit = (λ e. refl, λ e. refl)
-whole_at of_flag command (at_word x) fit = absurd fit
-whole_at of_flag command (at_frames_word x) fit = absurd fit
-whole_at of_flag command (at_word_frames x) fit = absurd fit
-whole_at of_flag command at_woven fit = absurd fit
-whole_at of_flag command at_frames_woven fit = absurd fit
-whole_at of_flag command at_woven_frames fit = absurd fit
-whole_at of_both command at_none fit = (λ e. refl, λ e. refl)
-whole_at of_both command at_frames fit = (λ e. refl, λ e. refl)
-whole_at of_both command (at_word x) fit = (λ e. refl, λ e. refl)
-whole_at of_both command (at_frames_word x) fit = (λ e. refl, λ e. refl)
-whole_at of_both command (at_word_frames x) fit = (λ e. refl, λ e. refl)
-whole_at of_both command at_woven fit = absurd fit
-whole_at of_both command at_frames_woven fit = absurd fit
-whole_at of_both command at_woven_frames fit = absurd fit
-whole_at of_word command at_none fit = (λ e. absurd (never kind.MissingRequiredArgument [] e), λ e. absurd (false≢true e))
-whole_at of_word command (at_word x) fit = (λ e. refl, λ e. refl)
-whole_at of_word command at_frames fit = absurd fit
-whole_at of_word command (at_frames_word x) fit = absurd fit
-whole_at of_word command (at_word_frames x) fit = absurd fit
-whole_at of_word command at_woven fit = absurd fit
-whole_at of_word command at_frames_woven fit = absurd fit
-whole_at of_word command at_woven_frames fit = absurd fit
-whole_at of_two command at_none fit = (λ e. refl, λ e. refl)
-whole_at of_two command at_frames fit = (λ e. refl, λ e. refl)
-whole_at of_two command at_woven fit = (λ e. refl, λ e. refl)
-whole_at of_two command at_frames_woven fit = (λ e. refl, λ e. refl)
-whole_at of_two command at_woven_frames fit = (λ e. refl, λ e. refl)
-whole_at of_two command (at_word x) fit = absurd fit
-whole_at of_two command (at_frames_word x) fit = absurd fit
-whole_at of_two command (at_word_frames x) fit = absurd fit
-
-agree : (l : Leaf) (command : Text → Bool → Bool → Command) (name : Text) (o : Option Spot) (kinds : Kinds) (held : Held) → EndIs l o kinds held
-    → (or_else kinds (end_fault l name held) ≡ []) ↔ (is_some (option_and_then (command_at l command) o) ≡ true)
-agree l command name None kinds held bad = (λ e. absurd (bad (neither kinds _ e).0), λ e. absurd (false≢true e))
-agree l command name (Some s) kinds held is =
-    let same = ap₂ (λ (ks : Kinds) (h : Held). or_else ks (end_fault l name h)) is.0 is.1 ∙ end_is l name s is.2 in
-    (λ e. (whole_at l command s is.2).0 (sym same ∙ e), λ e. same ∙ (whole_at l command s is.2).1 e)
-
-abbrev LeafLaw : Leaf → (Text → Bool → Bool → Command) → Text → List Text → Type 0
-LeafLaw l command name words =
-    (leaf_fault l name words ≡ []) ↔ (is_some (option_and_then (command_at l command) (ended l words at_none false)) ≡ true)
-
-leaf_law : (l : Leaf) (command : Text → Bool → Bool → Command) (name : Text) (words : List Text) → LeafLaw l command name words
-leaf_law of_flag command name words = agree of_flag command name _ _ _ (ends of_flag name words at_none false tt)
-leaf_law of_both command name words = agree of_both command name _ _ _ (ends of_both name words at_none false tt)
-leaf_law of_word command name words = agree of_word command name _ _ _ (ends of_word name words at_none false tt)
-leaf_law of_two command name words = agree of_two command name _ _ _ (ends of_two name words at_none false tt)
-
-abbrev Law : Text → List Text → Type 0
-Law name words = (arguments_fault (name ∷ words) ≡ []) ↔ (is_some (command_of (name ∷ words)) ≡ true)
-
-called_law : (l : Leaf) (command : Text → Bool → Bool → Command) (name : Text) → IsCalled l command name → (words : List Text) → Law name words
-called_law l command name called words =
-    let is = called words in
-    let same = is.1 ∙ asked l command words at_none false (starts l) in
-    let law = leaf_law l command name words in
-    (λ e. ap is_some same ∙ law.0 (sym is.0 ∙ e), λ e. is.0 ∙ law.1 (sym (ap is_some same) ∙ e))
-
-named_law : (name : Text) (words : List Text) → IsName name → Law name words
-named_law name words (inl is) = subst (λ (n : Text). Law n words) is (called_law of_flag (λ firm frames woven. alone frames) (codes "alone") called_alone words)
-named_law name words (inr (inl is)) = subst (λ (n : Text). Law n words) is (called_law of_both (λ firm frames woven. due firm) (codes "replay") called_replay words)
-named_law name words (inr (inr (inl is))) = subst (λ (n : Text). Law n words) is (called_law of_two (λ firm frames woven. day frames woven) (codes "day") called_day words)
-named_law name words (inr (inr (inr (inl is)))) = subst (λ (n : Text). Law n words) is (called_law of_word (λ firm frames woven. due firm) (codes "due") called_due words)
-named_law name words (inr (inr (inr (inr (inl is))))) = subst (λ (n : Text). Law n words) is (called_law of_word (λ firm frames woven. compare firm) (codes "compare") called_compare words)
-named_law name words (inr (inr (inr (inr (inr (inl is)))))) = subst (λ (n : Text). Law n words) is (called_law of_word (λ firm frames woven. blotter firm) (codes "blotter") called_blotter words)
-named_law name words (inr (inr (inr (inr (inr (inr is)))))) = subst (λ (n : Text). Law n words) is (called_law of_flag (λ firm frames woven. live frames) (codes "live") called_live words)
-
-some_case : (a b c d e f g : Bool) (words flags : List Text)
-    → is_some (if a then no_word_by alone words flags else (if b then replay_by words flags else (if c then day_by words flags
-    else (if d then one_word_by due words flags else (if e then one_word_by compare words flags else (if f then one_word_by blotter words flags
-    else (if g then no_word_by live words flags else None))))))) ≡ true
-    → Any a b c d e f g
-some_case true b c d e f g words flags some = inl refl
-some_case false true c d e f g words flags some = inr (inl refl)
-some_case false false true d e f g words flags some = inr (inr (inl refl))
-some_case false false false true e f g words flags some = inr (inr (inr (inl refl)))
-some_case false false false false true f g words flags some = inr (inr (inr (inr (inl refl))))
-some_case false false false false false true g words flags some = inr (inr (inr (inr (inr (inl refl)))))
-some_case false false false false false false true words flags some = inr (inr (inr (inr (inr (inr refl)))))
-some_case false false false false false false false words flags some = absurd (false≢true some)
-
-names_some : (word : Text)
-    → Any (bytes_eq word (codes "alone")) (bytes_eq word (codes "replay")) (bytes_eq word (codes "day")) (bytes_eq word (codes "due"))
-    (bytes_eq word (codes "compare")) (bytes_eq word (codes "blotter")) (bytes_eq word (codes "live"))
-    → IsName word
-names_some word (inl is) = inl (sym ((bytes_eq-Decides word (codes "alone")).0 is))
-names_some word (inr (inl is)) = inr (inl (sym ((bytes_eq-Decides word (codes "replay")).0 is)))
-names_some word (inr (inr (inl is))) = inr (inr (inl (sym ((bytes_eq-Decides word (codes "day")).0 is))))
-names_some word (inr (inr (inr (inl is)))) = inr (inr (inr (inl (sym ((bytes_eq-Decides word (codes "due")).0 is)))))
-names_some word (inr (inr (inr (inr (inl is))))) = inr (inr (inr (inr (inl (sym ((bytes_eq-Decides word (codes "compare")).0 is))))))
-names_some word (inr (inr (inr (inr (inr (inl is)))))) = inr (inr (inr (inr (inr (inl (sym ((bytes_eq-Decides word (codes "blotter")).0 is)))))))
-names_some word (inr (inr (inr (inr (inr (inr is)))))) = inr (inr (inr (inr (inr (inr (sym ((bytes_eq-Decides word (codes "live")).0 is)))))))
-
-some_name : (name : Text) (words : List Text) → is_some (command_of (name ∷ words)) ≡ true → IsName name
-some_name name words some =
-    names_some name (some_case (bytes_eq name (codes "alone")) (bytes_eq name (codes "replay")) (bytes_eq name (codes "day"))
-    (bytes_eq name (codes "due")) (bytes_eq name (codes "compare")) (bytes_eq name (codes "blotter")) (bytes_eq name (codes "live"))
-    (plain_in words) (flags_in words) some)
-
-pub lawful_arguments : (name : Text) (words : List Text) → Law name words
-lawful_arguments name words = (
-  λ none. (named_law name words (name_first name words none)).0 none,
-  λ some. (named_law name words (some_name name words some)).1 some,
-)
+pub lawful_arguments : (word : Text) (rest : List Text)
+    → (arguments_fault (word ∷ rest) ≡ []) ↔ (is_some (command_of (word ∷ rest)) ≡ true)
+lawful_arguments word rest = law_by word rest (line_of word commands) refl
 
 -- ---- what was found for a command
 
 -- whether a flag was given, by its text
 abbrev pub FlagIs : Option Text → Bool → Type 0
-FlagIs text given = ((text ≡ Some (codes "true")) → given ≡ true) × ((text ≡ Some (codes "false")) → given ≡ false)
+FlagIs text given =
+    ((text ≡ None) → given ≡ false) × ((text ≡ Some (codes "true")) → given ≡ true) × ((text ≡ Some (codes "false")) → given ≡ false)
 
-abbrev made : Leaf → (Text → Bool → Bool → Command) → Option Text → Bool → Bool → Command
-made of_flag command firm frames woven = command [] frames false
-made of_both command firm frames woven = replay firm frames
-made of_word command firm frames woven = command (unwrap_or firm []) false false
-made of_two command firm frames woven = day frames woven
+same_flag : (text : Option Text) (there found : Bool) → Reads text there → FlagIs text found → found ≡ there
+same_flag text true found reads is = is.1 (reads.0 refl)
+same_flag text false found reads is = elim (reads.1 refl) [
+  | inl given ↦ is.2 given
+  | inr none ↦ is.0 none
+]
 
-abbrev EndRead : Leaf → (Text → Bool → Bool → Command) → Option Command → Held → Bool → Bool → Type 0
-EndRead l command o held frames woven =
-    FlagIs (one_of (codes "frames") (finished (rules l) held)) frames → FlagIs (one_of (codes "woven") (finished (rules l) held)) woven
-    → o ≡ Some (made l command (first_of (codes "firm") (finished (rules l) held)) frames woven)
+-- the flags that were found
+pub record AreFound (flags : Flags) (rows : List Row) : Type 0 where
+  pub frames : FlagIs (one_of (codes "frames") rows) flags.frames
+  pub woven : FlagIs (one_of (codes "woven") rows) flags.woven
 
-read_at : (l : Leaf) (command : Text → Bool → Bool → Command) (s : Spot) (frames woven : Bool) → Fits l s → missing l s ≡ []
-    → EndRead l command (command_at l command s) (held_at s) frames woven
-read_at of_flag command at_none frames woven fit none = λ is also. ap (λ b. Some (command [] b false)) (sym (is.1 refl))
-read_at of_flag command at_frames frames woven fit none = λ is also. ap (λ b. Some (command [] b false)) (sym (is.0 refl))
-read_at of_flag command (at_word x) frames woven fit none = absurd fit
-read_at of_flag command (at_frames_word x) frames woven fit none = absurd fit
-read_at of_flag command (at_word_frames x) frames woven fit none = absurd fit
-read_at of_flag command at_woven frames woven fit none = absurd fit
-read_at of_flag command at_frames_woven frames woven fit none = absurd fit
-read_at of_flag command at_woven_frames frames woven fit none = absurd fit
-read_at of_both command at_none frames woven fit none = λ is also. ap (λ b. Some (replay None b)) (sym (is.1 refl))
-read_at of_both command at_frames frames woven fit none = λ is also. ap (λ b. Some (replay None b)) (sym (is.0 refl))
-read_at of_both command (at_word x) frames woven fit none = λ is also. ap (λ b. Some (replay (Some x) b)) (sym (is.1 refl))
-read_at of_both command (at_frames_word x) frames woven fit none = λ is also. ap (λ b. Some (replay (Some x) b)) (sym (is.0 refl))
-read_at of_both command (at_word_frames x) frames woven fit none = λ is also. ap (λ b. Some (replay (Some x) b)) (sym (is.0 refl))
-read_at of_both command at_woven frames woven fit none = absurd fit
-read_at of_both command at_frames_woven frames woven fit none = absurd fit
-read_at of_both command at_woven_frames frames woven fit none = absurd fit
-read_at of_word command at_none frames woven fit none = absurd (never kind.MissingRequiredArgument [] none)
-read_at of_word command (at_word x) frames woven fit none = λ is also. refl
-read_at of_word command at_frames frames woven fit none = absurd fit
-read_at of_word command (at_frames_word x) frames woven fit none = absurd fit
-read_at of_word command (at_word_frames x) frames woven fit none = absurd fit
-read_at of_word command at_woven frames woven fit none = absurd fit
-read_at of_word command at_frames_woven frames woven fit none = absurd fit
-read_at of_word command at_woven_frames frames woven fit none = absurd fit
-read_at of_two command at_none frames woven fit none = λ is also. ap₂ (λ b c. Some (day b c)) (sym (is.1 refl)) (sym (also.1 refl))
-read_at of_two command at_frames frames woven fit none = λ is also. ap₂ (λ b c. Some (day b c)) (sym (is.0 refl)) (sym (also.1 refl))
-read_at of_two command at_woven frames woven fit none = λ is also. ap₂ (λ b c. Some (day b c)) (sym (is.1 refl)) (sym (also.0 refl))
-read_at of_two command at_frames_woven frames woven fit none = λ is also. ap₂ (λ b c. Some (day b c)) (sym (is.0 refl)) (sym (also.0 refl))
-read_at of_two command at_woven_frames frames woven fit none = λ is also. ap₂ (λ b c. Some (day b c)) (sym (is.0 refl)) (sym (also.0 refl))
-read_at of_two command (at_word x) frames woven fit none = absurd fit
-read_at of_two command (at_frames_word x) frames woven fit none = absurd fit
-read_at of_two command (at_word_frames x) frames woven fit none = absurd fit
+same_flags : (words given_flags : List Text) (rows : List Row) (flags : Flags) → AreRead words given_flags rows → AreFound flags rows → flags ≡ given given_flags
+same_flags words given_flags rows flags read found =
+    ap₂ (λ f w. record { frames = f; woven = w })
+    (same_flag _ _ flags.frames (read.flag (codes "frames") refl) found.frames)
+    (same_flag _ _ flags.woven (read.flag (codes "woven") refl) found.woven)
 
-read_end : (l : Leaf) (command : Text → Bool → Bool → Command) (name : Text) (o : Option Spot) (kinds : Kinds) (held : Held) (frames woven : Bool) → EndIs l o kinds held
-    → or_else kinds (end_fault l name held) ≡ [] → EndRead l command (option_and_then (command_at l command) o) held frames woven
-read_end l command name None kinds held frames woven bad none = absurd (bad (neither kinds _ none).0)
-read_end l command name (Some s) kinds held frames woven is none =
-    let same = ap₂ (λ (ks : Kinds) (h : Held). or_else ks (end_fault l name h)) is.0 is.1 ∙ end_is l name s is.2 in
-    subst (λ (h : Held). EndRead l command (command_at l command s) h frames woven) (sym is.1) (read_at l command s frames woven is.2 (sym same ∙ none))
+-- each command of a table asks for what its name does
+abbrev AskByName : List Line → Type 0
+AskByName [] = Unit {0}
+AskByName (l ∷ lines) = ((word : Option Text) (flags : Flags) → l.asks word flags ≡ named_command l.name word flags) × AskByName lines
 
-abbrev LeafRead : Leaf → (Text → Bool → Bool → Command) → Text → List Text → Bool → Bool → Type 0
-LeafRead l command name words frames woven = leaf_fault l name words ≡ []
-    → EndRead l command (option_and_then (command_at l command) (ended l words at_none false)) (fold (walked (rules l) []) start words).held frames woven
+asks_by_name : (name : Text) (lines : List Line) (l : Line) → AskByName lines → line_of name lines ≡ Some l → (word : Option Text) (flags : Flags)
+    → l.asks word flags ≡ named_command l.name word flags
+asks_by_name name [] l all found word flags = cc
+asks_by_name name (first ∷ lines) l all found word flags =
+    go (bytes_eq first.name name) found (λ others. asks_by_name name lines l all.1 others word flags)
+  where
+    go : (b : Bool) → cond b (Some first) (line_of name lines) ≡ Some l → (line_of name lines ≡ Some l → l.asks word flags ≡ named_command l.name word flags)
+        → l.asks word flags ≡ named_command l.name word flags
+    go true is others =
+        subst (λ (m : Line). m.asks word flags ≡ named_command m.name word flags) (ap (λ o. unwrap_or o l) is) (all.0 word flags)
+    go false is others = others is
 
-leaf_read : (l : Leaf) (command : Text → Bool → Bool → Command) (name : Text) (words : List Text) (frames woven : Bool) → LeafRead l command name words frames woven
-leaf_read of_flag command name words frames woven none = read_end of_flag command name _ _ _ frames woven (ends of_flag name words at_none false tt) none
-leaf_read of_both command name words frames woven none = read_end of_both command name _ _ _ frames woven (ends of_both name words at_none false tt) none
-leaf_read of_word command name words frames woven none = read_end of_word command name _ _ _ frames woven (ends of_word name words at_none false tt) none
-leaf_read of_two command name words frames woven none = read_end of_two command name _ _ _ frames woven (ends of_two name words at_none false tt) none
+commands_ask : AskByName commands
+commands_ask = (
+  λ word flags. refl,
+  (
+    λ word flags. refl,
+    (
+      λ word flags. refl,
+      (
+        λ word flags. refl,
+        (λ word flags. refl, (λ word flags. refl, (λ word flags. refl, tt))),
+      ),
+    ),
+  ),
+)
 
--- what is read of a command by what clap found for it
-abbrev Read : Text → List Text → Type 0
-Read name words = arguments_fault (name ∷ words) ≡ [] → (met : Text × List Row) → subcommand_of venue_app (name ∷ words) ≡ Some met → (frames woven : Bool)
-    → FlagIs (one_of (codes "frames") met.1) frames → FlagIs (one_of (codes "woven") met.1) woven
-    → command_of (name ∷ words) ≡ Some (named_command met.0 (first_of (codes "firm") met.1) frames woven)
+-- the command that is asked for, by what was found
+abbrev pub IsAsked : List Text → Text → List Row → Flags → Type 0
+IsAsked arguments name rows flags = command_of arguments ≡ Some (named_command name (first_of firm rows) flags)
 
-called_read : (l : Leaf) (command : Text → Bool → Bool → Command) (name : Text) → IsCalled l command name
-    → ((firm : Option Text) (frames woven : Bool) → made l command firm frames woven ≡ named_command name firm frames woven) → (words : List Text) → Read name words
-called_read l command name called same words none met found frames woven flag other =
-    let is = called words in
-    let met_is : (name, finished (rules l) (fold (walked (rules l) []) start words).held) ≡ met =
-    ap (λ (o : Option (Text × List Row)). unwrap_or o met) (sym is.2 ∙ found) in
-    subst (λ (m : Text × List Row). FlagIs (one_of (codes "frames") m.1) frames → FlagIs (one_of (codes "woven") m.1) woven
-    → command_of (name ∷ words) ≡ Some (named_command m.0 (first_of (codes "firm") m.1) frames woven))
-    met_is
-    (λ f g. is.1 ∙ asked l command words at_none false (starts l) ∙ leaf_read l command name words frames woven (sym is.0 ∙ none) f g
-    ∙ ap (λ c. Some c) (same (first_of (codes "firm") (finished (rules l) (fold (walked (rules l) []) start words).held)) frames woven)) flag other
-
-named_read : (name : Text) (words : List Text) → IsName name → Read name words
-named_read name words (inl is) =
-    subst (λ (n : Text). Read n words) is (called_read of_flag (λ firm frames woven. alone frames) (codes "alone") called_alone (λ firm frames woven. refl) words)
-named_read name words (inr (inl is)) =
-    subst (λ (n : Text). Read n words) is (called_read of_both (λ firm frames woven. due firm) (codes "replay") called_replay (λ firm frames woven. refl) words)
-named_read name words (inr (inr (inl is))) =
-    subst (λ (n : Text). Read n words) is (called_read of_two (λ firm frames woven. day frames woven) (codes "day") called_day (λ firm frames woven. refl) words)
-named_read name words (inr (inr (inr (inl is)))) =
-    subst (λ (n : Text). Read n words) is (called_read of_word (λ firm frames woven. due firm) (codes "due") called_due (λ firm frames woven. refl) words)
-named_read name words (inr (inr (inr (inr (inl is))))) =
-    subst (λ (n : Text). Read n words) is (called_read of_word (λ firm frames woven. compare firm) (codes "compare") called_compare (λ firm frames woven. refl) words)
-named_read name words (inr (inr (inr (inr (inr (inl is)))))) =
-    subst (λ (n : Text). Read n words) is (called_read of_word (λ firm frames woven. blotter firm) (codes "blotter") called_blotter (λ firm frames woven. refl) words)
-named_read name words (inr (inr (inr (inr (inr (inr is)))))) =
-    subst (λ (n : Text). Read n words) is (called_read of_flag (λ firm frames woven. live frames) (codes "live") called_live (λ firm frames woven. refl) words)
-
--- a command's name is found
-abbrev Found : Text → List Text → Type 0
-Found name words = subcommand_of venue_app (name ∷ words) ≡ None → ⊥
-
-called_found : (l : Leaf) (command : Text → Bool → Bool → Command) (name : Text) → IsCalled l command name → (words : List Text) → Found name words
-called_found l command name called words none = let bad : None ≡ Some _ = sym none ∙ (called words).2 in cc
-
-named_found : (name : Text) (words : List Text) → IsName name → Found name words
-named_found name words (inl is) = subst (λ (n : Text). Found n words) is (called_found of_flag (λ firm frames woven. alone frames) (codes "alone") called_alone words)
-named_found name words (inr (inl is)) = subst (λ (n : Text). Found n words) is (called_found of_both (λ firm frames woven. due firm) (codes "replay") called_replay words)
-named_found name words (inr (inr (inl is))) = subst (λ (n : Text). Found n words) is (called_found of_two (λ firm frames woven. day frames woven) (codes "day") called_day words)
-named_found name words (inr (inr (inr (inl is)))) = subst (λ (n : Text). Found n words) is (called_found of_word (λ firm frames woven. due firm) (codes "due") called_due words)
-named_found name words (inr (inr (inr (inr (inl is))))) = subst (λ (n : Text). Found n words) is (called_found of_word (λ firm frames woven. compare firm) (codes "compare") called_compare words)
-named_found name words (inr (inr (inr (inr (inr (inl is)))))) = subst (λ (n : Text). Found n words) is (called_found of_word (λ firm frames woven. blotter firm) (codes "blotter") called_blotter words)
-named_found name words (inr (inr (inr (inr (inr (inr is)))))) = subst (λ (n : Text). Found n words) is (called_found of_flag (λ firm frames woven. live frames) (codes "live") called_live words)
-
--- ---- of arguments of any type that has a text
+asked_by_rows : (word : Text) (rest : List Text) (o : Option Line) → line_of word commands ≡ o → arguments_fault (word ∷ rest) ≡ []
+    → (met : Text × List Row) → subcommand_of venue_app (word ∷ rest) ≡ Some met → (flags : Flags) → AreFound flags met.1
+    → IsAsked (word ∷ rest) met.0 met.1 flags
+asked_by_rows word rest None lost none met met_is flags found = absurd (unnamed word rest lost none)
+asked_by_rows word rest (Some l) named none met met_is flags found =
+    let is = is_named word commands l lines_are_lawful named in
+    let lawful = are_lawful l.flags l.words (plain_in rest) (flags_in rest) in
+    let ends_is = named_ends word rest l named is in
+    let lawful_is = (none_wrong l.flags l.words _ _ _ _ lawful refl ends_is).0 (sym (named_fault word rest l named is) ∙ none) in
+    let read = (ends_is.1 lawful_is).1 in
+    let same : (l.name, leaf_rows l.flags l.words rest start) ≡ met =
+    ap (λ (o : Option (Text × List Row)). unwrap_or o met) (sym (named_rows word rest l named is) ∙ met_is) in
+    subst (λ (m : Text × List Row). AreFound flags m.1 → IsAsked (word ∷ rest) m.0 m.1 flags) same
+    (λ these.
+    ap (option_and_then (asked_by (plain_in rest) (flags_in rest))) named
+    ∙ ap (λ b. if b then Some (l.asks (slice_get (plain_in rest) 0) (given (flags_in rest))) else None) lawful_is
+    ∙ ap₂ (λ w f. Some (l.asks w f)) (sym read.word) (sym (same_flags (plain_in rest) (flags_in rest) _ flags read these))
+    ∙ ap (λ c. Some c) (asks_by_name word commands l commands_ask named _ flags)) found
 
 pub arguments_read : {A : Type 0} (text : A → Text) (arguments : List A) → 0 < length arguments → arguments_fault (map text arguments) ≡ []
-    → (met : Text × List Row) → subcommand_of venue_app (map text arguments) ≡ Some met → (frames woven : Bool)
-    → FlagIs (one_of (codes "frames") met.1) frames → FlagIs (one_of (codes "woven") met.1) woven
-    → command_of (map text arguments) ≡ Some (named_command met.0 (first_of (codes "firm") met.1) frames woven)
-arguments_read text [] some none met found frames woven flag other = absurd (omega arith)
-arguments_read text (argument ∷ arguments) some none met found frames woven flag other =
-    named_read (text argument) (map text arguments) (name_first (text argument) (map text arguments) none) none met found frames woven flag other
-
-pub arguments_found : {A : Type 0} (text : A → Text) (arguments : List A) → 0 < length arguments → arguments_fault (map text arguments) ≡ []
-    → subcommand_of venue_app (map text arguments) ≡ None → ⊥
-arguments_found text [] some none = absurd (omega arith)
-arguments_found text (argument ∷ arguments) some none =
-    named_found (text argument) (map text arguments) (name_first (text argument) (map text arguments) none)
+    → (met : Text × List Row) → subcommand_of venue_app (map text arguments) ≡ Some met → (flags : Flags) → AreFound flags met.1
+    → IsAsked (map text arguments) met.0 met.1 flags
+arguments_read text [] some none met found flags given = absurd (omega arith)
+arguments_read text (argument ∷ arguments) some none met found flags given =
+    asked_by_rows (text argument) (map text arguments) (line_of (text argument) commands) refl none met found flags given

@@ -1,11 +1,11 @@
 pub mod AppLemmas
 pub mod CommandLemmas
 pub mod DayTextLemmas
-pub mod FirstArgument
 pub mod LawfulArguments
-pub mod LeafArguments
-pub mod LeafTurns
 pub mod LineLemmas
 pub mod LiveLemmas
 pub mod StreamLemmas
+pub mod TableEnds
+pub mod TableRows
+pub mod TableTurns
 pub mod WordLemmas

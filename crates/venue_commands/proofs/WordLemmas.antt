@@ -2,7 +2,7 @@
 use Rattle.std.proofs.Common.{◌≡◌, ◌∙◌, ◌⊎◌, ◌||◌, ◌&&◌, ◌==◌, ◌<◌, arith, refl, sym, ap, subst, inl, inr}
 use Rattle.std.proofs.Common.{ℕ, Bool, true, false, [], ◌∷◌, length, Option, Some}
 use Rattle.std.proofs.Common.{None, cond, not, codes}
-use Rattle.std.proofs.lemmas.Bool.{eqb-true, false≢true}
+use Rattle.std.proofs.lemmas.Bool.{eqb-true, false≢true, false_from_ne_true}
 use Rattle.std.proofs.lemmas.List.Sums.{take_while-cons}
 use Rattle.std.proofs.lemmas.Slice.Eq.{bytes_eq-Decides}
 use Rattle.std.specs.List.{before_first}
@@ -13,7 +13,7 @@ use Rattle.clap.specs.Kinds.{Kinds, or_else}
 use Rattle.clap.specs.Lexer.{has_byte, long_of, long_of_rest, name_and_value, short_of, short_of_rest}
 use Rattle.clap.specs.Lexer.{strip_byte}
 use Rattle.clap.specs.Walk.{Text}
-use Rattle.venue_commands.specs.Arguments.{is_dashes, is_flag}
+use Rattle.venue_commands.specs.Arguments.{is_dashes, is_flag, spelled}
 
 -- ---- lists of kinds, and tests
 
@@ -28,55 +28,79 @@ pub or_nothing : (a : Kinds) → or_else a [] ≡ a
 or_nothing [] = refl
 or_nothing (k ∷ ks) = refl
 
-both_false : (a b : Bool) → (a || b) ≡ false → (a ≡ false) × (b ≡ false)
+pub both_false : (a b : Bool) → (a || b) ≡ false → (a ≡ false) × (b ≡ false)
 both_false true b e = cc
 both_false false b e = (refl, e)
 
--- ---- what a long flag looks like
+-- ---- the name of a long flag
 
-before_all : (text : Text) → has_byte 61 text ≡ false → before_first (λ x. x == 61) text ≡ text
-before_all [] e = refl
-before_all (x ∷ xs) e =
-    let parts = both_false (x == 61) (has_byte 61 xs) e in
-    take_while-cons (λ y. not (y == 61)) x xs ∙ ap (λ b. cond (not b) (x ∷ before_first (λ y. y == 61) xs) []) parts.0
-    ∙ ap (λ (l : Text). x ∷ l) (before_all xs parts.1)
+-- what stands before the first `=`
+before_cons : (x : ℕ) (xs : Text) → before_first (λ y. y == 61) (x ∷ xs) ≡ cond (not (x == 61)) (x ∷ before_first (λ y. y == 61) xs) []
+before_cons x xs = take_while-cons (λ y. not (y == 61)) x xs
 
-no_value : (b : Bool) (text : Text) → ◌≡◌ {A = Option Text} (if b then Some text else None) None → b ≡ false
-no_value true text e = cc
-no_value false text e = refl
+abbrev NameIs : Text → Text → Text → Bool → Type 0
+NameIs n text name valued = bytes_eq n text ≡ (bytes_eq n name && not valued)
 
--- the rest behind two hyphens is a flag where its name is, and it has no value
-rest_is : (flag : Text) (x : ℕ) (xs : Text) → (name_and_value (x ∷ xs)).0 ≡ flag → (name_and_value (x ∷ xs)).1 ≡ None → x ∷ xs ≡ flag
-rest_is flag x xs name value = sym (before_all (x ∷ xs) (no_value (has_byte 61 (x ∷ xs)) _ value)) ∙ name
+no_name : (x : ℕ) (xs : Text) (b v : Bool) → (x == 61) ≡ b → NameIs [] (x ∷ xs) (cond (not b) (x ∷ before_first (λ y. y == 61) xs) []) (b || v)
+no_name x xs true v is = refl
+no_name x xs false v is = refl
+
+and_false : (a : Bool) → false ≡ (a && false)
+and_false true = refl
+and_false false = refl
+
+and_assoc : (a b c : Bool) → (a && (b && c)) ≡ ((a && b) && c)
+and_assoc true b c = refl
+and_assoc false b c = refl
+
+-- a name has no `=`, so it is another text than one that begins with it
+other_head : (m x : ℕ) (ms xs : Text) → (m == 61) ≡ false → (x == 61) ≡ true → bytes_eq (m ∷ ms) (x ∷ xs) ≡ false
+other_head m x ms xs plain is = false_from_ne_true _ (λ same.
+    let heads : m ≡ x = let lists = (bytes_eq-Decides (m ∷ ms) (x ∷ xs)).0 same in cc in
+    false≢true (sym plain ∙ ap (λ y. y == 61) heads ∙ is))
+
+by_head : (m x : ℕ) (ms xs : Text) (b : Bool) → (m == 61) ≡ false → NameIs ms xs (before_first (λ y. y == 61) xs) (has_byte 61 xs) → (x == 61) ≡ b
+    → NameIs (m ∷ ms) (x ∷ xs) (cond (not (x == 61)) (x ∷ before_first (λ y. y == 61) xs) []) ((x == 61) || has_byte 61 xs)
+by_head m x ms xs true plain tails is =
+    subst (λ b. NameIs (m ∷ ms) (x ∷ xs) (cond (not b) (x ∷ before_first (λ y. y == 61) xs) []) (b || has_byte 61 xs)) (sym is)
+    (other_head m x ms xs plain is)
+by_head m x ms xs false plain tails is =
+    subst (λ b. NameIs (m ∷ ms) (x ∷ xs) (cond (not b) (x ∷ before_first (λ y. y == 61) xs) []) (b || has_byte 61 xs)) (sym is)
+    (ap (λ b. (m == x) && b) tails ∙ and_assoc (m == x) _ _)
+
+-- a name, without `=`, is a text where it is what stands before the first `=` and there is none
+pub name_is : (n text : Text) → has_byte 61 n ≡ false → NameIs n text (before_first (λ y. y == 61) text) (has_byte 61 text)
+name_is [] [] plain = refl
+name_is (m ∷ ms) [] plain = refl
+name_is [] (x ∷ xs) plain =
+    no_name x xs (x == 61) (has_byte 61 xs) refl ∙ ap (λ (t : Text). bytes_eq [] t && not ((x == 61) || has_byte 61 xs)) (sym (before_cons x xs))
+name_is (m ∷ ms) (x ∷ xs) plain =
+    let parts = both_false (m == 61) (has_byte 61 ms) plain in
+    by_head m x ms xs (x == 61) parts.0 (name_is ms xs parts.1) refl
+    ∙ ap (λ (t : Text). bytes_eq (m ∷ ms) t && not ((x == 61) || has_byte 61 xs)) (sym (before_cons x xs))
 
 -- ---- the form of a word
 
-not_same : (a b : Text) → (a ≡ b → ⊥) → bytes_eq a b ≡ false
-not_same a b other = go (bytes_eq a b) refl
-  where
-    go : (t : Bool) → bytes_eq a b ≡ t → t ≡ false
-    go true is = absurd (other ((bytes_eq-Decides a b).0 is))
-    go false is = refl
-
 abbrev pub IsLong : Text → Text × Option Text → Type 0
 IsLong word p = (long_of word ≡ Some p) × (is_dashes word ≡ false) × (is_flag word ≡ true)
-    × (bytes_eq word (codes "--frames") ≡ (bytes_eq (codes "frames") p.0 && not (is_some p.1)))
-    × (bytes_eq word (codes "--woven") ≡ (bytes_eq (codes "woven") p.0 && not (is_some p.1)))
+    × ((n : Text) → has_byte 61 n ≡ false → bytes_eq (spelled n) word ≡ (bytes_eq n p.0 && not (is_some p.1)))
 
 abbrev pub IsShort : Text → Text → Type 0
 IsShort word flags = (0 < length flags) × (long_of word ≡ None) × (short_of word ≡ Some flags) × (is_dashes word ≡ false)
-    × (is_flag word ≡ is_some (slice_get (chars flags) 0)) × (bytes_eq word (codes "--frames") ≡ false)
-    × (bytes_eq word (codes "--woven") ≡ false)
+    × (is_flag word ≡ is_some (slice_get (chars flags) 0)) × ((n : Text) → bytes_eq (spelled n) word ≡ false)
 
 abbrev pub IsPlain : Text → Type 0
 IsPlain word = (long_of word ≡ None) × (short_of word ≡ None) × (is_dashes word ≡ false) × (is_flag word ≡ false)
 
 -- `--`, a long flag, a bundle of short ones, or none of these
 abbrev pub HasForm : Text → Type 0
-HasForm word = (is_dashes word ≡ true)
+HasForm word = (word ≡ codes "--")
     ⊎ (((p : Text × Option Text) × IsLong word p)
     ⊎ (((flags : Text) × IsShort word flags)
     ⊎ IsPlain word))
+
+not_same : (a b : Text) → (a ≡ b → ⊥) → bytes_eq a b ≡ false
+not_same a b other = false_from_ne_true (bytes_eq a b) (λ is. other ((bytes_eq-Decides a b).0 is))
 
 abbrev first_is : Text → Bool
 first_is [] = false
@@ -85,17 +109,6 @@ first_is (y ∷ ys) = y == 45
 abbrev second_is : Text → Bool
 second_is [] = false
 second_is (y ∷ ys) = first_is ys
-
-abbrev has_third : Text → Bool
-has_third [] = false
-has_third (x ∷ []) = false
-has_third (x ∷ y ∷ []) = false
-has_third (x ∷ y ∷ z ∷ zs) = true
-
-abbrev behind_two : Text → Text
-behind_two [] = []
-behind_two (x ∷ []) = []
-behind_two (x ∷ y ∷ zs) = zs
 
 no_hyphen : (x : ℕ) (rest : Text) → (x == 45) ≡ false → IsPlain (x ∷ rest)
 no_hyphen x rest e = (
@@ -116,39 +129,22 @@ one_hyphen y ys e = (
   ap (λ (b : Bool). short_by b (y ∷ ys)) e,
   not_same (45 ∷ y ∷ ys) (codes "--") (λ same. false≢true (sym e ∙ ap second_is same)),
   refl,
-  not_same (45 ∷ y ∷ ys) (codes "--frames") (λ same. false≢true (sym e ∙ ap second_is same)),
-  not_same (45 ∷ y ∷ ys) (codes "--woven") (λ same. false≢true (sym e ∙ ap second_is same)),
+  λ n. not_same (spelled n) (45 ∷ y ∷ ys) (λ same. false≢true (sym e ∙ ap second_is (sym same))),
 )
 
-some_none : (x : Text) → ◌≡◌ {A = Option Text} (Some x) None → ⊥
-some_none x e = cc
-
--- a flag whose own text has no value
-module _ (flag : Text) (own : bytes_eq flag (name_and_value flag).0 ≡ true) (bare : (name_and_value flag).1 ≡ None) where
-  flag_is : (z : ℕ) (zs : Text) (a : Bool) (v : Option Text) → bytes_eq flag (name_and_value (z ∷ zs)).0 ≡ a
-      → (name_and_value (z ∷ zs)).1 ≡ v → bytes_eq (45 ∷ 45 ∷ z ∷ zs) (45 ∷ 45 ∷ flag) ≡ (a && not (is_some v))
-  flag_is z zs true None named none =
-      let name = sym ((bytes_eq-Decides flag (name_and_value (z ∷ zs)).0).0 named) in
-      (bytes_eq-Decides (45 ∷ 45 ∷ z ∷ zs) (45 ∷ 45 ∷ flag)).1 (ap (λ (l : Text). 45 ∷ 45 ∷ l) (rest_is flag z zs name none))
-  flag_is z zs true (Some x) named some =
-      not_same (45 ∷ 45 ∷ z ∷ zs) (45 ∷ 45 ∷ flag)
-      (λ same. some_none x (sym some ∙ ap (λ (l : Text). (name_and_value (behind_two l)).1) same ∙ bare))
-  flag_is z zs false v named value =
-      not_same (45 ∷ 45 ∷ z ∷ zs) (45 ∷ 45 ∷ flag)
-      (λ same. false≢true (sym named ∙ ap (λ (l : Text). bytes_eq flag (name_and_value (behind_two l)).0) same ∙ own))
-
-hyphen_is : (zs : Text) → is_flag (45 ∷ 45 ∷ zs) ≡ true
-unfolding chars
-hyphen_is [] = refl
-hyphen_is (z ∷ zs) = refl
+-- a flag has a value where its text has a `=`
+valued : (b : Bool) (value : Text) → not (is_some (if b then Some value else None)) ≡ not b
+valued true value = refl
+valued false value = refl
 
 two_hyphens : (z : ℕ) (zs : Text) → IsLong (45 ∷ 45 ∷ z ∷ zs) (name_and_value (z ∷ zs))
+unfolding chars
 two_hyphens z zs = (
   refl,
-  not_same (45 ∷ 45 ∷ z ∷ zs) (codes "--") (λ same. false≢true (sym (ap has_third same))),
-  hyphen_is (z ∷ zs),
-  flag_is (codes "frames") refl refl z zs (bytes_eq (codes "frames") (name_and_value (z ∷ zs)).0) (name_and_value (z ∷ zs)).1 refl refl,
-  flag_is (codes "woven") refl refl z zs (bytes_eq (codes "woven") (name_and_value (z ∷ zs)).0) (name_and_value (z ∷ zs)).1 refl refl,
+  refl,
+  refl,
+  λ n plain. name_is n (z ∷ zs) plain
+      ∙ ap (λ b. bytes_eq n (before_first (λ y. y == 61) (z ∷ zs)) && b) (sym (valued (has_byte 61 (z ∷ zs)) _)),
 )
 
 behind_hyphens : (zs : Text) → HasForm (45 ∷ 45 ∷ zs)

@@ -1,8 +1,8 @@
 -- The arguments of the program's commands, and what is wrong with arguments that are no command.
-use Rattle.std.specs.Prelude.{◌≡◌, ◌<◌, ◌==◌, ◌&&◌, ◌||◌, Bool, true, false, List, [], ◌∷◌}
-use Rattle.std.specs.Prelude.{Option, Some, None, length, codes}
-use Rattle.std.specs.Prelude.{string_bytes, if◌then◌else◌, is_some, option_map, slice_get}
-use Rattle.std.specs.Prelude.{unwrap_or}
+use Rattle.std.specs.Prelude.{◌≡◌, ◌<◌, ◌==◌, ◌&&◌, Bool, true, false, not, List, [], ◌∷◌, ◌++◌}
+use Rattle.std.specs.Prelude.{Option, Some, None, length, codes, find, fold, map}
+use Rattle.std.specs.Prelude.{string_bytes, if◌then◌else◌, is_some, option_and_then, option_map}
+use Rattle.std.specs.Prelude.{slice_get, unwrap_or}
 use Rattle.std.specs.List.{list_any}
 use Rattle.std.specs.Str.{bytes_eq, chars}
 use Rattle.clap.specs.Simple.{Shape, on_top}
@@ -13,9 +13,12 @@ use Rattle.clap.specs.declared.builder.command.Command.TheViews.{out-Command}
 use Rattle.clap.specs.declared.builder.action.ArgAction.TheVariants.{SetTrue}
 use Rattle.clap.specs.declared.error.kind.ErrorKind.{ErrorKind}
 use Rattle.clap.specs.declared.error.kind.ErrorKind.TheVariants as kind
+use Rattle.venue_commands.specs.declared.command.Flags.{Flags}
 use Rattle.venue_commands.specs.declared.command.Told.{Told}
 use Rattle.venue_commands.specs.declared.command.Told.TheVariants as told
 use Rattle.venue_commands.specs.declared.command.VenueCommand.{VenueCommand}
+use Rattle.venue_commands.specs.declared.table.CommandLine.{CommandLine}
+use Rattle.venue_commands.specs.declared.table.WordLine.{WordLine}
 use Rattle.venue_commands.specs.declared.command.VenueCommand.TheVariants as rust
 
 -- What a command asks for.
@@ -71,78 +74,97 @@ plain_in (word ∷ rest) =
     if is_dashes word then rest
     else (if is_flag word then plain_in rest else word ∷ plain_in rest)
 
--- the flags
-abbrev pub is_frames : Text → Bool
-is_frames flag = bytes_eq flag (codes "--frames")
+-- a text is one of these
+abbrev pub is_among : Text → List Text → Bool
+is_among text texts = list_any (λ other. bytes_eq other text) texts
 
-abbrev pub is_woven : Text → Bool
-is_woven flag = bytes_eq flag (codes "--woven")
+-- the flag of a name
+abbrev pub spelled : Text → Text
+spelled name = codes "--" ++ name
 
--- whether flags ask for whole frames, where there is no other flag; it is given once at most
-abbrev pub frames_by : List Text → Option Bool
-frames_by [] = Some false
-frames_by (flag ∷ []) = if is_frames flag then Some true else None
-frames_by (flag ∷ more ∷ rest) = None
+-- each of the flags is one of these, and is given once
+abbrev pub are_flags : List Text → List Text → Bool
+are_flags own [] = true
+are_flags own (flag ∷ rest) =
+    is_among flag own && (not (is_among flag rest) && are_flags own rest)
 
--- whether flags ask for whole frames, and whether for weaving; each is given once at most
-abbrev pub both_by : List Text → Option (Bool × Bool)
-both_by [] = Some (false, false)
-both_by (flag ∷ []) =
-    if is_frames flag then Some (true, false)
-    else (if is_woven flag then Some (false, true) else None)
-both_by (one ∷ other ∷ []) =
-    if (is_frames one && is_woven other) || (is_woven one && is_frames other)
-    then Some (true, true) else None
-both_by (one ∷ other ∷ more ∷ rest) = None
+-- which of the program's flags are given
+abbrev pub given : List Text → Flags
+given flags = record {
+  frames = is_among (codes "--frames") flags;
+  woven = is_among (codes "--woven") flags;
+}
 
--- The commands, each by its words and its flags.
+-- How many words a command takes.
+pub data Words : Type 0 where
+  no_word : Words
+  one_or_none : Words
+  one_word : Words
 
--- a command of no word, as `alone [--frames]`
-abbrev pub no_word_by : (Bool → Command) → List Text → List Text → Option Command
-no_word_by command [] flags = option_map command (frames_by flags)
-no_word_by command (word ∷ words) flags = None
+-- so many words there are
+abbrev pub are_words : Words → List Text → Bool
+are_words no_word [] = true
+are_words one_or_none [] = true
+are_words one_word [] = false
+are_words no_word (word ∷ []) = false
+are_words one_or_none (word ∷ []) = true
+are_words one_word (word ∷ []) = true
+are_words words (word ∷ more ∷ rest) = false
 
--- `replay [FIRM] [--frames]`
-abbrev pub replay_by : List Text → List Text → Option Command
-replay_by [] flags = option_map (replay None) (frames_by flags)
-replay_by (firm ∷ []) flags = option_map (replay (Some firm)) (frames_by flags)
-replay_by (firm ∷ more ∷ words) flags = None
+-- The table of the commands: a command's name, the names of its flags, how many words it takes, and
+-- what it asks for by its word and by the flags that are given.
+pub record Line : Type 0 where
+  pub name : Text
+  pub flags : List Text
+  pub words : Words
+  pub asks : Option Text → Flags → Command
 
--- `day [--frames] [--woven]`
-abbrev pub day_by : List Text → List Text → Option Command
-day_by [] flags = option_map (λ given. day given.0 given.1) (both_by flags)
-day_by (word ∷ words) flags = None
+-- the names of the flags
+abbrev pub frames_flag : Text
+frames_flag = codes "frames"
 
--- a command of one word and no flag, as `due DEALER`
-abbrev pub one_word_by : (Text → Command) → List Text → List Text → Option Command
-one_word_by command (word ∷ []) [] = Some (command word)
-one_word_by command words flags = None
+abbrev pub woven_flag : Text
+woven_flag = codes "woven"
 
--- the command with a name
-abbrev pub command_by : Text → List Text → List Text → Option Command
-command_by name words flags =
-    if bytes_eq name (codes "alone") then no_word_by alone words flags
-    else (if bytes_eq name (codes "replay") then replay_by words flags
-    else (if bytes_eq name (codes "day") then day_by words flags
-    else (if bytes_eq name (codes "due") then one_word_by due words flags
-    else (if bytes_eq name (codes "compare") then one_word_by compare words flags
-    else (if bytes_eq name (codes "blotter") then one_word_by blotter words flags
-    else (if bytes_eq name (codes "live") then no_word_by live words flags
-    else None))))))
+abbrev pub line : Text → List Text → Words → (Option Text → Flags → Command) → Line
+line name flags words asks = record { name = name; flags = flags; words = words; asks = asks }
+
+abbrev pub commands : List Line
+commands =
+    line (codes "alone") (frames_flag ∷ []) no_word (λ word flags. alone flags.frames)
+    ∷ line (codes "replay") (frames_flag ∷ []) one_or_none (λ word flags. replay word flags.frames)
+    ∷ line (codes "day") (frames_flag ∷ woven_flag ∷ []) no_word
+    (λ word flags. day flags.frames flags.woven)
+    ∷ line (codes "due") [] one_word (λ word flags. due (unwrap_or word []))
+    ∷ line (codes "compare") [] one_word (λ word flags. compare (unwrap_or word []))
+    ∷ line (codes "blotter") [] one_word (λ word flags. blotter (unwrap_or word []))
+    ∷ line (codes "live") (frames_flag ∷ []) no_word (λ word flags. live flags.frames)
+    ∷ []
+
+-- the line of a name
+abbrev pub line_of : Text → List Line → Option Line
+line_of name lines = find (λ l. bytes_eq l.name name) lines
+
+-- what a line asks for by these words and flags, where they are its own
+abbrev pub asked_by : List Text → List Text → Line → Option Command
+asked_by words flags l =
+    if are_words l.words words && are_flags (map spelled l.flags) flags
+    then Some (l.asks (slice_get words 0) (given flags)) else None
 
 -- The command that arguments ask for, where they are those of one. No arguments at all mean
 -- `alone`.
 abbrev pub command_of : List Text → Option Command
 command_of [] = Some (alone false)
-command_of (name ∷ rest) = command_by name (plain_in rest) (flags_in rest)
+command_of (name ∷ rest) =
+    option_and_then (asked_by (plain_in rest) (flags_in rest)) (line_of name commands)
 
--- a command by its name, the word that was found for it, and whether each of the flags was
-abbrev pub named_command : Text → Option Text → Bool → Bool → Command
-named_command name firm frames woven =
-    if bytes_eq name (codes "alone") then alone frames
-    else (if bytes_eq name (codes "replay") then replay firm frames
-    else (if bytes_eq name (codes "day") then day frames woven
-    else (if bytes_eq name (codes "live") then live frames
+-- a command by its name, the word that was found for it, and the flags that were
+abbrev pub named_command : Text → Option Text → Flags → Command
+named_command name firm flags =
+    if bytes_eq name (codes "alone") then alone flags.frames
+    else (if bytes_eq name (codes "replay") then replay firm flags.frames
+    else (if bytes_eq name (codes "day") then day flags.frames flags.woven
+    else (if bytes_eq name (codes "live") then live flags.frames
     else (if bytes_eq name (codes "due") then due (unwrap_or firm [])
     else (if bytes_eq name (codes "compare") then compare (unwrap_or firm [])
     else blotter (unwrap_or firm []))))))
@@ -159,44 +181,39 @@ meant (rust.Blotter firm) = blotter firm.now
 
 -- The same as clap reads it.
 
--- the flag `--frames`
-abbrev pub frames_flag : Rule
-frames_flag = record (new_rule (codes "frames")) {
-  long = Some (codes "frames");
-  action = Some SetTrue;
-}
-
--- the flag `--woven`
-abbrev pub woven_flag : Rule
-woven_flag = record (new_rule (codes "woven")) {
-  long = Some (codes "woven");
-  action = Some SetTrue;
-}
+-- a flag
+abbrev pub flag_rule : Text → Rule
+flag_rule name = record (new_rule name) { long = Some name; action = Some SetTrue }
 
 -- the word that names a firm
-abbrev pub firm_word : Bool → Rule
-firm_word required =
-    record (new_rule (codes "firm")) { value_names = 1; required = required }
+abbrev pub word_rule : Bool → Rule
+word_rule required = record (new_rule (codes "firm")) { value_names = 1; required = required }
 
--- `alone`
-abbrev pub alone_app : App
-alone_app = with_rule (new_app (codes "alone")) frames_flag
+abbrev pub word_rules : Words → List Rule
+word_rules no_word = []
+word_rules one_or_none = word_rule false ∷ []
+word_rules one_word = word_rule true ∷ []
 
--- `replay`
-abbrev pub replay_app : App
-replay_app = with_rule (with_rule (new_app (codes "replay")) frames_flag) (firm_word false)
+-- a command of this name, with these flags and words
+abbrev pub leaf_app : Text → List Text → Words → App
+leaf_app name flags words =
+    fold with_rule (new_app name) (map flag_rule flags ++ word_rules words)
 
--- `day`
-abbrev pub day_app : App
-day_app = with_rule (with_rule (new_app (codes "day")) frames_flag) woven_flag
+-- a command of the table
+abbrev pub line_app : Line → App
+line_app l = leaf_app l.name l.flags l.words
 
--- `live`
-abbrev pub live_app : App
-live_app = with_rule (new_app (codes "live")) frames_flag
+-- how many words a command of the code's table takes, the command itself, and a program with such
+-- commands more
+abbrev pub words_of : Option WordLine → Words
+words_of None = no_word
+words_of (Some word) = if word.required then one_word else one_or_none
 
--- a command of one word
-abbrev pub one_word_app : Text → App
-one_word_app name = with_rule (new_app name) (firm_word true)
+abbrev pub told_app : CommandLine → App
+told_app l = leaf_app l.name.now (map (λ flag. flag.name.now) l.flags.now) (words_of l.word)
+
+abbrev pub with_told : App → List CommandLine → App
+with_told app lines = fold (λ app l. with_subcommand app (told_app l).top) app lines
 
 -- the program's settings
 abbrev pub settings : Shape → Shape
@@ -207,19 +224,13 @@ settings s = record s { has_version = true; no_binary_name = true; subcommand_re
 abbrev pub program_app : App
 program_app = on_top settings (new_app (codes "rfq_venue"))
 
--- the program with the commands that print messages of a list of steps
-abbrev pub stepped_app : App
-stepped_app = with_subcommand (with_subcommand program_app alone_app.top) replay_app.top
-
--- the program with the commands that print messages
-abbrev pub message_app : App
-message_app = with_subcommand stepped_app day_app.top
+-- the program with these commands
+abbrev pub with_lines : List Line → App
+with_lines lines = fold (λ app l. with_subcommand app (line_app l).top) program_app lines
 
 -- the whole program
 abbrev pub venue_app : App
-venue_app = with_subcommand (with_subcommand (with_subcommand (with_subcommand message_app
-    (one_word_app (codes "due")).top) (one_word_app (codes "compare")).top)
-    (one_word_app (codes "blotter")).top) live_app.top
+venue_app = with_lines commands
 
 -- a command that is built is this one, and has no argument that those below it share
 abbrev pub IsAppOf : App → Built → Type 0

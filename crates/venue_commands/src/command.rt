@@ -1,13 +1,11 @@
 //! The arguments of a command.
 ghost use Rattle.std.specs.Prelude.{◌≡◌, ◌↔◌, ℕ, List, [], ◌∷◌, Bool, Some, None, codes, map};
 ghost use Rattle.std.specs.Prelude.{◌<◌, IfOk, IfErr, is_some, length, option_map, true, false};
-ghost use Rattle.clap.specs.Words.{HasKind, kind_of, rule_of};
+ghost use Rattle.clap.specs.Words.{App, HasKind, kind_of, rule_of};
 ghost use Rattle.venue_commands.specs.Arguments as spec;
 
-use crate::help::{
-    ABOUT, ALONE, BLOTTER, COMPARE, DAY, DAYS, DEALER, DUE, DUE_TEXT, FIRM, FRAMES, LIVE, LIVE_DAY,
-    READS, REPLAY, THREADED, THREADS, VERSION, WOVEN,
-};
+use crate::help::{ABOUT, READS, VERSION};
+use crate::table::{COMMANDS, CommandLine, FlagLine, WordLine};
 use clap::error::ErrorKind;
 use clap::{Arg, ArgAction, Command, Error};
 use fix_fields::Memory;
@@ -69,6 +67,15 @@ pub(crate) enum Told {
     Memory,
 }
 
+/// Which of the program's flags are given.
+#[derive(Clone, Copy)]
+pub(crate) struct Flags {
+    /// `--frames`: each message is printed as its whole frame.
+    pub(crate) frames: bool,
+    /// `--woven`: behind the messages of a day stands into how many steps it is woven.
+    pub(crate) woven: bool,
+}
+
 /// The command that arguments ask for, or what is wrong with arguments that are not those of one.
 pub(crate) fn read_command<'a, S: AsStr>(
     alloc: Global,
@@ -86,31 +93,37 @@ pub(crate) fn read_command<'a, S: AsStr>(
     };
     let frames = words.get_flag("frames");
     let woven = words.get_flag("woven");
-    let command = command_named(name, words.get_str("firm"), frames, woven);
+    let flags = Flags { frames, woven };
+    let command = command_named(name, words.get_str("firm"), flags);
     Ok(command)
 }
 
-/// The command with this name, by the word that was found for it, and whether each flag was.
-fn command_named<'a>(
-    name: &str,
-    firm: Option<&'a str>,
-    frames: bool,
-    woven: bool,
-) -> VenueCommand<'a>
+/// The command with this name, by the word that was found for it and the flags that were.
+fn command_named<'a>(name: &str, firm: Option<&'a str>, flags: Flags) -> VenueCommand<'a>
     ensures { spec.meant result
-        ≡ spec.named_command name.now (option_map (λ word. word.now) firm.entry) frames woven }
+        ≡ spec.named_command name.now (option_map (λ word. word.now) firm.entry) flags }
 {
     if name == "alone" {
-        return VenueCommand::Alone { frames };
+        return VenueCommand::Alone {
+            frames: flags.frames,
+        };
     }
     if name == "replay" {
-        return VenueCommand::Replay { firm, frames };
+        return VenueCommand::Replay {
+            firm,
+            frames: flags.frames,
+        };
     }
     if name == "day" {
-        return VenueCommand::Day { frames, woven };
+        return VenueCommand::Day {
+            frames: flags.frames,
+            woven: flags.woven,
+        };
     }
     if name == "live" {
-        return VenueCommand::Live { frames };
+        return VenueCommand::Live {
+            frames: flags.frames,
+        };
     }
     let word = firm.unwrap_or("");
     if name == "due" {
@@ -137,95 +150,42 @@ pub(crate) fn form_of_live(command: &VenueCommand<'_>) -> Option<bool>
     }
 }
 
-/// The flag `--frames`.
-fn frames_flag<'a>(alloc: Global) -> Arg<'a>
-    ensures rule { rule_of result ≡ spec.frames_flag }
+/// A command of the table.
+fn line_command<'a>(alloc: Global, line: &CommandLine) -> Result<Command<'a>, Memory>
+    ensures { IfOk result (spec.IsAppOf (spec.told_app line.now)) }
+{
+    let mut command = Command::new(alloc, line.name)
+        .about(line.about)
+        .after_help(line.input);
+    for flag in line.flags {
+        command = command.arg(flag_arg(alloc, flag))?;
+    }
+    let Some(word) = &line.word else {
+        return Ok(command);
+    };
+    command.arg(word_arg(alloc, word))
+}
+
+/// A flag.
+fn flag_arg<'a>(alloc: Global, flag: &FlagLine) -> Arg<'a>
+    ensures rule { rule_of result ≡ spec.flag_rule flag.now.name.now }
     ensures own { result.global ≡ false }
 {
-    Arg::new(alloc, "frames")
-        .long("frames")
+    Arg::new(alloc, flag.name)
+        .long(flag.name)
         .action(ArgAction::SetTrue)
-        .help(FRAMES)
+        .help(flag.help)
 }
 
-/// The flag `--woven`.
-fn woven_flag<'a>(alloc: Global) -> Arg<'a>
-    ensures rule { rule_of result ≡ spec.woven_flag }
+/// The word that names a firm.
+fn word_arg<'a>(alloc: Global, word: &WordLine) -> Arg<'a>
+    ensures rule { rule_of result ≡ spec.word_rule word.now.required }
     ensures own { result.global ≡ false }
 {
-    Arg::new(alloc, "woven")
-        .long("woven")
-        .action(ArgAction::SetTrue)
-        .help(WOVEN)
-}
-
-/// The command `alone`.
-fn alone_command<'a>(alloc: Global) -> Result<Command<'a>, Memory>
-    ensures { IfOk result (spec.IsAppOf spec.alone_app) }
-{
-    let frames = frames_flag(alloc);
-    Command::new(alloc, "alone")
-        .about(ALONE)
-        .after_help(DUE_TEXT)
-        .arg(frames)
-}
-
-/// The command `day`.
-fn day_command<'a>(alloc: Global) -> Result<Command<'a>, Memory>
-    ensures { IfOk result (spec.IsAppOf spec.day_app) }
-{
-    let frames = frames_flag(alloc);
-    let woven = woven_flag(alloc);
-    let framed = Command::new(alloc, "day")
-        .about(THREADED)
-        .after_help(THREADS)
-        .arg(frames)?;
-    framed.arg(woven)
-}
-
-/// The command `live`.
-fn live_command<'a>(alloc: Global) -> Result<Command<'a>, Memory>
-    ensures { IfOk result (spec.IsAppOf spec.live_app) }
-{
-    let frames = frames_flag(alloc);
-    Command::new(alloc, "live")
-        .about(LIVE)
-        .after_help(LIVE_DAY)
-        .arg(frames)
-}
-
-/// The command `replay`.
-fn replay_command<'a>(alloc: Global) -> Result<Command<'a>, Memory>
-    ensures { IfOk result (spec.IsAppOf spec.replay_app) }
-{
-    let frames = frames_flag(alloc);
-    let firm = Arg::new(alloc, "firm").value_name("FIRM").help(FIRM);
-    let framed = Command::new(alloc, "replay")
-        .about(REPLAY)
-        .after_help(DAY)
-        .arg(frames)?;
-    framed.arg(firm)
-}
-
-/// A command of one word.
-fn one_word_command<'a>(
-    alloc: Global,
-    name: &'a str,
-    about: &'a str,
-    reads: &'a str,
-    word: &'a str,
-    help: &'a str,
-) -> Result<Command<'a>, Memory>
-    ensures { IfOk result (spec.IsAppOf (spec.one_word_app name.now)) }
-{
-    let firm = Arg::new(alloc, "firm")
-        .value_name(word)
-        .required(true)
-        .help(help);
-    Command::new(alloc, name)
-        .about(about)
-        .after_help(reads)
-        .arg(firm)
+    Arg::new(alloc, "firm")
+        .value_name(word.shown)
+        .required(word.required)
+        .help(word.help)
 }
 
 /// The program without its commands.
@@ -242,39 +202,27 @@ fn program_command<'a>(alloc: Global) -> Result<Command<'a>, Memory>
     Ok(program)
 }
 
-/// The program with the commands that print messages of a list of steps.
-fn stepped_command<'a>(alloc: Global) -> Result<Command<'a>, Memory>
-    ensures { IfOk result (spec.IsAppOf spec.stepped_app) }
-{
-    let alone = alone_command(alloc)?;
-    let replay = replay_command(alloc)?;
-    let program = program_command(alloc)?;
-    program.subcommand(alone)?.subcommand(replay)
-}
-
-/// The program with the commands that print messages.
-fn message_command<'a>(alloc: Global) -> Result<Command<'a>, Memory>
-    ensures { IfOk result (spec.IsAppOf spec.message_app) }
-{
-    let day = day_command(alloc)?;
-    let stepped = stepped_command(alloc)?;
-    stepped.subcommand(day)
-}
-
 /// The program and its commands.
 fn venue_command<'a>(alloc: Global) -> Result<Command<'a>, Memory>
     ensures { IfOk result (spec.IsAppOf spec.venue_app) }
 {
-    let due = one_word_command(alloc, "due", DUE, DAY, "DEALER", DEALER)?;
-    let compare = one_word_command(alloc, "compare", COMPARE, DAYS, "DEALER", DEALER)?;
-    let blotter = one_word_command(alloc, "blotter", BLOTTER, DAY, "FIRM", FIRM)?;
-    let live = live_command(alloc)?;
-    let messages = message_command(alloc)?;
-    messages
-        .subcommand(due)?
-        .subcommand(compare)?
-        .subcommand(blotter)?
-        .subcommand(live)
+    let program = program_command(alloc)?;
+    with_commands(alloc, program, &COMMANDS)
+}
+
+/// A program with commands more.
+fn with_commands<'a>(
+    alloc: Global,
+    mut program: Command<'a>,
+    lines: &[CommandLine],
+) -> Result<Command<'a>, Memory>
+    ensures { (app : App) → spec.IsAppOf app program.entry
+        → IfOk result (spec.IsAppOf (spec.with_told app lines.now)) }
+{
+    for line in lines {
+        program = program.subcommand(line_command(alloc, line)?)?;
+    }
+    Ok(program)
 }
 
 /// What an error of the arguments is to tell.

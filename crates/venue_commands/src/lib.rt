@@ -29,6 +29,7 @@ mod live;
 mod output;
 mod process;
 mod program;
+mod table;
 mod texts;
 
 pub use command::{arguments_have_these_faults, these_arguments_are_commands};

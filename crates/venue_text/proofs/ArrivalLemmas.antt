@@ -29,12 +29,12 @@ module _ (config : ConfigValues) (heard : Heard) (k : ℕ) (text : List ℕ) (re
   with_rest read = behind_steps done (read >>= (λ r. arrivals_from config r.1 rest >>= (λ steps. Ok (r.0 ++ steps))))
 
   -- a line more
-  pub arrivals_more : (mid : Heard) (spelled : Spelled) → is_of_turns text ≡ false → steps_of_line config heard k text ≡ read_as spelled mid
+  pub arrivals_more : (mid : Heard) (spelled : Spelled) → is_of_turns text ≡ false → steps_of_line config heard k text ≡ read_as config spelled mid
       → behind_steps done (arrivals_from config heard ((k, text) ∷ rest))
-      ≡ behind_steps (done ++ steps_in spelled) (arrivals_from config (counted spelled mid) rest)
+      ≡ behind_steps (done ++ steps_in config spelled) (arrivals_from config (counted spelled mid) rest)
   arrivals_more mid spelled no_turns is =
-      ap with_rest (arrival_is (read_as spelled mid) no_turns is)
-      ∙ behind_steps-more done (steps_in spelled) (arrivals_from config (counted spelled mid) rest)
+      ap with_rest (arrival_is (read_as config spelled mid) no_turns is)
+      ∙ behind_steps-more done (steps_in config spelled) (arrivals_from config (counted spelled mid) rest)
 
   -- a line of turns
   pub turns_end : is_of_turns text ≡ true → behind_steps done (arrivals_from config heard ((k, text) ∷ rest)) ≡ Err (Form k)

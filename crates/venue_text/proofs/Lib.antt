@@ -7,7 +7,9 @@ pub mod FirmLemmas
 pub mod LiveInputLemmas
 pub mod LiveLemmas
 pub mod PartLemmas
+pub mod RoomLemmas
 pub mod SpellLemmas
+pub mod StepFaultLemmas
 pub mod StepLemmas
 pub mod StreamLemmas
 pub mod TagLemmas

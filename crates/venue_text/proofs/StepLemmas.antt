@@ -2,7 +2,7 @@
 use Rattle.std.proofs.Common.{◌≡◌, ℕ, ◌+◌, ◌==◌, Bool, true, false, not, List, [], ◌∷◌, ◌++◌, length, map, refl, ap, sym, ◌∙◌}
 use Rattle.std.proofs.Common.{Option, Some, None, Result, Ok, Err, append_assoc, replicate}
 use Rattle.std.proofs.Common.{zero, suc, nat_lt, if◌then◌else◌}
-use Rattle.venue_config.specs.Rows.{ConfigValues, Configuration}
+use Rattle.venue_config.specs.Rows.{ConfigValues, Configuration, values_of}
 use Rattle.step_replay.specs.StepFaults.{first_fault, first_fault_from, fault_of, or_else, firms_of}
 use Rattle.step_replay.specs.declared.faults.ReplayFault.{ReplayFault}
 use Rattle.step_replay.specs.declared.steps.Actor.{Actor}
@@ -20,6 +20,8 @@ use Rattle.venue_text.specs.declared.faults.ProgramFault.{ProgramFault}
 use Rattle.venue_text.specs.declared.faults.ProgramFault.TheVariants.{Form, UnknownFirm}
 use Rattle.venue_text.specs.declared.spelled.Spelled.{Spelled}
 use Rattle.venue_text.specs.declared.spelled.Spelled.TheVariants as spelled
+use Rattle.venue_text.proofs.StepFaultLemmas.{none_then}
+use Rattle.venue_text.proofs.RoomLemmas.{known_sweeps}
 
 -- a `say` line is counted where its number was written
 said_counted : (heard : Heard) (firm moment : ℕ) (message : List ℕ) (is_numbered : Bool)
@@ -48,7 +50,7 @@ module _ (config : ConfigValues) (heard : Heard) (k : ℕ) (text : List ℕ) (sa
       → Some said ≡ said_of config.date (behind_part text)
       → Some message ≡ said_message config.date (map with_bar (first_part text)) (number_for heard (firm_named config (first_part text))) said
       → Some firm ≡ firm_named config (first_part text) → is_numbered ≡ has_tag said.fields 34
-      → said_step config heard k text ≡ read_as (spelled.Said firm said.moment message (not is_numbered)) heard
+      → said_step config heard k text ≡ read_as config (spelled.Said firm said.moment message (not is_numbered)) heard
   unfolding said_step
   say_ok message firm is_numbered filled is_said is_message is_firm numbered =
       rw (filled, sym is_said, sym is_message, sym is_firm, sym numbered)
@@ -69,24 +71,13 @@ module _ (config : ConfigValues) (heard : Heard) (k : ℕ) (text : List ℕ) (sa
 -- A line more.
 
 pub steps_more : (config : ConfigValues) (heard mid : Heard) (k : ℕ) (text : List ℕ) (rest : Lines) (spelled : Spelled) (done : List Step)
-    → steps_of_line config heard k text ≡ read_as spelled mid
-    → behind_steps done (steps_from config heard ((k, text) ∷ rest)) ≡ behind_steps (done ++ steps_in spelled) (steps_from config (counted spelled mid) rest)
+    → steps_of_line config heard k text ≡ read_as config spelled mid
+    → behind_steps done (steps_from config heard ((k, text) ∷ rest)) ≡ behind_steps (done ++ steps_in config spelled) (steps_from config (counted spelled mid) rest)
 steps_more config heard mid k text rest spelled done is =
     ap (λ read. behind_steps done (read >>= (λ r. steps_from config r.1 rest >>= (λ steps. Ok (r.0 ++ steps))))) is
-    ∙ behind_steps-more done (steps_in spelled) (steps_from config (counted spelled mid) rest)
+    ∙ behind_steps-more done (steps_in config spelled) (steps_from config (counted spelled mid) rest)
 
 -- Steps that name what the venue has.
-
-or_none : (first other : Option ReplayFault) → or_else first other ≡ None → (first ≡ None) × (other ≡ None)
-or_none None other is = (refl, is)
-or_none (Some fault) other is = cc
-
-none_then : (config : Configuration) (k : ℕ) (steps more : List Step) → first_fault_from config k steps ≡ None
-    → ((n : ℕ) → first_fault_from config n more ≡ None) → first_fault_from config k (steps ++ more) ≡ None
-none_then config k [] more is next = next k
-none_then config k (step ∷ steps) more is next =
-    let parts = or_none (fault_of config k step) (first_fault_from config (k + 1) steps) is in
-    rw (parts.0) (none_then config (k + 1) steps more parts.1 next)
 
 known_turns : (config : Configuration) (by : Actor) (count k : ℕ) → is_actor config by ≡ true
     → first_fault_from config k (replicate count (step.Turn by)) ≡ None
@@ -99,13 +90,14 @@ known_messages : (config : Configuration) (firm moment : ℕ) (messages : List (
 known_messages config firm moment [] k known = refl
 known_messages config firm moment (message ∷ messages) k known = rw known (known_messages config firm moment messages (k + 1) known)
 
-known_steps : (config : Configuration) (spelled : Spelled) → is_known config spelled ≡ true → (k : ℕ) → first_fault_from config k (steps_in spelled) ≡ None
+known_steps : (config : Configuration) (spelled : Spelled) → is_known config spelled ≡ true → (k : ℕ) → first_fault_from config k (steps_in (values_of config) spelled) ≡ None
 known_steps config (spelled.Said firm moment message is_counted) known k = rw known refl
 known_steps config (spelled.Came firm moment message) known k = rw known refl
 known_steps config (spelled.Turns by count) known k = known_turns config by count k known
 known_steps config (spelled.Sweep room moment) known k = rw known refl
+known_steps config (spelled.Sweeps moment) known k = known_sweeps config moment k
 known_steps config (spelled.Pieces firm moment messages) known k = known_messages config firm moment messages k known
 
 pub known_more : (config : Configuration) (done : List Step) (spelled : Spelled) → first_fault config done ≡ None → is_known config spelled ≡ true
-    → first_fault config (done ++ steps_in spelled) ≡ None
-known_more config done spelled before known = none_then config 1 done (steps_in spelled) before (known_steps config spelled known)
+    → first_fault config (done ++ steps_in (values_of config) spelled) ≡ None
+known_more config done spelled before known = none_then config 1 done (steps_in (values_of config) spelled) before (known_steps config spelled known)

@@ -17,7 +17,8 @@ use Rattle.step_replay.specs.declared.dues.Due.TheVariants as due
 use Rattle.venue_text.specs.Lines.{parts_of, first_part, behind_part, has_part_behind}
 use Rattle.venue_text.specs.Lines.{side_of, time_of}
 use Rattle.venue_text.specs.OptionSteps.{◌>>=◌}
-use Rattle.venue_text.specs.SayLine.{Said, said_of, said_message, received_of, has_tag}
+use Rattle.venue_text.specs.SayLine.{Said, said_of, said_message, received_of, hexed_of}
+use Rattle.venue_text.specs.SayLine.{has_tag}
 
 -- `date YYYYMMDD`
 abbrev pub date_of : List ℕ → Option (List ℕ)
@@ -127,6 +128,12 @@ own_of date text = do
   received ← received_of date text
   Some (due.Own received.0 received.1)
 
+-- behind `hex`: TIME HEX
+abbrev pub hex_of : List ℕ → List ℕ → Option Due
+hex_of date text = do
+  received ← hexed_of date text
+  Some (due.Own received.0 received.1)
+
 -- behind `lifted`: the number of a quote
 abbrev pub lifted_of : List ℕ → Option Due
 lifted_of text = do
@@ -164,6 +171,7 @@ abbrev pub due_by_keyword : List ℕ → List ℕ → List ℕ → Option Due
 due_by_keyword date keyword text =
     if same_text keyword (codes "shown") then shown_of date text
     else if same_text keyword (codes "own") then own_of date text
+    else if same_text keyword (codes "hex") then hex_of date text
     else if same_text keyword (codes "lifted") then lifted_of text
     else if same_text keyword (codes "closed") then closed_of date text
     else if same_text keyword (codes "drop") then drop_of date text

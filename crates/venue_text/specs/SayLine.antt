@@ -1,10 +1,12 @@
 -- Messages that a firm sends, as a line spells them: field by field, `TRADER TIME TYPE BODY` behind
--- `say`, or byte by byte, `TIME FRAME` behind `own`.
+-- `say`, byte by byte, `TIME FRAME` behind `own`, or digit by digit, `TIME HEX` behind `hex`.
 use Rattle.std.specs.Prelude.{ℕ, Bool, false, ◌&&◌, ◌||◌, ◌==◌, not, List, [], ◌∷◌, ◌++◌}
 use Rattle.std.specs.Prelude.{length, map, nat_le, codes, decimal, Option, Some, None}
 use Rattle.std.specs.Prelude.{if◌then◌else◌}
 use Rattle.std.specs.Option.{option_map}
 use Rattle.std.specs.List.{list_all, list_any, before_first, after_first}
+use Rattle.std.specs.Result.{result_ok}
+use Rattle.hex.specs.Hex.{decode_of}
 use Rattle.fix_fields.specs.Frame.{Field, frame_text, fields_len}
 use Rattle.fix_fields.specs.UtcTimestamp.{timestamp_text}
 use Rattle.quote_messages.specs.Texts.{number_of}
@@ -141,3 +143,12 @@ received_of date text = do
   let frame = behind_part text
   moment ← time_of date (first_part text)
   if length frame == 0 then None else Some (moment, map soh_for_bar frame)
+
+-- TIME HEX: a message that comes digit by digit, two hexadecimal digits of either case a byte; HEX
+-- is the rest of the line and not empty
+unfoldable pub hexed_of : List ℕ → List ℕ → Option (ℕ × List ℕ)
+hexed_of date text = do
+  let digits = behind_part text
+  moment ← time_of date (first_part text)
+  message ← result_ok (decode_of digits)
+  if length digits == 0 then None else Some (moment, message)

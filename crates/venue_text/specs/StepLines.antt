@@ -9,6 +9,7 @@ use Rattle.venue_config.specs.Rows.{ConfigValues, DealerValues, InvestorValues}
 use Rattle.venue_config.specs.Texts.{same_text, text_if}
 use Rattle.market_terms.specs.declared.rooms.RoomRef.{RoomRef}
 use Rattle.quote_messages.specs.Texts.{number_of}
+use Rattle.step_replay.specs.VenueRooms.{rooms_from}
 use Rattle.step_replay.specs.declared.steps.Actor.{Actor}
 use Rattle.step_replay.specs.declared.steps.Actor.TheVariants as actor
 use Rattle.step_replay.specs.declared.steps.Step.{Step}
@@ -18,7 +19,8 @@ use Rattle.venue_text.specs.DueText.{Lines, at_line}
 use Rattle.venue_text.specs.Lines.{first_part, behind_part, time_of}
 use Rattle.venue_text.specs.MessageLines.{with_bar}
 use Rattle.venue_text.specs.ResultSteps.{◌>>=◌}
-use Rattle.venue_text.specs.SayLine.{Said, said_of, said_message, received_of, has_tag}
+use Rattle.venue_text.specs.SayLine.{Said, said_of, said_message, received_of, hexed_of}
+use Rattle.venue_text.specs.SayLine.{has_tag}
 use Rattle.venue_text.specs.declared.faults.ProgramFault.{ProgramFault}
 use Rattle.venue_text.specs.declared.faults.ProgramFault.TheVariants.{Firm, Form, UnknownFirm}
 use Rattle.venue_text.specs.declared.faults.ProgramFault.TheVariants.{UnknownRoom, Stream}
@@ -61,6 +63,11 @@ is_request_of (Some row) n = nat_le 1 n && nat_le n row.requests
 -- whether the venue has the room of the n-th request of a firm
 abbrev pub is_room : ConfigValues → ℕ → ℕ → Bool
 is_room config firm n = is_request_of (investor_numbered config firm) n
+
+-- every room of the venue, in the order of the investors and of their requests
+abbrev pub venue_rooms : ConfigValues → List RoomRef
+venue_rooms config = rooms_from (length config.dealers)
+    (map (λ (row : InvestorValues). row.requests) config.investors)
 
 -- What was heard so far of the firms, each at its number: the MsgSeqNum (34) of its next `say` line
 -- whose BODY has none, and the bytes of its pieces behind the last message that they end.
@@ -165,6 +172,14 @@ in_step config heard k text = do
   firm ← known_firm config k word
   Ok (step.In firm received.0 received.1 ∷ [], heard)
 
+-- `hex FIRM TIME HEX`: the bytes that the digits of HEX write
+unfoldable pub hex_step : ConfigValues → Heard → ℕ → List ℕ → Read
+hex_step config heard k text = do
+  word ← word_at k text
+  received ← at_line k (hexed_of config.date (behind_part text))
+  firm ← known_firm config k word
+  Ok (step.In firm received.0 received.1 ∷ [], heard)
+
 -- `turn ACTOR N`: so many turns
 unfoldable pub turn_steps : ConfigValues → Heard → ℕ → List ℕ → Read
 turn_steps config heard k text = do
@@ -183,6 +198,16 @@ expire_step config heard k text = do
   firm ← known_firm config k word
   room ← known_room config k firm n
   Ok (step.Expire room moment ∷ [], heard)
+
+-- a sweep of each of these rooms at one moment
+abbrev pub sweeps_at : ℕ → List RoomRef → List Step
+sweeps_at moment rooms = map (λ room. step.Expire room moment) rooms
+
+-- `clock TIME`: a sweep of every room
+unfoldable pub clock_steps : ConfigValues → Heard → ℕ → List ℕ → Read
+clock_steps config heard k text = do
+  moment ← at_line k (time_of config.date text)
+  Ok (sweeps_at moment (venue_rooms config), heard)
 
 -- each message that a piece ends, at the moment of the piece
 abbrev pub in_steps : ℕ → ℕ → List (List ℕ) → List Step
@@ -211,8 +236,10 @@ abbrev pub steps_behind : ConfigValues → Heard → ℕ → List ℕ → List �
 steps_behind config heard k keyword text =
     if same_text keyword (codes "say") then said_step config heard k text
     else if same_text keyword (codes "in") then in_step config heard k text
+    else if same_text keyword (codes "hex") then hex_step config heard k text
     else if same_text keyword (codes "turn") then turn_steps config heard k text
     else if same_text keyword (codes "expire") then expire_step config heard k text
+    else if same_text keyword (codes "clock") then clock_steps config heard k text
     else if same_text keyword (codes "piece") then piece_steps config heard k text
     else Err (Form k)
 

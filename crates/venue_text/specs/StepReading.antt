@@ -3,23 +3,25 @@ use Rattle.std.specs.Prelude.{ℕ, ◌+◌, true, List, [], ◌∷◌, replicate
 use Rattle.std.specs.Prelude.{Option, Some, None, Result, Ok, Err, if◌then◌else◌}
 use Rattle.fix_fields.specs.Envelope.{Cutting}
 use Rattle.fix_fields.specs.declared.fault.StreamFault.{StreamFault}
-use Rattle.venue_config.specs.Rows.{Configuration, has_room}
+use Rattle.venue_config.specs.Rows.{ConfigValues, Configuration, has_room}
 use Rattle.step_replay.specs.StepFaults.{firms_of}
 use Rattle.step_replay.specs.declared.steps.Actor.{Actor}
 use Rattle.step_replay.specs.declared.steps.Actor.TheVariants as actor
 use Rattle.step_replay.specs.declared.steps.Step.{Step}
 use Rattle.step_replay.specs.declared.steps.Step.TheVariants as step
 use Rattle.venue_text.specs.StepLines.{Heard, in_steps, number_for, with_number, Read}
+use Rattle.venue_text.specs.StepLines.{sweeps_at, venue_rooms}
 use Rattle.venue_text.specs.declared.spelled.Spelled.{Spelled}
 use Rattle.venue_text.specs.declared.spelled.Spelled.TheVariants as spelled
 
--- the steps of what a line spells
-abbrev pub steps_in : Spelled → List Step
-steps_in (spelled.Said firm moment message is_counted) = step.In firm moment message ∷ []
-steps_in (spelled.Came firm moment message) = step.In firm moment message ∷ []
-steps_in (spelled.Turns by count) = replicate count (step.Turn by)
-steps_in (spelled.Sweep room moment) = step.Expire room moment ∷ []
-steps_in (spelled.Pieces firm moment messages) = in_steps firm moment messages
+-- the steps of what a line spells, in a venue of this configuration
+abbrev pub steps_in : ConfigValues → Spelled → List Step
+steps_in config (spelled.Said firm moment message is_counted) = step.In firm moment message ∷ []
+steps_in config (spelled.Came firm moment message) = step.In firm moment message ∷ []
+steps_in config (spelled.Turns by count) = replicate count (step.Turn by)
+steps_in config (spelled.Sweep room moment) = step.Expire room moment ∷ []
+steps_in config (spelled.Sweeps moment) = sweeps_at moment (venue_rooms config)
+steps_in config (spelled.Pieces firm moment messages) = in_steps firm moment messages
 
 -- what was heard once a line is counted
 abbrev pub counted : Spelled → Heard → Heard
@@ -28,8 +30,8 @@ counted (spelled.Said firm moment message is_counted) heard =
 counted other heard = heard
 
 -- the same, where the line was read
-abbrev pub read_as : Spelled → Heard → Read
-read_as spelled heard = Ok (steps_in spelled, counted spelled heard)
+abbrev pub read_as : ConfigValues → Spelled → Heard → Read
+read_as config spelled heard = Ok (steps_in config spelled, counted spelled heard)
 
 -- whether an actor is one of the venue's
 abbrev pub is_actor : Configuration → Actor → Bool
@@ -42,6 +44,7 @@ is_known config (spelled.Said firm moment message is_counted) = nat_lt firm (fir
 is_known config (spelled.Came firm moment message) = nat_lt firm (firms_of config)
 is_known config (spelled.Turns by count) = is_actor config by
 is_known config (spelled.Sweep room moment) = has_room config room.investor room.n
+is_known config (spelled.Sweeps moment) = true
 is_known config (spelled.Pieces firm moment messages) = nat_lt firm (firms_of config)
 
 -- the messages of a cut in which no fault stands

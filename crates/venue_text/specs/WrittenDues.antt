@@ -1,6 +1,8 @@
 -- What is due to a dealer, written as lines of due text.
-use Rattle.std.specs.Prelude.{ℕ, ◌==◌, List, [], ◌∷◌, ◌++◌, map, codes, decimal, if◌then◌else◌}
-use Rattle.std.specs.List.{flat_map}
+use Rattle.std.specs.Prelude.{ℕ, ◌==◌, Bool, ◌||◌, List, [], ◌∷◌, ◌++◌, map, codes, decimal}
+use Rattle.std.specs.Prelude.{if◌then◌else◌}
+use Rattle.std.specs.List.{flat_map, list_any}
+use Rattle.hex.specs.Hex.{encode_lower}
 use Rattle.bond_prices.specs.Grid.{finest_grid}
 use Rattle.fix_fields.specs.TimeOfDay.{time_text}
 use Rattle.market_terms.specs.Codes.{close_code, side_code}
@@ -26,10 +28,29 @@ grid_text grid = if grid == finest_grid then [] else 32 ∷ decimal grid
 unfoldable pub end_text : ℕ → ℕ → List ℕ
 end_text moment grid = time_text moment ++ grid_text grid ++ 10 ∷ []
 
--- an item of what is due as its line of due text; a message of the dealer's own stands byte by byte
-abbrev pub due_line : Due → List ℕ
-due_line (due.Own moment message) =
+-- a byte that an `own` line can't say of itself: a vertical bar stands there for SOH, a line feed
+-- ends the line, and many a program takes a carriage return off its end
+abbrev pub is_unsayable : ℕ → Bool
+is_unsayable c = (c == 124) || (c == 10) || (c == 13)
+
+-- a message byte by byte, SOH as a vertical bar
+abbrev pub bytes_line : ℕ → List ℕ → List ℕ
+bytes_line moment message =
     codes "own " ++ time_text moment ++ 32 ∷ map with_bar message ++ 10 ∷ []
+
+-- a message digit by digit
+abbrev pub hex_line : ℕ → List ℕ → List ℕ
+hex_line moment message =
+    codes "hex " ++ time_text moment ++ 32 ∷ encode_lower message ++ 10 ∷ []
+
+-- a message of the dealer's own: byte by byte, or digit by digit where it has such a byte
+unfoldable pub own_line : ℕ → List ℕ → List ℕ
+own_line moment message =
+    if list_any is_unsayable message then hex_line moment message else bytes_line moment message
+
+-- an item of what is due as its line of due text
+abbrev pub due_line : Due → List ℕ
+due_line (due.Own moment message) = own_line moment message
 due_line (due.Shown ask moment) =
     codes "shown " ++ ask_text ask ++ 32 ∷ end_text moment ask.grid
 due_line (due.Lifted quote) = codes "lifted " ++ decimal quote ++ 10 ∷ []

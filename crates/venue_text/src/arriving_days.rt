@@ -102,7 +102,7 @@ fn read_arrivals(
             return Err(ProgramFault::Form { line });
         }
         let spelled = read_line(alloc, config, &mut heard, line, text)?;
-        push_spelled(&mut steps, &mut heard, spelled)?;
+        push_spelled(config, &mut steps, &mut heard, spelled)?;
     }
     Ok(steps)
 }

@@ -3,7 +3,7 @@ ghost use Rattle.std.specs.Prelude.{◌≡◌, IfOk};
 ghost use Rattle.venue_text.specs.DueLines as spec;
 
 use crate::parts::{cut_part, has_part_behind, read_side, read_time, same_text};
-use crate::received::read_received;
+use crate::received::{read_hexed, read_received};
 use bond_prices::Grid;
 use fix_fields::{Date, Memory};
 use quote_messages::{Ask, Close, Quantity, read_long_number, read_number};
@@ -26,6 +26,9 @@ pub(crate) fn read_by_keyword(
     if same_text(keyword, b"own") {
         return read_own(alloc, date, text);
     }
+    if same_text(keyword, b"hex") {
+        return read_hex(alloc, date, text);
+    }
     if same_text(keyword, b"lifted") {
         return Ok(read_lifted(text));
     }
@@ -43,6 +46,16 @@ fn read_own(alloc: Global, date: &Date, text: &[u8]) -> Result<Option<Due>, Memo
     ensures { IfOk result (λ due. due ≡ spec.own_of date.now text.now) }
 {
     let Some((moment, message)) = read_received(alloc, date, text)? else {
+        return Ok(None);
+    };
+    Ok(Some(Due::Own(moment, message)))
+}
+
+/// Behind `hex`: `TIME HEX`.
+fn read_hex(alloc: Global, date: &Date, text: &[u8]) -> Result<Option<Due>, Memory>
+    ensures { IfOk result (λ due. due ≡ spec.hex_of date.now text.now) }
+{
+    let Some((moment, message)) = read_hexed(alloc, date, text)? else {
         return Ok(None);
     };
     Ok(Some(Due::Own(moment, message)))

@@ -118,7 +118,7 @@ fn read_live_line(
     }
     let spelled = read_line(alloc, config, heard, line, text)?;
     let mut steps = Vec::new(alloc);
-    push_spelled(&mut steps, heard, spelled)?;
+    push_spelled(config, &mut steps, heard, spelled)?;
     Ok(steps)
 }
 

@@ -1,13 +1,16 @@
 //! What a line of steps spells, before its steps are put behind the others.
-ghost use Rattle.std.specs.Prelude.{◌≡◌, ◌++◌, replicate, OnOk};
+ghost use Rattle.std.specs.Prelude.{◌≡◌, ◌+◌, ◌<◌, ◌++◌, length, replicate, OnOk};
 ghost use Rattle.step_replay.specs.declared.steps.Step.TheVariants as step;
-ghost use Rattle.venue_text.specs.StepLines.{in_steps};
+ghost use Rattle.venue_config.specs.Rows.{values_of};
+ghost use Rattle.step_replay.specs.VenueRooms as rooms;
+ghost use Rattle.venue_text.specs.StepLines.{in_steps, sweeps_at, venue_rooms};
 ghost use Rattle.venue_text.specs.StepReading as spec;
 
 use crate::heard::Heard;
 use fix_fields::{Memory, Messages, Moment};
 use quote_messages::{Message, RoomRef};
 use step_replay::{Actor, Step};
+use venue_config::{InvestorRow, VenueConfig};
 
 /// What a line of steps spells.
 #[derive(Drop)]
@@ -20,21 +23,25 @@ pub(crate) enum Spelled {
     Turns(Actor, u64),
     /// A sweep of a room.
     Sweep(RoomRef, Moment),
+    /// A sweep of every room of the venue.
+    Sweeps(Moment),
     /// The messages of a firm that end in a piece of its stream.
     Pieces(u16, Moment, Messages),
 }
 
 /// Puts the steps of a line behind those before it, and counts the line.
 pub(crate) fn push_spelled(
+    config: &VenueConfig,
     steps: &mut Vec<Step>,
     heard: &mut Heard,
     spelled: Spelled,
 ) -> Result<(), Memory>
-    ensures steps { OnOk result (steps.new.items ≡ steps.old.items ++ spec.steps_in spelled) }
+    ensures steps { OnOk result (steps.new.items
+        ≡ steps.old.items ++ spec.steps_in (values_of config.now) spelled) }
     ensures heard { OnOk result (heard.new ≡ spec.counted spelled heard.old) }
 {
     count_line(heard, &spelled)?;
-    push_steps(steps, spelled)?;
+    push_steps(config, steps, spelled)?;
     Ok(())
 }
 
@@ -50,8 +57,9 @@ fn count_line(heard: &mut Heard, spelled: &Spelled) -> Result<(), Memory>
 }
 
 /// Puts the steps of a line behind other steps.
-fn push_steps(steps: &mut Vec<Step>, spelled: Spelled) -> Result<(), Memory>
-    ensures { OnOk result (steps.new.items ≡ steps.old.items ++ spec.steps_in spelled) }
+fn push_steps(config: &VenueConfig, steps: &mut Vec<Step>, spelled: Spelled) -> Result<(), Memory>
+    ensures { OnOk result (steps.new.items
+        ≡ steps.old.items ++ spec.steps_in (values_of config.now) spelled) }
 {
     match spelled {
         Spelled::Said(firm, moment, message, _) => {
@@ -67,6 +75,7 @@ fn push_steps(steps: &mut Vec<Step>, spelled: Spelled) -> Result<(), Memory>
             steps.push(Step::Expire(room, moment))?;
             Ok(())
         }
+        Spelled::Sweeps(moment) => push_sweeps(config, steps, moment),
         Spelled::Pieces(firm, moment, messages) => push_messages(steps, firm, moment, messages),
     }
 }
@@ -78,6 +87,56 @@ fn push_turns(steps: &mut Vec<Step>, by: Actor, count: u64) -> Result<(), Memory
 {
     for _ in 0..count {
         steps.push(Step::Turn(by))?;
+    }
+    Ok(())
+}
+
+/// Puts a sweep of every room behind other steps.
+fn push_sweeps(config: &VenueConfig, steps: &mut Vec<Step>, moment: Moment) -> Result<(), Memory>
+    ensures { OnOk result (steps.new.items
+        ≡ steps.old.items ++ sweeps_at moment (venue_rooms (values_of config.now))) }
+{
+    let first = config.dealers().len() as u16;
+    push_sweeps_from(steps, first, config.investors(), moment)?;
+    Ok(())
+}
+
+/// Puts a sweep of each room of these investors, of which the first has this number among the
+/// firms, behind other steps.
+fn push_sweeps_from(
+    steps: &mut Vec<Step>,
+    first: u16,
+    investors: &[InvestorRow],
+    moment: Moment,
+) -> Result<(), Memory>
+    requires { first + length investors.now < 65536 }
+    ensures { OnOk result (steps.new.items
+        ≡ steps.old.items ++ sweeps_at moment (rooms.rooms_from first (rooms.requests_of investors.now))) }
+{
+    let mut investor = first;
+    for row in investors {
+        push_sweeps_of(steps, investor, row.requests, moment)?;
+        investor += 1;
+    }
+    Ok(())
+}
+
+/// Puts a sweep of each room of an investor's requests, so many, behind other steps.
+fn push_sweeps_of(
+    steps: &mut Vec<Step>,
+    investor: u16,
+    requests: u32,
+    moment: Moment,
+) -> Result<(), Memory>
+    ensures { OnOk result (steps.new.items
+        ≡ steps.old.items ++ sweeps_at moment (rooms.rooms_behind investor 0 requests)) }
+{
+    for before in 0..requests {
+        let room = RoomRef {
+            investor,
+            n: before + 1,
+        };
+        steps.push(Step::Expire(room, moment))?;
     }
     Ok(())
 }

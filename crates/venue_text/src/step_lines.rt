@@ -8,7 +8,7 @@ ghost use Rattle.venue_text.specs.StepReading.{read_as, is_known, is_actor};
 use crate::faults::ProgramFault;
 use crate::heard::Heard;
 use crate::parts::{cut_part, read_time, same_text};
-use crate::received::read_received;
+use crate::received::{read_hexed, read_received};
 use crate::said::Said;
 use crate::spelled::Spelled;
 use crate::venue_parts::{firm_of, is_room};
@@ -29,7 +29,7 @@ pub(crate) fn read_line(
     text: &[u8],
 ) -> Result<Spelled, ProgramFault>
     ensures ok { IfOk result (λ spelled. spec.steps_of_line (values_of config.now) heard.old line
-        text.now ≡ read_as spelled heard.new) }
+        text.now ≡ read_as (values_of config.now) spelled heard.new) }
     ensures err { IfErr result (λ fault. fault ≢ ProgramFault.Memory
         → spec.steps_of_line (values_of config.now) heard.old line text.now ≡ Err fault) }
     ensures unwritten { IfErr result (λ fault. fault ≢ ProgramFault.Write) }
@@ -44,11 +44,17 @@ pub(crate) fn read_line(
     if same_text(keyword, b"in") {
         return read_in(alloc, config, line, text);
     }
+    if same_text(keyword, b"hex") {
+        return read_hex(alloc, config, line, text);
+    }
     if same_text(keyword, b"turn") {
         return read_turn(config, line, text);
     }
     if same_text(keyword, b"expire") {
         return read_expire(config, line, text);
+    }
+    if same_text(keyword, b"clock") {
+        return read_clock(config, line, text);
     }
     if same_text(keyword, b"piece") {
         return read_piece(alloc, config, heard, line, text);
@@ -66,7 +72,7 @@ fn read_say(
     text: &[u8],
 ) -> Result<Spelled, ProgramFault>
     ensures ok { IfOk result (λ spelled. spec.said_step (values_of config.now) heard.now line
-        text.now ≡ read_as spelled heard.now) }
+        text.now ≡ read_as (values_of config.now) spelled heard.now) }
     ensures err { IfErr result (λ fault. fault ≢ ProgramFault.Memory
         → spec.said_step (values_of config.now) heard.now line text.now ≡ Err fault) }
     ensures unwritten { IfErr result (λ fault. fault ≢ ProgramFault.Write) }
@@ -100,7 +106,7 @@ fn read_in(
     text: &[u8],
 ) -> Result<Spelled, ProgramFault>
     ensures ok { IfOk result (λ spelled. (heard : spec.Heard) → spec.in_step (values_of config.now)
-        heard line text.now ≡ read_as spelled heard) }
+        heard line text.now ≡ read_as (values_of config.now) spelled heard) }
     ensures err { IfErr result (λ fault. fault ≢ ProgramFault.Memory → (heard : spec.Heard)
         → spec.in_step (values_of config.now) heard line text.now ≡ Err fault) }
     ensures unwritten { IfErr result (λ fault. fault ≢ ProgramFault.Write) }
@@ -119,11 +125,39 @@ fn read_in(
     Ok(Spelled::Came(firm, moment, message))
 }
 
+/// Behind `hex`: `FIRM TIME HEX`.
+#[tactic(auto, unfolding(crate::specs::StepLines::hex_step))]
+fn read_hex(
+    alloc: Global,
+    config: &VenueConfig,
+    line: usize,
+    text: &[u8],
+) -> Result<Spelled, ProgramFault>
+    ensures ok { IfOk result (λ spelled. (heard : spec.Heard) → spec.hex_step (values_of config.now)
+        heard line text.now ≡ read_as (values_of config.now) spelled heard) }
+    ensures err { IfErr result (λ fault. fault ≢ ProgramFault.Memory → (heard : spec.Heard)
+        → spec.hex_step (values_of config.now) heard line text.now ≡ Err fault) }
+    ensures unwritten { IfErr result (λ fault. fault ≢ ProgramFault.Write) }
+    ensures known { IfOk result (λ spelled. is_known config.now spelled ≡ true) }
+{
+    let (word, rest) = cut_part(text);
+    if word.is_empty() {
+        return Err(ProgramFault::Form { line });
+    }
+    let Some((moment, message)) = read_hexed(alloc, config.date(), rest)? else {
+        return Err(ProgramFault::Form { line });
+    };
+    let Some(firm) = firm_of(config, word) else {
+        return Err(ProgramFault::UnknownFirm { line });
+    };
+    Ok(Spelled::Came(firm, moment, message))
+}
+
 /// Behind `turn`: `ACTOR N`.
 #[tactic(auto, unfolding(crate::specs::StepLines::turn_steps))]
 fn read_turn(config: &VenueConfig, line: usize, text: &[u8]) -> Result<Spelled, ProgramFault>
     ensures ok { IfOk result (λ spelled. (heard : spec.Heard)
-        → spec.turn_steps (values_of config.now) heard line text.now ≡ read_as spelled heard) }
+        → spec.turn_steps (values_of config.now) heard line text.now ≡ read_as (values_of config.now) spelled heard) }
     ensures err { IfErr result (λ fault. (heard : spec.Heard)
         → spec.turn_steps (values_of config.now) heard line text.now ≡ Err fault) }
     ensures unwritten { IfErr result (λ fault. fault ≢ ProgramFault.Write) }
@@ -169,7 +203,7 @@ fn read_actor(config: &VenueConfig, word: &[u8]) -> Option<Actor>
 #[tactic(auto, unfolding(crate::specs::StepLines::expire_step))]
 fn read_expire(config: &VenueConfig, line: usize, text: &[u8]) -> Result<Spelled, ProgramFault>
     ensures ok { IfOk result (λ spelled. (heard : spec.Heard)
-        → spec.expire_step (values_of config.now) heard line text.now ≡ read_as spelled heard) }
+        → spec.expire_step (values_of config.now) heard line text.now ≡ read_as (values_of config.now) spelled heard) }
     ensures err { IfErr result (λ fault. (heard : spec.Heard)
         → spec.expire_step (values_of config.now) heard line text.now ≡ Err fault) }
     ensures unwritten { IfErr result (λ fault. fault ≢ ProgramFault.Write) }
@@ -203,6 +237,23 @@ fn read_request(text: &[u8]) -> Option<u32>
     Some(n as u32)
 }
 
+/// Behind `clock`: `TIME`.
+#[tactic(auto, unfolding(crate::specs::StepLines::clock_steps))]
+fn read_clock(config: &VenueConfig, line: usize, text: &[u8]) -> Result<Spelled, ProgramFault>
+    ensures ok { IfOk result (λ spelled. (heard : spec.Heard)
+        → spec.clock_steps (values_of config.now) heard line text.now
+        ≡ read_as (values_of config.now) spelled heard) }
+    ensures err { IfErr result (λ fault. (heard : spec.Heard)
+        → spec.clock_steps (values_of config.now) heard line text.now ≡ Err fault) }
+    ensures unwritten { IfErr result (λ fault. fault ≢ ProgramFault.Write) }
+    ensures known { IfOk result (λ spelled. is_known config.now spelled ≡ true) }
+{
+    let Some(moment) = read_time(config.date(), text) else {
+        return Err(ProgramFault::Form { line });
+    };
+    Ok(Spelled::Sweeps(moment))
+}
+
 /// Behind `piece`: `FIRM TIME BYTES`.
 #[tactic(auto, unfolding(crate::specs::StepLines::piece_steps))]
 fn read_piece(
@@ -213,7 +264,7 @@ fn read_piece(
     text: &[u8],
 ) -> Result<Spelled, ProgramFault>
     ensures ok { IfOk result (λ spelled. spec.piece_steps (values_of config.now) heard.old line
-        text.now ≡ read_as spelled heard.new) }
+        text.now ≡ read_as (values_of config.now) spelled heard.new) }
     ensures err { IfErr result (λ fault. fault ≢ ProgramFault.Memory
         → spec.piece_steps (values_of config.now) heard.old line text.now ≡ Err fault) }
     ensures unwritten { IfErr result (λ fault. fault ≢ ProgramFault.Write) }

@@ -35,7 +35,7 @@ pub fn read_steps(
     let mut steps = Vec::new(alloc);
     for (line, text) in lines {
         let spelled = read_line(alloc, config, &mut heard, line, text)?;
-        push_spelled(&mut steps, &mut heard, spelled)?;
+        push_spelled(config, &mut steps, &mut heard, spelled)?;
     }
     Ok(steps)
 }

@@ -1,18 +1,21 @@
 //! What is due to a dealer, written as lines of due text.
 ghost use Rattle.std.specs.Prelude.{◌≡◌, ◌++◌, [], decimal, IfOk, OnOk};
+ghost use Rattle.std.specs.List.{list_any};
 ghost use Rattle.fix_fields.specs.TimeOfDay as times;
 ghost use Rattle.venue_text.specs.WrittenDues as spec;
 
 use crate::message_lines::push_barred;
 use bond_prices::Grid;
 use fix_fields::{Memory, Moment, time_text};
+use hex::encode;
 use itoa::Buffer;
 use quote_messages::{Ask, Close};
 use std::alloc::Global;
 use step_replay::Due;
 
 /// The lines of due text that spell a list, an item each: a message of the dealer's own as an
-/// `own` line, with a vertical bar for each SOH, and times with milliseconds.
+/// `own` line, with a vertical bar for each SOH, or, where it has a vertical bar, a line feed or a
+/// carriage return, as a `hex` line; and times with milliseconds.
 pub fn due_lines(alloc: Global, dues: &[Due]) -> Result<Vec<u8>, Memory>
     ensures { IfOk result (λ text. text.items ≡ spec.due_lines dues.now) }
 {
@@ -44,10 +47,51 @@ fn push_due(text: &mut Vec<u8>, due: &Due) -> Result<(), Memory>
     }
 }
 
-/// `own TIME FRAME`.
+/// `own TIME FRAME`, or `hex TIME HEX` where FRAME could not be read back.
+#[tactic(auto, unfolding(crate::specs::WrittenDues::own_line))]
 fn push_own(text: &mut Vec<u8>, moment: Moment, message: &[u8]) -> Result<(), Memory>
+    ensures { OnOk result (text.new.items ≡ text.old.items ++ spec.own_line moment message.now) }
+{
+    if has_unsayable(message) {
+        push_digits(text, moment, message)?;
+        return Ok(());
+    }
+    push_bytes(text, moment, message)?;
+    Ok(())
+}
+
+/// Whether a message has a byte that an `own` line can't say of itself.
+fn has_unsayable(message: &[u8]) -> bool
+    ensures { result ≡ list_any spec.is_unsayable message.now }
+{
+    message.iter().any(|c| is_unsayable(*c))
+}
+
+/// A vertical bar, a line feed or a carriage return.
+fn is_unsayable(c: u8) -> bool
+    ensures { result ≡ spec.is_unsayable c }
+{
+    c == b'|' || c == b'\n' || c == b'\r'
+}
+
+/// `hex TIME HEX`.
+fn push_digits(text: &mut Vec<u8>, moment: Moment, message: &[u8]) -> Result<(), Memory>
     ensures { OnOk result (text.new.items
-        ≡ text.old.items ++ spec.due_line (Due.Own moment message.now)) }
+        ≡ text.old.items ++ spec.hex_line moment message.now) }
+{
+    let digits = encode(*text.allocator(), message)?;
+    text.extend_from_slice(b"hex ")?;
+    push_time(text, moment)?;
+    text.push(b' ')?;
+    text.extend_from_slice(digits.as_bytes())?;
+    text.push(b'\n')?;
+    Ok(())
+}
+
+/// `own TIME FRAME`.
+fn push_bytes(text: &mut Vec<u8>, moment: Moment, message: &[u8]) -> Result<(), Memory>
+    ensures { OnOk result (text.new.items
+        ≡ text.old.items ++ spec.bytes_line moment message.now) }
 {
     text.extend_from_slice(b"own ")?;
     push_time(text, moment)?;

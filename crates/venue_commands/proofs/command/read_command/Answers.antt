@@ -1,15 +1,17 @@
-use Rattle.std.proofs.Common.{◌≡◌, ◌∙◌, refl, sym, ap, subst, true, List, [], map}
-use Rattle.std.proofs.Common.{Some, Result, Ok, Err, codes}
+use Rattle.std.proofs.Common.{◌≡◌, ◌∙◌, refl, sym, ap, subst, Bool, true, false, List, [], map}
+use Rattle.std.proofs.Common.{Some, None, Result, Ok, Err, codes}
 use Rattle.std.specs.Prelude.{IfErr, IsErrAnd, option_map}
 use Rattle.clap.specs.declared.error.Error.{Error}
 use Rattle.clap.specs.Words.{HasKind, Row, Text, app_of, fault_of, found_of, is_simple, rows_of}
-use Rattle.clap.specs.Words.{is_simple_and_free, subcommand_of}
+use Rattle.clap.specs.Words.{is_simple_and_free, one_of, one_text, subcommand_of}
+use Rattle.clap.specs.declared.parser.matches.Found.{Found}
 use Rattle.clap.proofs.OnLiterals.{clap_on_literals}
 use Rattle.clap.proofs.WalkLemmas.{first_value-rows, one_text-rows}
 use Rattle.venue_commands.specs.Arguments.{arguments_fault, named_command, venue_app}
+use Rattle.venue_commands.specs.declared.command.Flags.{Flags}
 use Rattle.venue_commands.specs.declared.command.VenueCommand.{VenueCommand}
 use Rattle.venue_commands.proofs.AppLemmas.{found_both, names_alike}
-use Rattle.venue_commands.proofs.LawfulArguments.{arguments_read}
+use Rattle.venue_commands.proofs.LawfulArguments.{FlagIs, arguments_read}
 use Rattle.venue_commands.proofs.command.read_command.Goals as goal
 
 is_free : is_simple_and_free venue_app ≡ true
@@ -23,6 +25,14 @@ is_simple_too = refl
 same_error : (P : Error → Type 0) (r : Result VenueCommand Error) (e : Error) → IsErrAnd r (λ f. f ≡ e) → P e → IfErr r P
 same_error P (Ok x) e h p = tt
 same_error P (Err f) e h p = subst P (sym h) p
+
+flag_is : (found : Found) (name : Text) (given : Bool) → (one_text found name ≡ None → given ≡ false) → (one_text found name ≡ Some (codes "true") → given ≡ true)
+    → (one_text found name ≡ Some (codes "false") → given ≡ false) → FlagIs (one_of name (rows_of found)) given
+flag_is found name given none value other = (
+  λ e. none (one_text-rows found name ∙ e),
+  λ e. value (one_text-rows found name ∙ e),
+  λ e. other (one_text-rows found name ∙ e),
+)
 
 pub returns-in_err-matches-clause-err : goal.returns-in_err-matches-clause-err
 unfolding arguments_fault
@@ -50,10 +60,12 @@ returns-clause-ok g c =
     let found = found_of c.in-Some.words.now in
     let name_is = c.in-Some.ensures.name ∙ names_alike _ ∙ ap (option_map (λ (p : Text × List Row). p.0)) met in
     let rows_are = c.in-Some.ensures.rows ∙ ap (option_map (λ (p : Text × List Row). p.1)) met in
-    let read = arguments_read g.S.AsStr.text c.args.arguments.now c.requires none (c.in-Some.name.now, rows_of found)
-    (found_both (subcommand_of venue_app words) c.in-Some.name.now (rows_of found) name_is rows_are) c.get_flag-frames.result c.get_flag-woven.result
-    (λ e. c.get_flag-frames.ensures.value (one_text-rows found (codes "frames") ∙ e), λ e. c.get_flag-frames.ensures.other (one_text-rows found (codes "frames") ∙ e))
-    (λ e. c.get_flag-woven.ensures.value (one_text-rows found (codes "woven") ∙ e), λ e. c.get_flag-woven.ensures.other (one_text-rows found (codes "woven") ∙ e)) in
+    let flags : Flags = record { frames = c.get_flag-frames.result; woven = c.get_flag-woven.result } in
+    let asked = arguments_read g.S.AsStr.text c.args.arguments.now c.requires none (c.in-Some.name.now, rows_of found)
+    (found_both (subcommand_of venue_app words) c.in-Some.name.now (rows_of found) name_is rows_are) flags
+    (record {
+      frames = flag_is found (codes "frames") c.get_flag-frames.result c.get_flag-frames.ensures.none c.get_flag-frames.ensures.value c.get_flag-frames.ensures.other;
+      woven = flag_is found (codes "woven") c.get_flag-woven.result c.get_flag-woven.ensures.none c.get_flag-woven.ensures.value c.get_flag-woven.ensures.other;
+    }) in
     let firm = c.get_str.ensures ∙ first_value-rows found (codes "firm") in
-    read ∙ ap (λ firm_word. Some (named_command c.in-Some.name.now firm_word c.get_flag-frames.result c.get_flag-woven.result)) (sym firm)
-    ∙ ap (λ command. Some command) (sym c.command_named-command.ensures)
+    asked ∙ ap (λ word. Some (named_command c.in-Some.name.now word flags)) (sym firm) ∙ ap (λ command. Some command) (sym c.command_named-command.ensures)

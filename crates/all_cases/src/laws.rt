@@ -1,0 +1,194 @@
+//! Runs that are held against each other.
+ghost use Rattle.std.specs.Prelude.{◌<◌, IfOk};
+
+use crate::in_row::InRow;
+use crate::runs::{Ended, Paces, ran, words_of};
+use crate::streams::Pace;
+use case_lines::{CaseFault, Words};
+use std::alloc::Global;
+use std::marker::Sync;
+use std::sync::Wait;
+use std::thread::Threads;
+
+/// `STEP WORDS`: runs the program once for each count of bytes, a multiple of the step, behind which
+/// its reader fails, up to all of them. Each answer stands behind the first and the last count that
+/// has it.
+pub(crate) fn each_read<H: Threads + Wait + Sync>(
+    rt: &H,
+    alloc: Global,
+    words: &mut Words<'_>,
+    input: &[u8],
+    answer: &mut String,
+) -> Result<(), CaseFault> {
+    let step = step_of(words)?;
+    let words = words_of(alloc, words.rest())?;
+    let mut in_row = InRow::new(alloc);
+    let mut paces = Paces::whole();
+    for count in (0..=input.len()).step_by(step) {
+        paces.input = Pace::up_to(count);
+        let ended = ran(rt, alloc, words.as_slice(), input, paces);
+        let mut text = String::new(alloc);
+        ended.show(alloc, &mut text)?;
+        in_row.take(count, text, answer)?;
+    }
+    in_row.end(answer)
+}
+
+/// `STEP WORDS`: the same with a writer that fails, or takes nothing any more. Each answer says
+/// whether the writer holds these first bytes of what is printed whole.
+pub(crate) fn each_write<H: Threads + Wait + Sync>(
+    rt: &H,
+    alloc: Global,
+    words: &mut Words<'_>,
+    input: &[u8],
+    stops: bool,
+    answer: &mut String,
+) -> Result<(), CaseFault> {
+    let step = step_of(words)?;
+    let words = words_of(alloc, words.rest())?;
+    let mut paces = Paces::whole();
+    let whole = ran(rt, alloc, words.as_slice(), input, paces);
+    let mut in_row = InRow::new(alloc);
+    paces.out.stops = stops;
+    for count in (0..whole.out.len()).step_by(step) {
+        paces.out.left = count;
+        let ended = ran(rt, alloc, words.as_slice(), input, paces);
+        let text = told_of_prefix(alloc, &ended, whole.out.as_slice(), count)?;
+        in_row.take(count, text, answer)?;
+    }
+    in_row.end(answer)
+}
+
+/// The step between two counts.
+fn step_of(words: &mut Words<'_>) -> Result<usize, CaseFault>
+    ensures { IfOk result (λ step. 0 < step) }
+{
+    let number = words.number()?;
+    let Ok(step) = usize::try_from(number) else {
+        return Err(CaseFault::Condition);
+    };
+    if step == 0 {
+        return Err(CaseFault::Condition);
+    }
+    Ok(step)
+}
+
+/// How a run ended, and whether it printed the first `count` bytes of a text.
+fn told_of_prefix(
+    alloc: Global,
+    ended: &Ended,
+    whole: &[u8],
+    count: usize,
+) -> Result<String, CaseFault> {
+    let mut text = String::new(alloc);
+    ended.tell(alloc, &mut text)?;
+    let is_prefix = whole.get(..count) == Some(ended.out.as_slice());
+    text.push_str(if is_prefix {
+        "a prefix\n"
+    } else {
+        "no prefix\n"
+    })?;
+    Ok(text)
+}
+
+/// `[--frames] FIRM..`: `live` over an input without its turns sends each firm what `replay` has
+/// for it with them.
+pub(crate) fn same_live<H: Threads + Wait + Sync>(
+    rt: &H,
+    alloc: Global,
+    words: &str,
+    input: &[u8],
+    answer: &mut String,
+) -> Result<(), CaseFault> {
+    let (frames, firms) = form_of(words);
+    let lines = without_turns(alloc, input)?;
+    let live = ran_in_form(rt, alloc, &["live"], frames, lines.as_slice())?;
+    live.tell(alloc, answer)?;
+    for firm in words_of(alloc, firms)?.as_slice() {
+        let own = lines_of(alloc, live.out.as_slice(), firm)?;
+        let replayed = ran_in_form(rt, alloc, &["replay", firm], frames, input)?;
+        let is_same = replayed.status == 0 && own.as_slice() == replayed.out.as_slice();
+        push_same(alloc, answer, firm, is_same)?;
+    }
+    Ok(())
+}
+
+/// `[--frames] DEALER..`: `alone` over what `due` prints of each dealer prints what `replay` has
+/// for it.
+pub(crate) fn same_alone<H: Threads + Wait + Sync>(
+    rt: &H,
+    alloc: Global,
+    words: &str,
+    input: &[u8],
+    answer: &mut String,
+) -> Result<(), CaseFault> {
+    let (frames, dealers) = form_of(words);
+    for dealer in words_of(alloc, dealers)?.as_slice() {
+        let due = ran(rt, alloc, &["due", dealer], input, Paces::whole());
+        let alone = ran_in_form(rt, alloc, &["alone"], frames, due.out.as_slice())?;
+        let replayed = ran_in_form(rt, alloc, &["replay", dealer], frames, input)?;
+        let are_done = due.status == 0 && alone.status == 0 && replayed.status == 0;
+        let is_same = are_done && alone.out.as_slice() == replayed.out.as_slice();
+        push_same(alloc, answer, dealer, is_same)?;
+    }
+    Ok(())
+}
+
+/// Whether `--frames` stands before the names, and the names.
+fn form_of(words: &str) -> (bool, &str) {
+    let Some(names) = words.strip_prefix("--frames ") else {
+        return (false, words);
+    };
+    (true, names)
+}
+
+/// Runs a command, with `--frames` or without.
+fn ran_in_form<H: Threads + Wait + Sync>(
+    rt: &H,
+    alloc: Global,
+    command: &[&str],
+    frames: bool,
+    input: &[u8],
+) -> Result<Ended, CaseFault> {
+    let mut words = Vec::from_slice(alloc, command)?;
+    if frames {
+        words.push("--frames")?;
+    }
+    Ok(ran(rt, alloc, words.as_slice(), input, Paces::whole()))
+}
+
+/// The lines of an input but those of turns.
+fn without_turns(alloc: Global, input: &[u8]) -> Result<Vec<u8>, CaseFault> {
+    let mut lines = Vec::new(alloc);
+    for line in input.split_inclusive(|byte| *byte == b'\n') {
+        if !line.starts_with(b"turn ") {
+            lines.extend_from_slice(line)?;
+        }
+    }
+    Ok(lines)
+}
+
+/// The lines of a text that begin with this firm's name.
+fn lines_of(alloc: Global, text: &[u8], firm: &str) -> Result<Vec<u8>, CaseFault> {
+    let front = format!(in alloc; "{firm} ")?;
+    let mut lines = Vec::new(alloc);
+    for line in text.split_inclusive(|byte| *byte == b'\n') {
+        if line.starts_with(front.as_bytes()) {
+            lines.extend_from_slice(line)?;
+        }
+    }
+    Ok(lines)
+}
+
+/// Answers whether two texts of a firm are the same.
+fn push_same(
+    alloc: Global,
+    answer: &mut String,
+    firm: &str,
+    is_same: bool,
+) -> Result<(), CaseFault> {
+    let word = if is_same { "same" } else { "differs" };
+    let line = format!(in alloc; "{firm} {word}\n")?;
+    answer.push_str(line.as_str())?;
+    Ok(())
+}

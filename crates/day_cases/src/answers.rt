@@ -1,0 +1,141 @@
+//! Lines of an answer.
+use case_lines::{CaseFault, day, push_bytes, push_text};
+use fix_fields::{Moment, moment_text};
+use market_terms::RoomRef;
+use quote_messages::SentMessage;
+use std::alloc::Global;
+use step_replay::{Actor, ReplayFault, Step};
+use venue_text::{Parts, ProgramFault, fault_line};
+
+/// Puts a line.
+pub(crate) fn put(answer: &mut String, line: &str) -> Result<(), CaseFault> {
+    answer.push_str(line)?;
+    answer.push('\n')?;
+    Ok(())
+}
+
+/// Puts a text of lines, with what is no printed character escaped, and so a space at a line's end.
+pub(crate) fn put_text(answer: &mut String, text: &[u8]) -> Result<(), CaseFault> {
+    for line in Parts::new(text, b'\n') {
+        put_escaped(answer, line)?;
+    }
+    Ok(())
+}
+
+/// Puts a line of a text.
+fn put_escaped(answer: &mut String, line: &[u8]) -> Result<(), CaseFault> {
+    match line {
+        [front @ .., b' '] => {
+            push_text(answer, front)?;
+            put(answer, "\\x20")
+        }
+        _ => {
+            push_text(answer, line)?;
+            put(answer, "")
+        }
+    }
+}
+
+/// Puts the time of a moment, and a space.
+pub(crate) fn put_time(answer: &mut String, moment: Moment) -> Result<(), CaseFault> {
+    let Some(date) = day() else {
+        return Err(CaseFault::Condition);
+    };
+    let stamp = moment_text(&date, moment);
+    answer.push_str(&stamp.as_str()[9..])?;
+    answer.push(' ')?;
+    Ok(())
+}
+
+/// Puts the line that tells a fault of an input.
+pub(crate) fn put_fault(answer: &mut String, fault: &ProgramFault) -> Result<(), CaseFault> {
+    let line = fault_line(fault);
+    put_text(answer, line.as_str().as_bytes())
+}
+
+/// Puts the line that tells a fault of a list of steps.
+pub(crate) fn put_replay_fault(
+    alloc: Global,
+    answer: &mut String,
+    fault: ReplayFault,
+) -> Result<(), CaseFault> {
+    let line = match fault {
+        ReplayFault::UnknownFirm(k) => format!(in alloc; "unknown firm at {k}")?,
+        ReplayFault::UnknownRoom(k) => format!(in alloc; "unknown room at {k}")?,
+        ReplayFault::Memory => return Err(CaseFault::Memory),
+    };
+    put(answer, line.as_str())
+}
+
+/// Puts a count and what is counted.
+pub(crate) fn put_count(
+    alloc: Global,
+    answer: &mut String,
+    count: usize,
+    what: &str,
+) -> Result<(), CaseFault> {
+    let line = format!(in alloc; "{count} {what}")?;
+    put(answer, line.as_str())
+}
+
+/// Puts a message as its bytes, with a bar for each SOH.
+pub(crate) fn put_bytes(answer: &mut String, bytes: &[u8]) -> Result<(), CaseFault> {
+    push_bytes(answer, bytes)?;
+    answer.push('\n')?;
+    Ok(())
+}
+
+/// Puts messages, each as its bytes.
+pub(crate) fn put_frames(answer: &mut String, messages: &[SentMessage]) -> Result<(), CaseFault> {
+    for message in messages {
+        put_bytes(answer, message.as_bytes())?;
+    }
+    Ok(())
+}
+
+/// Puts steps, a line each: `in FIRM TIME BYTES`, `turn FIRM`, `turn CLOCK` or `expire FIRM N
+/// TIME`, with firms by their numbers.
+pub(crate) fn put_steps(
+    alloc: Global,
+    answer: &mut String,
+    steps: &[Step],
+) -> Result<(), CaseFault> {
+    for step in steps {
+        put_step(alloc, answer, step)?;
+    }
+    Ok(())
+}
+
+/// Puts a step.
+fn put_step(alloc: Global, answer: &mut String, step: &Step) -> Result<(), CaseFault> {
+    match step {
+        Step::In(firm, moment, message) => {
+            let front = format!(in alloc; "in {firm} ")?;
+            answer.push_str(front.as_str())?;
+            put_time(answer, *moment)?;
+            put_bytes(answer, message.as_bytes())
+        }
+        Step::Turn(Actor::Firm(firm)) => {
+            let line = format!(in alloc; "turn {firm}")?;
+            put(answer, line.as_str())
+        }
+        Step::Turn(Actor::Clock) => put(answer, "turn CLOCK"),
+        Step::Expire(room, moment) => put_sweep(alloc, answer, *room, *moment),
+    }
+}
+
+/// Puts a sweep.
+fn put_sweep(
+    alloc: Global,
+    answer: &mut String,
+    room: RoomRef,
+    moment: Moment,
+) -> Result<(), CaseFault> {
+    let front = format!(in alloc; "expire {} {} ", room.investor, room.n)?;
+    answer.push_str(front.as_str())?;
+    let Some(date) = day() else {
+        return Err(CaseFault::Condition);
+    };
+    let stamp = moment_text(&date, moment);
+    put(answer, &stamp.as_str()[9..])
+}

@@ -1,0 +1,102 @@
+//! Events at a dealer's desk that words of a call spell.
+use crate::values::{close_in, firm_in, last_moment, small_in};
+use case_lines::{CaseFault, Words, frame_of, piped_bytes_of};
+use dealer_desk::DealerEvent;
+use fix_fields::Moment;
+use market_terms::RoomRef;
+use quote_messages::{Ask, Message};
+use quote_word::Settled;
+use std::alloc::Global;
+use step_replay::Due;
+use venue_text::{MOST_INPUT, read_due_text};
+
+/// Whether a call with this word is an event.
+pub(crate) fn is_event(word: &str) -> bool {
+    matches!(word, "own" | "shown" | "closed" | "drop")
+}
+
+/// The event, behind its word and the number of the dealer.
+pub(crate) fn event_in(
+    alloc: Global,
+    word: &str,
+    words: &mut Words<'_>,
+) -> Result<DealerEvent, CaseFault> {
+    match word {
+        "own" => own_in(alloc, words),
+        "shown" => shown_in(alloc, words),
+        "closed" => closed_in(words),
+        _ => drop_in(words),
+    }
+}
+
+/// `TIME ANSWER BODY`.
+fn own_in(alloc: Global, words: &mut Words<'_>) -> Result<DealerEvent, CaseFault> {
+    let moment = words.moment()?;
+    let answer = answer_in(words)?;
+    let body = piped_bytes_of(alloc, words.rest())?;
+    let message = Message::new(frame_of(alloc, body.as_slice())?);
+    Ok(DealerEvent::Own {
+        moment,
+        message,
+        answer,
+    })
+}
+
+/// `INVESTOR N LINE`.
+fn shown_in(alloc: Global, words: &mut Words<'_>) -> Result<DealerEvent, CaseFault> {
+    let investor = firm_in(words)?;
+    let n = small_in(words)?;
+    let room = RoomRef { investor, n };
+    let (ask, moment) = ask_in(alloc, words.rest())?;
+    Ok(DealerEvent::Shown { room, ask, moment })
+}
+
+/// What is asked for, and the moment at which it is shown, as due text has it.
+fn ask_in(alloc: Global, line: &str) -> Result<(Ask, Moment), CaseFault> {
+    let input = format!(in alloc; "date 20250314\ndealer DLR1 1 1 T1\nshown {line}\n")?;
+    if input.len() > MOST_INPUT {
+        return Err(CaseFault::Condition);
+    }
+    let Ok(text) = read_due_text(alloc, input.as_bytes()) else {
+        return Err(CaseFault::Form);
+    };
+    let Some(Due::Shown(ask, moment)) = text.dues.first() else {
+        return Err(CaseFault::Form);
+    };
+    Ok((ask.copy(), *moment))
+}
+
+/// `N CODE TIME`.
+fn closed_in(words: &mut Words<'_>) -> Result<DealerEvent, CaseFault> {
+    let request = words.number()?;
+    let close = close_in(words)?;
+    let moment = last_moment(words)?;
+    Ok(DealerEvent::Told {
+        request,
+        close,
+        moment,
+    })
+}
+
+/// `LAST TIME ANSWER`.
+fn drop_in(words: &mut Words<'_>) -> Result<DealerEvent, CaseFault> {
+    let last = small_in(words)?;
+    let moment = words.moment()?;
+    let answer = answer_in(words)?;
+    words.end()?;
+    Ok(DealerEvent::Drop {
+        last,
+        moment,
+        answer,
+    })
+}
+
+/// The answer of a word, or `-` where none was asked.
+fn answer_in(words: &mut Words<'_>) -> Result<Option<Settled>, CaseFault> {
+    match words.word()? {
+        "-" => Ok(None),
+        "lifted" => Ok(Some(Settled::Lifted)),
+        "withdrawn" => Ok(Some(Settled::Withdrawn)),
+        _ => Err(CaseFault::Form),
+    }
+}

@@ -1,0 +1,91 @@
+//! Streams of bytes as inboxes.
+use crate::answers::{put, put_bytes, put_time};
+use case_lines::{CaseFault, Place, Words, piped_bytes_of};
+use fix_fields::{Moment, StreamFault};
+use quote_messages::Message;
+use recorded_days::Inbound;
+use session_worker::inbox_of;
+use std::alloc::Global;
+
+/// The inbox of one firm.
+///
+/// | call | what it does |
+/// |---|---|
+/// | `piece TIME BYTES` | a piece more of the firm's stream |
+/// | `bytes BYTES` | a piece for each byte, a millisecond apart, the first at midnight |
+/// | `inbox` | answers the messages, each behind its time, and the fault of the stream |
+#[derive(Drop)]
+pub struct Inboxes {
+    pieces: Vec<Inbound>,
+}
+
+impl Place for Inboxes {
+    fn new(alloc: Global) -> Result<Self, CaseFault> {
+        Ok(Inboxes {
+            pieces: Vec::new(alloc),
+        })
+    }
+
+    fn call(&mut self, alloc: Global, call: &str, answer: &mut String) -> Result<(), CaseFault> {
+        let mut words = Words::of(call);
+        match words.word()? {
+            "piece" => {
+                let moment = words.moment()?;
+                let bytes = piped_bytes_of(alloc, words.rest())?;
+                self.put(moment, bytes)
+            }
+            "bytes" => self.put_bytes(alloc, words.rest()),
+            "inbox" => self.tell(alloc, answer),
+            _ => Err(CaseFault::Form),
+        }
+    }
+}
+
+impl Inboxes {
+    /// A piece comes.
+    fn put(&mut self, moment: Moment, bytes: Vec<u8>) -> Result<(), CaseFault> {
+        let bytes = Message::new(bytes);
+        self.pieces.push(Inbound { moment, bytes })?;
+        Ok(())
+    }
+
+    /// Bytes come one by one.
+    fn put_bytes(&mut self, alloc: Global, text: &str) -> Result<(), CaseFault> {
+        let bytes = piped_bytes_of(alloc, text)?;
+        let mut milliseconds: u32 = 0;
+        for byte in bytes.as_slice() {
+            let Some(moment) = Moment::new(milliseconds) else {
+                return Err(CaseFault::Form);
+            };
+            let mut piece = Vec::new(alloc);
+            piece.push(*byte)?;
+            self.put(moment, piece)?;
+            milliseconds = milliseconds.saturating_add(1);
+        }
+        Ok(())
+    }
+
+    /// The messages that came, and the fault.
+    fn tell(&self, alloc: Global, answer: &mut String) -> Result<(), CaseFault> {
+        let (inbox, fault) = inbox_of(alloc, self.pieces.as_slice())?;
+        for inbound in inbox.as_slice() {
+            put_time(answer, inbound.moment)?;
+            put_bytes(answer, inbound.bytes.as_bytes())?;
+        }
+        match fault {
+            None => Ok(()),
+            Some(fault) => put(answer, name_of(fault)),
+        }
+    }
+}
+
+/// The name of a fault.
+fn name_of(fault: StreamFault) -> &'static str {
+    match fault {
+        StreamFault::Start => "Start",
+        StreamFault::Length => "Length",
+        StreamFault::TooLong => "TooLong",
+        StreamFault::End => "End",
+        StreamFault::Memory => "Memory",
+    }
+}

@@ -1,0 +1,376 @@
+//! Recorded days that are made by lines.
+use crate::answers::{put, put_count, put_steps, put_text};
+use crate::cycles::put_cycle;
+use crate::empty_days::{empty_dealer, empty_investor, empty_room};
+use crate::events::{event_in, is_event};
+use crate::values::{actor_in, firm_in, kind_in, last_moment, only_firm, settled_in, small_in};
+use crate::venues::Venue;
+use case_lines::{CaseFault, Place, Words, frame_of, piped_bytes_of};
+use dealer_desk::DealerEvent;
+use investor_desk::InvestorDesk;
+use quote_messages::{Message, SentMessage};
+use recorded_days::{Action, DayRecord, DealerDay, Inbound, InvestorDay, WeaveFault, weave};
+use std::alloc::Global;
+use std::mem::replace;
+use step_replay::{Actor, alone, due};
+use venue_text::due_lines;
+
+/// A recorded day. Firms go by their numbers, the dealers from 0 on, behind them the investors, and
+/// an action by its actor, the number of a firm or `CLOCK`, and its number among the actions of
+/// that actor, from 1.
+///
+/// | call | what it does |
+/// |---|---|
+/// | `< LINE`, `open`, `- LINE`, `read` .. | as of the place `replay` |
+/// | `begin` | the record of a day in which nothing happens, with a room for each request |
+/// | `action ACTOR KIND TIME` | an action more of an actor |
+/// | `action ACTOR KIND TIME WORD ANSWER` | one that asked a word, which is so then |
+/// | `at FIRM ACTOR N` | that action is the next one at the desk of a firm |
+/// | `room FIRM R ACTOR N` | it is the next one in the room of an investor's R-th request |
+/// | `inbox FIRM TIME BODY` | a message more of a firm: the frame of a body |
+/// | `own FIRM TIME ANSWER BODY` | an event more at a dealer's desk: a message |
+/// | `shown FIRM INVESTOR N LINE` | a request is shown, as LINE behind `shown` in due text |
+/// | `closed FIRM N CODE TIME` | the dealer is told |
+/// | `drop FIRM LAST TIME ANSWER` | a quote is dropped |
+/// | `replayed FIRM` | the dealer was sent what the steps of the day send it |
+/// | `desk FIRM` | a desk of an investor, beside the record |
+/// | `take TIME BODY`, `closes N TIME` | a message comes to it; a request of it closes |
+/// | `told FIRM` | the investor was sent what that desk sent |
+/// | `without` | the record lacks the last investor |
+/// | `more FIRM` | it has a room more of an investor |
+/// | `end` | the record ends |
+/// | `count FIRM` | answers how many messages a firm was sent |
+/// | `due FIRM` | answers what was due to a dealer by the record, or `none` |
+/// | `weave` | answers the steps, `malformed`, `cycle` and its actions, or `differs FIRM` |
+///
+/// An ANSWER is `lifted` or `withdrawn`, and of an event `-` where it asked no word.
+#[derive(Drop)]
+pub struct Records {
+    venue: Venue,
+    dealers: Vec<DealerDay>,
+    investors: Vec<InvestorDay>,
+    clock: Vec<Action>,
+    desk: Option<InvestorDesk>,
+    record: Option<DayRecord>,
+}
+
+impl Place for Records {
+    fn new(alloc: Global) -> Result<Self, CaseFault> {
+        Ok(Records {
+            venue: Venue::new(alloc),
+            dealers: Vec::new(alloc),
+            investors: Vec::new(alloc),
+            clock: Vec::new(alloc),
+            desk: None,
+            record: None,
+        })
+    }
+
+    fn call(&mut self, alloc: Global, call: &str, answer: &mut String) -> Result<(), CaseFault> {
+        let mut words = Words::of(call);
+        match words.word()? {
+            "begin" => self.begin(alloc),
+            "end" => self.end(alloc),
+            "count" => self.tell_count(alloc, only_firm(&mut words)?, answer),
+            "due" => self.tell_due(alloc, only_firm(&mut words)?, answer),
+            "weave" => self.tell_steps(alloc, answer),
+            other => self.changes(alloc, other, &mut words, answer),
+        }
+    }
+}
+
+impl Records {
+    /// A call that puts something into the record.
+    fn changes(
+        &mut self,
+        alloc: Global,
+        word: &str,
+        words: &mut Words<'_>,
+        answer: &mut String,
+    ) -> Result<(), CaseFault> {
+        if is_event(word) {
+            return self.put_event(alloc, word, words);
+        }
+        match word {
+            "action" => self.put_action(words),
+            "at" => self.put_at_desk(words),
+            "room" => self.put_in_room(words),
+            "inbox" => self.put_message(alloc, words),
+            "without" => self.leave_out(),
+            "more" => self.put_room(alloc, only_firm(words)?),
+            other => self.sends(alloc, other, words, answer),
+        }
+    }
+
+    /// A call about what firms were sent, or one that all places with a venue know.
+    fn sends(
+        &mut self,
+        alloc: Global,
+        word: &str,
+        words: &mut Words<'_>,
+        answer: &mut String,
+    ) -> Result<(), CaseFault> {
+        match word {
+            "replayed" => self.put_replayed(alloc, only_firm(words)?),
+            "desk" => self.open_desk(alloc, only_firm(words)?),
+            "take" => self.take(alloc, words),
+            "closes" => self.close(words),
+            "told" => self.put_told(only_firm(words)?),
+            other => self.venue.call(alloc, other, words, answer),
+        }
+    }
+
+    /// A day of the venue in which nothing happens.
+    fn begin(&mut self, alloc: Global) -> Result<(), CaseFault> {
+        let config = self.venue.config()?;
+        for _ in config.dealers() {
+            self.dealers.push(empty_dealer(alloc))?;
+        }
+        for row in config.investors() {
+            let day = empty_investor(alloc, row.requests)?;
+            self.investors.push(day)?;
+        }
+        Ok(())
+    }
+
+    /// The record ends.
+    fn end(&mut self, alloc: Global) -> Result<(), CaseFault> {
+        let dealers = replace(&mut self.dealers, Vec::new(alloc));
+        let investors = replace(&mut self.investors, Vec::new(alloc));
+        let clock = replace(&mut self.clock, Vec::new(alloc));
+        self.record = Some(DayRecord::new(dealers, investors, clock));
+        Ok(())
+    }
+
+    /// The record, where it has ended.
+    fn record(&self) -> Result<&DayRecord, CaseFault> {
+        self.record.as_ref().ok_or(CaseFault::NotOpen)
+    }
+
+    /// The day of a dealer.
+    fn dealer(&mut self, firm: u16) -> Result<&mut DealerDay, CaseFault> {
+        let Some(day) = self.dealers.get_mut(usize::from(firm)) else {
+            return Err(CaseFault::Condition);
+        };
+        Ok(day)
+    }
+
+    /// The day of an investor.
+    fn investor(&mut self, firm: u16) -> Result<&mut InvestorDay, CaseFault> {
+        let Some(index) = usize::from(firm).checked_sub(self.dealers.len()) else {
+            return Err(CaseFault::Condition);
+        };
+        let Some(day) = self.investors.get_mut(index) else {
+            return Err(CaseFault::Condition);
+        };
+        Ok(day)
+    }
+
+    /// Whether this is the number of a dealer.
+    fn is_dealer(&self, firm: u16) -> bool {
+        usize::from(firm) < self.dealers.len()
+    }
+
+    /// `action ACTOR KIND TIME`, and the word and its answer.
+    fn put_action(&mut self, words: &mut Words<'_>) -> Result<(), CaseFault> {
+        let by = actor_in(words)?;
+        let kind = kind_in(words)?;
+        let moment = words.moment()?;
+        let word = word_in(words)?;
+        let action = Action { kind, moment, word };
+        let Actor::Firm(firm) = by else {
+            self.clock.push(action)?;
+            return Ok(());
+        };
+        if self.is_dealer(firm) {
+            self.dealer(firm)?.actions.push(action)?;
+            return Ok(());
+        }
+        self.investor(firm)?.actions.push(action)?;
+        Ok(())
+    }
+
+    /// `at FIRM ACTOR N`.
+    fn put_at_desk(&mut self, words: &mut Words<'_>) -> Result<(), CaseFault> {
+        let firm = firm_in(words)?;
+        let by = actor_in(words)?;
+        let number = words.number()?;
+        words.end()?;
+        if self.is_dealer(firm) {
+            self.dealer(firm)?.order.push((by, number))?;
+            return Ok(());
+        }
+        self.investor(firm)?.order.push((by, number))?;
+        Ok(())
+    }
+
+    /// `room FIRM R ACTOR N`.
+    fn put_in_room(&mut self, words: &mut Words<'_>) -> Result<(), CaseFault> {
+        let firm = firm_in(words)?;
+        let room = small_in(words)?;
+        let by = actor_in(words)?;
+        let number = words.number()?;
+        words.end()?;
+        let Some(index) = (room as usize).checked_sub(1) else {
+            return Err(CaseFault::Form);
+        };
+        let Some(room) = self.investor(firm)?.rooms.get_mut(index) else {
+            return Err(CaseFault::Condition);
+        };
+        room.order.push((by, number))?;
+        Ok(())
+    }
+
+    /// `inbox FIRM TIME BODY`.
+    fn put_message(&mut self, alloc: Global, words: &mut Words<'_>) -> Result<(), CaseFault> {
+        let firm = firm_in(words)?;
+        let moment = words.moment()?;
+        let body = piped_bytes_of(alloc, words.rest())?;
+        let bytes = Message::new(frame_of(alloc, body.as_slice())?);
+        let inbound = Inbound { moment, bytes };
+        if self.is_dealer(firm) {
+            self.dealer(firm)?.inbox.push(inbound)?;
+            return Ok(());
+        }
+        self.investor(firm)?.inbox.push(inbound)?;
+        Ok(())
+    }
+
+    /// An event at a dealer's desk.
+    fn put_event(
+        &mut self,
+        alloc: Global,
+        word: &str,
+        words: &mut Words<'_>,
+    ) -> Result<(), CaseFault> {
+        let firm = firm_in(words)?;
+        let event: DealerEvent = event_in(alloc, word, words)?;
+        self.dealer(firm)?.events.push(event)?;
+        Ok(())
+    }
+
+    /// The record lacks the last investor.
+    fn leave_out(&mut self) -> Result<(), CaseFault> {
+        let Some(_day) = self.investors.pop() else {
+            return Err(CaseFault::Condition);
+        };
+        Ok(())
+    }
+
+    /// It has a room more of an investor.
+    fn put_room(&mut self, alloc: Global, firm: u16) -> Result<(), CaseFault> {
+        let room = empty_room(alloc);
+        self.investor(firm)?.rooms.push(room)?;
+        Ok(())
+    }
+
+    /// The dealer was sent what the steps of the day send it.
+    fn put_replayed(&mut self, alloc: Global, firm: u16) -> Result<(), CaseFault> {
+        let sent = sent_by_steps(alloc, &self.venue, firm)?;
+        self.dealer(firm)?.sent = sent;
+        Ok(())
+    }
+
+    /// The desk of an investor at the start of the day.
+    fn open_desk(&mut self, alloc: Global, firm: u16) -> Result<(), CaseFault> {
+        let config = self.venue.config()?;
+        if config.investor(firm).is_none() {
+            return Err(CaseFault::Condition);
+        }
+        let desk = InvestorDesk::new(alloc, config, firm)?;
+        self.desk = Some(desk);
+        Ok(())
+    }
+
+    /// `take TIME BODY`.
+    fn take(&mut self, alloc: Global, words: &mut Words<'_>) -> Result<(), CaseFault> {
+        let moment = words.moment()?;
+        let body = piped_bytes_of(alloc, words.rest())?;
+        let bytes = frame_of(alloc, body.as_slice())?;
+        let Some(desk) = &mut self.desk else {
+            return Err(CaseFault::NotOpen);
+        };
+        let _duty = desk.take(moment, bytes.as_slice())?;
+        Ok(())
+    }
+
+    /// `closes N TIME`.
+    fn close(&mut self, words: &mut Words<'_>) -> Result<(), CaseFault> {
+        let n = small_in(words)?;
+        let moment = last_moment(words)?;
+        let Some(desk) = &mut self.desk else {
+            return Err(CaseFault::NotOpen);
+        };
+        desk.closed(n, moment)?;
+        Ok(())
+    }
+
+    /// The investor was sent what the desk sent.
+    fn put_told(&mut self, firm: u16) -> Result<(), CaseFault> {
+        let Some(desk) = self.desk.take() else {
+            return Err(CaseFault::NotOpen);
+        };
+        let (_events, sent, _lines) = desk.into_parts();
+        self.investor(firm)?.sent = sent;
+        Ok(())
+    }
+
+    /// How many messages a firm was sent.
+    fn tell_count(&self, alloc: Global, firm: u16, answer: &mut String) -> Result<(), CaseFault> {
+        let Some(sent) = self.record()?.sent(firm) else {
+            return put(answer, "none");
+        };
+        put_count(alloc, answer, sent.len(), "messages")
+    }
+
+    /// What was due to a dealer.
+    fn tell_due(&self, alloc: Global, firm: u16, answer: &mut String) -> Result<(), CaseFault> {
+        let config = self.venue.config()?;
+        let dues = self.record()?.due(alloc, config, firm)?;
+        let Some(dues) = &dues else {
+            return put(answer, "none");
+        };
+        let text = due_lines(alloc, dues.as_slice())?;
+        put_text(answer, text.as_slice())
+    }
+
+    /// The steps of the day, or why there are none.
+    fn tell_steps(&self, alloc: Global, answer: &mut String) -> Result<(), CaseFault> {
+        let config = self.venue.config()?;
+        let woven = weave(alloc, config, self.record()?);
+        match &woven {
+            Ok(steps) => put_steps(alloc, answer, steps.as_slice()),
+            Err(WeaveFault::Malformed) => put(answer, "malformed"),
+            Err(WeaveFault::Cycle(actions)) => put_cycle(alloc, answer, actions.as_slice()),
+            Err(WeaveFault::Differs(firm)) => {
+                let line = format!(in alloc; "differs {firm}")?;
+                put(answer, line.as_str())
+            }
+            Err(WeaveFault::Memory) => Err(CaseFault::Memory),
+        }
+    }
+}
+
+/// The word that an action asked, and its answer, where the call goes on.
+fn word_in(words: &mut Words<'_>) -> Result<Option<(u32, quote_word::Settled)>, CaseFault> {
+    if words.is_at_end() {
+        return Ok(None);
+    }
+    let word = small_in(words)?;
+    let settled = settled_in(words)?;
+    words.end()?;
+    Ok(Some((word, settled)))
+}
+
+/// What the steps of a day send a dealer.
+fn sent_by_steps(alloc: Global, venue: &Venue, firm: u16) -> Result<Vec<SentMessage>, CaseFault> {
+    let config = venue.config()?;
+    let Some(row) = config.dealer(firm) else {
+        return Err(CaseFault::Condition);
+    };
+    let Ok(dues) = due(alloc, config, venue.steps.as_slice(), firm) else {
+        return Err(CaseFault::Condition);
+    };
+    let sent = alone(alloc, config.date(), row, dues.as_slice())?;
+    Ok(sent)
+}

@@ -1,0 +1,74 @@
+//! What firms say: `TRADER TIME TYPE BODY` and `TIME FRAME`.
+use crate::answers::{put, put_bytes, put_time};
+use crate::texts::day;
+use case_lines::{CaseFault, Words, bytes_of, push_text};
+use std::alloc::Global;
+use venue_config::Name;
+use venue_text::{Said, read_fields, read_received};
+
+/// The fields of a BODY, a line each.
+pub(crate) fn tell_fields(alloc: Global, text: &str, answer: &mut String) -> Result<(), CaseFault> {
+    let body = bytes_of(alloc, text)?;
+    let fields = read_fields(alloc, body.as_slice())?;
+    let Some(fields) = &fields else {
+        return put(answer, "none");
+    };
+    for field in fields.as_slice() {
+        let tag = format!(in alloc; "{}=", field.tag())?;
+        answer.push_str(tag.as_str())?;
+        push_text(answer, field.value())?;
+        answer.push('\n')?;
+    }
+    Ok(())
+}
+
+/// `said FIRM N TEXT`: whether BODY has its number, the moment, and the frame.
+pub(crate) fn tell_said(
+    alloc: Global,
+    words: &mut Words<'_>,
+    answer: &mut String,
+) -> Result<(), CaseFault> {
+    let Some(firm) = Name::of_firm(words.word()?.as_bytes()) else {
+        return Err(CaseFault::Form);
+    };
+    let number = words.number()?;
+    let date = day()?;
+    let text = bytes_of(alloc, words.rest())?;
+    let said = Said::read(alloc, &date, text.as_slice())?;
+    let Some(said) = &said else {
+        return put(answer, "none");
+    };
+    put_moment(said, answer)?;
+    let message = said.message(alloc, &date, &firm, number)?;
+    let Some(message) = &message else {
+        return put(answer, "too long");
+    };
+    put_bytes(answer, message.as_bytes())
+}
+
+/// The moment, and whether a BODY has its number.
+fn put_moment(said: &Said<'_>, answer: &mut String) -> Result<(), CaseFault> {
+    put_time(answer, said.moment())?;
+    let numbered = if said.is_numbered() {
+        "numbered"
+    } else {
+        "not numbered"
+    };
+    put(answer, numbered)
+}
+
+/// The moment and the bytes of a message.
+pub(crate) fn tell_received(
+    alloc: Global,
+    text: &str,
+    answer: &mut String,
+) -> Result<(), CaseFault> {
+    let date = day()?;
+    let text = bytes_of(alloc, text)?;
+    let received = read_received(alloc, &date, text.as_slice())?;
+    let Some((moment, message)) = &received else {
+        return put(answer, "none");
+    };
+    put_time(answer, *moment)?;
+    put_bytes(answer, message.as_bytes())
+}

@@ -1,0 +1,267 @@
+//! The texts of days: lines and their parts, and what calls of `venue_text` make of an input.
+use crate::answers::{put, put_count, put_fault, put_steps, put_text};
+use crate::said::{tell_fields, tell_received, tell_said};
+use crate::told::told_fault;
+use case_lines::{CaseFault, Place, Words, bytes_of};
+use fix_fields::Date;
+use quote_messages::Side;
+use std::alloc::Global;
+use venue_config::VenueConfig;
+use venue_text::{
+    DayParts, MOST_INPUT, Parts, ProgramFault, SpokenLines, asked_dealer, asked_firm, cut_part,
+    day_parts, firm_of, has_divider, one_past, read_side, read_steps, read_time, read_venue,
+    same_text, two_days_parts,
+};
+
+/// An input, and texts of one line.
+///
+/// | call | what it does |
+/// |---|---|
+/// | `< TEXT` | a line more of the input |
+/// | `<+ TEXT` | a text more behind it, without a line feed |
+/// | `<+* N TEXT` | the same N times |
+/// | `spoken` | answers each spoken line behind its number, and the one past the last line |
+/// | `divider` | answers whether a line `%%` stands in the input |
+/// | `steps` | answers the steps of a day, or the fault |
+/// | `days` | answers the steps of two days, or the fault of each |
+/// | `firm NAME` | answers the number of the firm, or `none` |
+/// | `asked NAME`, `dealer NAME` | answers that of the firm or dealer, or the fault |
+/// | `fields TEXT` | answers the fields of a BODY, or `none` |
+/// | `said FIRM N TEXT` | answers the moment and the N-th frame of a `say` line, or `none` |
+/// | `received TEXT` | answers the moment and the bytes of an `own` line, or `none` |
+/// | `cut TEXT` | answers the first part, and what is left |
+/// | `parts TEXT` | answers how many parts one space divides |
+/// | `same TEXT TEXT` | answers whether the two words are one text |
+/// | `side TEXT`, `time TEXT` | answers the value, or `none` |
+/// | `fault NAME`, `fault NAME LINE` | answers the line that tells the fault, and how it displays |
+///
+/// In a TEXT, `\xHH` is a byte, and `\\` a backslash.
+#[derive(Drop)]
+pub struct Texts {
+    input: Vec<u8>,
+}
+
+impl Place for Texts {
+    fn new(alloc: Global) -> Result<Self, CaseFault> {
+        Ok(Texts {
+            input: Vec::new(alloc),
+        })
+    }
+
+    fn call(&mut self, alloc: Global, call: &str, answer: &mut String) -> Result<(), CaseFault> {
+        let mut words = Words::of(call);
+        match words.word()? {
+            "<" => self.put_line(alloc, words.rest()),
+            "<+" => self.put_times(alloc, 1, words.rest()),
+            "<+*" => {
+                let count = words.number()?;
+                self.put_times(alloc, count, words.rest())
+            }
+            "spoken" => self.tell_spoken(alloc, answer),
+            "divider" => put(answer, yes_or_no(has_divider(self.input.as_slice()))),
+            "steps" => self.tell_steps(alloc, answer),
+            "days" => self.tell_days(alloc, answer),
+            "firm" | "asked" | "dealer" => self.tell_firm(alloc, call, answer),
+            "fault" => tell_fault(alloc, &mut words, answer),
+            other => tell_text(alloc, other, &mut words, answer),
+        }
+    }
+}
+
+impl Texts {
+    /// A line more.
+    fn put_line(&mut self, alloc: Global, text: &str) -> Result<(), CaseFault> {
+        let bytes = bytes_of(alloc, text)?;
+        self.input.extend_from_slice(bytes.as_slice())?;
+        self.input.push(b'\n')?;
+        Ok(())
+    }
+
+    /// A text so many times.
+    fn put_times(&mut self, alloc: Global, count: u64, text: &str) -> Result<(), CaseFault> {
+        let bytes = bytes_of(alloc, text)?;
+        for _ in 0..count {
+            self.input.extend_from_slice(bytes.as_slice())?;
+        }
+        Ok(())
+    }
+
+    /// The lines that are spoken.
+    fn tell_spoken(&self, alloc: Global, answer: &mut String) -> Result<(), CaseFault> {
+        let input = self.input.as_slice();
+        if input.len() > MOST_INPUT {
+            return Err(CaseFault::Condition);
+        }
+        for (number, line) in SpokenLines::new(input) {
+            let front = format!(in alloc; "{number} ")?;
+            answer.push_str(front.as_str())?;
+            put_text(answer, line)?;
+        }
+        put_count(alloc, answer, one_past(input), "is one past")
+    }
+
+    /// The input as one day.
+    fn day(&self) -> Result<Result<DayParts<'_>, ProgramFault>, CaseFault> {
+        if self.input.len() > MOST_INPUT {
+            return Err(CaseFault::Condition);
+        }
+        Ok(day_parts(self.input.as_slice()))
+    }
+
+    /// The steps of a day.
+    fn tell_steps(&self, alloc: Global, answer: &mut String) -> Result<(), CaseFault> {
+        match self.day()? {
+            Ok(day) => tell_day(alloc, day, answer),
+            Err(fault) => put_fault(answer, &fault),
+        }
+    }
+
+    /// The steps of two days.
+    fn tell_days(&self, alloc: Global, answer: &mut String) -> Result<(), CaseFault> {
+        if self.input.len() > MOST_INPUT {
+            return Err(CaseFault::Condition);
+        }
+        match two_days_parts(self.input.as_slice()) {
+            Ok((day, other)) => {
+                tell_day(alloc, day, answer)?;
+                tell_day(alloc, other, answer)
+            }
+            Err(fault) => put_fault(answer, &fault),
+        }
+    }
+
+    /// `firm NAME`, `asked NAME` or `dealer NAME`.
+    fn tell_firm(&self, alloc: Global, call: &str, answer: &mut String) -> Result<(), CaseFault> {
+        let Ok(day) = self.day()? else {
+            return Err(CaseFault::Condition);
+        };
+        let Ok(config) = read_venue(alloc, day.config) else {
+            return Err(CaseFault::Condition);
+        };
+        let mut words = Words::of(call);
+        let which = words.word()?;
+        let name = words.rest().as_bytes();
+        match found(&config, which, name) {
+            Ok(Some(firm)) => put_count(alloc, answer, usize::from(firm), "is its number"),
+            Ok(None) => put(answer, "none"),
+            Err(fault) => put_fault(answer, &fault),
+        }
+    }
+}
+
+/// Puts the steps of a day, or the fault of its configuration or of its lines.
+fn tell_day(alloc: Global, day: DayParts<'_>, answer: &mut String) -> Result<(), CaseFault> {
+    let config = match read_venue(alloc, day.config) {
+        Ok(config) => config,
+        Err(fault) => return put_fault(answer, &fault),
+    };
+    match read_steps(alloc, &config, day.steps) {
+        Ok(steps) => put_steps(alloc, answer, steps.as_slice()),
+        Err(fault) => put_fault(answer, &fault),
+    }
+}
+
+/// The firm that a call names.
+fn found(config: &VenueConfig, which: &str, name: &[u8]) -> Result<Option<u16>, ProgramFault> {
+    let firm = match which {
+        "firm" => return Ok(firm_of(config, name)),
+        "asked" => asked_firm(config, name)?,
+        _ => asked_dealer(config, name)?,
+    };
+    Ok(Some(firm))
+}
+
+/// A call about a text of one line.
+fn tell_text(
+    alloc: Global,
+    word: &str,
+    words: &mut Words<'_>,
+    answer: &mut String,
+) -> Result<(), CaseFault> {
+    match word {
+        "fields" => tell_fields(alloc, words.rest(), answer),
+        "said" => tell_said(alloc, words, answer),
+        "received" => tell_received(alloc, words.rest(), answer),
+        "same" => tell_same(alloc, words, answer),
+        other => tell_part(alloc, other, words.rest(), answer),
+    }
+}
+
+/// `cut TEXT`, `parts TEXT`, `side TEXT` or `time TEXT`.
+fn tell_part(alloc: Global, word: &str, text: &str, answer: &mut String) -> Result<(), CaseFault> {
+    let bytes = bytes_of(alloc, text)?;
+    let text = bytes.as_slice();
+    match word {
+        "cut" => {
+            let (part, rest) = cut_part(text);
+            put_quoted(answer, part)?;
+            put_quoted(answer, rest)
+        }
+        "parts" => put_count(alloc, answer, parts_in(text), "parts"),
+        "side" => put(answer, side_name(read_side(text))),
+        "time" => tell_time(alloc, text, answer),
+        _ => Err(CaseFault::Form),
+    }
+}
+
+/// How many parts one space each divides a text into.
+fn parts_in(text: &[u8]) -> usize {
+    let mut count = 0usize;
+    for _ in Parts::new(text, b' ') {
+        count = count.saturating_add(1);
+    }
+    count
+}
+
+/// Puts a text between two bars.
+fn put_quoted(answer: &mut String, text: &[u8]) -> Result<(), CaseFault> {
+    answer.push('|')?;
+    case_lines::push_text(answer, text)?;
+    put(answer, "|")
+}
+
+/// The name of a side.
+fn side_name(side: Option<Side>) -> &'static str {
+    match side {
+        Some(Side::Buy) => "Buy",
+        Some(Side::Sell) => "Sell",
+        None => "none",
+    }
+}
+
+/// The milliseconds of a time.
+fn tell_time(alloc: Global, text: &[u8], answer: &mut String) -> Result<(), CaseFault> {
+    let date = day()?;
+    let Some(moment) = read_time(&date, text) else {
+        return put(answer, "none");
+    };
+    put_count(alloc, answer, moment.get() as usize, "milliseconds")
+}
+
+/// The day of the texts.
+pub(crate) fn day() -> Result<Date, CaseFault> {
+    case_lines::day().ok_or(CaseFault::Condition)
+}
+
+/// `same TEXT TEXT`.
+fn tell_same(alloc: Global, words: &mut Words<'_>, answer: &mut String) -> Result<(), CaseFault> {
+    let some = bytes_of(alloc, words.word()?)?;
+    let other = bytes_of(alloc, words.rest())?;
+    put(
+        answer,
+        yes_or_no(same_text(some.as_slice(), other.as_slice())),
+    )
+}
+
+/// A word for an answer.
+fn yes_or_no(yes: bool) -> &'static str {
+    if yes { "yes" } else { "no" }
+}
+
+/// `fault NAME` or `fault NAME LINE`.
+fn tell_fault(alloc: Global, words: &mut Words<'_>, answer: &mut String) -> Result<(), CaseFault> {
+    let fault = told_fault(words)?;
+    put_fault(answer, &fault)?;
+    let shown = format!(in alloc; "{fault}")?;
+    put(answer, shown.as_str())
+}

@@ -1,0 +1,67 @@
+//! Faults by their names.
+use case_lines::{CaseFault, Words};
+use venue_config::ConfigFault;
+use venue_text::{ProgramFault, UnkeptDay, UnwovenDay};
+
+/// The fault that the words of a call name: its name, and the number of its line or its kind.
+pub(crate) fn told_fault(words: &mut Words<'_>) -> Result<ProgramFault, CaseFault> {
+    match words.word()? {
+        "Read" => Ok(ProgramFault::Read),
+        "Input" => Ok(ProgramFault::Input),
+        "Parts" => Ok(ProgramFault::Parts),
+        "Firm" => Ok(ProgramFault::Firm),
+        "Memory" => Ok(ProgramFault::Memory),
+        "Write" => Ok(ProgramFault::Write),
+        "Config" => config_fault(words),
+        "Day" => day_fault(words),
+        "Weave" => weave_fault(words),
+        other => line_fault(other, words),
+    }
+}
+
+/// A fault of a line.
+fn line_fault(name: &str, words: &mut Words<'_>) -> Result<ProgramFault, CaseFault> {
+    let line = words.number()? as usize;
+    match name {
+        "Form" => Ok(ProgramFault::Form { line }),
+        "UnknownFirm" => Ok(ProgramFault::UnknownFirm { line }),
+        "UnknownRoom" => Ok(ProgramFault::UnknownRoom { line }),
+        "Stream" => Ok(ProgramFault::Stream { line }),
+        _ => Err(CaseFault::Form),
+    }
+}
+
+/// A fault of a configuration.
+fn config_fault(words: &mut Words<'_>) -> Result<ProgramFault, CaseFault> {
+    let fault = match words.word()? {
+        "Toml" => ConfigFault::Toml,
+        "Missing" => ConfigFault::Missing,
+        "Name" => ConfigFault::Name,
+        "Twice" => ConfigFault::Twice,
+        "Limit" => ConfigFault::Limit,
+        _ => return Err(CaseFault::Form),
+    };
+    Ok(ProgramFault::Config(fault))
+}
+
+/// What does not agree after a day on threads.
+fn day_fault(words: &mut Words<'_>) -> Result<ProgramFault, CaseFault> {
+    let what = match words.word()? {
+        "Inbox" => UnkeptDay::Inbox,
+        "Told" => UnkeptDay::Told,
+        "Sweep" => UnkeptDay::Sweep,
+        _ => return Err(CaseFault::Form),
+    };
+    Ok(ProgramFault::Day(what))
+}
+
+/// Why a day is not woven.
+fn weave_fault(words: &mut Words<'_>) -> Result<ProgramFault, CaseFault> {
+    let why = match words.word()? {
+        "Malformed" => UnwovenDay::Malformed,
+        "Cycle" => UnwovenDay::Cycle,
+        "Differs" => UnwovenDay::Differs,
+        _ => return Err(CaseFault::Form),
+    };
+    Ok(ProgramFault::Weave(why))
+}

@@ -1,0 +1,161 @@
+//! A configuration, and steps that lines of a day spell.
+use crate::answers::{put, put_count, put_fault};
+use crate::steps::put_spelled;
+use crate::values::{actor_in, firm_in, last_moment, small_in};
+use case_lines::{CaseFault, Words, frame_of, piped_bytes_of};
+use market_terms::RoomRef;
+use quote_messages::Message;
+use std::alloc::Global;
+use step_replay::Step;
+use venue_config::{Name, VenueConfig, read_config};
+
+/// A venue and the steps of a day that is to be.
+#[derive(Drop)]
+pub(crate) struct Venue {
+    /// The lines of the configuration.
+    text: String,
+    /// The lines of the day that were not read yet.
+    lines: String,
+    /// Lines that are put several times.
+    pattern: String,
+    config: Option<VenueConfig>,
+    /// The steps so far.
+    pub(crate) steps: Vec<Step>,
+}
+
+impl Venue {
+    /// A venue without a line.
+    pub(crate) fn new(alloc: Global) -> Self {
+        Venue {
+            text: String::new(alloc),
+            lines: String::new(alloc),
+            pattern: String::new(alloc),
+            config: None,
+            steps: Vec::new(alloc),
+        }
+    }
+
+    /// The configuration, where one was read.
+    pub(crate) fn config(&self) -> Result<&VenueConfig, CaseFault> {
+        self.config.as_ref().ok_or(CaseFault::NotOpen)
+    }
+
+    /// The name of a firm.
+    pub(crate) fn name(&self, firm: u16) -> Result<Name, CaseFault> {
+        let config = self.config()?;
+        if let Some(row) = config.dealer(firm) {
+            return Ok(row.name.copy());
+        }
+        let Some(row) = config.investor(firm) else {
+            return Err(CaseFault::Condition);
+        };
+        Ok(row.name.copy())
+    }
+
+    /// Makes a call that all places with a venue know.
+    pub(crate) fn call(
+        &mut self,
+        alloc: Global,
+        word: &str,
+        words: &mut Words<'_>,
+        answer: &mut String,
+    ) -> Result<(), CaseFault> {
+        match word {
+            "<" => put(&mut self.text, words.rest()),
+            "-" => put(&mut self.lines, words.rest()),
+            "*" => put(&mut self.pattern, words.rest()),
+            "each" => self.put_each(alloc, words),
+            "open" => self.open(alloc, answer),
+            "read" => self.read(alloc, answer),
+            "in" => self.comes(alloc, words),
+            "turn" => self.turns(words),
+            "expire" => self.sweeps(words),
+            _ => Err(CaseFault::Form),
+        }
+    }
+
+    /// Reads the configuration.
+    fn open(&mut self, alloc: Global, answer: &mut String) -> Result<(), CaseFault> {
+        match read_config(alloc, self.text.as_str()) {
+            Ok(config) => {
+                self.config = Some(config);
+                Ok(())
+            }
+            Err(fault) => put(answer, fault.name()),
+        }
+    }
+
+    /// Puts the pattern for each number from one to another, with `{k}` for the number and `{2k}`
+    /// for its double.
+    fn put_each(&mut self, alloc: Global, words: &mut Words<'_>) -> Result<(), CaseFault> {
+        let first = small_in(words)?;
+        let last = small_in(words)?;
+        words.end()?;
+        for k in first..last.saturating_add(1) {
+            self.put_once(alloc, k)?;
+        }
+        self.pattern.clear();
+        Ok(())
+    }
+
+    /// Puts the pattern once.
+    fn put_once(&mut self, alloc: Global, k: u32) -> Result<(), CaseFault> {
+        let number = format!(in alloc; "{k}")?;
+        let double = format!(in alloc; "{}", u64::from(k) * 2)?;
+        let text = self
+            .pattern
+            .as_str()
+            .replace(alloc, "{2k}", double.as_str())?;
+        let text = text.as_str().replace(alloc, "{k}", number.as_str())?;
+        self.lines.push_str(text.as_str())?;
+        Ok(())
+    }
+
+    /// Reads the lines of the day, and puts their steps behind the others.
+    fn read(&mut self, alloc: Global, answer: &mut String) -> Result<(), CaseFault> {
+        let Some(config) = &self.config else {
+            return Err(CaseFault::NotOpen);
+        };
+        let before = self.steps.len();
+        let lines = self.lines.as_str().as_bytes();
+        let fault = put_spelled(alloc, config, lines, &mut self.steps)?;
+        self.lines.clear();
+        if let Some(fault) = fault {
+            return put_fault(answer, &fault);
+        }
+        put_count(
+            alloc,
+            answer,
+            self.steps.len().saturating_sub(before),
+            "steps",
+        )
+    }
+
+    /// `in FIRM TIME BODY`: the frame of a body comes.
+    fn comes(&mut self, alloc: Global, words: &mut Words<'_>) -> Result<(), CaseFault> {
+        let firm = firm_in(words)?;
+        let moment = words.moment()?;
+        let body = piped_bytes_of(alloc, words.rest())?;
+        let message = Message::new(frame_of(alloc, body.as_slice())?);
+        self.steps.push(Step::In(firm, moment, message))?;
+        Ok(())
+    }
+
+    /// `turn FIRM` or `turn CLOCK`.
+    fn turns(&mut self, words: &mut Words<'_>) -> Result<(), CaseFault> {
+        let by = actor_in(words)?;
+        words.end()?;
+        self.steps.push(Step::Turn(by))?;
+        Ok(())
+    }
+
+    /// `expire FIRM N TIME`.
+    fn sweeps(&mut self, words: &mut Words<'_>) -> Result<(), CaseFault> {
+        let investor = firm_in(words)?;
+        let n = small_in(words)?;
+        let moment = last_moment(words)?;
+        self.steps
+            .push(Step::Expire(RoomRef { investor, n }, moment))?;
+        Ok(())
+    }
+}

@@ -1,0 +1,95 @@
+//! What a desk knows, as lines.
+use super::opened::Opened;
+use crate::messages::{clock, push_count, push_line, push_traders};
+use crate::tally::Tally;
+use crate::terms::{ascii, nth, quote_word, side_word};
+use case_lines::{CaseFault, Words};
+use market_terms::QuoteLine;
+use std::alloc::Global;
+use venue_config::DealerRow;
+
+/// The lines of the blotter.
+pub(crate) fn push_lines(
+    alloc: Global,
+    answer: &mut String,
+    lines: &[QuoteLine],
+) -> Result<(), CaseFault> {
+    for line in lines {
+        push_quote_line(alloc, answer, line)?;
+    }
+    Ok(())
+}
+
+/// `N`: the n-th line of the blotter.
+pub(crate) fn push_line_numbered(
+    alloc: Global,
+    answer: &mut String,
+    lines: &[QuoteLine],
+    words: &mut Words<'_>,
+) -> Result<(), CaseFault> {
+    let Some(line) = lines.get(nth(words)?) else {
+        return Err(CaseFault::Condition);
+    };
+    push_quote_line(alloc, answer, line)
+}
+
+/// `N TIME TRADER REQUEST SIDE BOND QUANTITY PRICE STATE`: the price in 256ths.
+fn push_quote_line(alloc: Global, answer: &mut String, line: &QuoteLine) -> Result<(), CaseFault> {
+    let time = clock(alloc, line.moment)?;
+    let trader = ascii(line.trader.as_bytes());
+    let side = side_word(line.side);
+    let bond = ascii(line.bond.as_bytes());
+    let quantity = line.quantity.get();
+    let price = line.price.get();
+    let state = quote_word(line.state);
+    let (q, request) = (line.q, line.request);
+    let front = format!(in alloc; "{q} {time} {trader} R{request} ")?;
+    let behind = format!(in alloc; "{side} {bond} {quantity} {price} {state}")?;
+    answer.push_str(front.as_str())?;
+    push_line(answer, behind.as_str())
+}
+
+/// The states of the lines: `COUNT: STATE` for equal ones one behind another.
+pub(crate) fn push_states(
+    alloc: Global,
+    answer: &mut String,
+    lines: &[QuoteLine],
+) -> Result<(), CaseFault> {
+    let mut tally = Tally::nothing(alloc);
+    for line in lines {
+        let state = String::from_str(alloc, quote_word(line.state))?;
+        tally.add(state, answer)?;
+    }
+    tally.end(answer)
+}
+
+/// `NAME QUOTES EXPOSURE TRADER ..`.
+pub(crate) fn push_row(
+    alloc: Global,
+    answer: &mut String,
+    row: &DealerRow,
+) -> Result<(), CaseFault> {
+    let name = row.name.as_str();
+    let (quotes, exposure) = (row.quotes, row.exposure);
+    let text = format!(in alloc; "{name} {quotes} {exposure}")?;
+    answer.push_str(text.as_str())?;
+    push_traders(answer, &row.traders)?;
+    answer.push('\n')?;
+    Ok(())
+}
+
+/// How many messages a desk gives away, or how many events, messages and lines.
+pub(crate) fn taken_apart(
+    opened: Opened,
+    word: &str,
+    answer: &mut String,
+) -> Result<(), CaseFault> {
+    let Opened { desk, .. } = opened;
+    if word == "into_sent" {
+        return push_count(answer, desk.into_sent().len());
+    }
+    let (events, sent, lines) = desk.into_parts();
+    push_count(answer, events.len())?;
+    push_count(answer, sent.len())?;
+    push_count(answer, lines.len())
+}

@@ -1,8 +1,0 @@
-//! Days of INV1.
-
-mod checks;
-mod groups;
-mod quotes;
-mod responses;
-mod session;
-mod worked;

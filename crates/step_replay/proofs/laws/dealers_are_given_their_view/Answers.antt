@@ -1,0 +1,19 @@
+use Rattle.std.proofs.Common.{◌∙◌, ap}
+use Rattle.std.proofs.Common.{Some}
+use Rattle.step_replay.specs.AuditTrail.{audit_trail}
+use Rattle.step_replay.specs.LiveDays.{live_steps, live_trail}
+use Rattle.step_replay.proofs.IsolationLemmas.{is_sent_its_view}
+use Rattle.step_replay.proofs.LiveEffects.{dealer_within}
+use Rattle.step_replay.proofs.LiveLemmas.{own_part}
+use Rattle.step_replay.proofs.OneListLemmas.{sent_on_its_day}
+use Rattle.step_replay.proofs.laws.dealers_are_given_their_view.Goals as goal
+
+pub returns-clause-days : goal.returns-clause-days
+returns-clause-days c config steps dealer row is =
+    sent_on_its_day config (audit_trail config steps).facts dealer (dealer_within config dealer row is)
+    ∙ ap Some (is_sent_its_view config steps dealer row is)
+
+pub returns-clause-live : goal.returns-clause-live
+returns-clause-live c config steps dealer row is =
+    own_part config dealer (live_trail config steps).facts
+    ∙ is_sent_its_view config (live_steps steps) dealer row is

@@ -1,0 +1,159 @@
+//! Blotters of lines.
+
+use crate::parts::{bond_of, name_of, quantity_of, side_of};
+use crate::prices::price_of;
+use crate::printing::{len_of, push_number, u32_of};
+use blotter::blotter_text;
+use case_lines::{CaseFault, Words};
+use market_terms::{FirmLines, QuoteLine, QuoteState, RequestLine, RequestState};
+use std::alloc::Global;
+
+/// The place `blotters`: blotters of lines.
+///
+/// - `quote NUMBER MOMENT TRADER REQUEST BOND SIDE QUANTITY PRICE STATE`: a line more of a dealer.
+/// - `request NUMBER MOMENT TRADER BOND SIDE QUANTITY STATE`: a line more of an investor; a request
+///   that is `won` has DEALER PRICE behind it.
+/// - `quote_times N ..`, `request_times N ..`: N such lines.
+/// - `dealer`, `investor`: the blotter. `dealer_len`, `investor_len`: its bytes.
+#[derive(Drop)]
+pub struct BlotterCases {
+    quotes: Vec<QuoteLine>,
+    requests: Vec<RequestLine>,
+}
+
+impl BlotterCases {
+    /// The place before its first call.
+    pub(crate) fn begun(alloc: Global) -> Self {
+        BlotterCases {
+            quotes: Vec::new(alloc),
+            requests: Vec::new(alloc),
+        }
+    }
+
+    /// Makes a call.
+    pub(crate) fn make(
+        &mut self,
+        alloc: Global,
+        words: &mut Words,
+        answer: &mut String,
+    ) -> Result<(), CaseFault> {
+        match words.word()? {
+            "quote" => self.add_quotes(1, words.rest()),
+            "quote_times" => self.add_quotes(len_of(words.number()?)?, words.rest()),
+            "request" => self.add_requests(1, words.rest()),
+            "request_times" => self.add_requests(len_of(words.number()?)?, words.rest()),
+            "dealer" => push_blotter(alloc, answer, &FirmLines::Dealer(&self.quotes)),
+            "dealer_len" => push_length(alloc, answer, &FirmLines::Dealer(&self.quotes)),
+            "investor" => push_blotter(alloc, answer, &FirmLines::Investor(&self.requests)),
+            "investor_len" => push_length(alloc, answer, &FirmLines::Investor(&self.requests)),
+            _ => Err(CaseFault::Form),
+        }
+    }
+
+    /// `quote_times N ..`: N lines more of a dealer.
+    fn add_quotes(&mut self, count: usize, line: &str) -> Result<(), CaseFault> {
+        for _ in 0..count {
+            let quote = quote_of(&mut Words::of(line))?;
+            self.quotes.push(quote)?;
+        }
+        Ok(())
+    }
+
+    /// `request_times N ..`: N lines more of an investor.
+    fn add_requests(&mut self, count: usize, line: &str) -> Result<(), CaseFault> {
+        for _ in 0..count {
+            let request = request_of(&mut Words::of(line))?;
+            self.requests.push(request)?;
+        }
+        Ok(())
+    }
+}
+
+/// A blotter.
+fn push_blotter(alloc: Global, answer: &mut String, lines: &FirmLines) -> Result<(), CaseFault> {
+    let text = blotter_text(alloc, lines)?;
+    answer.push_str(text.as_str())?;
+    Ok(())
+}
+
+/// The bytes of a blotter.
+fn push_length(alloc: Global, answer: &mut String, lines: &FirmLines) -> Result<(), CaseFault> {
+    let text = blotter_text(alloc, lines)?;
+    push_number(answer, text.len() as u64)
+}
+
+/// NUMBER MOMENT TRADER REQUEST BOND SIDE QUANTITY PRICE STATE.
+fn quote_of(words: &mut Words) -> Result<QuoteLine, CaseFault> {
+    let q = u32_of(words.number()?)?;
+    let moment = words.moment()?;
+    let trader = name_of(words)?;
+    let request = words.number()?;
+    let bond = bond_of(words)?;
+    let side = side_of(words)?;
+    let quantity = quantity_of(words)?;
+    let price = price_of(words)?;
+    let state = quote_state_of(words.word()?)?;
+    words.end()?;
+    Ok(QuoteLine {
+        q,
+        moment,
+        trader,
+        request,
+        bond,
+        side,
+        quantity,
+        price,
+        state,
+    })
+}
+
+/// What became of a quote.
+fn quote_state_of(word: &str) -> Result<QuoteState, CaseFault> {
+    match word {
+        "withdrawn" => Ok(QuoteState::Withdrawn),
+        "replaced" => Ok(QuoteState::Replaced),
+        "lifted" => Ok(QuoteState::Lifted),
+        "ended" => Ok(QuoteState::Ended),
+        "live" => Ok(QuoteState::Live),
+        _ => Err(CaseFault::Form),
+    }
+}
+
+/// NUMBER MOMENT TRADER BOND SIDE QUANTITY STATE.
+fn request_of(words: &mut Words) -> Result<RequestLine, CaseFault> {
+    let n = u32_of(words.number()?)?;
+    let moment = words.moment()?;
+    let trader = name_of(words)?;
+    let bond = bond_of(words)?;
+    let side = side_of(words)?;
+    let quantity = quantity_of(words)?;
+    let state = request_state_of(words)?;
+    words.end()?;
+    Ok(RequestLine {
+        n,
+        moment,
+        trader,
+        bond,
+        side,
+        quantity,
+        state,
+    })
+}
+
+/// What became of a request.
+fn request_state_of(words: &mut Words) -> Result<RequestState, CaseFault> {
+    match words.word()? {
+        "open" => Ok(RequestState::Open),
+        "passed" => Ok(RequestState::Passed),
+        "expired" => Ok(RequestState::Expired),
+        "won" => won(words),
+        _ => Err(CaseFault::Form),
+    }
+}
+
+/// DEALER PRICE: a hit was awarded.
+fn won(words: &mut Words) -> Result<RequestState, CaseFault> {
+    let dealer = name_of(words)?;
+    let price = price_of(words)?;
+    Ok(RequestState::Won { dealer, price })
+}

@@ -1,0 +1,91 @@
+//! Bytes that calls put together.
+
+use crate::printing::len_of;
+use case_lines::{CaseFault, Words, piped_bytes_of};
+use std::alloc::Global;
+
+/// Bytes that calls put together.
+#[derive(Drop)]
+pub(crate) struct ByteBuffer {
+    bytes: Vec<u8>,
+}
+
+impl ByteBuffer {
+    /// No bytes yet.
+    pub(crate) fn new(alloc: Global) -> Self {
+        ByteBuffer {
+            bytes: Vec::new(alloc),
+        }
+    }
+
+    /// The bytes.
+    pub(crate) fn as_slice(&self) -> &[u8] {
+        self.bytes.as_slice()
+    }
+
+    /// `bytes BYTES`: these bytes and no others.
+    pub(crate) fn set(&mut self, alloc: Global, text: &str) -> Result<(), CaseFault> {
+        self.bytes = piped_bytes_of(alloc, text)?;
+        Ok(())
+    }
+
+    /// `add BYTES`: these bytes behind the others.
+    pub(crate) fn add(&mut self, alloc: Global, text: &str) -> Result<(), CaseFault> {
+        let bytes = piped_bytes_of(alloc, text)?;
+        self.bytes.extend_from_slice(bytes.as_slice())?;
+        Ok(())
+    }
+
+    /// `add_times N BYTES`: these bytes N times behind the others.
+    pub(crate) fn add_times(&mut self, alloc: Global, words: &mut Words) -> Result<(), CaseFault> {
+        let bytes = bytes_times(alloc, words)?;
+        self.bytes.extend_from_slice(bytes.as_slice())?;
+        Ok(())
+    }
+
+    /// `add_sum`: CheckSum (10) of the bytes.
+    pub(crate) fn add_sum(&mut self) -> Result<(), CaseFault> {
+        let end = end_of(sum_of(self.bytes.as_slice()));
+        self.bytes.extend_from_slice(&end)?;
+        Ok(())
+    }
+}
+
+/// `N BYTES`: these bytes N times.
+pub(crate) fn bytes_times(alloc: Global, words: &mut Words) -> Result<Vec<u8>, CaseFault> {
+    let count = len_of(words.number()?)?;
+    let bytes = piped_bytes_of(alloc, words.rest())?;
+    let bytes = repeated(alloc, bytes.as_slice(), count)?;
+    Ok(bytes)
+}
+
+/// Bytes, so many times.
+fn repeated(alloc: Global, bytes: &[u8], count: usize) -> Result<Vec<u8>, CaseFault> {
+    let mut all = Vec::new(alloc);
+    for _ in 0..count {
+        all.extend_from_slice(bytes)?;
+    }
+    Ok(all)
+}
+
+/// The sum of bytes, modulo 256.
+pub(crate) fn sum_of(bytes: &[u8]) -> u8 {
+    let mut sum: u8 = 0;
+    for c in bytes {
+        sum = sum.wrapping_add(*c);
+    }
+    sum
+}
+
+/// CheckSum (10) of a sum.
+pub(crate) fn end_of(sum: u8) -> [u8; 7] {
+    [
+        b'1',
+        b'0',
+        b'=',
+        b'0' + sum / 100,
+        b'0' + sum / 10 % 10,
+        b'0' + sum % 10,
+        1,
+    ]
+}

@@ -1,0 +1,103 @@
+//! Dates and moments.
+
+use crate::printing::{push_line, push_number, push_number_or_none, push_truth, u32_of};
+use case_lines::{CaseFault, Words, bytes_of};
+use fix_fields::{Date, Moment, MomentFault, moment_text, read_moment, time_text};
+use std::alloc::Global;
+use std::str;
+
+/// The place `moments`: dates, moments and their texts. A moment is a number of milliseconds.
+///
+/// - `date TEXT`: its digits. `moment NUMBER`: the number, where it is a moment.
+/// - `read DATE TEXT`: the moment, or the fault.
+/// - `text DATE NUMBER`, `time NUMBER`: the texts of a moment.
+/// - `earlier NUMBER NUMBER`: whether the first moment is before the second.
+#[derive(Drop)]
+pub struct MomentCases {}
+
+impl MomentCases {
+    /// The place before its first call.
+    pub(crate) fn begun(_alloc: Global) -> Self {
+        MomentCases {}
+    }
+
+    /// Makes a call.
+    pub(crate) fn make(
+        &mut self,
+        alloc: Global,
+        words: &mut Words,
+        answer: &mut String,
+    ) -> Result<(), CaseFault> {
+        match words.word()? {
+            "date" => push_date(alloc, answer, words.rest()),
+            "moment" => push_moment(answer, words),
+            "read" => push_reading(alloc, answer, words),
+            "text" => push_text(answer, words),
+            "time" => push_time(answer, words),
+            "earlier" => push_earlier(answer, words),
+            _ => Err(CaseFault::Form),
+        }
+    }
+}
+
+/// `date TEXT`: its digits.
+fn push_date(alloc: Global, answer: &mut String, text: &str) -> Result<(), CaseFault> {
+    let text = bytes_of(alloc, text)?;
+    let Some(date) = Date::new(text.as_slice()) else {
+        return push_line(answer, "none");
+    };
+    let Ok(digits) = str::from_utf8(date.digits()) else {
+        return push_line(answer, "no text");
+    };
+    push_line(answer, digits)
+}
+
+/// `moment NUMBER`: the number, where it is a moment.
+fn push_moment(answer: &mut String, words: &mut Words) -> Result<(), CaseFault> {
+    let number = u32_of(words.number()?)?;
+    let moment = Moment::new(number).map(|moment| u64::from(moment.get()));
+    push_number_or_none(answer, moment)
+}
+
+/// `read DATE TEXT`: the moment, or the fault.
+fn push_reading(alloc: Global, answer: &mut String, words: &mut Words) -> Result<(), CaseFault> {
+    let date = date_of(words)?;
+    let text = bytes_of(alloc, words.rest())?;
+    match read_moment(&date, text.as_slice()) {
+        Ok(moment) => push_number(answer, u64::from(moment.get())),
+        Err(MomentFault::Form) => push_line(answer, "Form"),
+        Err(MomentFault::OtherDay) => push_line(answer, "OtherDay"),
+    }
+}
+
+/// The date that a word is.
+fn date_of(words: &mut Words) -> Result<Date, CaseFault> {
+    let word = words.word()?;
+    Date::new(word.as_bytes()).ok_or(CaseFault::Condition)
+}
+
+/// The moment that a number is.
+fn moment_of(words: &mut Words) -> Result<Moment, CaseFault> {
+    let number = u32_of(words.number()?)?;
+    Moment::new(number).ok_or(CaseFault::Condition)
+}
+
+/// `text DATE NUMBER`: the text of a moment.
+fn push_text(answer: &mut String, words: &mut Words) -> Result<(), CaseFault> {
+    let date = date_of(words)?;
+    let moment = moment_of(words)?;
+    push_line(answer, moment_text(&date, moment).as_str())
+}
+
+/// `time NUMBER`: its part behind the date.
+fn push_time(answer: &mut String, words: &mut Words) -> Result<(), CaseFault> {
+    let moment = moment_of(words)?;
+    push_line(answer, time_text(moment).as_str())
+}
+
+/// `earlier NUMBER NUMBER`: whether the first moment is before the second.
+fn push_earlier(answer: &mut String, words: &mut Words) -> Result<(), CaseFault> {
+    let first = moment_of(words)?;
+    let second = moment_of(words)?;
+    push_truth(answer, first < second)
+}

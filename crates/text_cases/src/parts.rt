@@ -1,0 +1,175 @@
+//! Parts of calls that are terms of the market.
+
+use crate::prices::{grid_of, price_of};
+use bond_prices::Ticks;
+use case_lines::{CaseFault, Words};
+use fix_fields::Moment;
+use market_terms::{Ask, Close, HitRefusal, Id, IdBuf, Quantity, Side};
+use quote_messages::{QuoteRejectReason, QuotedPrice, RequestRejectReason, SessionRejectReason};
+use venue_config::{BondId, Name};
+
+/// A name.
+pub(crate) fn name_of(words: &mut Words) -> Result<Name, CaseFault> {
+    let word = words.word()?;
+    Name::new(word.as_bytes()).ok_or(CaseFault::Condition)
+}
+
+/// A bond.
+pub(crate) fn bond_of(words: &mut Words) -> Result<BondId, CaseFault> {
+    let word = words.word()?;
+    BondId::new(word.as_bytes()).ok_or(CaseFault::Condition)
+}
+
+/// A quantity.
+pub(crate) fn quantity_of(words: &mut Words) -> Result<Quantity, CaseFault> {
+    let units = words.number()?;
+    Quantity::new(units).ok_or(CaseFault::Condition)
+}
+
+/// A side by its code: 1 buys, 2 sells.
+pub(crate) fn side_of(words: &mut Words) -> Result<Side, CaseFault> {
+    match words.word()? {
+        "1" => Ok(Side::Buy),
+        "2" => Ok(Side::Sell),
+        _ => Err(CaseFault::Form),
+    }
+}
+
+/// An identifier.
+pub(crate) fn id_of<'a>(words: &mut Words<'a>) -> Result<Id<'a>, CaseFault> {
+    let word = words.word()?;
+    Id::new(word.as_bytes()).ok_or(CaseFault::Condition)
+}
+
+/// An identifier, or none for a dash.
+pub(crate) fn id_or_none<'a>(words: &mut Words<'a>) -> Result<Option<Id<'a>>, CaseFault> {
+    let word = words.word()?;
+    if word == "-" {
+        return Ok(None);
+    }
+    let id = Id::new(word.as_bytes()).ok_or(CaseFault::Condition)?;
+    Ok(Some(id))
+}
+
+/// A word, or none for a dash.
+pub(crate) fn word_or_none<'a>(words: &mut Words<'a>) -> Result<Option<&'a str>, CaseFault> {
+    let word = words.word()?;
+    if word == "-" {
+        return Ok(None);
+    }
+    Ok(Some(word))
+}
+
+/// What a request asks for: INVESTOR BOND SIDE QUANTITY DEADLINE GRID.
+pub(crate) fn ask_of(words: &mut Words) -> Result<Ask, CaseFault> {
+    let investor = name_of(words)?;
+    let bond = bond_of(words)?;
+    let side = side_of(words)?;
+    let quantity = quantity_of(words)?;
+    let deadline = words.moment()?;
+    let grid = grid_of(words)?;
+    Ok(Ask {
+        investor,
+        bond,
+        side,
+        quantity,
+        deadline,
+        grid,
+    })
+}
+
+/// How a request ended, by its code.
+pub(crate) fn close_of(words: &mut Words) -> Result<Close, CaseFault> {
+    match words.word()? {
+        "1" => Ok(Close::Hit),
+        "3" => Ok(Close::Expired),
+        "4" => Ok(Close::Cover),
+        "5" => Ok(Close::DoneAway),
+        "6" => Ok(Close::Pass),
+        _ => Err(CaseFault::Form),
+    }
+}
+
+/// Why a hit is refused, by its name.
+pub(crate) fn refusal_of(word: &str) -> Result<HitRefusal, CaseFault> {
+    match word {
+        "NotOpen" => Ok(HitRefusal::NotOpen),
+        "Deadline" => Ok(HitRefusal::Deadline),
+        "Gone" => Ok(HitRefusal::Gone),
+        "Expired" => Ok(HitRefusal::Expired),
+        "Withdrawn" => Ok(HitRefusal::Withdrawn),
+        _ => Err(CaseFault::Form),
+    }
+}
+
+/// Why a message is rejected, by its name.
+pub(crate) fn session_reason_of(word: &str) -> Result<SessionRejectReason, CaseFault> {
+    match word {
+        "RequiredTagMissing" => Ok(SessionRejectReason::RequiredTagMissing),
+        "TagWithoutValue" => Ok(SessionRejectReason::TagWithoutValue),
+        "ValueIncorrect" => Ok(SessionRejectReason::ValueIncorrect),
+        "IncorrectDataFormat" => Ok(SessionRejectReason::IncorrectDataFormat),
+        "CompIdProblem" => Ok(SessionRejectReason::CompIdProblem),
+        "InvalidMsgType" => Ok(SessionRejectReason::InvalidMsgType),
+        "TagMoreThanOnce" => Ok(SessionRejectReason::TagMoreThanOnce),
+        "IncorrectNumInGroup" => Ok(SessionRejectReason::IncorrectNumInGroup),
+        _ => Err(CaseFault::Form),
+    }
+}
+
+/// Why a quote is refused, by its name.
+pub(crate) fn quote_reason_of(word: &str) -> Result<QuoteRejectReason, CaseFault> {
+    match word {
+        "UnknownSymbol" => Ok(QuoteRejectReason::UnknownSymbol),
+        "ExceedsLimit" => Ok(QuoteRejectReason::ExceedsLimit),
+        "TooLate" => Ok(QuoteRejectReason::TooLate),
+        "DuplicateQuote" => Ok(QuoteRejectReason::DuplicateQuote),
+        "InvalidPrice" => Ok(QuoteRejectReason::InvalidPrice),
+        "Other" => Ok(QuoteRejectReason::Other),
+        _ => Err(CaseFault::Form),
+    }
+}
+
+/// Why a quote is refused, by its name, or none for a dash.
+pub(crate) fn quote_reason_or_none(
+    words: &mut Words,
+) -> Result<Option<QuoteRejectReason>, CaseFault> {
+    let Some(word) = word_or_none(words)? else {
+        return Ok(None);
+    };
+    let reason = quote_reason_of(word)?;
+    Ok(Some(reason))
+}
+
+/// Why a request is refused, by its name.
+pub(crate) fn request_reason_of(word: &str) -> Result<RequestRejectReason, CaseFault> {
+    match word {
+        "UnknownSymbol" => Ok(RequestRejectReason::UnknownSymbol),
+        "ExceedsLimit" => Ok(RequestRejectReason::ExceedsLimit),
+        "TooLate" => Ok(RequestRejectReason::TooLate),
+        "Other" => Ok(RequestRejectReason::Other),
+        _ => Err(CaseFault::Form),
+    }
+}
+
+/// A dealer's quote, ID PRICE, or none for a dash.
+pub(crate) fn quoted_or_none(words: &mut Words) -> Result<Option<QuotedPrice>, CaseFault> {
+    let Some(id) = id_or_none(words)? else {
+        return Ok(None);
+    };
+    let price = price_of(words)?;
+    Ok(Some(QuotedPrice {
+        id: IdBuf::of(&id),
+        price,
+    }))
+}
+
+/// A moment, or none for a dash.
+pub(crate) fn moment_or_none(words: &mut Words) -> Result<Option<Moment>, CaseFault> {
+    let word = words.word()?;
+    if word == "-" {
+        return Ok(None);
+    }
+    let moment = Words::of(word).moment()?;
+    Ok(Some(moment))
+}

@@ -1,0 +1,165 @@
+//! Prices and grids.
+
+use crate::printing::{push_line, push_number, push_number_or_none, push_truth, u32_of};
+use bond_prices::{Grid, PriceFault, Ticks, on_grid, price_text, read_price, thirty_seconds};
+use case_lines::{CaseFault, Words, bytes_of};
+use std::alloc::Global;
+use std::fmt::Write;
+
+/// The place `prices`: prices, their texts, and grids. A price is its number of 256ths.
+///
+/// - `read TEXT`: the price, or the fault. `fault TEXT`: what the fault says.
+/// - `price NUMBER`: the number, where it is a price. `text NUMBER`, `said NUMBER`: its texts, in
+///   points and in 32nds.
+/// - `every_price`: how many prices are read back from their text.
+/// - `below NUMBER NUMBER`, `same NUMBER NUMBER`: whether the first price is below the second, and
+///   whether they are the same.
+/// - `grid STEPS`: the steps, where they are a grid; `finest`: those of the finest.
+///   `same_grid STEPS STEPS`: whether they are the same. `on STEPS NUMBER`: whether a price is on
+///   a grid.
+#[derive(Drop)]
+pub struct PriceCases {}
+
+impl PriceCases {
+    /// The place before its first call.
+    pub(crate) fn begun(_alloc: Global) -> Self {
+        PriceCases {}
+    }
+
+    /// Makes a call.
+    pub(crate) fn make(
+        &mut self,
+        alloc: Global,
+        words: &mut Words,
+        answer: &mut String,
+    ) -> Result<(), CaseFault> {
+        match words.word()? {
+            "read" => push_reading(alloc, answer, words.rest()),
+            "fault" => push_fault(alloc, answer, words.rest()),
+            "price" => push_price(answer, words),
+            "text" => push_text(answer, words),
+            "said" => push_said(answer, words),
+            "every_price" => push_every_price(answer),
+            "below" => push_below(answer, words),
+            "same" => push_same(answer, words),
+            "grid" => push_grid(answer, words),
+            "finest" => push_number(answer, u64::from(Grid::FINEST.get())),
+            "same_grid" => push_same_grid(answer, words),
+            "on" => push_on(answer, words),
+            _ => Err(CaseFault::Form),
+        }
+    }
+}
+
+/// The name of a price's fault.
+pub(crate) fn price_fault_name(fault: PriceFault) -> &'static str {
+    match fault {
+        PriceFault::Form => "Form",
+        PriceFault::Range => "Range",
+        PriceFault::Grid => "Grid",
+    }
+}
+
+/// `read TEXT`: the price, or the fault.
+fn push_reading(alloc: Global, answer: &mut String, text: &str) -> Result<(), CaseFault> {
+    let text = bytes_of(alloc, text)?;
+    match read_price(text.as_slice()) {
+        Ok(price) => push_number(answer, u64::from(price.get())),
+        Err(fault) => push_line(answer, price_fault_name(fault)),
+    }
+}
+
+/// `fault TEXT`: what the fault says.
+fn push_fault(alloc: Global, answer: &mut String, text: &str) -> Result<(), CaseFault> {
+    let text = bytes_of(alloc, text)?;
+    let fault = read_price(text.as_slice())
+        .err()
+        .ok_or(CaseFault::Condition)?;
+    writeln!(answer, "{fault}")?;
+    Ok(())
+}
+
+/// The price that a number is.
+pub(crate) fn price_of(words: &mut Words) -> Result<Ticks, CaseFault> {
+    let number = u32_of(words.number()?)?;
+    Ticks::new(number).ok_or(CaseFault::Condition)
+}
+
+/// The grid that a number is.
+pub(crate) fn grid_of(words: &mut Words) -> Result<Grid, CaseFault> {
+    let steps = u32_of(words.number()?)?;
+    Grid::new(steps).ok_or(CaseFault::Condition)
+}
+
+/// `price NUMBER`: the number, where it is a price.
+fn push_price(answer: &mut String, words: &mut Words) -> Result<(), CaseFault> {
+    let number = u32_of(words.number()?)?;
+    let price = Ticks::new(number).map(|price| u64::from(price.get()));
+    push_number_or_none(answer, price)
+}
+
+/// `text NUMBER`: the text in points.
+fn push_text(answer: &mut String, words: &mut Words) -> Result<(), CaseFault> {
+    let price = price_of(words)?;
+    push_line(answer, price_text(price).as_str())
+}
+
+/// `said NUMBER`: the text in 32nds.
+fn push_said(answer: &mut String, words: &mut Words) -> Result<(), CaseFault> {
+    let price = price_of(words)?;
+    push_line(answer, thirty_seconds(price).as_str())
+}
+
+/// `every_price`: how many prices are read back from their text.
+fn push_every_price(answer: &mut String) -> Result<(), CaseFault> {
+    let mut count: u64 = 0;
+    for number in 1..=255_999 {
+        if is_read_back(number) {
+            count = count.wrapping_add(1);
+        }
+    }
+    push_number(answer, count)
+}
+
+/// Whether a number is a price that is read back from its text.
+fn is_read_back(number: u32) -> bool {
+    let Some(price) = Ticks::new(number) else {
+        return false;
+    };
+    read_price(price_text(price).as_str().as_bytes()) == Ok(price)
+}
+
+/// `below NUMBER NUMBER`: whether the first price is below the second.
+fn push_below(answer: &mut String, words: &mut Words) -> Result<(), CaseFault> {
+    let first = price_of(words)?;
+    let second = price_of(words)?;
+    push_truth(answer, first < second)
+}
+
+/// `same NUMBER NUMBER`: whether the prices are the same.
+fn push_same(answer: &mut String, words: &mut Words) -> Result<(), CaseFault> {
+    let first = price_of(words)?;
+    let second = price_of(words)?;
+    push_truth(answer, first == second)
+}
+
+/// `grid STEPS`: the steps, where they are a grid.
+fn push_grid(answer: &mut String, words: &mut Words) -> Result<(), CaseFault> {
+    let steps = u32_of(words.number()?)?;
+    let grid = Grid::new(steps).map(|grid| u64::from(grid.get()));
+    push_number_or_none(answer, grid)
+}
+
+/// `same_grid STEPS STEPS`: whether the grids are the same.
+fn push_same_grid(answer: &mut String, words: &mut Words) -> Result<(), CaseFault> {
+    let first = grid_of(words)?;
+    let second = grid_of(words)?;
+    push_truth(answer, first == second)
+}
+
+/// `on STEPS NUMBER`: whether a price is on a grid.
+fn push_on(answer: &mut String, words: &mut Words) -> Result<(), CaseFault> {
+    let grid = grid_of(words)?;
+    let price = price_of(words)?;
+    push_truth(answer, on_grid(price, grid))
+}

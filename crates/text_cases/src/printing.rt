@@ -1,0 +1,123 @@
+//! Lines of answers.
+
+use case_lines::{CaseFault, push_bytes};
+use fix_fields::{Garbled, Moment, StreamFault, time_text};
+use std::fmt::Write;
+
+/// A line of text.
+pub(crate) fn push_line(answer: &mut String, line: &str) -> Result<(), CaseFault> {
+    answer.push_str(line)?;
+    answer.push_str("\n")?;
+    Ok(())
+}
+
+/// A line of bytes.
+pub(crate) fn push_bytes_line(answer: &mut String, bytes: &[u8]) -> Result<(), CaseFault> {
+    push_bytes(answer, bytes)?;
+    answer.push_str("\n")?;
+    Ok(())
+}
+
+/// A line of bytes that may be empty: an equals sign, and the bytes.
+pub(crate) fn push_value_line(answer: &mut String, value: &[u8]) -> Result<(), CaseFault> {
+    answer.push_str("=")?;
+    push_bytes_line(answer, value)
+}
+
+/// A line of bytes that may be absent.
+pub(crate) fn push_value_or_none(
+    answer: &mut String,
+    value: Option<&[u8]>,
+) -> Result<(), CaseFault> {
+    match value {
+        Some(value) => push_value_line(answer, value),
+        None => push_line(answer, "none"),
+    }
+}
+
+/// A line of a number.
+pub(crate) fn push_number(answer: &mut String, number: u64) -> Result<(), CaseFault> {
+    writeln!(answer, "{number}")?;
+    Ok(())
+}
+
+/// A line of a number that may be absent.
+pub(crate) fn push_number_or_none(
+    answer: &mut String,
+    number: Option<u64>,
+) -> Result<(), CaseFault> {
+    match number {
+        Some(number) => push_number(answer, number),
+        None => push_line(answer, "none"),
+    }
+}
+
+/// A line of a truth.
+pub(crate) fn push_truth(answer: &mut String, is_so: bool) -> Result<(), CaseFault> {
+    push_line(answer, if is_so { "yes" } else { "no" })
+}
+
+/// A number as a length.
+pub(crate) fn len_of(number: u64) -> Result<usize, CaseFault> {
+    usize::try_from(number).ok().ok_or(CaseFault::Form)
+}
+
+/// A number as one of 32 bits.
+pub(crate) fn u32_of(number: u64) -> Result<u32, CaseFault> {
+    u32::try_from(number).ok().ok_or(CaseFault::Form)
+}
+
+/// A number as one of 16 bits.
+pub(crate) fn u16_of(number: u64) -> Result<u16, CaseFault> {
+    u16::try_from(number).ok().ok_or(CaseFault::Form)
+}
+
+/// A field: a tag, the value, and a bar.
+pub(crate) fn push_field(answer: &mut String, tag: u32, value: &[u8]) -> Result<(), CaseFault> {
+    write!(answer, "{tag}=")?;
+    push_bytes(answer, value)?;
+    answer.push_str("|")?;
+    Ok(())
+}
+
+/// A field whose value is a number.
+pub(crate) fn push_number_field(
+    answer: &mut String,
+    tag: u32,
+    value: u64,
+) -> Result<(), CaseFault> {
+    write!(answer, "{tag}={value}|")?;
+    Ok(())
+}
+
+/// A field whose value is the time of day of a moment.
+pub(crate) fn push_time_field(
+    answer: &mut String,
+    tag: u32,
+    moment: Moment,
+) -> Result<(), CaseFault> {
+    push_field(answer, tag, time_text(moment).as_bytes())
+}
+
+/// The name of a frame's fault.
+pub(crate) fn garbled_name(fault: Garbled) -> &'static str {
+    match fault {
+        Garbled::TooLong => "TooLong",
+        Garbled::Start => "Start",
+        Garbled::Length => "Length",
+        Garbled::Field => "Field",
+        Garbled::End => "End",
+        Garbled::Sum => "Sum",
+    }
+}
+
+/// The name of a stream's fault.
+pub(crate) fn stream_fault_name(fault: StreamFault) -> &'static str {
+    match fault {
+        StreamFault::Start => "Start",
+        StreamFault::Length => "Length",
+        StreamFault::TooLong => "TooLong",
+        StreamFault::End => "End",
+        StreamFault::Memory => "Memory",
+    }
+}

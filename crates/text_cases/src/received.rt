@@ -1,0 +1,193 @@
+//! Messages that came from a firm.
+
+use crate::printing::{push_field, push_line, push_number_field};
+use crate::received_from_dealers::{dealer_row, push_dealer_message};
+use crate::received_from_investors::{investor_row, push_investor_message};
+use case_lines::{CaseFault, Words, day, frame_of, piped_bytes_of};
+use fix_fields::{Date, read_frame};
+use quote_messages::{
+    Arrival, Reject, SessionFault, read_dealer, read_investor, receive_dealer, receive_investor,
+};
+use std::alloc::Global;
+use std::fmt::Write;
+
+/// The place `received`: the session checks of the messages of the dealer DLR1, with the traders T1
+/// and T2, and of the investor INV1, with the traders T8 and T9; and what becomes of bytes.
+///
+/// - `body BYTES`: the text of the messages that are changed. BeginString (8), BodyLength (9) and
+///   CheckSum (10) are put around it.
+/// - `dealer`, `investor`: the message of the body read as one of that firm: what it says, or the
+///   fault, a tag (371) and a reason (373).
+/// - `dealer_with PART FORM`, `investor_with PART FORM`: the same of the body with FORM for PART,
+///   where PART stands first. `change PART FORM`: the body itself is so changed.
+/// - `from_dealer EXPECTED`, `from_investor EXPECTED`: what becomes of the message where this
+///   number is expected; `raw_from_dealer EXPECTED`, `raw_from_investor EXPECTED`: of the body
+///   alone, that is no frame.
+#[derive(Drop)]
+pub struct ReceivedCases {
+    body: String,
+}
+
+impl ReceivedCases {
+    /// The place before its first call.
+    pub(crate) fn begun(alloc: Global) -> Self {
+        ReceivedCases {
+            body: String::new(alloc),
+        }
+    }
+
+    /// Makes a call.
+    pub(crate) fn make(
+        &mut self,
+        alloc: Global,
+        words: &mut Words,
+        answer: &mut String,
+    ) -> Result<(), CaseFault> {
+        match words.word()? {
+            "body" => self.set_body(alloc, words.rest()),
+            "change" => self.change(alloc, words),
+            "dealer" => push_from_dealer(alloc, answer, self.body.as_str()),
+            "dealer_with" => { push_from_dealer(alloc, answer, self.with(alloc, words)?.as_str()) }
+            "investor" => push_from_investor(alloc, answer, self.body.as_str()),
+            "investor_with" => {
+                push_from_investor(alloc, answer, self.with(alloc, words)?.as_str())
+            }
+            "from_dealer" => push_dealer_arrival(answer, words, &self.framed(alloc)?),
+            "from_investor" => push_investor_arrival(answer, words, &self.framed(alloc)?),
+            "raw_from_dealer" => push_dealer_arrival(answer, words, &self.raw(alloc)?),
+            "raw_from_investor" => push_investor_arrival(answer, words, &self.raw(alloc)?),
+            _ => Err(CaseFault::Form),
+        }
+    }
+
+    /// `body BYTES`: the text of the messages.
+    fn set_body(&mut self, alloc: Global, text: &str) -> Result<(), CaseFault> {
+        self.body = String::from_str(alloc, text)?;
+        Ok(())
+    }
+
+    /// `PART FORM`: the body with a part of it, where it stands first, in another form.
+    fn with(&self, alloc: Global, words: &mut Words) -> Result<String, CaseFault> {
+        let part = words.word()?;
+        let form = words.rest();
+        let Some((front, back)) = self.body.as_str().split_once(part) else {
+            return Err(CaseFault::Condition);
+        };
+        let text = format!(in alloc; "{front}{form}{back}")?;
+        Ok(text)
+    }
+
+    /// `change PART FORM`: the body itself is so changed.
+    fn change(&mut self, alloc: Global, words: &mut Words) -> Result<(), CaseFault> {
+        self.body = self.with(alloc, words)?;
+        Ok(())
+    }
+
+    /// The bytes of the body.
+    fn raw(&self, alloc: Global) -> Result<Vec<u8>, CaseFault> {
+        piped_bytes_of(alloc, self.body.as_str())
+    }
+
+    /// The frame of the body.
+    fn framed(&self, alloc: Global) -> Result<Vec<u8>, CaseFault> {
+        framed(alloc, self.body.as_str())
+    }
+}
+
+/// The frame of a body.
+fn framed(alloc: Global, body: &str) -> Result<Vec<u8>, CaseFault> {
+    let body = piped_bytes_of(alloc, body)?;
+    frame_of(alloc, body.as_slice())
+}
+
+/// The day of the cases.
+fn today() -> Result<Date, CaseFault> {
+    day().ok_or(CaseFault::Form)
+}
+
+/// What a dealer's message says, or its fault.
+fn push_from_dealer(alloc: Global, answer: &mut String, body: &str) -> Result<(), CaseFault> {
+    let bytes = framed(alloc, body)?;
+    let frame = read_frame(bytes.as_slice())
+        .ok()
+        .ok_or(CaseFault::Condition)?;
+    match read_dealer(&today()?, &dealer_row()?, &frame) {
+        Ok(message) => push_dealer_message(answer, &message),
+        Err(fault) => push_fault(answer, fault),
+    }
+}
+
+/// What an investor's message says, or its fault.
+fn push_from_investor(alloc: Global, answer: &mut String, body: &str) -> Result<(), CaseFault> {
+    let bytes = framed(alloc, body)?;
+    let frame = read_frame(bytes.as_slice())
+        .ok()
+        .ok_or(CaseFault::Condition)?;
+    match read_investor(&today()?, &investor_row()?, &frame) {
+        Ok(message) => push_investor_message(answer, &message),
+        Err(fault) => push_fault(answer, fault),
+    }
+}
+
+/// A fault of the session: the tag, and the reason's code.
+fn push_fault(answer: &mut String, fault: SessionFault) -> Result<(), CaseFault> {
+    writeln!(answer, "fault {} {}", fault.tag, fault.reason.code())?;
+    Ok(())
+}
+
+/// What becomes of a dealer's bytes.
+fn push_dealer_arrival(
+    answer: &mut String,
+    words: &mut Words,
+    bytes: &Vec<u8>,
+) -> Result<(), CaseFault> {
+    let expected = words.number()?;
+    let row = dealer_row()?;
+    let arrival = receive_dealer(&today()?, &row, expected, bytes.as_slice());
+    let Some(message) = taken(answer, &arrival)? else {
+        return Ok(());
+    };
+    push_dealer_message(answer, message)
+}
+
+/// What becomes of an investor's bytes.
+fn push_investor_arrival(
+    answer: &mut String,
+    words: &mut Words,
+    bytes: &Vec<u8>,
+) -> Result<(), CaseFault> {
+    let expected = words.number()?;
+    let row = investor_row()?;
+    let arrival = receive_investor(&today()?, &row, expected, bytes.as_slice());
+    let Some(message) = taken(answer, &arrival)? else {
+        return Ok(());
+    };
+    push_investor_message(answer, message)
+}
+
+/// The message that is taken, where it is; what else becomes of the bytes is a line.
+fn taken<'s, 'a, M: Drop>(
+    answer: &mut String,
+    arrival: &'s Arrival<'a, M>,
+) -> Result<Option<&'s M>, CaseFault> {
+    match arrival {
+        Arrival::Dropped => push_line(answer, "dropped")?,
+        Arrival::OutOfSequence(reject) => push_reject(answer, "out_of_sequence ", reject)?,
+        Arrival::Rejected(reject) => push_reject(answer, "rejected ", reject)?,
+        Arrival::Taken(message) => return Ok(Some(message)),
+    }
+    Ok(None)
+}
+
+/// What a Reject says: RefSeqNum (45), RefTagID (371), RefMsgType (372) where it stands, and
+/// SessionRejectReason (373).
+fn push_reject(answer: &mut String, what: &str, reject: &Reject) -> Result<(), CaseFault> {
+    answer.push_str(what)?;
+    push_field(answer, 45, reject.number.as_bytes())?;
+    push_number_field(answer, 371, u64::from(reject.fault.tag))?;
+    if let Some(msg_type) = &reject.msg_type {
+        push_field(answer, 372, msg_type.as_bytes())?;
+    }
+    push_number_field(answer, 373, reject.fault.reason.code())?;
+    push_line(answer, "")
+}

@@ -1,0 +1,163 @@
+//! Frames that are written.
+
+use crate::buffers::bytes_times;
+use crate::printing::{len_of, push_bytes_line, push_line, push_number, push_truth, u32_of};
+use case_lines::{CaseFault, Words, piped_bytes_of};
+use fix_fields::{
+    FrameWriter, MOST_BODY, MOST_FRAME, decimal_len, fits, is_tag, is_value, read_frame,
+};
+use std::alloc::Global;
+
+/// The place `frame_writer`: a frame that is written field by field. What changes it answers how
+/// many bytes are left.
+///
+/// - `new TYPE`, `new_times N BYTES`: a frame with this MsgType (35).
+/// - `text TAG VALUE`, `text_times TAG N BYTES`, `number TAG NUMBER`: one field more.
+/// - `finish`: the frame. `finish_len`: its length, of a frame that is read back.
+/// - `is_tag TAG`, `is_value BYTES`, `fits TAG LENGTH LEFT`, `decimal_len NUMBER`: the tests.
+/// - `limits`: the longest frame, and the longest body.
+#[derive(Drop)]
+pub struct WriterCases {
+    writer: Option<FrameWriter>,
+}
+
+impl WriterCases {
+    /// The place before its first call.
+    pub(crate) fn begun(_alloc: Global) -> Self {
+        WriterCases { writer: None }
+    }
+
+    /// Makes a call.
+    pub(crate) fn make(
+        &mut self,
+        alloc: Global,
+        words: &mut Words,
+        answer: &mut String,
+    ) -> Result<(), CaseFault> {
+        match words.word()? {
+            "new" => self.begin(alloc, piped_bytes_of(alloc, words.rest())?, answer),
+            "new_times" => self.begin(alloc, bytes_times(alloc, words)?, answer),
+            "text" => {
+                let tag = tag_of(words)?;
+                self.text(tag, piped_bytes_of(alloc, words.rest())?, answer)
+            }
+            "text_times" => {
+                let tag = tag_of(words)?;
+                self.text(tag, bytes_times(alloc, words)?, answer)
+            }
+            "number" => self.number(words, answer),
+            "finish" => self.finish(answer),
+            "finish_len" => self.finish_len(answer),
+            "is_tag" => push_is_tag(answer, words),
+            "is_value" => push_is_value(alloc, answer, words.rest()),
+            "fits" => push_fits(answer, words),
+            "decimal_len" => push_decimal_len(answer, words),
+            "limits" => push_limits(answer),
+            _ => Err(CaseFault::Form),
+        }
+    }
+
+    /// `new TYPE`: a frame with this MsgType (35).
+    fn begin(
+        &mut self,
+        alloc: Global,
+        msg_type: Vec<u8>,
+        answer: &mut String,
+    ) -> Result<(), CaseFault> {
+        if !is_value(msg_type.as_slice()) || !fits(35, msg_type.len(), MOST_BODY) {
+            return Err(CaseFault::Condition);
+        }
+        let writer = FrameWriter::new(alloc, msg_type.as_slice())?;
+        let left = writer.left() as u64;
+        self.writer = Some(writer);
+        push_number(answer, left)
+    }
+
+    /// One field more, whose value is a text.
+    fn text(&mut self, tag: u32, value: Vec<u8>, answer: &mut String) -> Result<(), CaseFault> {
+        let value = value.as_slice();
+        let Some(writer) = &mut self.writer else {
+            return Err(CaseFault::NotOpen);
+        };
+        if !is_tag(tag) || !is_value(value) || !fits(tag, value.len(), writer.left()) {
+            return Err(CaseFault::Condition);
+        }
+        writer.text(tag, value)?;
+        push_number(answer, writer.left() as u64)
+    }
+
+    /// `number TAG NUMBER`: one field more, whose value is a number.
+    fn number(&mut self, words: &mut Words, answer: &mut String) -> Result<(), CaseFault> {
+        let tag = tag_of(words)?;
+        let value = words.number()?;
+        let Some(writer) = &mut self.writer else {
+            return Err(CaseFault::NotOpen);
+        };
+        if !is_tag(tag) || !fits(tag, decimal_len(value), writer.left()) {
+            return Err(CaseFault::Condition);
+        }
+        writer.number(tag, value)?;
+        push_number(answer, writer.left() as u64)
+    }
+
+    /// The frame that was written.
+    fn finished(&mut self) -> Result<Vec<u8>, CaseFault> {
+        let Some(writer) = self.writer.take() else {
+            return Err(CaseFault::NotOpen);
+        };
+        let bytes = writer.finish()?;
+        Ok(bytes)
+    }
+
+    /// `finish`: the frame.
+    fn finish(&mut self, answer: &mut String) -> Result<(), CaseFault> {
+        let bytes = self.finished()?;
+        push_bytes_line(answer, bytes.as_slice())
+    }
+
+    /// `finish_len`: the length of the frame, or `no frame` where it is not read back.
+    fn finish_len(&mut self, answer: &mut String) -> Result<(), CaseFault> {
+        let bytes = self.finished()?;
+        if read_frame(bytes.as_slice()).is_err() {
+            return push_line(answer, "no frame");
+        }
+        push_number(answer, bytes.len() as u64)
+    }
+}
+
+/// The tag that a word is.
+fn tag_of(words: &mut Words) -> Result<u32, CaseFault> {
+    u32_of(words.number()?)
+}
+
+/// `is_tag TAG`: whether it may stand in a body.
+fn push_is_tag(answer: &mut String, words: &mut Words) -> Result<(), CaseFault> {
+    let tag = tag_of(words)?;
+    push_truth(answer, is_tag(tag))
+}
+
+/// `is_value BYTES`: whether they may be a value.
+fn push_is_value(alloc: Global, answer: &mut String, text: &str) -> Result<(), CaseFault> {
+    let value = piped_bytes_of(alloc, text)?;
+    push_truth(answer, is_value(value.as_slice()))
+}
+
+/// `fits TAG LENGTH LEFT`: whether a field fits.
+fn push_fits(answer: &mut String, words: &mut Words) -> Result<(), CaseFault> {
+    let tag = tag_of(words)?;
+    let len = len_of(words.number()?)?;
+    let left = len_of(words.number()?)?;
+    push_truth(answer, fits(tag, len, left))
+}
+
+/// `decimal_len NUMBER`: how many digits it has.
+fn push_decimal_len(answer: &mut String, words: &mut Words) -> Result<(), CaseFault> {
+    let number = words.number()?;
+    push_number(answer, decimal_len(number) as u64)
+}
+
+/// `limits`: the longest frame, and the longest body.
+fn push_limits(answer: &mut String) -> Result<(), CaseFault> {
+    push_number(answer, MOST_FRAME as u64)?;
+    push_number(answer, MOST_BODY as u64)
+}

@@ -1,0 +1,121 @@
+//! Messages that a firm is sent.
+
+use crate::parts::name_of;
+use crate::printing::{push_bytes_line, push_number, u32_of};
+use crate::written_to_dealers::{
+    cancel_answer, closing_notice, decline_answer, quote_answer, reject, shown_request,
+};
+use crate::written_to_investors::{
+    dealer_declined, hit_answer, hit_unknown, pass_answer, quote_gone, request_accepted,
+    request_expired, request_refused, shown_quote,
+};
+use case_lines::{CaseFault, Words, day};
+use fix_fields::Memory;
+use quote_messages::{Head, OutMessage, SentMessage, write_out};
+use std::alloc::Global;
+
+/// The place `written`: the messages that a firm is sent, each answered by its bytes. What may be
+/// absent is a dash.
+///
+/// - `to FIRM NUMBER MOMENT`: the header of the next message. `times TAG`: how many fields of the
+///   last message have it.
+/// - `reject NUMBER TAG REASON TYPE`, `request NUMBER ASK`, `quote_answer REQUEST ID REASON`,
+///   `cancel_answer ID STATUS`, `decline_answer REQUEST REASON`,
+///   `notice NUMBER CLOSE REQUEST ASK ID PRICE`: to a dealer. An ASK is INVESTOR BOND SIDE QUANTITY
+///   DEADLINE GRID. A STATUS is `Withdrawn`, `Unknown` or a reason.
+/// - `accepted REQUEST`, `refused REQUEST BOND REASON`,
+///   `quote REQUEST NUMBER BOND SIDE PRICE QUANTITY UNTIL DEALER`, `gone REQUEST NUMBER`,
+///   `declined REQUEST DEALER`, `hit_answer ID REQUEST NUMBER REFUSAL`, `hit_unknown ID QUOTE`,
+///   `pass_answer ID REQUEST STATUS`, `expired REQUEST`: to an investor.
+#[derive(Drop)]
+pub struct WrittenCases {
+    head: Option<Head>,
+    last: Option<SentMessage>,
+}
+
+impl WrittenCases {
+    /// The place before its first call.
+    pub(crate) fn begun(_alloc: Global) -> Self {
+        WrittenCases {
+            head: None,
+            last: None,
+        }
+    }
+
+    /// Makes a call.
+    pub(crate) fn make(
+        &mut self,
+        alloc: Global,
+        words: &mut Words,
+        answer: &mut String,
+    ) -> Result<(), CaseFault> {
+        match words.word()? {
+            "to" => self.take_head(words),
+            "times" => self.times(words, answer),
+            name => self.write(alloc, &message_of(name, words)?, answer),
+        }
+    }
+
+    /// `to FIRM NUMBER MOMENT`: the header of the next message.
+    fn take_head(&mut self, words: &mut Words) -> Result<(), CaseFault> {
+        let date = day().ok_or(CaseFault::Form)?;
+        let firm = name_of(words)?;
+        let number = words.number()?;
+        let moment = words.moment()?;
+        self.head = Some(Head {
+            date,
+            firm,
+            number,
+            moment,
+        });
+        Ok(())
+    }
+
+    /// The bytes of a message.
+    fn write(
+        &mut self,
+        alloc: Global,
+        message: &OutMessage,
+        answer: &mut String,
+    ) -> Result<(), CaseFault> {
+        let head = self.head.as_ref().ok_or(CaseFault::NotOpen)?;
+        let sent = written(alloc, head, message)?;
+        push_bytes_line(answer, sent.as_bytes())?;
+        self.last = Some(sent);
+        Ok(())
+    }
+
+    /// `times TAG`: how many fields of the last message have it.
+    fn times(&self, words: &mut Words, answer: &mut String) -> Result<(), CaseFault> {
+        let tag = u32_of(words.number()?)?;
+        let last = self.last.as_ref().ok_or(CaseFault::NotOpen)?;
+        push_number(answer, last.frame().times(tag) as u64)
+    }
+}
+
+/// The message to a firm.
+fn written(alloc: Global, head: &Head, message: &OutMessage) -> Result<SentMessage, Memory> {
+    write_out(alloc, head, message)
+}
+
+/// The message that a call says.
+fn message_of<'a>(name: &str, words: &mut Words<'a>) -> Result<OutMessage<'a>, CaseFault> {
+    match name {
+        "reject" => reject(words),
+        "request" => shown_request(words),
+        "quote_answer" => quote_answer(words),
+        "cancel_answer" => cancel_answer(words),
+        "decline_answer" => decline_answer(words),
+        "notice" => closing_notice(words),
+        "accepted" => request_accepted(words),
+        "refused" => request_refused(words),
+        "quote" => shown_quote(words),
+        "gone" => quote_gone(words),
+        "declined" => dealer_declined(words),
+        "hit_answer" => hit_answer(words),
+        "hit_unknown" => hit_unknown(words),
+        "pass_answer" => pass_answer(words),
+        "expired" => request_expired(words),
+        _ => Err(CaseFault::Form),
+    }
+}
