@@ -15,7 +15,9 @@ namespace gateway {
 
 namespace {
 
-std::string bytea(std::string_view bytes) { return "\\x" + hexadecimal(bytes); }
+std::string bytea(std::string_view bytes) {
+    return fmt::format("\\x{}", hexadecimal(bytes));
+}
 
 std::string bytea(const Digest &digest) {
     return bytea({reinterpret_cast<const char *>(digest.data()), digest.size()});
