@@ -20,8 +20,8 @@ using namespace std::chrono_literals;
 // Rows of `sent` that are read at once for the comparison.
 constexpr std::uint32_t chunk = 512;
 
-// Milliseconds by which a sweep is late where messages never cease.
-constexpr int latest_sweep = 1000;
+// By how much a sweep is late where messages never cease.
+constexpr auto latest_sweep = 1s;
 
 // How long the venue has to answer what came, at the end.
 constexpr auto longest_end = 10s;
@@ -318,6 +318,8 @@ std::optional<std::string> Gateway::run() {
 // have ended the request. Where messages come so fast that there is always one, it is committed all the
 // same, a little late.
 void Gateway::watch_clock(std::stop_token stop) {
+    std::optional<Moment> due;
+    std::chrono::steady_clock::time_point due_since;
     std::unique_lock lock(mutex_);
     while (!stop.stop_requested()) {
         if (!deadline_) {
@@ -332,7 +334,12 @@ void Gateway::watch_clock(std::stop_token stop) {
             continue;
         }
         lock.unlock();
-        const bool late = clock_.now().milliseconds - deadline.milliseconds >= latest_sweep;
+        if (due != deadline) {
+            due = deadline;
+            due_since = std::chrono::steady_clock::now();
+        }
+        // From when it was seen, not from the deadline, which may have come while there was no gateway.
+        const bool late = std::chrono::steady_clock::now() - due_since >= latest_sweep;
         try {
             if (late) {
                 log_->append_clock();

@@ -35,7 +35,8 @@ Log::Ticket Log::append_message(const std::string &firm, std::optional<std::uint
     Entry entry;
     entry.firm = firm;
     entry.number = number;
-    return append(std::move(entry), fmt::format("hex {} ", firm), " " + hexadecimal(frame));
+    return append(std::move(entry), fmt::format("hex {} ", firm),
+                  fmt::format(" {}", hexadecimal(frame)));
 }
 
 Log::Ticket Log::append_clock() { return append(Entry{}, "clock ", ""); }

@@ -15,7 +15,9 @@ namespace gateway {
 
 namespace {
 
-std::string bytea(std::string_view bytes) { return "\\x" + hexadecimal(bytes); }
+std::string bytea(std::string_view bytes) {
+    return fmt::format("\\x{}", hexadecimal(bytes));
+}
 
 std::string bytea(const Digest &digest) {
     return bytea({reinterpret_cast<const char *>(digest.data()), digest.size()});
@@ -220,7 +222,7 @@ class WritingConnection {
         pqxx::nontransaction work(*connection_);
         const std::string name = work.quote_name(schema);
         const pqxx::row lock = work.exec1(
-            fmt::format("SELECT pg_try_advisory_lock(hashtext({}))", work.quote("mireseason " + schema)));
+            fmt::format("SELECT pg_try_advisory_lock(hashtext({}))", work.quote(fmt::format("mireseason {}", schema))));
         if (!lock[0].as<bool>()) {
             throw std::runtime_error(
                 fmt::format("another gateway has the log: schema {} is locked", schema));

@@ -291,7 +291,7 @@ void Venue::listen_to_errors(Process &process) {
 void Venue::take_words(const std::string &line) {
     events_->warn("venue said=\"{}\"", line);
     const std::lock_guard lock(mutex_);
-    last_words_ += last_words_.empty() ? line : " / " + line;
+    last_words_.append(last_words_.empty() ? "" : " / ").append(line);
     if (last_words_.size() > longest_words) {
         last_words_.erase(0, last_words_.size() - longest_words);
     }
