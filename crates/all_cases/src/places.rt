@@ -1,8 +1,7 @@
 //! The places that the libraries of drivers drive.
 use case_lines::{CaseFault, Report, run_file};
 use day_cases::{Inboxes, Records, Replays, Texts, Views};
-use desk_cases::{DealerPlace, InvestorPlace};
-use room_cases::{BoardPlace, RoomPlace, RowPlace, StepPlace};
+use place_cases::{BoardPlace, DealerPlace, InvestorPlace, RoomPlace, RowPlace, StepPlace};
 use std::alloc::Global;
 use text_cases::{
     BlotterCases, ConfigCases, FrameCases, MomentCases, PriceCases, ReceivedCases, StreamCases,

@@ -2,13 +2,13 @@
 use super::lines::{push_event, push_line_numbered, push_lines, push_row};
 use super::many::push_requests;
 use super::opened::Opened;
-use crate::duties::push_duty;
-use crate::messages::{push_count, push_date, push_frames, push_new, push_number, push_truth};
+use crate::duties::push_left;
+use crate::messages::{push_count_line, push_date, push_frames, push_new, push_number_line};
+use crate::replies::push_truth;
 use crate::said::{Came, long, own};
-use crate::terms::{id, name, price, reply, small};
+use crate::terms::{last_moment, name, reply, response, short_number, ticks};
 use case_lines::{CaseFault, Words};
-use fix_fields::Moment;
-use market_terms::{Offer, ResponseRef};
+use market_terms::Offer;
 use std::alloc::Global;
 
 /// Makes a call of an open desk.
@@ -46,14 +46,14 @@ fn read(
 ) -> Result<(), CaseFault> {
     match word {
         "knows" => knows(opened, words, answer)?,
-        "events" => push_count(answer, opened.desk.events().len())?,
+        "events" => push_count_line(answer, opened.desk.events().len())?,
         "event" => push_event(alloc, answer, opened.desk.events(), words)?,
-        "sent" => push_count(answer, opened.desk.sent().len())?,
+        "sent" => push_count_line(answer, opened.desk.sent().len())?,
         "frames" => push_frames(answer, opened.desk.sent(), words)?,
         "lines" => push_lines(alloc, answer, opened.desk.lines())?,
         "line" => push_line_numbered(alloc, answer, opened.desk.lines(), words)?,
         "date" => push_date(answer, opened.desk.date())?,
-        "firm" => push_number(answer, u64::from(opened.desk.firm()))?,
+        "firm" => push_number_line(answer, u64::from(opened.desk.firm()))?,
         "row" => push_row(alloc, answer, opened.desk.row())?,
         _ => return Err(CaseFault::Form),
     }
@@ -68,7 +68,7 @@ fn say(
     answer: &mut String,
 ) -> Result<(), CaseFault> {
     let came = opened.speaker.say(alloc, words)?;
-    take(opened, alloc, &came, answer)
+    take(opened, &came, answer)
 }
 
 /// `TIME BYTES`.
@@ -79,7 +79,7 @@ fn own_bytes(
     answer: &mut String,
 ) -> Result<(), CaseFault> {
     let came = own(alloc, words)?;
-    take(opened, alloc, &came, answer)
+    take(opened, &came, answer)
 }
 
 /// `COUNT TIME TEXT`.
@@ -90,28 +90,23 @@ fn long_bytes(
     answer: &mut String,
 ) -> Result<(), CaseFault> {
     let came = long(alloc, words)?;
-    take(opened, alloc, &came, answer)
+    take(opened, &came, answer)
 }
 
 /// The desk takes what comes: what is left to be done.
-fn take(
-    opened: &mut Opened,
-    alloc: Global,
-    came: &Came,
-    answer: &mut String,
-) -> Result<(), CaseFault> {
+fn take(opened: &mut Opened, came: &Came, answer: &mut String) -> Result<(), CaseFault> {
     let left = opened.desk.take(came.moment, came.bytes.as_slice())?;
-    push_duty(alloc, answer, &left)
+    push_left(answer, &left)
 }
 
 /// `N DEALER WORD PRICE TIME [UNTIL]`.
 fn quote_came(opened: &mut Opened, words: &mut Words<'_>) -> Result<(), CaseFault> {
-    let n = small(words)?;
+    let n = short_number(words)?;
     let dealer = name(words)?;
-    let word = small(words)?;
-    let price = price(words)?;
+    let word = short_number(words)?;
+    let price = ticks(words)?;
     let moment = words.moment()?;
-    let valid_until = until(words)?;
+    let valid_until = last_moment(words)?;
     let offer = Offer {
         dealer,
         word,
@@ -122,19 +117,10 @@ fn quote_came(opened: &mut Opened, words: &mut Words<'_>) -> Result<(), CaseFaul
     Ok(())
 }
 
-/// The last word, as a moment, where there is one.
-fn until(words: &mut Words<'_>) -> Result<Option<Moment>, CaseFault> {
-    if words.is_at_end() {
-        return Ok(None);
-    }
-    let moment = words.moment()?;
-    Ok(Some(moment))
-}
-
 /// `N WORD TIME`.
 fn quote_gone(opened: &mut Opened, words: &mut Words<'_>) -> Result<(), CaseFault> {
-    let n = small(words)?;
-    let word = small(words)?;
+    let n = short_number(words)?;
+    let word = short_number(words)?;
     let moment = words.moment()?;
     opened.desk.quote_gone(n, word, moment)?;
     Ok(())
@@ -142,7 +128,7 @@ fn quote_gone(opened: &mut Opened, words: &mut Words<'_>) -> Result<(), CaseFaul
 
 /// `N DEALER TIME`.
 fn dealer_declined(opened: &mut Opened, words: &mut Words<'_>) -> Result<(), CaseFault> {
-    let n = small(words)?;
+    let n = short_number(words)?;
     let dealer = name(words)?;
     let moment = words.moment()?;
     opened.desk.dealer_declined(n, dealer, moment)?;
@@ -151,28 +137,17 @@ fn dealer_declined(opened: &mut Opened, words: &mut Words<'_>) -> Result<(), Cas
 
 /// `N ID QUOTE REPLY TIME`.
 fn answered(opened: &mut Opened, words: &mut Words<'_>) -> Result<(), CaseFault> {
-    let n = small(words)?;
-    let id = id(words)?;
-    let k = quote(words.word()?)?;
+    let n = short_number(words)?;
+    let response = response(words)?;
     let reply = reply(words)?;
     let moment = words.moment()?;
-    let response = ResponseRef { id, k };
     opened.desk.answered(n, &response, reply, moment)?;
     Ok(())
 }
 
-/// The number of a quote, or none for `-`.
-fn quote(word: &str) -> Result<Option<u64>, CaseFault> {
-    if word == "-" {
-        return Ok(None);
-    }
-    let k = word.parse::<u64>().map_err(|_| CaseFault::Form)?;
-    Ok(Some(k))
-}
-
 /// `N TIME`.
 fn closed(opened: &mut Opened, words: &mut Words<'_>) -> Result<(), CaseFault> {
-    let n = small(words)?;
+    let n = short_number(words)?;
     let moment = words.moment()?;
     opened.desk.closed(n, moment)?;
     Ok(())
@@ -180,7 +155,7 @@ fn closed(opened: &mut Opened, words: &mut Words<'_>) -> Result<(), CaseFault> {
 
 /// `N` or `N QUOTE`.
 fn knows(opened: &Opened, words: &mut Words<'_>, answer: &mut String) -> Result<(), CaseFault> {
-    let n = small(words)?;
+    let n = short_number(words)?;
     if words.is_at_end() {
         return push_truth(answer, opened.desk.knows(n, None));
     }

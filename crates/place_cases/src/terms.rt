@@ -2,19 +2,35 @@
 use bond_prices::{Grid, Ticks};
 use case_lines::{CaseFault, Words};
 use fix_fields::Moment;
-use market_terms::{Ask, Close, HitRefusal, Id, IdBuf, Quantity, QuoteState, Reply, RoomRef, Side};
+use market_terms::{
+    Ask, AskedDealers, Close, HitRefusal, Id, IdBuf, Quantity, QuoteState, Reply, ResponseRef,
+    RoomRef, Side,
+};
+use quote_word::Settled;
+use std::alloc::Global;
 use std::str;
 use venue_config::{BondId, Name};
 
 /// The next word, as a number of 32 bits.
-pub(crate) fn small(words: &mut Words<'_>) -> Result<u32, CaseFault> {
-    let number = words.number()?;
-    u32::try_from(number).map_err(|_| CaseFault::Form)
+pub(crate) fn short_number(words: &mut Words<'_>) -> Result<u32, CaseFault> {
+    let word = words.word()?;
+    word.parse::<u32>().map_err(|_| CaseFault::Form)
+}
+
+/// The next word, as the number of a firm.
+pub(crate) fn firm_number(words: &mut Words<'_>) -> Result<u16, CaseFault> {
+    let word = words.word()?;
+    read_firm(word)
+}
+
+/// The number of a firm that a word spells.
+fn read_firm(word: &str) -> Result<u16, CaseFault> {
+    word.parse::<u16>().map_err(|_| CaseFault::Form)
 }
 
 /// The last word, as a number from 1: how many are before the one with this number.
 pub(crate) fn nth(words: &mut Words<'_>) -> Result<usize, CaseFault> {
-    let n = small(words)?;
+    let n = short_number(words)?;
     words.end()?;
     let Some(before) = n.checked_sub(1) else {
         return Err(CaseFault::Form);
@@ -66,11 +82,11 @@ fn bond(words: &mut Words<'_>) -> Result<BondId, CaseFault> {
     BondId::new(word.as_bytes()).ok_or(CaseFault::Form)
 }
 
-/// The next word, as the investor's side: `1` buys, `2` sells.
-fn side(words: &mut Words<'_>) -> Result<Side, CaseFault> {
+/// The next word, as the investor's side: `buy` or `sell`, or the digit of Side (54).
+pub(crate) fn side(words: &mut Words<'_>) -> Result<Side, CaseFault> {
     match words.word()? {
-        "1" => Ok(Side::Buy),
-        "2" => Ok(Side::Sell),
+        "buy" | "1" => Ok(Side::Buy),
+        "sell" | "2" => Ok(Side::Sell),
         _ => Err(CaseFault::Form),
     }
 }
@@ -86,25 +102,44 @@ fn grid(words: &mut Words<'_>) -> Result<Grid, CaseFault> {
     if words.is_at_end() {
         return Ok(Grid::FINEST);
     }
-    let steps = small(words)?;
+    let steps = short_number(words)?;
     words.end()?;
     Grid::new(steps).ok_or(CaseFault::Form)
 }
 
-/// The next word, as a price in 256ths.
-pub(crate) fn price(words: &mut Words<'_>) -> Result<Ticks, CaseFault> {
-    let count = small(words)?;
+/// The next word, as a price in ticks of 1/256 point.
+pub(crate) fn ticks(words: &mut Words<'_>) -> Result<Ticks, CaseFault> {
+    let count = short_number(words)?;
     Ticks::new(count).ok_or(CaseFault::Form)
 }
 
-/// The next word, as the end of a request that a notice tells: the digit of QuoteRespType (694).
+/// The next word, as the end of a request that a notice tells: `hit`, `expired`, `cover`, `away` or
+/// `pass`, or the digit of QuoteRespType (694).
 pub(crate) fn close(words: &mut Words<'_>) -> Result<Close, CaseFault> {
     match words.word()? {
-        "1" => Ok(Close::Hit),
-        "3" => Ok(Close::Expired),
-        "4" => Ok(Close::Cover),
-        "5" => Ok(Close::DoneAway),
-        "6" => Ok(Close::Pass),
+        "hit" | "1" => Ok(Close::Hit),
+        "expired" | "3" => Ok(Close::Expired),
+        "cover" | "4" => Ok(Close::Cover),
+        "away" | "5" => Ok(Close::DoneAway),
+        "pass" | "6" => Ok(Close::Pass),
+        _ => Err(CaseFault::Form),
+    }
+}
+
+/// The last word, as a moment, where there is one.
+pub(crate) fn last_moment(words: &mut Words) -> Result<Option<Moment>, CaseFault> {
+    if words.is_at_end() {
+        return Ok(None);
+    }
+    let moment = words.moment()?;
+    Ok(Some(moment))
+}
+
+/// The next word, as what a word is settled as: `withdrawn` or `lifted`.
+pub(crate) fn settled(words: &mut Words) -> Result<Settled, CaseFault> {
+    match words.word()? {
+        "withdrawn" => Ok(Settled::Withdrawn),
+        "lifted" => Ok(Settled::Lifted),
         _ => Err(CaseFault::Form),
     }
 }
@@ -139,12 +174,41 @@ pub(crate) fn id(words: &mut Words<'_>) -> Result<IdBuf, CaseFault> {
     Ok(IdBuf::of(&id))
 }
 
-/// A side as a word.
-pub(crate) fn side_word(side: Side) -> &'static str {
-    match side {
-        Side::Buy => "buy",
-        Side::Sell => "sell",
+/// The next two words, as a response: its QuoteRespID (693), and the number of the quote that it
+/// hits, or `pass`.
+pub(crate) fn response(words: &mut Words<'_>) -> Result<ResponseRef, CaseFault> {
+    let id = id(words)?;
+    match words.word()? {
+        "pass" => Ok(ResponseRef { id, k: None }),
+        number => {
+            let quote = number.parse::<u64>().map_err(|_| CaseFault::Form)?;
+            Ok(ResponseRef { id, k: Some(quote) })
+        }
     }
+}
+
+/// What INV1 asks for, whatever the case: 2,000,000 of BONDA0000001, at any price.
+pub(crate) fn ask_for(side: Side, deadline: Moment) -> Option<Ask> {
+    let investor = Name::new(b"INV1")?;
+    let bond = BondId::new(b"BONDA0000001")?;
+    let quantity = Quantity::new(2_000_000)?;
+    Some(Ask {
+        investor,
+        bond,
+        side,
+        quantity,
+        deadline,
+        grid: Grid::FINEST,
+    })
+}
+
+/// The dealers of a request: all that is left of the line.
+pub(crate) fn dealers(alloc: Global, words: &mut Words) -> Result<AskedDealers, CaseFault> {
+    let mut numbers = Vec::new(alloc);
+    for word in words.rest().split(' ') {
+        numbers.push(read_firm(word)?)?;
+    }
+    AskedDealers::new(numbers.as_slice()).ok_or(CaseFault::Condition)
 }
 
 /// A state of a quote as a word.

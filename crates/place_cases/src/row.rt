@@ -1,6 +1,6 @@
 //! A row of words in a list.
-use crate::replies::{push_line, push_number, settled_name};
-use crate::terms::short_number;
+use crate::replies::{push_line, push_number, push_truth, settled_name};
+use crate::terms::{settled, short_number};
 use case_lines::{CaseFault, Place};
 use quote_word::{PlainWords, Settled, Words};
 use std::alloc::Global;
@@ -12,6 +12,7 @@ use std::alloc::Global;
 /// | `new N` | nothing |
 /// | `length` | how many words there are |
 /// | `withdraw WORD`, `lift WORD` | what the word is from then on |
+/// | `is_withdrawn SETTLED`, `is_lifted SETTLED`, where SETTLED is `withdrawn` or `lifted` | whether a word that is settled so is |
 #[derive(Drop)]
 pub struct RowPlace {
     row: PlainWords,
@@ -30,6 +31,8 @@ impl Place for RowPlace {
             "length" => push_length(answer, self.row.len()),
             "withdraw" => self.settle(Settled::Withdrawn, &mut words, answer),
             "lift" => self.settle(Settled::Lifted, &mut words, answer),
+            "is_withdrawn" => push_truth(answer, settled(&mut words)?.is_withdrawn()),
+            "is_lifted" => push_truth(answer, settled(&mut words)?.is_lifted()),
             _ => Err(CaseFault::Form),
         }
     }

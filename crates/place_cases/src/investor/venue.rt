@@ -1,5 +1,5 @@
 //! A configuration, row by row.
-use crate::terms::small;
+use crate::terms::short_number;
 use case_lines::{CaseFault, Words};
 use std::alloc::Global;
 use venue_config::{VenueConfig, read_config};
@@ -37,7 +37,7 @@ impl Rows {
     /// `ID GRID`.
     fn bond(&mut self, alloc: Global, words: &mut Words<'_>) -> Result<(), CaseFault> {
         let id = words.word()?;
-        let grid = small(words)?;
+        let grid = short_number(words)?;
         let text = format!(in alloc; "[[bond]]\nid = \"{id}\"\ngrid = {grid}\n")?;
         self.text.push_str(text.as_str())?;
         Ok(())
@@ -55,8 +55,8 @@ impl Rows {
     /// `NAME REQUESTS OPEN QUANTITY TRADER`.
     fn investor(&mut self, alloc: Global, words: &mut Words<'_>) -> Result<(), CaseFault> {
         let name = words.word()?;
-        let requests = small(words)?;
-        let open = small(words)?;
+        let requests = short_number(words)?;
+        let open = short_number(words)?;
         let quantity = words.number()?;
         let trader = words.word()?;
         let firm = format!(in alloc;

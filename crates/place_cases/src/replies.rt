@@ -11,8 +11,8 @@ pub(crate) fn push_line(answer: &mut String, line: &str) -> Result<(), CaseFault
     Ok(())
 }
 
-/// A line with whether a call took effect, or a reader's yes or no.
-pub(crate) fn push_effect(answer: &mut String, effect: bool) -> Result<(), CaseFault> {
+/// `yes` or `no`: whether a call took effect, or what a reader answers.
+pub(crate) fn push_truth(answer: &mut String, effect: bool) -> Result<(), CaseFault> {
     push_line(answer, if effect { "yes" } else { "no" })
 }
 
@@ -54,7 +54,7 @@ pub(crate) fn push_ask(answer: &mut String, ask: &Ask) -> Result<(), CaseFault> 
 }
 
 /// What a side is called in a line.
-fn side_name(side: Side) -> &'static str {
+pub(crate) fn side_name(side: Side) -> &'static str {
     match side {
         Side::Buy => "buy",
         Side::Sell => "sell",

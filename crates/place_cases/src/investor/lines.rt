@@ -1,7 +1,8 @@
 //! What a desk knows, as lines.
 use super::opened::Opened;
-use crate::messages::{clock, push_count, push_line, push_traders};
-use crate::terms::{ascii, nth, side_word};
+use crate::messages::{clock, push_count_line, push_traders};
+use crate::replies::{push_line, side_name};
+use crate::terms::{ascii, nth};
 use case_lines::{CaseFault, Words, push_bytes};
 use fix_fields::Moment;
 use investor_desk::InvestorEvent;
@@ -42,7 +43,7 @@ fn push_request_line(
 ) -> Result<(), CaseFault> {
     let time = clock(alloc, line.moment)?;
     let trader = ascii(line.trader.as_bytes());
-    let side = side_word(line.side);
+    let side = side_name(line.side);
     let bond = ascii(line.bond.as_bytes());
     let (n, quantity) = (line.n, line.quantity.get());
     let state = state_text(alloc, &line.state)?;
@@ -127,7 +128,7 @@ fn kind_of(event: &InvestorEvent) -> (&'static str, Moment) {
 pub(crate) fn taken_apart(opened: Opened, answer: &mut String) -> Result<(), CaseFault> {
     let Opened { desk, .. } = opened;
     let (events, sent, lines) = desk.into_parts();
-    push_count(answer, events.len())?;
-    push_count(answer, sent.len())?;
-    push_count(answer, lines.len())
+    push_count_line(answer, events.len())?;
+    push_count_line(answer, sent.len())?;
+    push_count_line(answer, lines.len())
 }

@@ -1,5 +1,5 @@
 //! Answers that are told together.
-use crate::messages::push_line;
+use crate::replies::push_line;
 use case_lines::CaseFault;
 use std::alloc::Global;
 

@@ -7,7 +7,7 @@
 //! | `say TRADER TIME TYPE BODY`, `own TIME BYTES`, `long COUNT TIME TEXT` | `take`: a message comes, bytes come, COUNT times TEXT comes | what is left to be done, what is sent |
 //! | `quote_came N DEALER WORD PRICE TIME [UNTIL]` | a quote for request N; PRICE is in 256ths | what is sent |
 //! | `quote_gone N WORD TIME`, `dealer_declined N DEALER TIME`, `closed N TIME` | the call of this name | what is sent |
-//! | `answered N ID QUOTE REPLY TIME` | the same; QUOTE is `-` for a pass, REPLY `Awarded`, `Passed` or the name of a refusal | what is sent |
+//! | `answered N ID QUOTE REPLY TIME` | the same; QUOTE is `pass` where a pass is answered, REPLY `Awarded`, `Passed` or the name of a refusal | what is sent |
 //! | `requests COUNT TIME` | so many requests of the first dealer, A1 .., for 1, and a quote of each dealer on each | what they leave, and how many of them one behind another |
 //! | `knows N`, `knows N QUOTE`, `events`, `sent`, `lines`, `date`, `firm`, `row` | the reader of this name; `sent` counts the messages | |
 //! | `event N`, `line N`, `frames N` | the N-th event or line; the messages from the N-th on, byte by byte | |

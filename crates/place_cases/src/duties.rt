@@ -1,4 +1,4 @@
-//! What a step leaves, as text: its duties, and what the desks have sent.
+//! What is left to be done, as text, and what the desks have sent in a step.
 use crate::events::push_until;
 use crate::replies::{push_ask, push_firms, push_number, push_time, push_word, reply_name};
 use case_lines::{CaseFault, frame_of, push_bytes};
@@ -13,6 +13,16 @@ pub(crate) fn push_duties(answer: &mut String, duties: &[Duty]) -> Result<(), Ca
         push_duty(answer, duty)?;
         answer.push('\n')?;
     }
+    Ok(())
+}
+
+/// A line for what is left to be done, where something is.
+pub(crate) fn push_left(answer: &mut String, left: &Option<Duty>) -> Result<(), CaseFault> {
+    let Some(duty) = left else {
+        return Ok(());
+    };
+    push_duty(answer, duty)?;
+    answer.push('\n')?;
     Ok(())
 }
 

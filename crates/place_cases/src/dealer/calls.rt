@@ -2,12 +2,11 @@
 use super::lines::{push_line_numbered, push_lines, push_row, push_states};
 use super::many::{push_forged, push_fronts, push_quotes};
 use super::opened::{Dropped, Opened, Taken};
-use crate::duties::push_duty;
-use crate::messages::{
-    push_count, push_date, push_frames, push_line, push_new, push_number, push_truth,
-};
+use crate::duties::push_left;
+use crate::messages::{push_count_line, push_date, push_frames, push_new, push_number_line};
+use crate::replies::{push_line, push_truth};
 use crate::said::{long, own};
-use crate::terms::{ask, close, room, small};
+use crate::terms::{ask, close, room, short_number};
 use case_lines::{CaseFault, Words};
 use market_terms::RoomRef;
 use std::alloc::Global;
@@ -67,9 +66,9 @@ fn read(
 ) -> Result<(), CaseFault> {
     match word {
         "was_shown" => push_truth(answer, opened.desk.was_shown(room(words)?))?,
-        "exposure" => push_number(answer, opened.desk.exposure())?,
-        "events" => push_count(answer, opened.desk.events().len())?,
-        "sent" => push_count(answer, opened.desk.sent().len())?,
+        "exposure" => push_number_line(answer, opened.desk.exposure())?,
+        "events" => push_count_line(answer, opened.desk.events().len())?,
+        "sent" => push_count_line(answer, opened.desk.sent().len())?,
         "frames" => push_frames(answer, opened.desk.sent(), words)?,
         "lines" => push_lines(alloc, answer, opened.desk.lines())?,
         "line" => push_line_numbered(alloc, answer, opened.desk.lines(), words)?,
@@ -98,7 +97,7 @@ fn show(opened: &mut Opened, words: &mut Words<'_>, answer: &mut String) -> Resu
     let room = room(words)?;
     let (ask, moment) = ask(words)?;
     let number = opened.desk.show(room, ask, moment)?;
-    push_number(answer, number)
+    push_number_line(answer, number)
 }
 
 /// `TRADER TIME TYPE BODY`.
@@ -149,7 +148,7 @@ fn judge(
 /// The word that was asked, and what is left to be done.
 fn push_taken(alloc: Global, answer: &mut String, taken: &Taken) -> Result<(), CaseFault> {
     push_word(alloc, answer, taken.0)?;
-    push_duty(alloc, answer, &taken.1)
+    push_left(answer, &taken.1)
 }
 
 /// `word N` of the quote whose word was asked, where one was.
@@ -163,7 +162,7 @@ fn push_word(alloc: Global, answer: &mut String, asked: Option<u32>) -> Result<(
 
 /// `N`.
 fn lifted(opened: &mut Opened, words: &mut Words<'_>) -> Result<(), CaseFault> {
-    let quote = small(words)?;
+    let quote = short_number(words)?;
     opened.lifted.push(quote)?;
     Ok(())
 }
@@ -201,7 +200,7 @@ fn tell(opened: &mut Opened, words: &mut Words<'_>, answer: &mut String) -> Resu
 
 /// `LAST TIME`.
 fn drop_quietly(opened: &mut Opened, words: &mut Words<'_>) -> Result<(), CaseFault> {
-    let last = small(words)?;
+    let last = short_number(words)?;
     let moment = words.moment()?;
     opened.drop_one(last, moment)?;
     Ok(())
@@ -214,7 +213,7 @@ fn drop_one(
     words: &mut Words<'_>,
     answer: &mut String,
 ) -> Result<(), CaseFault> {
-    let last = small(words)?;
+    let last = short_number(words)?;
     let moment = words.moment()?;
     let dropped = opened.drop_one(last, moment)?;
     push_dropped(alloc, answer, &dropped)
@@ -223,6 +222,6 @@ fn drop_one(
 /// The word that was asked, what is left to be done in the room, and of the drop.
 fn push_dropped(alloc: Global, answer: &mut String, dropped: &Dropped) -> Result<(), CaseFault> {
     push_word(alloc, answer, dropped.0)?;
-    push_duty(alloc, answer, &dropped.1)?;
-    push_duty(alloc, answer, &dropped.2)
+    push_left(answer, &dropped.1)?;
+    push_left(answer, &dropped.2)
 }

@@ -1,6 +1,7 @@
 //! Calls that stand for many.
 use super::opened::Opened;
-use crate::messages::{push_line, push_new};
+use crate::messages::push_new;
+use crate::replies::push_line;
 use crate::said::{Came, own};
 use crate::tally::Tally;
 use case_lines::{CaseFault, Words};

@@ -1,6 +1,6 @@
 //! A desk of a dealer with the words of its quotes, and what comes to it.
 use crate::said::{Came, Speaker};
-use crate::terms::{name, small};
+use crate::terms::{name, short_number};
 use case_lines::{CaseFault, Words, day};
 use dealer_desk::DealerDesk;
 use fix_fields::Moment;
@@ -34,7 +34,7 @@ impl Opened {
     /// `NAME QUOTES EXPOSURE TRADER ..`.
     pub(crate) fn read(alloc: Global, words: &mut Words<'_>) -> Result<Opened, CaseFault> {
         let firm = name(words)?;
-        let quotes = small(words)?;
+        let quotes = short_number(words)?;
         let exposure = words.number()?;
         let traders = traders(words)?;
         let speaker = Speaker::of(alloc, firm.as_str())?;

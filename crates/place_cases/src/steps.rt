@@ -1,26 +1,22 @@
 //! The steps of the venue.
+mod at_investor;
+mod at_room;
+
 ghost use Rattle.std.specs.Prelude.{◌≡◌};
 
 use crate::duties::{push_duties, push_sent};
 use crate::floor::{Counts, Floor, INVESTOR, ROOM, counts_of, new_floor};
 use crate::replies::{push_line, push_number};
-use crate::terms::{ask_for, dealers, firm_number, name, short_number, ticks};
+use crate::terms::{close, name, response, short_number, ticks};
+use at_room::{does_in_room, request};
 use case_lines::{CaseFault, Place, Words, frame_of, piped_bytes_of};
 use dealer_desk::DealerDesk;
 use fix_fields::Moment;
-use investor_desk::InvestorDesk;
-use market_terms::{Ask, Close, HitRefusal, Id, IdBuf, Offer, Reply, ResponseRef, RoomRef, Side};
+use market_terms::{Offer, ResponseRef, RoomRef};
 use quote_word::{Board, BoardPass, BoardSeen, PlainWords};
 use request_room::Room;
 use std::alloc::Global;
-use venue_steps::{
-    Duties, do_answer, do_close, do_decline, do_declined, do_drop, do_expire, do_gone, do_hit,
-    do_open, do_pass, do_post, do_ready, do_relay, do_show, do_tell, do_unpost, own_dealer,
-    own_investor,
-};
-
-/// The deadline of the request, 09:05.
-const DEADLINE: u32 = 32_700_000;
+use venue_steps::{Duties, do_drop, do_hit, do_show, do_tell, own_dealer, own_investor};
 
 /// The desks of DLR1, DLR2 and INV1, the room of the first request of INV1, and a row of words, of
 /// which there are none before the first call. The words of DLR1 stand from 0 on, those of DLR2
@@ -191,12 +187,6 @@ impl StepPlace {
     }
 }
 
-/// The request of INV1.
-fn request() -> Result<Ask, CaseFault> {
-    let deadline = Moment::new(DEADLINE).ok_or(CaseFault::Form)?;
-    ask_for(Side::Buy, deadline).ok_or(CaseFault::Form)
-}
-
 /// The room of a request of INV1.
 fn room(words: &mut Words) -> Result<RoomRef, CaseFault> {
     let n = short_number(words)?;
@@ -211,51 +201,6 @@ fn dealer_at<'a>(floor: &'a mut Floor, firm: &str) -> Result<(&'a mut DealerDesk
     match firm {
         "DLR1" => Ok((&mut floor.first, 0)),
         "DLR2" => Ok((&mut floor.second, 4)),
-        _ => Err(CaseFault::Form),
-    }
-}
-
-/// How a request ended for a dealer.
-fn close(words: &mut Words) -> Result<Close, CaseFault> {
-    match words.word()? {
-        "hit" => Ok(Close::Hit),
-        "expired" => Ok(Close::Expired),
-        "cover" => Ok(Close::Cover),
-        "away" => Ok(Close::DoneAway),
-        "pass" => Ok(Close::Pass),
-        _ => Err(CaseFault::Form),
-    }
-}
-
-/// A response: its QuoteRespID (693), and the number of the quote that it hits, or `pass`.
-fn response(words: &mut Words) -> Result<ResponseRef, CaseFault> {
-    let id = id(words)?;
-    match words.word()? {
-        "pass" => Ok(ResponseRef { id, k: None }),
-        number => {
-            let quote = number.parse::<u64>().map_err(|_| CaseFault::Form)?;
-            Ok(ResponseRef { id, k: Some(quote) })
-        }
-    }
-}
-
-/// An identifier.
-fn id(words: &mut Words) -> Result<IdBuf, CaseFault> {
-    let word = words.word()?;
-    let id = Id::new(word.as_bytes()).ok_or(CaseFault::Form)?;
-    Ok(IdBuf::of(&id))
-}
-
-/// What a room replied.
-fn reply(words: &mut Words) -> Result<Reply, CaseFault> {
-    match words.word()? {
-        "Awarded" => Ok(Reply::Awarded),
-        "Passed" => Ok(Reply::Passed),
-        "NotOpen" => Ok(Reply::Refused(HitRefusal::NotOpen)),
-        "Deadline" => Ok(Reply::Refused(HitRefusal::Deadline)),
-        "Gone" => Ok(Reply::Refused(HitRefusal::Gone)),
-        "Expired" => Ok(Reply::Refused(HitRefusal::Expired)),
-        "Withdrawn" => Ok(Reply::Refused(HitRefusal::Withdrawn)),
         _ => Err(CaseFault::Form),
     }
 }
@@ -312,128 +257,6 @@ fn hits<W: quote_word::Words>(
     moment: Moment,
 ) -> Result<Duties, CaseFault> {
     let duties = do_hit(room, row, ROOM, response, word, moment)?;
-    Ok(duties)
-}
-
-/// Does a step in the room that asks no word; or another one.
-fn does_in_room(
-    alloc: Global,
-    floor: &mut Floor,
-    name: &str,
-    words: &mut Words,
-) -> Result<Duties, CaseFault> {
-    match name {
-        "open" => opens(alloc, &mut floor.room, words),
-        "ready" => readies(&mut floor.room),
-        "post" => posts(&mut floor.room, words),
-        "unpost" => unposts(&mut floor.room, words),
-        "decline" => declines(&mut floor.room, words),
-        "pass" => passes(&mut floor.room, words),
-        "expire" => expires(&mut floor.room, words),
-        other => does_at_investor(&mut floor.investor, other, words),
-    }
-}
-
-fn opens(alloc: Global, room: &mut Room, words: &mut Words) -> Result<Duties, CaseFault> {
-    let moment = words.moment()?;
-    let dealers = dealers(alloc, words)?;
-    let duties = do_open(room, ROOM, request()?, dealers, moment)?;
-    Ok(duties)
-}
-
-fn readies(room: &mut Room) -> Result<Duties, CaseFault> {
-    let duties = do_ready(room)?;
-    Ok(duties)
-}
-
-fn posts(room: &mut Room, words: &mut Words) -> Result<Duties, CaseFault> {
-    let moment = words.moment()?;
-    let dealer = firm_number(words)?;
-    let offer = offer(words)?;
-    let duties = do_post(room, ROOM, dealer, offer, moment)?;
-    Ok(duties)
-}
-
-fn unposts(room: &mut Room, words: &mut Words) -> Result<Duties, CaseFault> {
-    let moment = words.moment()?;
-    let dealer = firm_number(words)?;
-    let word = short_number(words)?;
-    let duties = do_unpost(room, ROOM, dealer, word, moment)?;
-    Ok(duties)
-}
-
-fn declines(room: &mut Room, words: &mut Words) -> Result<Duties, CaseFault> {
-    let moment = words.moment()?;
-    let dealer = firm_number(words)?;
-    let duties = do_decline(room, ROOM, dealer, moment)?;
-    Ok(duties)
-}
-
-fn passes(room: &mut Room, words: &mut Words) -> Result<Duties, CaseFault> {
-    let moment = words.moment()?;
-    let id = id(words)?;
-    let duties = do_pass(room, ROOM, ResponseRef { id, k: None }, moment)?;
-    Ok(duties)
-}
-
-fn expires(room: &mut Room, words: &mut Words) -> Result<Duties, CaseFault> {
-    let moment = words.moment()?;
-    let duties = do_expire(room, ROOM, moment)?;
-    Ok(duties)
-}
-
-/// Does a step at the desk of INV1.
-fn does_at_investor(
-    desk: &mut InvestorDesk,
-    name: &str,
-    words: &mut Words,
-) -> Result<Duties, CaseFault> {
-    match name {
-        "relay" => relays(desk, words),
-        "gone" => is_gone(desk, words),
-        "declined" => is_declined(desk, words),
-        "answer" => answers(desk, words),
-        "close" => closes(desk, words),
-        _ => Err(CaseFault::Form),
-    }
-}
-
-fn relays(desk: &mut InvestorDesk, words: &mut Words) -> Result<Duties, CaseFault> {
-    let moment = words.moment()?;
-    let n = short_number(words)?;
-    let offer = offer(words)?;
-    let duties = do_relay(desk, n, &offer, moment)?;
-    Ok(duties)
-}
-
-fn is_gone(desk: &mut InvestorDesk, words: &mut Words) -> Result<Duties, CaseFault> {
-    let moment = words.moment()?;
-    let n = short_number(words)?;
-    let word = short_number(words)?;
-    let duties = do_gone(desk, n, word, moment)?;
-    Ok(duties)
-}
-
-fn is_declined(desk: &mut InvestorDesk, words: &mut Words) -> Result<Duties, CaseFault> {
-    let moment = words.moment()?;
-    let n = short_number(words)?;
-    let dealer = name(words)?;
-    let duties = do_declined(desk, n, dealer, moment)?;
-    Ok(duties)
-}
-
-fn answers(desk: &mut InvestorDesk, words: &mut Words) -> Result<Duties, CaseFault> {
-    let moment = words.moment()?;
-    let n = short_number(words)?;
-    let response = response(words)?;
-    let duties = do_answer(desk, n, &response, reply(words)?, moment)?;
-    Ok(duties)
-}
-
-fn closes(desk: &mut InvestorDesk, words: &mut Words) -> Result<Duties, CaseFault> {
-    let moment = words.moment()?;
-    let n = short_number(words)?;
-    let duties = do_close(desk, n, moment)?;
     Ok(duties)
 }
 

@@ -1,8 +1,9 @@
 //! What a desk knows, as lines.
 use super::opened::Opened;
-use crate::messages::{clock, push_count, push_line, push_traders};
+use crate::messages::{clock, push_count_line, push_traders};
+use crate::replies::{push_line, side_name};
 use crate::tally::Tally;
-use crate::terms::{ascii, nth, quote_word, side_word};
+use crate::terms::{ascii, nth, quote_word};
 use case_lines::{CaseFault, Words};
 use market_terms::QuoteLine;
 use std::alloc::Global;
@@ -37,7 +38,7 @@ pub(crate) fn push_line_numbered(
 fn push_quote_line(alloc: Global, answer: &mut String, line: &QuoteLine) -> Result<(), CaseFault> {
     let time = clock(alloc, line.moment)?;
     let trader = ascii(line.trader.as_bytes());
-    let side = side_word(line.side);
+    let side = side_name(line.side);
     let bond = ascii(line.bond.as_bytes());
     let quantity = line.quantity.get();
     let price = line.price.get();
@@ -86,10 +87,10 @@ pub(crate) fn taken_apart(
 ) -> Result<(), CaseFault> {
     let Opened { desk, .. } = opened;
     if word == "into_sent" {
-        return push_count(answer, desk.into_sent().len());
+        return push_count_line(answer, desk.into_sent().len());
     }
     let (events, sent, lines) = desk.into_parts();
-    push_count(answer, events.len())?;
-    push_count(answer, sent.len())?;
-    push_count(answer, lines.len())
+    push_count_line(answer, events.len())?;
+    push_count_line(answer, sent.len())?;
+    push_count_line(answer, lines.len())
 }

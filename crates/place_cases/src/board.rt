@@ -19,7 +19,7 @@ const MOST_ASKED: u32 = 16;
 /// | call | answer |
 /// |---|---|
 /// | `open N` | nothing |
-/// | `length` | how many words there are |
+/// | `length`, `pass_length TOKEN` | how many words there are, and of a pass |
 /// | `withdraw TOKEN WORD NAME`, `lift TOKEN WORD NAME` | the word of the receipt, and what it is from then on |
 /// | `look TOKEN WORD NAME` | what the word is |
 /// | `looks TOKEN` | what each word is, looked at one behind the other |
@@ -108,6 +108,7 @@ impl KnownBoard {
     ) -> Result<(), CaseFault> {
         match name {
             "length" => push_length(answer, self.board.len()),
+            "pass_length" => self.pass_length(words, answer),
             "withdraw" => self.settle(alloc, Settled::Withdrawn, words, answer),
             "lift" => self.settle(alloc, Settled::Lifted, words, answer),
             "look" => self.look(alloc, words, answer),
@@ -241,6 +242,11 @@ impl KnownBoard {
         let met = self.board.meet(first, second);
         push_met(answer, &met)?;
         self.keep(alloc, words.word()?, met.front())
+    }
+
+    fn pass_length(&self, words: &mut Words, answer: &mut String) -> Result<(), CaseFault> {
+        let seen = self.token(words.word()?)?;
+        push_length(answer, BoardPass::new(&self.board, seen).len())
     }
 
     fn pass(

@@ -1,6 +1,6 @@
 //! A room.
 use crate::events::{push_event, push_request, room_again};
-use crate::replies::{push_effect, push_firms, push_line, push_number, refusal_name, reply_name};
+use crate::replies::{push_firms, push_line, push_number, push_truth, refusal_name, reply_name};
 use crate::terms::{
     ask_for, dealers, firm_number, last_moment, settled, short_number, side, ticks,
 };
@@ -25,7 +25,7 @@ use std::alloc::Global;
 /// | `hit WORD MOMENT`, and what the word is answered, where it is asked | the reply |
 /// | `pass MOMENT`, `expire MOMENT` | whether it ended the room |
 /// | `state` | `vacant`, `opening`, or `neither` |
-/// | `named DEALER` | whether it is |
+/// | `named DEALER`, `request_names DEALER` | whether it is, by the room and by its request |
 /// | `request` | what was asked of whom, or `none` |
 /// | `end` | its kind, winner and cover, or `none` |
 /// | `length` | how many events there are |
@@ -71,6 +71,7 @@ impl RoomPlace {
             "question_hit" => self.question_hit(words, answer),
             "state" => self.state(answer),
             "named" => self.named(words, answer),
+            "request_names" => self.request_names(words, answer),
             "request" => self.request(answer),
             "end" => push_end(answer, &self.room.end()),
             "length" => self.length(answer),
@@ -93,18 +94,18 @@ impl RoomPlace {
         let word = short_number(words)?;
         let price = ticks(words)?;
         let until = last_moment(words)?;
-        push_effect(answer, posted(&mut self.room, dealer, word, price, until)?)
+        push_truth(answer, posted(&mut self.room, dealer, word, price, until)?)
     }
 
     fn unpost(&mut self, words: &mut Words, answer: &mut String) -> Result<(), CaseFault> {
         let dealer = firm_number(words)?;
         let word = short_number(words)?;
-        push_effect(answer, unposted(&mut self.room, dealer, word)?)
+        push_truth(answer, unposted(&mut self.room, dealer, word)?)
     }
 
     fn decline(&mut self, words: &mut Words, answer: &mut String) -> Result<(), CaseFault> {
         let dealer = firm_number(words)?;
-        push_effect(answer, declined(&mut self.room, dealer)?)
+        push_truth(answer, declined(&mut self.room, dealer)?)
     }
 
     fn hit(&mut self, words: &mut Words, answer: &mut String) -> Result<(), CaseFault> {
@@ -116,12 +117,12 @@ impl RoomPlace {
 
     fn pass(&mut self, words: &mut Words, answer: &mut String) -> Result<(), CaseFault> {
         let moment = words.moment()?;
-        push_effect(answer, self.room.pass(moment)?)
+        push_truth(answer, self.room.pass(moment)?)
     }
 
     fn expire(&mut self, words: &mut Words, answer: &mut String) -> Result<(), CaseFault> {
         let moment = words.moment()?;
-        push_effect(answer, self.room.expire(moment)?)
+        push_truth(answer, self.room.expire(moment)?)
     }
 
     fn question_hit(&self, words: &mut Words, answer: &mut String) -> Result<(), CaseFault> {
@@ -145,7 +146,15 @@ impl RoomPlace {
 
     fn named(&self, words: &mut Words, answer: &mut String) -> Result<(), CaseFault> {
         let dealer = firm_number(words)?;
-        push_effect(answer, self.room.named(dealer))
+        push_truth(answer, self.room.named(dealer))
+    }
+
+    fn request_names(&self, words: &mut Words, answer: &mut String) -> Result<(), CaseFault> {
+        let dealer = firm_number(words)?;
+        let Some(request) = self.room.request() else {
+            return push_line(answer, "none");
+        };
+        push_truth(answer, request.names(dealer))
     }
 
     fn request(&self, answer: &mut String) -> Result<(), CaseFault> {
@@ -338,6 +347,8 @@ fn push_award(
     if room.question_hit(word, moment).is_err() {
         return Ok(());
     }
-    hit(&mut room, word, moment, Some(Settled::Lifted))?;
+    if hit(&mut room, word, moment, Some(Settled::Lifted))? != Reply::Awarded {
+        return Err(CaseFault::Condition);
+    }
     push_end(answer, &room.end())
 }

@@ -1,5 +1,5 @@
 use Rattle.std.specs.Prelude.{◌≡◌}
-use Rattle.room_cases.proofs.board.passed.Given as goal
+use Rattle.place_cases.proofs.board.passed.Given as goal
 
 -- the pass stays one of the board
 abbrev pub invariant-loop : goal.invariant-loop

@@ -1,4 +1,5 @@
 //! What a desk has sent, as lines.
+use crate::replies::push_line;
 use crate::terms::nth;
 use case_lines::{CaseFault, Words, push_bytes};
 use fix_fields::{Date, Fields, Moment, time_text};
@@ -89,28 +90,16 @@ pub(crate) fn push_frames(
     Ok(())
 }
 
-/// A line.
-pub(crate) fn push_line(answer: &mut String, text: &str) -> Result<(), CaseFault> {
-    answer.push_str(text)?;
-    answer.push('\n')?;
-    Ok(())
-}
-
 /// A line with a number.
-pub(crate) fn push_number(answer: &mut String, number: u64) -> Result<(), CaseFault> {
+pub(crate) fn push_number_line(answer: &mut String, number: u64) -> Result<(), CaseFault> {
     let mut digits = Buffer::new();
     push_line(answer, digits.format(number))
 }
 
 /// A line with a count.
-pub(crate) fn push_count(answer: &mut String, count: usize) -> Result<(), CaseFault> {
+pub(crate) fn push_count_line(answer: &mut String, count: usize) -> Result<(), CaseFault> {
     let mut digits = Buffer::new();
     push_line(answer, digits.format(count))
-}
-
-/// `yes` or `no`.
-pub(crate) fn push_truth(answer: &mut String, holds: bool) -> Result<(), CaseFault> {
-    push_line(answer, if holds { "yes" } else { "no" })
 }
 
 /// The time of day of a moment, `HH:MM:SS.sss`.
