@@ -1,7 +1,7 @@
 //! A board of words, with its tokens and receipts under names.
 ghost use Rattle.std.specs.Prelude.{◌≡◌, ◌<◌, IfOk, All};
-ghost use Rattle.room_cases.specs.declared.board.NamedToken.{NamedToken};
-ghost use Rattle.room_cases.specs.declared.board.NamedReceipt.{NamedReceipt};
+ghost use Rattle.place_cases.specs.declared.board.NamedToken.{NamedToken};
+ghost use Rattle.place_cases.specs.declared.board.NamedReceipt.{NamedReceipt};
 
 use crate::replies::{entry_name, push_line, push_number, push_word, settled_name};
 use crate::row::push_length;
