@@ -1,15 +1,18 @@
 -- The input of a day that goes on: a configuration, a line `%%`, and lines of steps. What its lines
 -- have brought so far, one after the other: a lawful line its steps, and a line at fault its fault
 -- and nothing else.
-use Rattle.std.specs.Prelude.{ℕ, Bool, List, [], ◌∷◌, ◌++◌, length, fold, Ok, Err}
+use Rattle.std.specs.Prelude.{ℕ, ◌+◌, Bool, List, [], ◌∷◌, ◌++◌, length, fold, Ok, Err}
+use Rattle.std.specs.Prelude.{if◌then◌else◌}
 use Rattle.std.specs.List.{list_any}
 use Rattle.venue_config.specs.Rows.{ConfigValues, Configuration, values_of}
 use Rattle.step_replay.specs.declared.steps.Step.{Step}
 use Rattle.venue_text.specs.DueText.{Lines}
-use Rattle.venue_text.specs.LiveLines.{live_steps_of, live_text}
+use Rattle.venue_text.specs.Lines.{is_skipped}
+use Rattle.venue_text.specs.LiveLines.{line_text, live_steps_of}
 use Rattle.venue_text.specs.StepLines.{Heard, Read, names_of_firms, nothing_heard}
 use Rattle.venue_text.specs.VenueParts.{InputPart, is_divider, part_before, part_behind, spoken_in, text_of}
 use Rattle.venue_text.specs.declared.faults.ProgramFault.{ProgramFault}
+use Rattle.venue_text.specs.declared.live_form.LiveForm.{LiveForm}
 
 -- what lines of steps have brought
 pub record Taken : Type 0 where
@@ -72,7 +75,31 @@ steps_in lines = spoken_in (part_behind (as_part lines))
 abbrev pub taken_in : Configuration → List (List ℕ) → Taken
 taken_in config lines = taken_of (values_of config) (steps_in lines)
 
--- all that is printed for them: the messages that are sent in the steps, each with the turns that it
--- leaves, in the order in which they are sent
-abbrev pub text_in : Bool → Configuration → List (List ℕ) → List ℕ
-text_in with_frames config lines = live_text with_frames config (taken_in config lines).steps
+-- What is printed for them, line by line.
+
+-- lines with their numbers, where the first has number k, also those that are skipped
+abbrev pub numbered_from : ℕ → List (List ℕ) → Lines
+numbered_from k [] = []
+numbered_from k (line ∷ lines) = (k, line) ∷ numbered_from (k + 1) lines
+
+abbrev pub numbered_in : InputPart → Lines
+numbered_in part = numbered_from part.first part.lines
+
+-- what a line brings, also one that is skipped
+abbrev pub with_any_line : ConfigValues → Taken → ℕ × List ℕ → Taken
+with_any_line config taken line =
+    if is_skipped line.1 then taken else with_line config taken line
+
+-- what lines are answered, one behind the other, behind what was brought before
+abbrev pub lines_text : LiveForm → Configuration → Taken → Lines → List ℕ
+lines_text form config taken [] = []
+lines_text form config taken (line ∷ later) =
+    line_text form config taken.steps taken.heard line.0 line.1
+    ++ lines_text form config (with_any_line (values_of config) taken line) later
+
+-- all that is printed for the lines of an input: for each line of steps the messages that are sent
+-- in its steps, each with the turns that it leaves, in the order in which they are sent, and behind
+-- them its mark
+abbrev pub text_in : LiveForm → Configuration → List (List ℕ) → List ℕ
+text_in form config lines =
+    lines_text form config (nothing_taken (values_of config)) (numbered_in (part_behind (as_part lines)))

@@ -1,6 +1,6 @@
 //! A day that is read line by line, and what is printed for each line.
-ghost use Rattle.std.specs.Prelude.{◌≡◌, ◌≢◌, ◌++◌, [], Bool, List, true, false};
-ghost use Rattle.std.specs.Prelude.{Ok, Err, IfOk, IfErr, IsOkAnd, OnOk};
+ghost use Rattle.std.specs.Prelude.{◌≡◌, ◌≢◌, ◌++◌, List, true, false};
+ghost use Rattle.std.specs.Prelude.{Ok, Err, IfOk, IfErr, OnOk};
 ghost use Rattle.step_replay.specs.LiveStanding.{IsAt};
 ghost use Rattle.step_replay.specs.declared.steps.Step.{Step};
 ghost use Rattle.venue_config.specs.Rows.{Configuration, values_of};
@@ -8,10 +8,13 @@ ghost use Rattle.venue_text.specs.Lines.{is_skipped};
 ghost use Rattle.venue_text.specs.LiveLines as spec;
 ghost use Rattle.venue_text.specs.StepLines as lines;
 ghost use Rattle.venue_text.specs.VenueParts.{venue_of};
+ghost use Rattle.venue_text.specs.declared.live_form.LiveForm.{LiveForm};
 
 use crate::faults::ProgramFault;
 use crate::heard::Heard;
 use crate::lines::is_skipped;
+use crate::live_form::LiveForm;
+use crate::live_marks::push_done_mark;
 use crate::message_lines::push_sent_line;
 use crate::parts::{cut_part, same_text};
 use crate::printed_replay::firm_name;
@@ -26,7 +29,7 @@ use venue_config::VenueConfig;
 /// A day of a venue that goes on, line by line.
 #[derive(Drop)]
 pub struct LiveDay {
-    pub(crate) with_frames: bool,
+    pub(crate) form: LiveForm,
     pub(crate) config: VenueConfig,
     pub(crate) venue: LiveVenue,
     pub(crate) heard: Heard,
@@ -34,10 +37,10 @@ pub struct LiveDay {
 
 impl LiveDay {
     /// The day of the venue that a configuration spells, before its first line of steps; or the
-    /// configuration's first fault, which is a [`ProgramFault::Config`]. Each message will be
-    /// printed as its whole frame, or as a line of its fields. Memory may be refused at any point.
-    pub fn open(alloc: Global, with_frames: bool, text: &[u8]) -> Result<Self, ProgramFault>
-        ensures ok { IfOk result (spec.Opens with_frames text.now) }
+    /// configuration's first fault, which is a [`ProgramFault::Config`]. It will be printed in this
+    /// form. Memory may be refused at any point.
+    pub fn open(alloc: Global, form: LiveForm, text: &[u8]) -> Result<Self, ProgramFault>
+        ensures ok { IfOk result (spec.Opens form text.now) }
         ensures err { IfErr result (λ fault. fault ≢ ProgramFault.Memory
             → venue_of text.now ≡ Err fault) }
         ensures unwritten { IfErr result (λ fault. fault ≢ ProgramFault.Write) }
@@ -47,7 +50,7 @@ impl LiveDay {
         let firms = config.dealers().len() + config.investors().len();
         let heard = Heard::nothing(alloc, firms)?;
         Ok(LiveDay {
-            with_frames,
+            form,
             config,
             venue,
             heard,
@@ -55,7 +58,8 @@ impl LiveDay {
     }
 
     /// The line with this number comes: its steps are done, each with all duties that it leaves,
-    /// and the messages that are sent for them are answered, a line each in their order. A line at
+    /// and the messages that are sent for them are answered, a line each in their order, and behind
+    /// them the line's mark where the form has marks. A line at
     /// fault ([`ProgramFault::Form`], [`ProgramFault::UnknownFirm`], [`ProgramFault::UnknownRoom`]
     /// or [`ProgramFault::Stream`]) changes nothing, and the day goes on. After
     /// [`ProgramFault::Memory`] it can't: memory was refused, or the firm has said 10^15 lines.
@@ -65,34 +69,51 @@ impl LiveDay {
         line: usize,
         text: &[u8],
     ) -> Result<Vec<u8>, ProgramFault>
-        // An empty line and a comment say nothing.
-        ensures skipped { is_skipped text.now ≡ true
-            → IsOkAnd result (λ answer. (answer.items ≡ []) × (self.new ≡ self.old)) }
-        ensures ok { is_skipped text.now ≡ false → IfOk result (λ answer. (with_frames : Bool)
+        // An empty line and a comment say nothing: they have their mark alone.
+        ensures skipped { is_skipped text.now ≡ true → IfOk result (λ answer. (form : LiveForm)
             (config : Configuration) (taken : List Step) (heard : lines.Heard)
-            → spec.Goes with_frames config taken heard self.old
-            → spec.LineIsAnswered with_frames config taken heard line text.now self.new
+            → spec.Goes form config taken heard self.old
+            → spec.LineIsSkipped form config taken heard line text.now self.new answer.items) }
+        ensures of_spoken { is_skipped text.now ≡ true
+            → IfErr result (λ fault. fault ≡ ProgramFault.Memory) }
+        ensures ok { is_skipped text.now ≡ false → IfOk result (λ answer. (form : LiveForm)
+            (config : Configuration) (taken : List Step) (heard : lines.Heard)
+            → spec.Goes form config taken heard self.old
+            → spec.LineIsAnswered form config taken heard line text.now self.new
             answer.items) }
         ensures err { IfErr result (λ fault. fault ≢ ProgramFault.Memory
-            → (with_frames : Bool) (config : Configuration) (taken : List Step)
-            (heard : lines.Heard) → spec.Goes with_frames config taken heard self.old
-            → spec.LineIsRefused with_frames config taken heard line text.now fault self.new) }
+            → (form : LiveForm) (config : Configuration) (taken : List Step)
+            (heard : lines.Heard) → spec.Goes form config taken heard self.old
+            → spec.LineIsRefused form config taken heard line text.now fault self.new) }
     {
         if is_skipped(text) {
-            return Ok(Vec::new(alloc));
+            let mark = self.marked(Vec::new(alloc), line)?;
+            return Ok(mark);
         }
         let steps = match read_live_line(alloc, &self.config, &mut self.heard, line, text) {
             Ok(steps) => steps,
             Err(fault) => return Err(fault),
         };
-        let answer = answered(
+        let messages = answered(
             alloc,
-            self.with_frames,
+            self.form.frames,
             &self.config,
             &mut self.venue,
             steps.as_slice(),
         )?;
+        let answer = self.marked(messages, line)?;
         Ok(answer)
+    }
+
+    /// The messages of the line with this number, and its mark behind them.
+    fn marked(&self, messages: Vec<u8>, line: usize) -> Result<Vec<u8>, Memory>
+        ensures { IfOk result (λ text. (config : Configuration) (taken : List Step)
+            → IsAt config taken self.now.venue
+            → text.items ≡ messages.items ++ spec.done_mark self.now.form config taken line) }
+    {
+        let mut text = messages;
+        push_done_mark(&mut text, self.form, line, self.venue.next_deadline())?;
+        Ok(text)
     }
 }
 
