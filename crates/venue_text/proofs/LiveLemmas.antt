@@ -53,9 +53,10 @@ one_more steps at s within is =
 gained : (with_frames : Bool) (config : Configuration) (taken more : List Step)
     (venue : LiveVenue) (messages : List ℕ) → IsAnswered with_frames config taken more venue messages
     → messages ≡ gained_text with_frames config taken more
+unfolding gained_text
 gained with_frames config taken more venue messages answered =
-    sym (unfold (gained_text) (drop-appended (live_text with_frames config taken)
-    (live_text with_frames config (taken ++ more)) messages answered.printed))
+    sym (drop-appended (live_text with_frames config taken)
+    (live_text with_frames config (taken ++ more)) messages answered.printed)
 
 spoken_line : (form : LiveForm) (config : Configuration) (taken : List Step) (heard : Heard)
     (k : ℕ) (line : List ℕ) → is_skipped line ≡ false
