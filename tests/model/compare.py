@@ -1,8 +1,10 @@
 #!/usr/bin/env python3
 """Holds a program against the model: status, output and standard error on inputs that are drawn.
 
-usage: compare.py PROGRAM INPUTS [FIRST_SEED [PROCESSES]]
-       compare.py --write SEED          writes the inputs of a seed to the working directory
+usage: compare.py [--old] PROGRAM INPUTS [FIRST_SEED [PROCESSES]]
+       compare.py [--old] --write SEED  writes the inputs of a seed to the working directory
+
+With --old nothing is drawn that a program without `hex` and `clock` lines, --marks and --live does not have.
 
 A seed has one or more inputs. The first that differs is written to the working directory, as SEED-N.in and its
 words, beside both answers; the status is then 1.
@@ -19,7 +21,7 @@ import traceback
 sys.dont_write_bytecode = True
 
 import faults
-import venue
+import program as model
 from days import Day, Draw
 from lines import due_text
 
@@ -27,9 +29,10 @@ from lines import due_text
 # ---------------------------------------------------------------- the inputs of a seed
 
 
-def inputs(seed):
+def inputs(seed, old):
     """Pairs of arguments and standard input."""
     draw = Draw(seed)
+    draw.old = old
     kinds = [a_day] * 10 + [two_days] * 2 + [due_list] * 3 + [made_up] * 4 + [spoilt] * 3 + [configurations] * 2 + [streams] * 2 + [rarely]
     return draw.choice(kinds)(draw)
 
@@ -67,8 +70,22 @@ def a_day(draw):
     data = ended(draw, joined(head(day), day.text()))
     found = [(words, data) for words in commands(draw, day)]
     if draw.chance(0.3):
-        found.append((draw.of(["live"], ["live", "--frames"]), without_turns(draw, data)))
+        found.append((live_words(draw), without_turns(draw, data)))
+    if not draw.old and draw.chance(0.3):
+        found += [(words, without_turns(draw, data)) for words in audits(draw, day)]
     return found
+
+
+def live_words(draw):
+    flags = [] if draw.old else ["--marks"]
+    return ["live"] + draw.sample(flags + ["--frames"], draw.randint(0, len(flags) + 1))
+
+
+def audits(draw, day):
+    """Commands that read a day of `live`."""
+    found = [["replay", "--live"], ["replay", firm_word(draw, day), "--live"], ["replay", "--live", "--frames"],
+             ["due", firm_word(draw, day, True), "--live"], ["blotter", "--live", firm_word(draw, day)]]
+    return draw.sample(found, draw.of(1, 2, 3))
 
 
 def without_turns(draw, data):
@@ -99,7 +116,10 @@ def two_days(draw):
     if draw.chance(0.3):
         other = re.sub(rb"exposure = [0-9]+", b"exposure = %d" % draw.of(5, 2_000_000), other, count=draw.of(0, 1))
     data = ended(draw, joined(head(day), first, other, second))
-    return [(["compare", firm_word(draw, day, True)], data)]
+    words = ["compare", firm_word(draw, day, True)]
+    if not draw.old and draw.chance(0.4):
+        return [(words + ["--live"], data if draw.chance(0.1) else without_turns(draw, data))]
+    return [(words, data)]
 
 
 def due_list(draw):
@@ -132,7 +152,9 @@ def spoilt(draw):
             steps += b"\n" + faults.exact_frames(draw, day)
         steps = faults.spoilt_input(draw, steps)
         top = head(day) if draw.chance(0.9) else faults.spoilt_input(draw, head(day))
-        words = draw.of(["replay"], ["replay"], ["replay"], ["due", firm_word(draw, day, True)], ["live"], ["blotter", firm_word(draw, day)])
+        words = draw.of(["replay"], ["replay"], ["replay"], ["due", firm_word(draw, day, True)], live_words(draw), ["blotter", firm_word(draw, day)])
+        if not draw.old and draw.chance(0.3):
+            words = draw.choice(audits(draw, day))
         found.append((words, ended(draw, joined(top, steps))))
     return found
 
@@ -150,7 +172,7 @@ def streams(draw):
     """Streams in pieces, lawful or not."""
     top, found = "\n".join(faults.STREAM_FIRMS).encode(), []
     for _ in range(3):
-        words = draw.of(["replay"], ["replay"], ["live"], ["due", "DLR1"], ["replay", "--frames"])
+        words = draw.of(["replay"], ["replay"], live_words(draw), ["due", "DLR1"], ["replay", "--frames"])
         found.append((words, ended(draw, joined(top, faults.stream_lines(draw)))))
     return found
 
@@ -158,7 +180,9 @@ def streams(draw):
 def rarely(draw):
     day = Day(draw, length=3)
     parts = [head(day), day.text()] * draw.of(0, 1, 2, 3) + draw.of([], [b""], [b"x"])
-    words = draw.of(["replay"], ["alone"], ["compare", "DLR1"], ["due", "DLR1"], ["live"], ["blotter", "INV1"])
+    words = draw.of(["replay"], ["alone"], ["compare", "DLR1"], ["due", "DLR1"], live_words(draw), ["blotter", "INV1"])
+    if not draw.old and words[0] in ("replay", "compare", "due", "blotter") and draw.chance(0.5):
+        words = words + ["--live"]
     found = [(words, ended(draw, joined(*parts))), (draw.choice(faults.WRONG_ARGUMENTS), joined(head(day), day.text()))]
     if draw.chance(0.01):
         data = b"#" * draw.of(16_777_215, 16_777_216, 16_777_217)
@@ -172,7 +196,7 @@ def rarely(draw):
 def model_answer(words, data):
     out, err = io.BytesIO(), io.BytesIO()
     words = [word.decode("utf-8", "surrogateescape") if isinstance(word, bytes) else word for word in words]
-    status = venue.run(words, data, out, err)
+    status = model.run(words, io.BytesIO(data), out, err)
     return status, out.getvalue(), err.getvalue()
 
 
@@ -189,13 +213,17 @@ def same(mine, other):
 def kinds_of(words, answer):
     """What kinds of answers there are: for the count behind a run."""
     status, out, err = answer
-    kinds = collections.Counter({"%s, status %d" % (words[0] if words and words[0] in venue.COMMANDS else "other", status): 1})
+    kinds = collections.Counter({"%s, status %d" % (words[0] if words and words[0] in model.COMMANDS else "other", status): 1})
+    if "--live" in words and status == 0:
+        kinds["%s --live" % words[0]] += 1
     for line in err.decode(errors="replace").splitlines() if status != 2 else []:
         kinds["fault " + re.sub(r"line \d+", "line K", line) if not line.startswith("firm") else "fault firm"] += 1
     if words and words[0] in ("replay", "live") or not words or words[0] == "alone":
         for line in out.splitlines():
             parts = line.decode(errors="replace").split(" ", 4)
-            if len(parts) == 5 and parts[1].isdigit():
+            if parts[0] in ("done", "fault") and "--marks" in words:
+                kinds["mark %s, %d words" % (parts[0], len(line.split()))] += 1
+            elif len(parts) == 5 and parts[1].isdigit():
                 tags = re.findall(r"(?:^|\|)((?:297|300|58|658|694|371|373)=[^|]*)", parts[4])
                 kinds["%s %s" % (parts[3], " ".join(tags))] += 1
     return kinds
@@ -203,10 +231,10 @@ def kinds_of(words, answer):
 
 def compared(work):
     """The first difference of a seed's inputs, if any; how many there are; the kinds of their answers."""
-    program, seed = work
+    program, seed, old = work
     count, kinds = 0, collections.Counter()
     try:
-        for number, (words, data) in enumerate(inputs(seed), 1):
+        for number, (words, data) in enumerate(inputs(seed, old), 1):
             mine, count = model_answer(words, data), count + 1
             kinds += kinds_of(words, mine)
             other = program_answer(program, words, data)
@@ -234,22 +262,23 @@ def report(seed, difference):
     return text
 
 
-def write_inputs(seed):
-    for number, (words, data) in enumerate(inputs(seed), 1):
+def write_inputs(seed, old):
+    for number, (words, data) in enumerate(inputs(seed, old), 1):
         with open("%d-%d.in" % (seed, number), "wb") as file:
             file.write(data)
         print("%d-%d.in: %r" % (seed, number, words))
 
 
 def main():
-    if sys.argv[1] == "--write":
-        return write_inputs(int(sys.argv[2]))
-    program, wanted = sys.argv[1], int(sys.argv[2])
-    first = int(sys.argv[3]) if len(sys.argv) > 3 else 1
-    processes = int(sys.argv[4]) if len(sys.argv) > 4 else 1
+    old, words = "--old" in sys.argv, [word for word in sys.argv[1:] if word != "--old"]
+    if words[0] == "--write":
+        return write_inputs(int(words[1]), old)
+    program, wanted = words[0], int(words[1])
+    first = int(words[2]) if len(words) > 2 else 1
+    processes = int(words[3]) if len(words) > 3 else 1
     total, kinds = 0, collections.Counter()
     with multiprocessing.Pool(processes) as pool:
-        for seed, difference, count, found in pool.imap(compared, ((program, seed) for seed in range(first, 2**62)), 16):
+        for seed, difference, count, found in pool.imap(compared, ((program, seed, old) for seed in range(first, 2**62)), 16):
             if total // 1000 < (total + count) // 1000:
                 print("%d inputs, up to seed %d" % (total + count, seed), file=sys.stderr, flush=True)
             total += count

@@ -59,6 +59,12 @@ class Configuration:
     def has_room(self, firm, n):
         return not self.is_dealer(firm) and 1 <= n <= self.firms[firm].requests
 
+    def rooms(self):
+        """The rooms of the venue: investor and request, in their order."""
+        for firm in range(len(self.dealers), len(self.firms)):
+            for n in range(1, self.firms[firm].requests + 1):
+                yield firm, n
+
 
 def is_name(text):
     return bool(NAME.match(text))

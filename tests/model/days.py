@@ -17,6 +17,8 @@ SOH = b"\x01"
 
 
 class Draw(random.Random):
+    old = False  # whether what came later (lines `hex` and `clock`, --marks, --live) is left out
+
     def chance(self, share):
         return self.random() < share
 
@@ -163,7 +165,8 @@ class Day:
         self.lines, self.moment, self.bits = [], OPENING, {}
         self.say_counts = Framer(self.configuration.date)
         self.faulty = draw.choice([0, 0, 0.02, 0.02, 0.05, 0.05, 0.3, 0.6])  # how often a message is spoilt
-        self.kinds = draw.choice([("say",), ("say",), ("say", "say", "in"), ("in",), ("piece",), ("say", "in", "piece")])
+        later = [] if draw.old else [("hex",), ("hex", "say"), ("say", "in", "piece", "hex")]
+        self.kinds = draw.choice([("say",), ("say",), ("say", "say", "in"), ("in",), ("piece",), ("say", "in", "piece")] + later)
         self.until = draw.choice([0, 0.2, 0.8])  # how often a quote has an end of its own
         self.spread = draw.choice([0, 1, 3])  # how far prices lie apart
         self.busy = draw.choice([0.3, 0.8, 1, 1, 1])  # how often duties are done behind a message
@@ -249,7 +252,10 @@ class Day:
             fields.insert(draw.randint(0, len(fields)), fields.pop(draw.randrange(5)))
         while draw.chance(self.faulty / 2):
             fields = spoil(draw, fields)
-        data = write_frame([(35, kind.encode())] + [(tag, value.encode()) for tag, value in fields])
+        fields = [(35, kind.encode())] + [(tag, value.encode()) for tag, value in fields]
+        if how == "hex" and draw.chance(0.3):
+            fields = with_any_bytes(draw, fields)
+        data = write_frame(fields)
         self.deliver(how, firm, self.spoil_bytes(data))
 
     def number(self, firm):
@@ -291,6 +297,9 @@ class Day:
 
     def deliver(self, how, firm, data):
         name, time = self.configuration.firms[firm].name, moment_word(self.draw, self.moment).encode()
+        if how == "hex":
+            digits = data.hex() if self.draw.chance(0.5) else data.hex().upper()
+            return self.put(b"hex %s %s %s" % (name, time, digits.encode()))
         data = data.replace(SOH, b"|").replace(b"\n", b"?")
         if how == "in":
             return self.put(b"in %s %s %s" % (name, time, data))
@@ -502,6 +511,8 @@ class Day:
         return self.message(firm, "AJ", [(693, "p"), (694, 6), (131, name)] + self.draw.of([], [], [], [(117, "Q1")]))
 
     def sweep(self):
+        if not self.draw.old and self.draw.chance(0.3):
+            return self.put(b"clock " + moment_word(self.draw, self.clock_moment()).encode())
         able = [firm for firm in self.investors() if self.venue.desks[firm].requests]
         if not able:
             if self.investors():
@@ -516,15 +527,40 @@ class Day:
         n = request.n if self.draw.chance(0.9) else self.draw.randint(1, self.configuration.firms[firm].requests)
         self.put(b"expire %s %d %s" % (self.configuration.firms[firm].name, n, moment_word(self.draw, moment).encode()))
 
+    def clock_moment(self):
+        """A moment about the earliest deadline, or about now."""
+        deadline = self.venue.first_deadline()
+        moment = self.moment if deadline is None or self.draw.chance(0.3) else deadline + self.draw.of(-1, 0, 0, 1)
+        moment = min(86_399_999, max(0, moment))
+        if self.draw.chance(0.5):
+            self.moment = max(moment, self.moment)
+        return moment
+
     def noise(self):
         """Bytes that are no frame, or a message of a type that is not the firm's."""
         if not self.firms:
             return None
         firm = self.draw.choice(self.firms)
         data = self.draw.of(b"x", b"8=FIXT.1.1|9=5|35=R|10=000|", b" ", b"8=FIX.4.4|9=5|35=S|10=000|", b"\xff\xfe", b"|", b"%%")
+        if not self.draw.old and self.draw.chance(0.5):
+            return self.deliver("hex", firm, data + self.draw.of(b"", b"\n", b"\r", b"|", b"\n%%\n", b"x" * 5000, b"\x00"))
         if self.draw.chance(0.5):
             return self.put(b"in %s %s %s" % (self.configuration.firms[firm].name, time_text(self.moment), data))
         return self.message(firm, self.draw.of("S", "R", "Z", "AG", "AJ", "0"), [(117, "x"), (298, 5), (131, "R1")])
+
+
+def with_any_bytes(draw, fields):
+    """A field more, or another value of one, of any bytes but the one that ends it."""
+    value = bytes(draw.choice(ANY_BYTES) for _ in range(draw.of(1, 1, 3, 20)))
+    value += draw.of(b"", b"", b"|34=7", b"\n%%", b"\nsay DLR1 T1 09:00:00 Z 298=4", b"\r", b"\r\n")
+    if draw.chance(0.2):
+        place = draw.randrange(len(fields))
+        return fields[:place] + [(fields[place][0], value)] + fields[place + 1 :]
+    place = draw.randint(1, len(fields))
+    return fields[:place] + [(58, value)] + fields[place:]
+
+
+ANY_BYTES = [byte for byte in range(256) if byte != 1]
 
 
 def respelled(data, length, draw):

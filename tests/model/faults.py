@@ -148,7 +148,9 @@ class MadeUp:
         self.put("drop %d %s" % (self.draw.randint(0, len(self.desk.quotes) + 1), self.time()))
 
     def odd(self):
-        self.put(self.draw.of("own %s 8=FIXT.1.1|9=5|35=R|10=000|", "own %s  x", "closed 99 1 %s", "closed 000000001 4 %s", "drop 999999999 %s", "drop 0 %s",
+        if not self.draw.old and self.draw.chance(0.5):
+            return self.put("hex %s %s" % (self.time(), self.draw.of("7c", "0a", "0D", "380a7C", "41" * 4097, "00ff", "7")))
+        return self.put(self.draw.of("own %s 8=FIXT.1.1|9=5|35=R|10=000|", "own %s  x", "closed 99 1 %s", "closed 000000001 4 %s", "drop 999999999 %s", "drop 0 %s",
                               "own %s |", "closed 0 6 %s") % self.time())
 
 
@@ -210,7 +212,7 @@ def spoilt_input(draw, data):
         elif what == 2:
             lines.insert(draw.randint(0, len(lines)), lines.pop(place))
         elif what == 3:
-            lines.insert(place, draw.choice(ODD_LINES))
+            lines.insert(place, draw.choice(ODD_LINES if draw.old else ODD_LINES + LATER_ODD_LINES * 2))
         elif what == 4:
             words = lines[place].split(b" ")
             lines[place] = spoilt_words(draw, words)
@@ -249,6 +251,13 @@ ODD_LINES = [b"", b"#", b"# turn", b" ", b"%%", b"%% ", b" %%", b"turn CLOCK 1",
              b"say T1 09:00:00 S 58=" + b"x" * 3990, b"own 09:00:00 ", b"shown INV1 BONDA0000001 1 1 09:00:00 09:00:00 16", b"shown VENUE BONDA0000001 1 1 09:00:00 09:00:00"]
 
 
+LATER_ODD_LINES = [b"clock", b"clock ", b"clock 09:00:00 ", b"clock 24:00:00", b"clock 23:59:59.999", b"clock CLOCK 09:00:00", b"clock 09:00:00", b"clock  09:00:00",
+                   b"hex DLR1 09:00:00 ", b"hex DLR1 09:00:00", b"hex DLR1 09:00:00 0", b"hex DLR1 09:00:00 0g", b"hex DLR1 09:00:00 00", b"hex DLR1 09:00:00 aA",
+                   b"hex NOBODY 09:00:00 00", b"hex NOBODY 09:00:00 000", b"hex CLOCK 09:00:00 00", b"hex DLR1 09:00:00  00", b"hex DLR1 09:00:00 00 00",
+                   b"hex INV1 09:00:00 " + b"41" * 4097, b"hex DLR1 25:00:00 00", b"hex 09:00:00 7c", b"hex 09:00:00 7C0a0D", b"hex 09:00:00 7", b"hex 09:00:00 ",
+                   b"own 09:00:00 \r", b"in INV1 09:00:00 x\r", b"hex DLR1 09:00:00 0x", b"hex DLR1 09:00:00 +1", b"hex DLR1 09:00:00 \xd9\xa1"]
+
+
 def exact_frames(draw, day):
     """A `say` line whose frame has about 4,096 bytes."""
     name = draw.choice([row.name for row in day.configuration.firms] or [b"NOBODY"])
@@ -259,4 +268,6 @@ def exact_frames(draw, day):
 WRONG_ARGUMENTS = [["--frames"], ["x"], [""], ["alone", "x"], ["due"], ["due", "A", "B"], ["compare"], ["blotter"], ["replay", "A", "B"], ["replay", "--x"],
                    ["due", "DLR1", "--frames"], ["replay", "--frames", "--frames"], ["compare", "DLR1", "--frames"], ["blotter", "INV1", "--frames"],
                    ["alone", "--woven"], ["replay", "--woven"], ["Replay"], ["alone", "--Frames"], ["replay", "-f"], ["live", "x"], ["--", "alone"],
-                   ["replay", b"\xff"], [b"\xff"], ["due", b"\xff"], ["alone", "--frames=1"], ["--frames", "alone"]]
+                   ["replay", b"\xff"], [b"\xff"], ["due", b"\xff"], ["alone", "--frames=1"], ["--frames", "alone"],
+                   ["live", "--live"], ["replay", "--marks"], ["live", "--marks", "--marks"], ["replay", "--live", "--live"], ["alone", "--live"],
+                   ["--live", "replay"], ["due", "--live"], ["compare", "--live"], ["live", "--marks", "x"], ["day", "--live"], ["live", "--mark"]]

@@ -2,7 +2,7 @@
 
 from dataclasses import dataclass
 
-from desk import Ask, Desk, first, instrument, party, price_field, terms
+from desk import Ask, Desk, first, instrument, party, price_field
 from frames import moment_text
 from prices import thirty_seconds
 from session import INVESTOR_TYPES

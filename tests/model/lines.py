@@ -9,6 +9,7 @@ from prices import GRIDS
 from replay import CLOCK
 
 MOST_TURNS = 1000
+HEX = re.compile(rb"(?:[0-9A-Fa-f]{2})+\Z")
 OWN_TAGS = (49, 56, 34, 52, 50)  # the program's own fields of a `say` line, where BODY has none
 
 
@@ -65,11 +66,26 @@ def unbarred(text):
     return text.replace(b"|", SOH)
 
 
+def bytes_of(text: bytes) -> bytes:
+    """The bytes of one or more pairs of hexadecimal digits."""
+    if not HEX.match(text):
+        raise LineFault("form")
+    return bytes.fromhex(text.decode())
+
+
+def can_be_own(data: bytes) -> bool:
+    """Whether a line `own` says these bytes: a bar would be read as 0x01, a line feed would end the line."""
+    return not any(byte in data for byte in b"|\n\r")
+
+
+def is_said(line: bytes) -> bool:
+    """Whether a line says something: it is neither empty nor a comment."""
+    return bool(line) and not line.startswith(b"#")
+
+
 def numbered(lines, first):
     """The lines that say something, each with its number."""
-    for number, line in enumerate(lines, first):
-        if line and not line.startswith(b"#"):
-            yield number, line
+    return ((number, line) for number, line in enumerate(lines, first) if is_said(line))
 
 
 # ---------------------------------------------------------------- say
@@ -119,7 +135,10 @@ class StepReader:
         return firm
 
     def steps(self, line):
-        """The steps of a line: ("came", firm, moment, bytes), ("turn", actor, n) and ("expire", firm, n, moment)."""
+        """The steps of a line: ("came", firm, moment, bytes), ("turn", actor, n) and ("expire", firm, n, moment).
+
+        A line `clock` is the last of these for each room of the venue.
+        """
         keyword = line.split(b" ", 1)[0]
         if keyword == b"say":
             _, name, *rest = parts_of(line, 6, rest=True)
@@ -133,6 +152,13 @@ class StepReader:
             moment, firm = time_of(time), self.firm(name)
             messages = [unbarred(data)] if keyword == b"in" else self.cut(firm, unbarred(data))
             return [("came", firm, moment, message) for message in messages]
+        if keyword == b"hex":
+            _, name, time, data = parts_of(line, 4, rest=True)
+            moment, message = time_of(time), bytes_of(data)
+            return [("came", self.firm(name), moment, message)]
+        if keyword == b"clock":
+            moment = time_of(parts_of(line, 2)[1])
+            return [("expire", firm, n, moment) for firm, n in self.configuration.rooms()]
         if keyword == b"turn":
             _, name, times = parts_of(line, 3)
             times = limited(times, MOST_TURNS)
@@ -198,6 +224,9 @@ def read_due_line(line, name, framer):
     if keyword == b"own":
         _, time, data = parts_of(line, 3, rest=True)
         return "own", time_of(time), unbarred(data)
+    if keyword == b"hex":
+        _, time, data = parts_of(line, 3, rest=True)
+        return "own", time_of(time), bytes_of(data)
     if keyword == b"shown":
         return read_shown(line)
     if keyword == b"lifted":
@@ -235,7 +264,10 @@ def due_text(date, row, due):
 
 def due_line(kind, *item):
     if kind == "own":
-        return b"own %s %s" % (time_text(item[0]), bars(item[1]))
+        moment, data = item
+        if can_be_own(data):
+            return b"own %s %s" % (time_text(moment), bars(data))
+        return b"hex %s %s" % (time_text(moment), data.hex().encode())
     if kind == "shown":
         ask, moment = item
         words = [b"shown", ask.investor, ask.bond, b"%d" % ask.side, b"%d" % ask.quantity, time_text(ask.deadline), time_text(moment)]
@@ -247,7 +279,16 @@ def due_line(kind, *item):
     return b"closed %d %d %s" % (item[0], item[1], time_text(item[2]))
 
 
-# ---------------------------------------------------------------- messages and blotters
+# ---------------------------------------------------------------- messages, marks and blotters
+
+
+def done_mark(number: int, deadline: int | None) -> bytes:
+    """Behind the messages of an input line; with the earliest deadline of a room that has not ended, if there is one."""
+    return b"done %d" % number + (b"" if deadline is None else b" " + time_text(deadline))
+
+
+def fault_mark(number: int, name: str) -> bytes:
+    return b"fault %d %s" % (number, name.encode())
 
 
 def message_line(firm, fields, frames):

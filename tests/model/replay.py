@@ -62,8 +62,12 @@ class Venue:
 
     def expire(self, investor, n, moment):
         room = (investor, n)
-        if self.room(room).expire(moment):
+        if room in self.rooms and self.rooms[room].expire(moment):
             self.queues[CLOCK] += [("Close", room, moment)] + self.notices(room, moment)
+
+    def first_deadline(self):
+        """The earliest deadline of the rooms that are opening or open, or None."""
+        return min((room.ask.deadline for room in self.rooms.values() if room.takes()), default=None)
 
     def notices(self, room, moment):
         return [("Tell", dealer, room, close, moment) for dealer, close in self.room(room).notices]

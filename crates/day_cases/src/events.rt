@@ -57,13 +57,13 @@ fn ask_in(alloc: Global, line: &str) -> Result<(Ask, Moment), CaseFault> {
     if input.len() > MOST_INPUT {
         return Err(CaseFault::Condition);
     }
-    let Ok(mut text) = read_due_text(alloc, input.as_bytes()) else {
+    let Ok(text) = read_due_text(alloc, input.as_bytes()) else {
         return Err(CaseFault::Form);
     };
-    match text.dues.pop() {
-        Some(Due::Shown(ask, moment)) => Ok((ask, moment)),
-        _ => Err(CaseFault::Form),
-    }
+    let Some(Due::Shown(ask, moment)) = text.dues.first() else {
+        return Err(CaseFault::Form);
+    };
+    Ok((ask.copy(), *moment))
 }
 
 /// `N CODE TIME`.

@@ -266,14 +266,7 @@ impl Records {
 
     /// The dealer was sent what the steps of the day send it.
     fn put_replayed(&mut self, alloc: Global, firm: u16) -> Result<(), CaseFault> {
-        let config = self.venue.config()?;
-        let Some(row) = config.dealer(firm) else {
-            return Err(CaseFault::Condition);
-        };
-        let Ok(dues) = due(alloc, config, self.venue.steps.as_slice(), firm) else {
-            return Err(CaseFault::Condition);
-        };
-        let sent: Vec<SentMessage> = alone(alloc, config.date(), row, dues.as_slice())?;
+        let sent = sent_by_steps(alloc, &self.venue, firm)?;
         self.dealer(firm)?.sent = sent;
         Ok(())
     }
@@ -367,4 +360,17 @@ fn word_in(words: &mut Words<'_>) -> Result<Option<(u32, quote_word::Settled)>, 
     let settled = settled_in(words)?;
     words.end()?;
     Ok(Some((word, settled)))
+}
+
+/// What the steps of a day send a dealer.
+fn sent_by_steps(alloc: Global, venue: &Venue, firm: u16) -> Result<Vec<SentMessage>, CaseFault> {
+    let config = venue.config()?;
+    let Some(row) = config.dealer(firm) else {
+        return Err(CaseFault::Condition);
+    };
+    let Ok(dues) = due(alloc, config, venue.steps.as_slice(), firm) else {
+        return Err(CaseFault::Condition);
+    };
+    let sent = alone(alloc, config.date(), row, dues.as_slice())?;
+    Ok(sent)
 }

@@ -9,7 +9,7 @@ use case_lines::{CaseFault, Place, Words};
 use market_terms::FirmLines;
 use quote_messages::SentMessage;
 use std::alloc::Global;
-use step_replay::{LiveVenue, SentTo, World, alone, due, run};
+use step_replay::{LiveVenue, ReplayFault, SentTo, World, alone, due, run};
 use venue_text::{due_lines, messages_text};
 
 /// The replay. Firms go by their numbers, the dealers from 0 on, behind them the investors.
@@ -75,8 +75,7 @@ impl Place for Replays {
 impl Replays {
     /// Replays the steps.
     fn runs(&mut self, alloc: Global, answer: &mut String) -> Result<(), CaseFault> {
-        let config = self.venue.config()?;
-        match run(alloc, config, self.venue.steps.as_slice()) {
+        match replayed(alloc, &self.venue)? {
             Ok(world) => {
                 self.world = Some(world);
                 Ok(())
@@ -188,16 +187,33 @@ impl Replays {
         let Some(live) = &mut self.live else {
             return Err(CaseFault::NotOpen);
         };
-        let config = self.venue.config()?;
-        for step in self.venue.steps.as_slice() {
-            match live.take(alloc, config, step) {
-                Ok(told) => put_told(alloc, answer, told.as_slice())?,
-                Err(fault) => put_replay_fault(alloc, answer, fault)?,
-            }
-        }
+        take_steps(alloc, live, &self.venue, answer)?;
         self.venue.steps.clear();
         Ok(())
     }
+}
+
+/// The day of the steps so far, or the fault of one.
+fn replayed(alloc: Global, venue: &Venue) -> Result<Result<World, ReplayFault>, CaseFault> {
+    let config = venue.config()?;
+    Ok(run(alloc, config, venue.steps.as_slice()))
+}
+
+/// A venue takes the steps so far.
+fn take_steps(
+    alloc: Global,
+    live: &mut LiveVenue,
+    venue: &Venue,
+    answer: &mut String,
+) -> Result<(), CaseFault> {
+    let config = venue.config()?;
+    for step in venue.steps.as_slice() {
+        match live.take(alloc, config, step) {
+            Ok(told) => put_told(alloc, answer, told.as_slice())?,
+            Err(fault) => put_replay_fault(alloc, answer, fault)?,
+        }
+    }
+    Ok(())
 }
 
 /// How many lines a blotter has.

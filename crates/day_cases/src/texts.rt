@@ -197,11 +197,20 @@ fn tell_part(alloc: Global, word: &str, text: &str, answer: &mut String) -> Resu
             put_quoted(answer, part)?;
             put_quoted(answer, rest)
         }
-        "parts" => put_count(alloc, answer, Parts::new(text, b' ').count(), "parts"),
+        "parts" => put_count(alloc, answer, parts_in(text), "parts"),
         "side" => put(answer, side_name(read_side(text))),
         "time" => tell_time(alloc, text, answer),
         _ => Err(CaseFault::Form),
     }
+}
+
+/// How many parts one space each divides a text into.
+fn parts_in(text: &[u8]) -> usize {
+    let mut count = 0usize;
+    for _ in Parts::new(text, b' ') {
+        count = count.saturating_add(1);
+    }
+    count
 }
 
 /// Puts a text between two bars.

@@ -15,7 +15,7 @@ use std::process::Abort;
 use std::test::Fail;
 use step_replay::Step;
 use venue_config::BondId;
-use venue_text::{ProgramFault, day_parts, read_steps, read_venue};
+use venue_text::{MOST_INPUT, ProgramFault, day_parts, read_steps, read_venue};
 
 /// A frame of 166 bytes: DLR1 is told that its quote a1 was hit.
 const NOTICE: &[u8] = b"8=FIXT.1.1\x019=142\x0135=AJ\x0149=VENUE\x0156=DLR1\x0134=3\x01\
@@ -136,6 +136,9 @@ piece DLR1 09:06:01 0|8=FIX
 
 /// Reads the steps of a day.
 fn steps_of(alloc: Global, input: &[u8]) -> Result<Vec<Step>, ProgramFault> {
+    if input.len() > MOST_INPUT {
+        return Err(ProgramFault::Input);
+    }
     let day = day_parts(input)?;
     let config = read_venue(alloc, day.config)?;
     read_steps(alloc, &config, day.steps)

@@ -1,0 +1,124 @@
+#!/usr/bin/env python3
+"""The time from a quote to its 297=0 through TCP, the gateway's log and the venue, beside a bare QuickFIX echo.
+
+usage: gateway.py GATEWAY LOAD [--one-by-one N] [--burst N] [--rounds N] -- VENUE WORDS ..
+
+The echo puts each message into a file, with an fdatasync, and answers it; the gateway commits it to SQLite and has
+the venue answer it. Both take turns; of each figure the best round is printed, and the ratio of the two.
+"""
+
+import argparse
+import contextlib
+import subprocess
+import sys
+import tempfile
+from collections.abc import Iterator
+from dataclasses import dataclass
+from pathlib import Path
+
+ROOT = Path(__file__).resolve().parent.parent
+sys.dont_write_bytecode = True
+sys.path[:0] = [str(ROOT / "tests" / "gateway"), str(ROOT / "tests" / "model")]
+
+from door import Door, Programs, free_port, programs_of
+from firm import Identity, Places, settings_text
+from market import moment_in
+
+DEALER, INVESTOR = Identity("DLR1", "T1", "dealer-1-secret"), Identity("INV1", "V1", "investor-1-secret")
+DICTIONARIES = (ROOT / "fix" / "FIXT11.xml", ROOT / "fix" / "MIRESEASON.xml")
+
+
+@dataclass(frozen=True)
+class Figures:
+    median: float  # microseconds
+    slowest: float  # the 99th percentile
+    burst: float  # messages a second
+
+
+@dataclass(frozen=True)
+class Bench:
+    programs: Programs
+    load: Path
+    one_by_one: int
+    burst: int
+
+    def settings(self, folder: Path, who: Identity, port: int) -> Path:
+        places = Places(self.load, folder, DICTIONARIES, port)
+        file = folder / (who.name + ".cfg")
+        file.write_text(settings_text(places, who, {}))
+        return file
+
+    def measured(self, folder: Path, port: int, *request: str) -> Figures:
+        words = ["dealer", self.settings(folder, DEALER, port), DEALER.name, DEALER.password, str(self.one_by_one), str(self.burst)]
+        run = subprocess.run([self.load, *words, *request], stdout=subprocess.PIPE, text=True, check=True)
+        return Figures(*map(float, run.stdout.split()))
+
+    def echo(self) -> Figures:
+        with tempfile.TemporaryDirectory() as name:
+            folder, port = Path(name), free_port()
+            settings = folder / "echo.cfg"
+            settings.write_text(echo_settings(folder, port))
+            with started([self.load, "echo", settings, folder / "echo.log"], "ready"):
+                return self.measured(folder, port, "R1")
+
+    def gateway(self) -> Figures:
+        with tempfile.TemporaryDirectory() as name:
+            folder = Path(name)
+            door = Door(self.programs, folder, [DEALER], [INVESTOR])
+            door.write()
+            door.start()
+            try:
+                door.wait_open()
+                settings = self.settings(folder, INVESTOR, door.port)
+                words = ["investor", settings, INVESTOR.name, INVESTOR.password, moment_in(3600).decode()]
+                with started([self.load, *words], "asked"):
+                    return self.measured(folder, door.port)
+            finally:
+                door.close()
+
+
+def echo_settings(folder: Path, port: int) -> str:
+    transport, messages = DICTIONARIES
+    values = {"ConnectionType": "acceptor", "BeginString": "FIXT.1.1", "DefaultApplVerID": "9", "SenderCompID": "VENUE",
+              "TargetCompID": DEALER.name, "SocketAcceptPort": str(port), "SocketReuseAddress": "Y", "SocketNodelay": "Y",
+              "StartTime": "00:00:00", "EndTime": "23:59:59", "FileStorePath": str(folder / "echo"), "UseDataDictionary": "Y",
+              "TransportDataDictionary": str(transport), "AppDataDictionary": str(messages)}
+    return "[DEFAULT]\n" + "".join("%s=%s\n" % item for item in values.items()) + "[SESSION]\n"
+
+
+@contextlib.contextmanager
+def started(words: list, ready: str) -> Iterator[None]:
+    """A process that has said that it is ready, and that ends with its input."""
+    process = subprocess.Popen(words, stdin=subprocess.PIPE, stdout=subprocess.PIPE, text=True)
+    try:
+        if process.stdout.readline().strip() != ready:
+            raise RuntimeError("%s did not begin" % words[1])
+        yield
+    finally:
+        process.stdin.close()
+        process.wait(30)
+        process.stdout.close()
+
+
+def best(rounds: list[Figures]) -> Figures:
+    return Figures(min(one.median for one in rounds), min(one.slowest for one in rounds), max(one.burst for one in rounds))
+
+
+def main() -> None:
+    parser = argparse.ArgumentParser()
+    parser.add_argument("gateway", type=Path)
+    parser.add_argument("load", type=Path)
+    for name, usual in (("--one-by-one", 500), ("--burst", 3000), ("--rounds", 3)):
+        parser.add_argument(name, type=int, default=usual)
+    parser.add_argument("venue", nargs="+")
+    words = parser.parse_args()
+    bench = Bench(programs_of(words.gateway, words.venue), words.load.resolve(), words.one_by_one, words.burst)
+    pairs = [(bench.echo(), bench.gateway()) for _ in range(words.rounds)]
+    echo, gateway = best([pair[0] for pair in pairs]), best([pair[1] for pair in pairs])
+    for name, one in (("echo", echo), ("gateway", gateway)):
+        print("%-8s median %6.0f us, 99th percentile %6.0f us, burst %6.0f messages a second" % (name, one.median, one.slowest, one.burst))
+    print("gateway / echo: median %.2f, 99th percentile %.2f" % (gateway.median / echo.median, gateway.slowest / echo.slowest))
+
+
+if __name__ == "__main__":
+    main()

@@ -1,0 +1,15 @@
+#!/bin/sh
+# The time from a quote to its 297=0 through TCP, log and venue, beside a bare QuickFIX echo with an fdatasync a message,
+# and messages a second in a burst, both in one run. Needs what gateway/README.md installs.
+#
+#     bench/gateway.sh [GATEWAY [VENUE WORDS ..]]
+set -eu
+here=$(cd "$(dirname "$0")" && pwd)
+root=$(cd "$here/.." && pwd)
+gateway=${1:-$root/gateway/out/mireseason-gateway}
+[ $# = 0 ] || shift
+[ $# != 0 ] || set -- "$root/crates/rfq_venue/out/rfq_venue"
+make=$(mktemp -d)
+trap 'rm -rf "$make"' EXIT
+g++ -std=c++14 -O2 -Wall -Wextra -Werror -o "$make/load" "$here/gateway_load.cpp" -lquickfix -lpthread
+python3 "$here/gateway.py" "$gateway" "$make/load" -- "$@"

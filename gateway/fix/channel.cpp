@@ -1,0 +1,172 @@
+#include "channel.h"
+
+#include <cerrno>
+#include <cstring>
+#include <stdexcept>
+#include <vector>
+
+#include <openssl/err.h>
+#include <openssl/ssl.h>
+#include <openssl/x509.h>
+#include <sys/socket.h>
+
+namespace gateway {
+
+namespace {
+
+// The reason of the newest fault of OpenSSL.
+std::string openssl_fault() {
+    const unsigned long code = ERR_peek_last_error();
+    ERR_clear_error();
+    const char *reason = code == 0 ? nullptr : ERR_reason_error_string(code);
+    return reason == nullptr ? "TLS failed" : reason;
+}
+
+void require(bool holds, const std::string &what) {
+    if (!holds) {
+        throw std::runtime_error(what + ": " + openssl_fault());
+    }
+}
+
+struct FreeCertificate {
+    void operator()(X509 *certificate) const { X509_free(certificate); }
+};
+
+} // namespace
+
+void TlsServer::Free::operator()(ssl_ctx_st *context) const { SSL_CTX_free(context); }
+
+void Channel::Free::operator()(ssl_st *connection) const { SSL_free(connection); }
+
+TlsServer::TlsServer(const std::string &certificate, const std::string &key,
+                     const std::string &authorities, bool client_certificates)
+    : context_(SSL_CTX_new(TLS_server_method())) {
+    require(context_ != nullptr, "TLS");
+    SSL_CTX_set_min_proto_version(context_.get(), TLS1_2_VERSION);
+    SSL_CTX_set_options(context_.get(), SSL_OP_NO_RENEGOTIATION);
+    SSL_CTX_set_mode(context_.get(), SSL_MODE_ENABLE_PARTIAL_WRITE |
+                                         SSL_MODE_ACCEPT_MOVING_WRITE_BUFFER);
+    require(SSL_CTX_use_certificate_chain_file(context_.get(), certificate.c_str()) == 1,
+            certificate);
+    require(SSL_CTX_use_PrivateKey_file(context_.get(), key.c_str(), SSL_FILETYPE_PEM) == 1, key);
+    require(SSL_CTX_check_private_key(context_.get()) == 1, key);
+    if (client_certificates) {
+        require(SSL_CTX_load_verify_locations(context_.get(), authorities.c_str(), nullptr) == 1,
+                authorities);
+        SSL_CTX_set_client_CA_list(context_.get(), SSL_load_client_CA_file(authorities.c_str()));
+        SSL_CTX_set_verify(context_.get(), SSL_VERIFY_PEER | SSL_VERIFY_FAIL_IF_NO_PEER_CERT,
+                           nullptr);
+    }
+}
+
+TlsServer::~TlsServer() = default;
+
+Channel::Channel(Descriptor socket, const TlsServer *server) : socket_(std::move(socket)) {
+    if (server != nullptr) {
+        tls_.reset(SSL_new(server->context()));
+        require(tls_ != nullptr && SSL_set_fd(tls_.get(), socket_.number()) == 1, "TLS");
+        SSL_set_accept_state(tls_.get());
+    }
+}
+
+Channel::~Channel() = default;
+
+Channel::Progress Channel::ended(const std::string &fault) {
+    if (fault_.empty()) {
+        fault_ = fault;
+    }
+    return Progress::ended;
+}
+
+Channel::Progress Channel::progress_of(int result) {
+    switch (SSL_get_error(tls_.get(), result)) {
+    case SSL_ERROR_WANT_READ:
+        return Progress::wants_read;
+    case SSL_ERROR_WANT_WRITE:
+        return Progress::wants_write;
+    case SSL_ERROR_ZERO_RETURN:
+        return ended("the peer closed");
+    case SSL_ERROR_SYSCALL:
+        return ended(errno == 0 ? "the peer closed" : std::strerror(errno));
+    default:
+        return ended(openssl_fault());
+    }
+}
+
+Channel::Progress Channel::shake_hands() {
+    if (!tls_) {
+        return Progress::done;
+    }
+    ERR_clear_error();
+    const int result = SSL_accept(tls_.get());
+    return result == 1 ? Progress::done : progress_of(result);
+}
+
+Channel::Progress Channel::read(char *bytes, std::size_t room, std::size_t &count) {
+    if (tls_) {
+        ERR_clear_error();
+        const int result = SSL_read_ex(tls_.get(), bytes, room, &count);
+        return result == 1 ? Progress::done : progress_of(result);
+    }
+    const ssize_t result = ::recv(socket_.number(), bytes, room, MSG_DONTWAIT);
+    if (result > 0) {
+        count = static_cast<std::size_t>(result);
+        return Progress::done;
+    }
+    if (result == 0) {
+        return ended("the peer closed");
+    }
+    if (errno == EAGAIN || errno == EWOULDBLOCK || errno == EINTR) {
+        return Progress::wants_read;
+    }
+    return ended(std::strerror(errno));
+}
+
+Channel::Progress Channel::write(const char *bytes, std::size_t size, std::size_t &count) {
+    if (tls_) {
+        ERR_clear_error();
+        const int result = SSL_write_ex(tls_.get(), bytes, size, &count);
+        return result == 1 ? Progress::done : progress_of(result);
+    }
+    const ssize_t result = ::send(socket_.number(), bytes, size, MSG_DONTWAIT | MSG_NOSIGNAL);
+    if (result >= 0) {
+        count = static_cast<std::size_t>(result);
+        return Progress::done;
+    }
+    if (errno == EAGAIN || errno == EWOULDBLOCK || errno == EINTR) {
+        return Progress::wants_write;
+    }
+    return ended(std::strerror(errno));
+}
+
+std::size_t Channel::write_at_once(const char *bytes, std::size_t size) const {
+    if (tls_) {
+        return 0;
+    }
+    const ssize_t result = ::send(socket_.number(), bytes, size, MSG_DONTWAIT | MSG_NOSIGNAL);
+    return result > 0 ? static_cast<std::size_t>(result) : 0;
+}
+
+void Channel::shut() { ::shutdown(socket_.number(), SHUT_RDWR); }
+
+std::string Channel::common_name() const {
+    if (!tls_) {
+        return {};
+    }
+    const std::unique_ptr<X509, FreeCertificate> certificate(
+        SSL_get1_peer_certificate(tls_.get()));
+    if (!certificate) {
+        return {};
+    }
+    X509_NAME *name = X509_get_subject_name(certificate.get());
+    const int at = X509_NAME_get_index_by_NID(name, NID_commonName, -1);
+    // A name that stands twice is none.
+    if (at < 0 || X509_NAME_get_index_by_NID(name, NID_commonName, at) >= 0) {
+        return {};
+    }
+    const ASN1_STRING *text = X509_NAME_ENTRY_get_data(X509_NAME_get_entry(name, at));
+    return std::string(reinterpret_cast<const char *>(ASN1_STRING_get0_data(text)),
+                       static_cast<std::size_t>(ASN1_STRING_length(text)));
+}
+
+} // namespace gateway

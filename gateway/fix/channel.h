@@ -1,0 +1,76 @@
+// A TCP connection, with TLS or without, that never blocks.
+#ifndef GATEWAY_FIX_CHANNEL_H
+#define GATEWAY_FIX_CHANNEL_H
+
+#include "descriptor.h"
+
+#include <cstddef>
+#include <memory>
+#include <string>
+
+struct ssl_ctx_st;
+struct ssl_st;
+
+namespace gateway {
+
+// What a server shows and asks for. Throws std::runtime_error where a file can't be used.
+class TlsServer {
+  public:
+    TlsServer(const std::string &certificate, const std::string &key,
+              const std::string &authorities, bool client_certificates);
+    ~TlsServer();
+    TlsServer(const TlsServer &) = delete;
+    TlsServer &operator=(const TlsServer &) = delete;
+
+    ssl_ctx_st *context() const { return context_.get(); }
+
+  private:
+    struct Free {
+        void operator()(ssl_ctx_st *context) const;
+    };
+    std::unique_ptr<ssl_ctx_st, Free> context_;
+};
+
+class Channel {
+  public:
+    // The socket does not block. server is null for plain TCP.
+    Channel(Descriptor socket, const TlsServer *server);
+    ~Channel();
+    Channel(const Channel &) = delete;
+    Channel &operator=(const Channel &) = delete;
+
+    enum class Progress { done, wants_read, wants_write, ended };
+
+    // One step of TLS's handshake; `done` where there is none.
+    Progress shake_hands();
+    // `done` with at least one byte.
+    Progress read(char *bytes, std::size_t room, std::size_t &count);
+    Progress write(const char *bytes, std::size_t size, std::size_t &count);
+    // Writes what the socket takes at once, and returns how much that is; nothing where there is TLS. Any
+    // thread may call it, one at a time, while no other writes.
+    std::size_t write_at_once(const char *bytes, std::size_t size) const;
+    // Both directions end. Any thread may call it.
+    void shut();
+
+    int number() const { return socket_.number(); }
+    // Why it ended, as far as it is known.
+    const std::string &fault() const { return fault_; }
+    // The common name of the client's certificate, empty without one.
+    std::string common_name() const;
+
+  private:
+    Progress progress_of(int result);
+    Progress ended(const std::string &fault);
+
+    struct Free {
+        void operator()(ssl_st *connection) const;
+    };
+
+    Descriptor socket_;
+    std::unique_ptr<ssl_st, Free> tls_;
+    std::string fault_;
+};
+
+} // namespace gateway
+
+#endif

@@ -1,0 +1,190 @@
+#include "engine.h"
+
+#include "connection.h"
+#include "session.h"
+
+#include <algorithm>
+#include <cerrno>
+#include <cstring>
+#include <list>
+#include <stdexcept>
+
+#include <arpa/inet.h>
+#include <netinet/in.h>
+#include <netinet/tcp.h>
+#include <poll.h>
+#include <sys/eventfd.h>
+#include <sys/socket.h>
+
+namespace gateway {
+
+namespace {
+
+using std::chrono::milliseconds;
+
+// How long sessions have to answer a Logout.
+constexpr auto farewell = std::chrono::seconds(4);
+
+std::runtime_error fault_of(const std::string &what) {
+    return std::runtime_error(what + ": " + std::strerror(errno));
+}
+
+std::string text_of(const sockaddr_in &address) {
+    char text[INET_ADDRSTRLEN] = "";
+    ::inet_ntop(AF_INET, &address.sin_addr, text, sizeof text);
+    return std::string(text) + ":" + std::to_string(ntohs(address.sin_port));
+}
+
+Descriptor listen_at(const std::string &address, std::uint16_t port) {
+    const std::string where = address + ":" + std::to_string(port);
+    sockaddr_in at{};
+    at.sin_family = AF_INET;
+    at.sin_port = htons(port);
+    if (::inet_pton(AF_INET, address.c_str(), &at.sin_addr) != 1) {
+        throw std::runtime_error(where + ": no address of IPv4");
+    }
+    Descriptor socket(::socket(AF_INET, SOCK_STREAM | SOCK_CLOEXEC | SOCK_NONBLOCK, 0));
+    const int yes = 1;
+    if (socket.number() < 0 ||
+        ::setsockopt(socket.number(), SOL_SOCKET, SO_REUSEADDR, &yes, sizeof yes) != 0 ||
+        ::bind(socket.number(), reinterpret_cast<const sockaddr *>(&at), sizeof at) != 0 ||
+        ::listen(socket.number(), 64) != 0) {
+        throw fault_of(where);
+    }
+    return socket;
+}
+
+} // namespace
+
+class Engine::Parts {
+  public:
+    Parts(const EngineSettings &settings, const std::vector<SessionStart> &starts,
+          SessionHost &host)
+        : settings_(settings), host_(host), bell_(::eventfd(0, EFD_CLOEXEC | EFD_NONBLOCK)) {
+        if (bell_.number() < 0) {
+            throw fault_of("no event descriptor");
+        }
+        if (!settings_.certificate.empty()) {
+            tls_ = std::make_unique<TlsServer>(settings_.certificate, settings_.key,
+                                               settings_.authorities,
+                                               settings_.client_certificates);
+        }
+        for (const SessionStart &start : starts) {
+            sessions_[start.firm] = std::make_unique<FirmSession>(start, settings_, host_);
+        }
+    }
+    ~Parts() { stop(""); }
+
+    void listen() {
+        socket_ = listen_at(settings_.address, settings_.port);
+        thread_ = std::thread([this] { run(); });
+    }
+
+    FirmSession &session(const std::string &firm) const {
+        const auto found = sessions_.find(firm);
+        if (found == sessions_.end()) {
+            throw std::runtime_error("no session of " + firm);
+        }
+        return *found->second;
+    }
+
+    void stop(const std::string &reason) {
+        stopping_ = true;
+        const std::uint64_t one = 1;
+        const ssize_t written = ::write(bell_.number(), &one, sizeof one);
+        static_cast<void>(written);
+        if (thread_.joinable()) {
+            thread_.join();
+        }
+        socket_.close();
+        if (!reason.empty()) {
+            say_farewell(reason);
+        }
+        connections_.clear();
+    }
+
+  private:
+    void say_farewell(const std::string &reason) {
+        for (const auto &session : sessions_) {
+            session.second->log_out(reason);
+        }
+        const auto latest = std::chrono::steady_clock::now() + farewell;
+        const auto all_ended = [this] {
+            return std::all_of(
+                connections_.begin(), connections_.end(),
+                [](const std::unique_ptr<Connection> &each) { return each->has_ended(); });
+        };
+        while (!all_ended() && std::chrono::steady_clock::now() < latest) {
+            std::this_thread::sleep_for(milliseconds(20));
+        }
+    }
+
+    void run() {
+        while (!stopping_) {
+            pollfd set[2] = {{socket_.number(), POLLIN, 0}, {bell_.number(), POLLIN, 0}};
+            ::poll(set, 2, 1000);
+            connections_.remove_if(
+                [](const std::unique_ptr<Connection> &each) { return each->has_ended(); });
+            if ((set[0].revents & POLLIN) != 0 && !stopping_) {
+                accept();
+            }
+        }
+    }
+
+    void accept() {
+        sockaddr_in address{};
+        socklen_t size = sizeof address;
+        Descriptor socket(::accept4(socket_.number(), reinterpret_cast<sockaddr *>(&address), &size,
+                                    SOCK_CLOEXEC | SOCK_NONBLOCK));
+        if (socket.number() < 0) {
+            if (errno == EMFILE || errno == ENFILE) {
+                // It stays in the queue until a descriptor is free.
+                std::this_thread::sleep_for(milliseconds(100));
+            }
+            return;
+        }
+        const std::string peer = text_of(address);
+        if (connections_.size() >= settings_.connections) {
+            host_.refused("too many connections", peer);
+            return;
+        }
+        const int yes = 1;
+        ::setsockopt(socket.number(), IPPROTO_TCP, TCP_NODELAY, &yes, sizeof yes);
+        try {
+            connections_.push_back(std::make_unique<Connection>(std::move(socket), peer, tls_.get(),
+                                                                sessions_, settings_, host_));
+        } catch (const std::exception &fault) {
+            host_.refused("connection", peer + ": " + fault.what());
+        }
+    }
+
+    const EngineSettings settings_;
+    SessionHost &host_;
+    Descriptor bell_;
+    std::unique_ptr<TlsServer> tls_;
+    SessionMap sessions_;
+    Descriptor socket_;
+    std::list<std::unique_ptr<Connection>> connections_; // of the accepting thread, then of stop()
+    std::atomic<bool> stopping_{false};
+    std::thread thread_;
+};
+
+Engine::Engine(const EngineSettings &settings, const std::vector<SessionStart> &sessions,
+               SessionHost &host)
+    : parts_(std::make_unique<Parts>(settings, sessions, host)) {}
+
+Engine::~Engine() = default;
+
+void Engine::listen() { parts_->listen(); }
+
+void Engine::deliver(const Delivery &delivery) { parts_->session(delivery.firm).deliver(delivery); }
+
+bool Engine::is_settling(const std::string &firm) const {
+    return parts_->session(firm).is_settling();
+}
+
+void Engine::disconnect(const std::string &firm) { parts_->session(firm).shut(); }
+
+void Engine::stop(const std::string &reason) { parts_->stop(reason); }
+
+} // namespace gateway

@@ -1,0 +1,128 @@
+// The FIX sessions, over TCP or TLS. This is all that is seen of QuickFIX: its headers are C++14 and no
+// later, so that what includes them is a library of its own, and this header is plain C++14.
+#ifndef GATEWAY_FIX_ENGINE_H
+#define GATEWAY_FIX_ENGINE_H
+
+#include <cstddef>
+#include <cstdint>
+#include <memory>
+#include <string>
+#include <vector>
+
+namespace gateway {
+
+// A message of the venue on its way to a firm.
+struct Delivery {
+    std::string firm;
+    std::uint32_t number = 0; // the venue's
+    std::uint32_t place = 0;  // of the entry that it answers
+    std::string frame;        // the venue's
+    std::string type;         // 35
+    std::string body;         // all that stands behind the header on the wire
+};
+
+// What a Logon says of who sent it.
+struct LogonFacts {
+    std::string firm;
+    std::string username;
+    std::string password;
+    bool over_tls = false;
+    std::string certificate; // the common name of the client's certificate, if it has shown one
+};
+
+struct StoredMessage {
+    std::uint32_t number = 0; // the session's
+    bool carries = false;     // a message of the venue
+    std::string bytes;
+};
+
+// Where a session is when the gateway starts.
+struct SessionStart {
+    std::string firm;
+    std::uint32_t sender = 1; // the next number to the firm
+    std::uint32_t target = 1; // the next number that is expected of it
+};
+
+// What the sessions need of the gateway. Called on the threads of connections and of deliveries; where
+// the gateway can't do it any more, a std::runtime_error is thrown and the session is disconnected.
+class SessionHost {
+  public:
+    virtual ~SessionHost() = default;
+
+    // Why a Logon is refused; empty where it is not.
+    virtual std::string refusal_of(const LogonFacts &facts) = 0;
+    virtual void logged_on(const std::string &firm) = 0;
+    virtual void logged_off(const std::string &firm) = 0;
+    // A message of the application, with its session number, as it came. Returns the tag at fault where
+    // it is no frame of the venue's, or 0: then it is the log's.
+    virtual int received(const std::string &firm, std::uint32_t number,
+                         const std::string &bytes) = 0;
+
+    // A message of a session; delivery is what it carries of the venue, or null. What it returns is
+    // waited for before a message of the session itself leaves.
+    virtual std::uint64_t store_outgoing(const std::string &firm, std::uint32_t number,
+                                         const std::string &bytes, const Delivery *delivery) = 0;
+    virtual void wait_stored(std::uint64_t ticket) = 0;
+    virtual void store_target(const std::string &firm, std::uint32_t target) = 0;
+    virtual std::vector<StoredMessage> stored_messages(const std::string &firm, std::uint32_t first,
+                                                       std::uint32_t last) = 0;
+
+    // For the operator. what is one of a few fixed words.
+    virtual void connection_opened(const std::string &peer) = 0;
+    virtual void connection_closed(const std::string &peer, const std::string &why) = 0;
+    virtual void refused(const std::string &what, const std::string &text) = 0;
+    virtual void dropped(const std::string &what, const std::string &text) = 0;
+    virtual void session_event(const std::string &firm, const std::string &text) = 0;
+};
+
+struct EngineSettings {
+    std::string address;
+    std::uint16_t port = 0;
+    // Paths of files in PEM; TCP without TLS where there is no certificate.
+    std::string certificate;
+    std::string key;
+    std::string authorities;
+    bool client_certificates = false;
+
+    std::size_t connections = 256;
+    unsigned logon_seconds = 10;
+    unsigned send_seconds = 10;
+    std::size_t message_bytes = 16384;
+    std::size_t gap_messages = 1024;
+    std::size_t waiting_bytes = 4194304;
+};
+
+// One session a firm, VENUE to it. Each connection has a thread of its own.
+class Engine {
+  public:
+    // Throws std::runtime_error where a certificate or a key can't be used.
+    Engine(const EngineSettings &settings, const std::vector<SessionStart> &sessions,
+           SessionHost &host);
+    ~Engine();
+    Engine(const Engine &) = delete;
+    Engine &operator=(const Engine &) = delete;
+
+    // Takes connections from now on. Throws std::runtime_error where the address can't be had.
+    void listen();
+
+    // Gives a message to the firm's session: it is stored under the session's next number, and sent if
+    // the firm is there. One thread at a time for one firm. Throws what the host throws.
+    void deliver(const Delivery &delivery);
+    // Whether the firm's session is between its Logon and the answer to the TestRequest behind it. Then
+    // the firm may be filling a gap, and messages had better wait.
+    bool is_settling(const std::string &firm) const;
+    // Ends the firm's connection, if there is one. Does not wait for anything.
+    void disconnect(const std::string &firm);
+
+    // No new connections, and all sessions are logged out, for this reason; where it is empty the
+    // connections end at once. Returns when all connections have ended.
+    void stop(const std::string &reason);
+
+  private:
+    class Parts;
+    std::unique_ptr<Parts> parts_;
+};
+
+} // namespace gateway
+
+#endif

@@ -1,0 +1,366 @@
+#include "session.h"
+
+#include "connection.h"
+#include "cutter.h"
+
+#include <quickfix/DataDictionaryProvider.h>
+#include <quickfix/TimeRange.h>
+
+#include <algorithm>
+#include <stdexcept>
+
+namespace gateway {
+
+namespace {
+
+using Clock = std::chrono::steady_clock;
+
+// The answer to this TestRequest tells that a firm that has logged on has filled its gap. It is waited for
+// so long, and longer once the firm has asked for a gap: a stock engine that is sent a Reject while it
+// fills one counts wrong.
+const std::string settle = "MIRESEASON-";
+constexpr auto settling = std::chrono::seconds(1);
+constexpr auto filling = std::chrono::seconds(30);
+
+// Resent at once: so much of a firm's day is in memory at a time.
+constexpr int resent_at_once = 500;
+
+// The longest time between two heartbeats that a firm may ask for.
+constexpr int longest_heartbeat = 300;
+
+// The field in which the bytes of a message ride through the engine: RawData (96), never sent.
+constexpr int bytes_field = 96;
+
+std::string text_in(const FIX::FieldMap &fields, int tag) {
+    return fields.isSetField(tag) ? fields.getField(tag) : std::string();
+}
+
+// What the session itself looks at. All other fields are the venue's to judge.
+bool is_of_session(int tag) {
+    switch (tag) {
+    case FIX::FIELD::MsgType:
+    case FIX::FIELD::SenderCompID:
+    case FIX::FIELD::TargetCompID:
+    case FIX::FIELD::MsgSeqNum:
+    case FIX::FIELD::SendingTime:
+    case FIX::FIELD::PossDupFlag:
+    case FIX::FIELD::OrigSendingTime:
+        return true;
+    default:
+        return false;
+    }
+}
+
+// A number of digits, or -1.
+int number_in(const FIX::FieldMap &fields, int tag) {
+    int number = 0;
+    const std::string text = text_in(fields, tag);
+    return FIX::IntConvertor::convert(text.begin(), text.end(), number) && number >= 0 ? number : -1;
+}
+
+// All that stands in front of the value of the first body field of the venue's messages.
+constexpr std::size_t behind_first_tag = 5; // `1181=`
+
+void set_body(FIX::Message &message, const std::string &body) {
+    // The whole body as one field: so it is neither parsed nor sorted, and keeps every byte.
+    message.setField(FIX::StringField(FIX::FIELD::ApplSeqNum,
+                                      body.substr(behind_first_tag,
+                                                  body.size() - behind_first_tag - 1)));
+}
+
+} // namespace
+
+FirmSession::FirmSession(const SessionStart &start, const EngineSettings &settings,
+                         SessionHost &host)
+    : firm_(start.firm), settings_(settings), host_(host), store_(start, host) {
+    // From midnight to midnight is always.
+    const FIX::TimeRange always(FIX::UtcTimeOnly(0, 0, 0), FIX::UtcTimeOnly(0, 0, 0));
+    FIX::Application &application = *this;
+    session_ = std::make_unique<FIX::Session>(
+        application, stores_, FIX::SessionID("FIXT.1.1", "VENUE", firm_), FIX::DataDictionaryProvider(),
+        always, 0, &logs_);
+    session_->setSenderDefaultApplVerID(FIX::ApplVerID_FIX50SP2);
+    session_->setTimestampPrecision(3);
+    // A frame's length and sum are looked at before the session has it.
+    session_->setValidateLengthAndChecksum(false);
+}
+
+FirmSession::~FirmSession() = default;
+
+bool FirmSession::attach(Connection &connection) {
+    const std::lock_guard<std::mutex> lock(mutex_);
+    if (connection_ != nullptr) {
+        return false;
+    }
+    connection_ = &connection;
+    has_logged_on_ = false;
+    session_->logon();
+    session_->setResponder(&connection);
+    return true;
+}
+
+void FirmSession::detach(Connection &connection) {
+    // Takes the connection away from the engine, under the engine's own lock, and tells onLogout().
+    session_->disconnect();
+    settled_at_ = Clock::time_point();
+    ahead_.clear();
+    const std::lock_guard<std::mutex> lock(mutex_);
+    if (connection_ == &connection) {
+        connection_ = nullptr;
+    }
+}
+
+// Of the connection's thread, so that it stays.
+Connection &FirmSession::own_connection() {
+    const std::lock_guard<std::mutex> lock(mutex_);
+    return *connection_;
+}
+
+void FirmSession::shut() {
+    const std::lock_guard<std::mutex> lock(mutex_);
+    if (connection_ != nullptr) {
+        connection_->shut("the firm does not keep up");
+    }
+}
+
+void FirmSession::log_out(const std::string &reason) {
+    const std::lock_guard<std::mutex> lock(mutex_);
+    farewell_ = reason;
+    if (connection_ != nullptr) {
+        connection_->wake();
+    }
+}
+
+void FirmSession::take(const std::string &bytes) {
+    FIX::Message message;
+    try {
+        if (!is_frame(bytes)) {
+            throw FIX::InvalidMessage("no frame of FIXT.1.1");
+        }
+        message.setString(bytes, false);
+    } catch (const FIX::InvalidMessage &fault) {
+        host_.dropped("no message", firm_ + ": " + fault.what());
+        return;
+    }
+    const std::string type = text_in(message.getHeader(), FIX::FIELD::MsgType);
+    if (type == "A") {
+        take_logon(message);
+    } else if (type == "2") {
+        take_resend_request(std::move(message), own_connection());
+    } else if (message.isAdmin()) {
+        look_for_answer(type, message);
+        next(message);
+    } else {
+        take_application(message, bytes);
+    }
+}
+
+// The answer tells it whatever its own number is: while the firm's messages have a gap too, the engine keeps
+// the answer, and may be told to leave it out.
+void FirmSession::look_for_answer(const std::string &type, const FIX::Message &message) {
+    if (type == "0" && session_->isLoggedOn() &&
+        text_in(message, FIX::FIELD::TestReqID) == settle + std::to_string(questions_)) {
+        settled_at_ = Clock::time_point();
+    }
+}
+
+void FirmSession::next(const FIX::Message &message) {
+    try {
+        session_->next(message, FIX::UtcTimeStamp());
+    } catch (const std::exception &fault) {
+        host_.dropped("session", firm_ + ": " + fault.what());
+        session_->disconnect();
+    }
+}
+
+void FirmSession::take_logon(const FIX::Message &message) {
+    const std::string why = refusal_of(message);
+    if (why.empty()) {
+        next(message);
+    } else {
+        refuse(why);
+    }
+}
+
+std::string FirmSession::refusal_of(const FIX::Message &logon) {
+    if (session_->isLoggedOn()) {
+        return "logged on already";
+    }
+    LogonFacts facts;
+    facts.firm = firm_;
+    facts.username = text_in(logon, FIX::FIELD::Username);
+    facts.password = text_in(logon, FIX::FIELD::Password);
+    const Connection &connection = own_connection();
+    facts.over_tls = connection.over_tls();
+    facts.certificate = connection.certificate();
+    const std::string refusal = host_.refusal_of(facts);
+    if (!refusal.empty()) {
+        return refusal;
+    }
+    // The engine would reset before it asks anybody.
+    if (text_in(logon, FIX::FIELD::ResetSeqNumFlag) == "Y" &&
+        (session_->getExpectedSenderNum() != 1 || session_->getExpectedTargetNum() != 1)) {
+        return "numbers are not reset within the day";
+    }
+    const int heartbeat = number_in(logon, FIX::FIELD::HeartBtInt);
+    if (heartbeat < 1 || heartbeat > longest_heartbeat) {
+        return "108 is not 1 to 300";
+    }
+    return {};
+}
+
+void FirmSession::refuse(const std::string &why) {
+    host_.refused("logon", firm_ + ": " + why);
+    FIX::Message logout;
+    logout.getHeader().setField(FIX::MsgType(FIX::MsgType_Logout));
+    logout.setField(FIX::Text(why));
+    session_->send(logout);
+    session_->disconnect();
+}
+
+// The engine reads a whole gap into memory before it sends the first message of it; given piece by piece,
+// a gap of any length takes little.
+void FirmSession::take_resend_request(FIX::Message message, Connection &connection) {
+    const int last_sent = session_->getExpectedSenderNum() - 1;
+    const int first = number_in(message, FIX::FIELD::BeginSeqNo);
+    const int asked = number_in(message, FIX::FIELD::EndSeqNo);
+    if (first < 1 || asked < 0 || first > last_sent) {
+        next(message);
+        return;
+    }
+    if (is_settling()) {
+        settled_at_ = Clock::now() + filling;
+    }
+    const int last = asked == 0 ? last_sent : std::min(asked, last_sent);
+    bool there = true;
+    for (int from = first; there && from <= last; from += resent_at_once) {
+        message.setField(FIX::BeginSeqNo(from));
+        message.setField(FIX::EndSeqNo(std::min(from + resent_at_once - 1, last)));
+        next(message);
+        // Not under the lock: others have to be able to shut a connection that takes nothing.
+        connection.drain();
+        there = session_->isLoggedOn();
+    }
+    if (there && is_settling()) {
+        // The one behind the Logon was part of the gap, and is left out of it like all of the session's.
+        ask_whether_settled();
+    }
+}
+
+void FirmSession::ask_whether_settled() {
+    FIX::Message request;
+    request.getHeader().setField(FIX::MsgType(FIX::MsgType_TestRequest));
+    request.setField(FIX::TestReqID(settle + std::to_string(++questions_)));
+    session_->send(request);
+}
+
+void FirmSession::take_application(const FIX::Message &message, const std::string &bytes) {
+    const FIX::Header &header = message.getHeader();
+    const int number = number_in(header, FIX::FIELD::MsgSeqNum);
+    if (number > session_->getExpectedTargetNum()) {
+        // The engine keeps it until the gap is filled, and asks for all of the gap: so it comes again.
+        if (ahead_.size() >= settings_.gap_messages) {
+            host_.dropped("gap", firm_);
+            return;
+        }
+        ahead_.insert(number);
+    }
+    FIX::Message light;
+    // The first one: another in the body is no matter of the session.
+    light.getHeader().setField(FIX::BeginString(bytes.substr(2, bytes.find('\x01') - 2)));
+    for (const FIX::FieldBase &field : header) {
+        if (is_of_session(field.getTag())) {
+            light.getHeader().setField(field, false);
+        }
+    }
+    light.setField(FIX::StringField(bytes_field, bytes));
+    next(light);
+}
+
+void FirmSession::tick() {
+    std::string farewell;
+    {
+        const std::lock_guard<std::mutex> lock(mutex_);
+        farewell.swap(farewell_);
+    }
+    if (!farewell.empty()) {
+        session_->logout(farewell);
+    }
+    session_->next();
+}
+
+bool FirmSession::is_settling() const { return Clock::now() < settled_at_.load(); }
+
+void FirmSession::deliver(const Delivery &delivery) {
+    FIX::Message message;
+    message.getHeader().setField(FIX::MsgType(delivery.type));
+    set_body(message, delivery.body);
+    store_.carry(&delivery);
+    const bool stored = session_->send(message);
+    store_.carry(nullptr);
+    if (!stored) {
+        throw std::runtime_error("a message to " + firm_ + " could not be stored");
+    }
+}
+
+void FirmSession::onLogon(const FIX::SessionID &) {
+    host_.logged_on(firm_);
+    ask_whether_settled();
+}
+
+void FirmSession::onLogout(const FIX::SessionID &) {
+    settled_at_ = Clock::time_point();
+    host_.logged_off(firm_);
+}
+
+void FirmSession::toAdmin(FIX::Message &message, const FIX::SessionID &) {
+    if (text_in(message.getHeader(), FIX::FIELD::MsgType) == "3" &&
+        !message.isSetField(FIX::FIELD::ApplSeqNum)) {
+        host_.dropped("session reject", firm_ + ": " + text_in(message, FIX::FIELD::Text));
+    }
+}
+
+void FirmSession::toApp(FIX::Message &message, const FIX::SessionID &) throw(FIX::DoNotSend) {
+    if (text_in(message.getHeader(), FIX::FIELD::PossDupFlag) != "Y") {
+        return;
+    }
+    // Sent again: the store gave a header alone.
+    const SessionStore::Carried *carried =
+        store_.read_last(number_in(message.getHeader(), FIX::FIELD::MsgSeqNum));
+    if (carried == nullptr) {
+        throw FIX::DoNotSend();
+    }
+    message.getHeader().setField(FIX::MsgType(carried->type));
+    set_body(message, carried->body);
+}
+
+void FirmSession::fromAdmin(const FIX::Message &message, const FIX::SessionID &) throw(
+    FIX::FieldNotFound, FIX::IncorrectDataFormat, FIX::IncorrectTagValue, FIX::RejectLogon) {
+    const std::string type = text_in(message.getHeader(), FIX::FIELD::MsgType);
+    if (type == "A") {
+        settled_at_ = Clock::now() + settling;
+        has_logged_on_ = true;
+    }
+}
+
+void FirmSession::fromApp(const FIX::Message &message, const FIX::SessionID &) throw(
+    FIX::FieldNotFound, FIX::IncorrectDataFormat, FIX::IncorrectTagValue,
+    FIX::UnsupportedMessageType) {
+    const int number = number_in(message.getHeader(), FIX::FIELD::MsgSeqNum);
+    ahead_.erase(number);
+    int fault = 0;
+    try {
+        fault = host_.received(firm_, static_cast<std::uint32_t>(number),
+                               message.getField(bytes_field));
+    } catch (const std::runtime_error &) {
+        // The log takes nothing any more, and so no number either: the gateway ends.
+        return;
+    }
+    if (fault != 0) {
+        throw FIX::IncorrectTagValue(fault);
+    }
+}
+
+void FirmSession::onEvent(const std::string &text) { host_.session_event(firm_, text); }
+
+} // namespace gateway

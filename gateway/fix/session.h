@@ -1,0 +1,122 @@
+// One firm's FIX session.
+#ifndef GATEWAY_FIX_SESSION_H
+#define GATEWAY_FIX_SESSION_H
+
+#include "store.h"
+
+#include <quickfix/Application.h>
+#include <quickfix/Log.h>
+#include <quickfix/Session.h>
+
+#include <atomic>
+#include <chrono>
+#include <mutex>
+#include <set>
+
+namespace gateway {
+
+class Connection;
+
+// QuickFIX's session, with what it needs of an application, a store and a log, for one firm. At most one
+// connection has it. The thread of that connection calls take() and tick(); deliver() is called by the
+// one thread that delivers to the firm.
+class FirmSession final : private FIX::Application, private FIX::Log {
+  public:
+    FirmSession(const SessionStart &start, const EngineSettings &settings, SessionHost &host);
+    ~FirmSession() override;
+    FirmSession(const FirmSession &) = delete;
+    FirmSession &operator=(const FirmSession &) = delete;
+
+    // False where another connection has it.
+    bool attach(Connection &connection);
+    // Ends what the connection had. No call of this session reaches the connection behind it.
+    void detach(Connection &connection);
+
+    // A message as it came.
+    void take(const std::string &bytes);
+    // Heartbeats, and what else time brings about.
+    void tick();
+    void deliver(const Delivery &delivery);
+    // Between a Logon and the answer to the TestRequest behind it the firm may be filling a gap.
+    bool is_settling() const;
+    // Since it was attached.
+    bool has_logged_on() const { return has_logged_on_; }
+    // Ends the connection, if there is one.
+    void shut();
+    // Logs out, at the next tick.
+    void log_out(const std::string &reason);
+
+    const std::string &firm() const { return firm_; }
+
+  private:
+    void take_logon(const FIX::Message &message);
+    void take_resend_request(FIX::Message message, Connection &connection);
+    Connection &own_connection();
+    void take_application(const FIX::Message &message, const std::string &bytes);
+    std::string refusal_of(const FIX::Message &logon);
+    void refuse(const std::string &why);
+    void ask_whether_settled();
+    void look_for_answer(const std::string &type, const FIX::Message &message);
+    void next(const FIX::Message &message);
+
+    // FIX::Application
+    void onCreate(const FIX::SessionID &) override {}
+    void onLogon(const FIX::SessionID &) override;
+    void onLogout(const FIX::SessionID &) override;
+    void toAdmin(FIX::Message &, const FIX::SessionID &) override;
+    void toApp(FIX::Message &, const FIX::SessionID &) throw(FIX::DoNotSend) override;
+    void fromAdmin(const FIX::Message &, const FIX::SessionID &) throw(
+        FIX::FieldNotFound, FIX::IncorrectDataFormat, FIX::IncorrectTagValue,
+        FIX::RejectLogon) override;
+    void fromApp(const FIX::Message &, const FIX::SessionID &) throw(
+        FIX::FieldNotFound, FIX::IncorrectDataFormat, FIX::IncorrectTagValue,
+        FIX::UnsupportedMessageType) override;
+    // FIX::Log
+    void clear() override {}
+    void backup() override {}
+    void onIncoming(const std::string &) override {}
+    void onOutgoing(const std::string &) override {}
+    void onEvent(const std::string &text) override;
+
+    // QuickFIX asks a factory for what stands here already.
+    class Stores final : public FIX::MessageStoreFactory {
+      public:
+        explicit Stores(FIX::MessageStore &store) : store_(store) {}
+        FIX::MessageStore *create(const FIX::SessionID &) override { return &store_; }
+        void destroy(FIX::MessageStore *) override {}
+
+      private:
+        FIX::MessageStore &store_;
+    };
+    class Logs final : public FIX::LogFactory {
+      public:
+        explicit Logs(FIX::Log &log) : log_(log) {}
+        FIX::Log *create() override { return &log_; }
+        FIX::Log *create(const FIX::SessionID &) override { return &log_; }
+        void destroy(FIX::Log *) override {}
+
+      private:
+        FIX::Log &log_;
+    };
+
+    std::string firm_;
+    const EngineSettings &settings_;
+    SessionHost &host_;
+    SessionStore store_;
+    Stores stores_{store_};
+    Logs logs_{*this};
+    std::atomic<std::chrono::steady_clock::time_point> settled_at_{};
+    std::atomic<bool> has_logged_on_{false};
+    unsigned questions_ = 0; // of the connection's thread
+
+    std::mutex mutex_;
+    Connection *connection_ = nullptr;
+    std::string farewell_; // why the session is to be logged out, until it is
+    std::set<int> ahead_; // numbers that came while an earlier one is missing
+
+    std::unique_ptr<FIX::Session> session_;
+};
+
+} // namespace gateway
+
+#endif

@@ -1,0 +1,325 @@
+#include "config.h"
+
+#include <algorithm>
+#include <array>
+#include <fstream>
+#include <set>
+#include <sstream>
+#include <stdexcept>
+
+#include <fmt/format.h>
+#include <toml++/toml.h>
+
+namespace gateway {
+
+namespace {
+
+namespace fs = std::filesystem;
+
+[[noreturn]] void fail(const fs::path &file, std::string_view what) {
+    throw std::runtime_error(fmt::format("{}: {}", file.string(), what));
+}
+
+std::string read_file(const fs::path &path) {
+    std::ifstream file(path, std::ios::binary);
+    std::ostringstream text;
+    if (!file || !(text << file.rdbuf())) {
+        fail(path, "can't be read");
+    }
+    return text.str();
+}
+
+toml::table parse(const fs::path &path, const std::string &text) {
+    try {
+        return toml::parse(text);
+    } catch (const toml::parse_error &fault) {
+        fail(path, fmt::format("line {}: {}", fault.source().begin.line, fault.description()));
+    }
+}
+
+// A table of a file, whose keys are all asked for: one that is not is a fault, since it is a misspelling.
+class Section {
+  public:
+    Section(fs::path file, std::string name, const toml::table *table)
+        : file_(std::move(file)), name_(std::move(name)), table_(table) {}
+
+    bool stands() const { return table_ != nullptr; }
+
+    template <typename Value> std::optional<Value> find(std::string_view key) {
+        asked_.emplace(key);
+        const toml::node *node = table_ == nullptr ? nullptr : table_->get(key);
+        if (node == nullptr) {
+            return std::nullopt;
+        }
+        const auto value = node->value_exact<Value>();
+        if (!value) {
+            fail_at(key, "is of another kind");
+        }
+        return *value;
+    }
+
+    std::string text(std::string_view key, std::string_view otherwise = "") {
+        return find<std::string>(key).value_or(std::string(otherwise));
+    }
+    std::string text_of_need(std::string_view key) {
+        const std::string value = text(key);
+        if (value.empty()) {
+            fail_at(key, "is missing");
+        }
+        return value;
+    }
+    bool flag(std::string_view key) { return find<bool>(key).value_or(false); }
+    std::size_t number(std::string_view key, std::size_t otherwise, std::size_t least,
+                       std::size_t most) {
+        const auto value = find<std::int64_t>(key);
+        if (!value) {
+            return otherwise;
+        }
+        if (*value < static_cast<std::int64_t>(least) || *value > static_cast<std::int64_t>(most)) {
+            fail_at(key, fmt::format("is not from {} to {}", least, most));
+        }
+        return static_cast<std::size_t>(*value);
+    }
+    std::vector<std::string> words(std::string_view key) {
+        asked_.emplace(key);
+        const toml::array *array = table_ == nullptr ? nullptr : (*table_)[key].as_array();
+        if (array == nullptr || array->empty()) {
+            fail_at(key, "is no list of words");
+        }
+        std::vector<std::string> all;
+        for (const toml::node &node : *array) {
+            const auto word = node.value_exact<std::string>();
+            if (!word) {
+                fail_at(key, "is no list of words");
+            }
+            all.push_back(*word);
+        }
+        return all;
+    }
+
+    // A path relative to the file, empty without one.
+    fs::path path(std::string_view key) {
+        const std::string value = text(key);
+        return value.empty() ? fs::path() : beside(value);
+    }
+    fs::path beside(const fs::path &path) const {
+        return path.is_absolute() ? path : (file_.parent_path() / path).lexically_normal();
+    }
+
+    void end() const {
+        if (table_ == nullptr) {
+            return;
+        }
+        for (const auto &[key, node] : *table_) {
+            if (!asked_.contains(std::string(key.str()))) {
+                fail_at(key.str(), "is no key");
+            }
+        }
+    }
+
+    [[noreturn]] void fail_at(std::string_view key, std::string_view what) const {
+        fail(file_, fmt::format("[{}] {} {}", name_, key, what));
+    }
+
+  private:
+    fs::path file_;
+    std::string name_;
+    const toml::table *table_;
+    std::set<std::string> asked_;
+};
+
+class ConfigReader {
+  public:
+    explicit ConfigReader(const fs::path &path)
+        : path_(fs::absolute(path)), table_(parse(path_, read_file(path_))) {}
+
+    Config read() {
+        for (const auto &[key, node] : table_) {
+            if (std::find(sections.begin(), sections.end(), key.str()) == sections.end()) {
+                fail(path_, fmt::format("there is no part [{}]", key.str()));
+            }
+        }
+        read_venue();
+        read_log();
+        read_sessions();
+        read_tls();
+        read_limits();
+        read_rest();
+        return std::move(config_);
+    }
+
+  private:
+    static constexpr std::array<std::string_view, 7> sections = {
+        "venue", "log", "fix", "tls", "limits", "metrics", "events"};
+
+    Section section(std::string_view name) {
+        return {path_, std::string(name), table_[name].as_table()};
+    }
+
+    void read_venue() {
+        Section venue = section("venue");
+        config_.command = venue.words("command");
+        // A word with a slash is a path, and others are looked up in PATH.
+        for (std::string &word : config_.command) {
+            if (word.find('/') != std::string::npos && !word.starts_with('-')) {
+                word = venue.beside(word).string();
+            }
+        }
+        config_.program = venue.path("program");
+        if (config_.program.empty()) {
+            config_.program = config_.command.front();
+        }
+        const fs::path file = venue.beside(venue.text_of_need("configuration"));
+        venue.end();
+        config_.configuration = read_file(file);
+        if (!config_.configuration.ends_with('\n')) {
+            config_.configuration += '\n';
+        }
+        read_firms(file);
+    }
+
+    void read_firms(const fs::path &file) {
+        const toml::table venue = parse(file, config_.configuration);
+        config_.firms.date = venue["date"].value_or(std::string());
+        if (config_.firms.date.size() != 8) {
+            fail(file, "has no date");
+        }
+        for (const char *role : {"dealer", "investor"}) {
+            const toml::array *rows = venue[role].as_array();
+            for (std::size_t at = 0; rows != nullptr && at < rows->size(); ++at) {
+                const toml::table *row = rows->get(at)->as_table();
+                const std::string name =
+                    row == nullptr ? std::string() : (*row)["name"].value_or(std::string());
+                if (name.empty()) {
+                    fail(file, fmt::format("a {} has no name", role));
+                }
+                config_.firms.names.push_back(name);
+            }
+        }
+    }
+
+    std::string with_date(std::string text) const {
+        const std::size_t at = text.find("{date}");
+        return at == std::string::npos ? text : text.replace(at, 6, config_.firms.date);
+    }
+
+    void read_log() {
+        Section log = section("log");
+        const std::string file = log.text("sqlite");
+        config_.postgres = log.text("postgres");
+        config_.schema = with_date(log.text("schema", "day_{date}"));
+        log.end();
+        if (file.empty() == config_.postgres.empty()) {
+            fail(path_, "[log] names neither sqlite nor postgres, or both");
+        }
+        if (!file.empty()) {
+            config_.sqlite = log.beside(with_date(file));
+        }
+    }
+
+    void read_sessions() {
+        Section fix = section("fix");
+        config_.engine.address = fix.text("listen", "127.0.0.1");
+        config_.engine.port = static_cast<std::uint16_t>(fix.number("port", 9878, 1, 65535));
+        beyond_loopback_ = fix.flag("plain_tcp_beyond_loopback");
+        const fs::path credentials = fix.beside(fix.text_of_need("credentials"));
+        fix.end();
+        read_credentials(credentials);
+    }
+
+    void read_credentials(const fs::path &file) {
+        const toml::table table = parse(file, read_file(file));
+        for (const auto &[key, node] : table) {
+            const std::string firm(key.str());
+            const auto &names = config_.firms.names;
+            if (std::find(names.begin(), names.end(), firm) == names.end()) {
+                fail(file, fmt::format("the venue has no firm {}", firm));
+            }
+            Section row(file, firm, node.as_table());
+            Credentials &own = config_.credentials[firm];
+            own.username = row.text_of_need("username");
+            own.password_hash = row.text_of_need("password");
+            own.cancel_on_disconnect = row.text("cancel_on_disconnect");
+            row.end();
+            if (!own.cancel_on_disconnect.empty()) {
+                check_trader(file, firm, own.cancel_on_disconnect);
+            }
+        }
+    }
+
+    // The trader who cancels is one of the dealer's own, so that the venue takes his cancel.
+    void check_trader(const fs::path &file, const std::string &firm, const std::string &trader) {
+        const toml::table venue = toml::parse(config_.configuration);
+        const toml::array *dealers = venue["dealer"].as_array();
+        for (std::size_t at = 0; dealers != nullptr && at < dealers->size(); ++at) {
+            const toml::table &row = *dealers->get(at)->as_table();
+            const toml::array *traders = row["traders"].as_array();
+            if (row["name"].value_or(std::string()) != firm || traders == nullptr) {
+                continue;
+            }
+            for (const toml::node &each : *traders) {
+                if (each.value_or(std::string()) == trader) {
+                    return;
+                }
+            }
+        }
+        fail(file, fmt::format("[{}] cancel_on_disconnect: {} is no trader of a dealer {}", firm,
+                               trader, firm));
+    }
+
+    void read_tls() {
+        Section tls = section("tls");
+        EngineSettings &engine = config_.engine;
+        engine.certificate = tls.path("certificate").string();
+        engine.key = tls.path("key").string();
+        engine.authorities = tls.path("authorities").string();
+        engine.client_certificates = tls.flag("client_certificates");
+        tls.end();
+        if (tls.stands() && (engine.certificate.empty() || engine.key.empty())) {
+            fail(path_, "[tls] has to have certificate and key");
+        }
+        if (engine.client_certificates && engine.authorities.empty()) {
+            fail(path_, "[tls] client_certificates needs authorities");
+        }
+        if (!tls.stands() && !beyond_loopback_ && !engine.address.starts_with("127.")) {
+            fail(path_, fmt::format("[fix] listen = \"{}\" is not on the loopback, and there is no "
+                                    "[tls]: plain_tcp_beyond_loopback has to say so",
+                                    engine.address));
+        }
+    }
+
+    void read_limits() {
+        Section limits = section("limits");
+        EngineSettings &engine = config_.engine;
+        engine.connections = limits.number("connections", 256, 1, 65536);
+        engine.logon_seconds = static_cast<unsigned>(limits.number("logon_seconds", 10, 1, 600));
+        engine.send_seconds = static_cast<unsigned>(limits.number("send_seconds", 10, 1, 600));
+        engine.message_bytes = limits.number("message_bytes", 16384, 4096, 1048576);
+        engine.gap_messages = limits.number("gap_messages", 1024, 1, 1048576);
+        engine.waiting_bytes = limits.number("waiting_bytes", 4194304, 65536, 1073741824);
+        config_.waiting_entries = limits.number("waiting_entries", 4096, 1, 1048576);
+        config_.waiting_messages = limits.number("waiting_messages", 16384, 16, 1048576);
+        config_.venue_starts = static_cast<unsigned>(limits.number("venue_starts", 3, 1, 60));
+        limits.end();
+    }
+
+    void read_rest() {
+        Section metrics = section("metrics");
+        config_.metrics_port = static_cast<unsigned short>(metrics.number("port", 0, 0, 65535));
+        metrics.end();
+        Section events = section("events");
+        config_.event_level = events.text("level", "info");
+        events.end();
+    }
+
+    fs::path path_;
+    toml::table table_;
+    Config config_;
+    bool beyond_loopback_ = false;
+};
+
+} // namespace
+
+Config read_config(const fs::path &path) { return ConfigReader(path).read(); }
+
+} // namespace gateway

@@ -1,0 +1,52 @@
+// What the gateway is told: its own file, the credentials, and the firms of the venue's configuration.
+#ifndef GATEWAY_CONFIG_H
+#define GATEWAY_CONFIG_H
+
+#include "engine.h"
+
+#include <filesystem>
+#include <map>
+#include <string>
+#include <vector>
+
+namespace gateway {
+
+struct Credentials {
+    std::string username;
+    std::string password_hash;       // as crypt(5) has it
+    std::string cancel_on_disconnect; // a trader, or empty
+};
+
+// What of the venue's configuration concerns the gateway.
+struct VenueFirms {
+    std::string date;
+    std::vector<std::string> names;
+};
+
+struct Config {
+    std::vector<std::string> command;
+    std::filesystem::path program;
+    std::string configuration; // the venue's, byte for byte, with a line feed at its end
+    VenueFirms firms;
+
+    std::filesystem::path sqlite; // empty where the next two name the log
+    std::string postgres;
+    std::string schema;
+
+    EngineSettings engine;
+    std::map<std::string, Credentials> credentials;
+
+    std::size_t waiting_entries = 4096;
+    std::size_t waiting_messages = 16384;
+    unsigned venue_starts = 3;
+
+    unsigned short metrics_port = 0;
+    std::string event_level = "info";
+};
+
+// Reads the file and those that it names. Throws std::runtime_error that names the file and the key.
+Config read_config(const std::filesystem::path &path);
+
+} // namespace gateway
+
+#endif

@@ -1,0 +1,84 @@
+// The log's database, whichever it is. schema.sql is what stands in it.
+#ifndef GATEWAY_DATABASE_H
+#define GATEWAY_DATABASE_H
+
+#include "records.h"
+
+#include <map>
+#include <memory>
+#include <span>
+
+namespace gateway {
+
+// Rows that are put into the log by one transaction. A session's row takes the place of its old one.
+struct Batch {
+    std::vector<Entry> entries;
+    std::vector<Sent> sent;
+    std::vector<Outgoing> outgoing;
+    std::map<std::string, SessionRow> sessions;
+
+    bool empty() const {
+        return entries.empty() && sent.empty() && outgoing.empty() && sessions.empty();
+    }
+};
+
+// How far the log is for one firm.
+struct FirmState {
+    SessionRow session;
+    std::uint32_t entries = 0;     // messages of the firm that are in the log
+    std::uint32_t last_number = 0; // the greatest session number among them
+    std::uint32_t sent = 0;        // messages of the venue
+    std::uint32_t outgoing = 0;    // messages of its session
+};
+
+// Reads through a connection of its own; one thread at a time. Every call throws std::runtime_error, or
+// what is derived of it, with the database's words.
+class LogReader {
+  public:
+    virtual ~LogReader() = default;
+
+    // The entries from a place on, `limit` at most, in order.
+    virtual std::vector<Entry> entries(std::uint32_t from, std::uint32_t limit) = 0;
+    // The last entry, if there is one.
+    virtual std::optional<Entry> last_entry() = 0;
+    // What was sent to a firm, from a number on, `limit` at most, in order.
+    virtual std::vector<Sent> sent(const std::string &firm, std::uint32_t from,
+                                   std::uint32_t limit) = 0;
+    // The messages of a firm's session with these numbers, both included, in order.
+    virtual std::vector<Outgoing> outgoing(const std::string &firm, std::uint32_t first,
+                                           std::uint32_t last) = 0;
+    // The state of every firm that stands anywhere in the log.
+    virtual std::map<std::string, FirmState> states() = 0;
+};
+
+// Writes through a connection of its own; one thread at a time.
+class LogWriter {
+  public:
+    virtual ~LogWriter() = default;
+
+    // Puts all rows there and returns when they are safe on disk. Throws as the reader does; the rows
+    // may then be there or not, and nothing more is written.
+    virtual void commit(const Batch &batch) = 0;
+};
+
+// A database with the tables, held by this process alone until it is destroyed.
+class Database {
+  public:
+    virtual ~Database() = default;
+
+    virtual std::unique_ptr<LogReader> reader() = 0;
+    virtual std::unique_ptr<LogWriter> writer() = 0;
+};
+
+// Opens the file, or makes it. Throws where another gateway has it.
+std::unique_ptr<Database> open_sqlite(const std::string &path);
+
+// Opens a schema of a PostgreSQL database, or makes it. Throws where another gateway has it.
+std::unique_ptr<Database> open_postgres(const std::string &connection, const std::string &schema);
+
+// The text of schema.sql.
+const char *schema_text();
+
+} // namespace gateway
+
+#endif

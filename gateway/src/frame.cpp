@@ -1,0 +1,81 @@
+#include "frame.h"
+
+#include <charconv>
+
+#include <fmt/format.h>
+
+namespace gateway {
+
+std::optional<std::vector<Field>> fields_of(std::string_view message) {
+    std::vector<Field> fields;
+    fields.reserve(24);
+    while (!message.empty()) {
+        const std::size_t end = message.find(soh);
+        if (end == std::string_view::npos) {
+            return std::nullopt;
+        }
+        const std::string_view field = message.substr(0, end);
+        const std::size_t equals = field.find('=');
+        if (equals == std::string_view::npos) {
+            return std::nullopt;
+        }
+        fields.push_back({field.substr(0, equals), field.substr(equals + 1)});
+        message.remove_prefix(end + 1);
+    }
+    return fields;
+}
+
+std::optional<std::string_view> value_of(const std::vector<Field> &fields, std::string_view tag) {
+    for (const Field &field : fields) {
+        if (field.tag == tag) {
+            return field.value;
+        }
+    }
+    return std::nullopt;
+}
+
+std::string framed(std::string_view body) {
+    std::string frame = fmt::format("8=FIXT.1.1{}9={}{}", soh, body.size(), soh);
+    frame += body;
+    unsigned sum = 0;
+    for (const char c : frame) {
+        sum += static_cast<unsigned char>(c);
+    }
+    frame += fmt::format("10={:03}{}", sum % 256, soh);
+    return frame;
+}
+
+bool is_body_tag(std::string_view tag) {
+    if (tag.empty() || tag.size() > 9 || tag[0] == '0') {
+        return false;
+    }
+    for (const char c : tag) {
+        if (c < '0' || c > '9') {
+            return false;
+        }
+    }
+    return tag != "8" && tag != "9" && tag != "10";
+}
+
+std::string hexadecimal(std::string_view bytes) {
+    static constexpr std::string_view digits = "0123456789ABCDEF";
+    std::string text;
+    text.reserve(bytes.size() * 2);
+    for (const char c : bytes) {
+        const auto byte = static_cast<unsigned char>(c);
+        text += digits[byte >> 4];
+        text += digits[byte & 15];
+    }
+    return text;
+}
+
+std::optional<unsigned> number_of(std::string_view text) {
+    unsigned number = 0;
+    const auto [end, fault] = std::from_chars(text.data(), text.data() + text.size(), number);
+    if (fault != std::errc() || end != text.data() + text.size() || number > 0x7fffffffU) {
+        return std::nullopt;
+    }
+    return number;
+}
+
+} // namespace gateway

@@ -1,0 +1,45 @@
+// Frames of FIXT.1.1 as bytes: fields in their order, with every byte.
+#ifndef GATEWAY_FRAME_H
+#define GATEWAY_FRAME_H
+
+#include <cstddef>
+#include <optional>
+#include <string>
+#include <string_view>
+#include <vector>
+
+namespace gateway {
+
+inline constexpr char soh = '\x01';
+
+// The longest frame that the venue reads.
+inline constexpr std::size_t longest_frame = 4096;
+
+// A field of a message: views of the bytes that it was read from.
+struct Field {
+    std::string_view tag;
+    std::string_view value;
+};
+
+// All fields of a message, the first to the last, 8, 9 and 10 among them; nothing where a field has no
+// equal sign or the bytes do not end in SOH.
+std::optional<std::vector<Field>> fields_of(std::string_view message);
+
+// The first value of a tag among the fields, or nothing.
+std::optional<std::string_view> value_of(const std::vector<Field> &fields, std::string_view tag);
+
+// A body in its frame: 8, 9, the body, 10.
+std::string framed(std::string_view body);
+
+// Whether a tag may stand in the venue's frames: 1 to 9 digits, the first not 0, and none of 8, 9, 10.
+bool is_body_tag(std::string_view tag);
+
+// Capital hexadecimal digits, two a byte.
+std::string hexadecimal(std::string_view bytes);
+
+// A number of digits alone, below 2^31; nothing where it is none.
+std::optional<unsigned> number_of(std::string_view text);
+
+} // namespace gateway
+
+#endif

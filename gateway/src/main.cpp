@@ -1,0 +1,109 @@
+// mireseason-gateway CONFIG
+#include "gateway.h"
+#include "password.h"
+
+#include <csignal>
+#include <iostream>
+#include <string_view>
+#include <thread>
+
+#include <spdlog/sinks/stdout_sinks.h>
+#include <spdlog/spdlog.h>
+
+namespace {
+
+constexpr const char *usage = R"(usage: mireseason-gateway CONFIG
+       mireseason-gateway --check CONFIG   reads the configuration, and ends
+       mireseason-gateway --hash           reads a password, a line, and prints its salted hash
+       mireseason-gateway --version
+)";
+
+constexpr const char *version = "mireseason-gateway 1.0.0";
+
+int print_hash() {
+    std::string password;
+    if (!std::getline(std::cin, password) || password.empty()) {
+        std::cerr << "mireseason-gateway: no password on standard input\n";
+        return 2;
+    }
+    std::cout << gateway::new_hash(password) << '\n';
+    return 0;
+}
+
+std::shared_ptr<spdlog::logger> make_events(const std::string &level) {
+    auto sink = std::make_shared<spdlog::sinks::stderr_sink_mt>();
+    auto events = std::make_shared<spdlog::logger>("gateway", std::move(sink));
+    events->set_level(spdlog::level::from_str(level));
+    events->set_pattern("%Y-%m-%dT%H:%M:%S.%eZ %l %v", spdlog::pattern_time_type::utc);
+    events->flush_on(spdlog::level::debug);
+    return events;
+}
+
+// SIGTERM and SIGINT, which all threads block, ask the gateway to stop.
+class Signals {
+  public:
+    Signals() {
+        sigemptyset(&set_);
+        sigaddset(&set_, SIGTERM);
+        sigaddset(&set_, SIGINT);
+        pthread_sigmask(SIG_BLOCK, &set_, nullptr);
+        std::signal(SIGPIPE, SIG_IGN);
+    }
+
+    void watch(gateway::Gateway &gateway) {
+        thread_ = std::jthread([this, &gateway](const std::stop_token &stop) {
+            const timespec second{0, 200'000'000};
+            while (!stop.stop_requested()) {
+                const int signal = sigtimedwait(&set_, nullptr, &second);
+                if (signal > 0) {
+                    gateway.ask_to_stop(signal == SIGTERM ? "SIGTERM" : "SIGINT");
+                }
+            }
+        });
+    }
+
+  private:
+    sigset_t set_{};
+    std::jthread thread_;
+};
+
+int serve(const std::string &path, bool only_check) {
+    gateway::Config config = gateway::read_config(path);
+    if (only_check) {
+        std::cout << path << " is a configuration of " << config.firms.names.size() << " firms\n";
+        return 0;
+    }
+    const auto events = make_events(config.event_level);
+    Signals signals;
+    gateway::Gateway gateway(std::move(config), events);
+    signals.watch(gateway);
+    gateway.start();
+    const auto failure = gateway.run();
+    return failure ? 1 : 0;
+}
+
+} // namespace
+
+int main(int count, char **words) {
+    const std::vector<std::string> arguments(words + 1, words + count);
+    try {
+        if (arguments == std::vector<std::string>{"--version"}) {
+            std::cout << version << '\n';
+            return 0;
+        }
+        if (arguments == std::vector<std::string>{"--hash"}) {
+            return print_hash();
+        }
+        if (arguments.size() == 2 && arguments[0] == "--check") {
+            return serve(arguments[1], true);
+        }
+        if (arguments.size() == 1 && !arguments[0].starts_with('-')) {
+            return serve(arguments[0], false);
+        }
+    } catch (const std::exception &fault) {
+        std::cerr << "mireseason-gateway: " << fault.what() << '\n';
+        return 1;
+    }
+    std::cerr << usage;
+    return 2;
+}

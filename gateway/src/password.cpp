@@ -1,0 +1,47 @@
+#include "password.h"
+
+#include <memory>
+#include <stdexcept>
+
+#include <crypt.h>
+#include <openssl/crypto.h>
+
+namespace gateway {
+
+namespace {
+
+// The data is 32 KB: too much for a stack.
+std::string crypt(const std::string &password, const std::string &setting) {
+    const auto data = std::make_unique<crypt_data>();
+    const char *hash = ::crypt_r(password.c_str(), setting.c_str(), data.get());
+    const std::string text = hash == nullptr ? "" : hash;
+    OPENSSL_cleanse(data.get(), sizeof *data);
+    // A text that begins with an asterisk says that the setting is none.
+    return text.starts_with('*') ? std::string() : text;
+}
+
+} // namespace
+
+bool has_hash(const std::string &password, const std::string &hash) {
+    // A password with a zero byte would be read up to it.
+    if (password.find('\0') != std::string::npos) {
+        return false;
+    }
+    const std::string own = crypt(password, hash);
+    return !own.empty() && own.size() == hash.size() &&
+           CRYPTO_memcmp(own.data(), hash.data(), own.size()) == 0;
+}
+
+std::string new_hash(const std::string &password) {
+    char setting[CRYPT_GENSALT_OUTPUT_SIZE] = "";
+    if (::crypt_gensalt_rn(nullptr, 0, nullptr, 0, setting, sizeof setting) == nullptr) {
+        throw std::runtime_error("no salt");
+    }
+    const std::string hash = crypt(password, setting);
+    if (hash.empty()) {
+        throw std::runtime_error("no hash");
+    }
+    return hash;
+}
+
+} // namespace gateway

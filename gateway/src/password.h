@@ -1,0 +1,18 @@
+// Passwords against salted hashes.
+#ifndef GATEWAY_PASSWORD_H
+#define GATEWAY_PASSWORD_H
+
+#include <string>
+
+namespace gateway {
+
+// Whether a password has this hash, as crypt(5) writes it. Takes as long as the hash asks for, whatever
+// the answer is.
+bool has_hash(const std::string &password, const std::string &hash);
+
+// The hash of a password with a new salt. Throws std::runtime_error.
+std::string new_hash(const std::string &password);
+
+} // namespace gateway
+
+#endif

@@ -1,0 +1,150 @@
+#include "process.h"
+
+#include <array>
+#include <cerrno>
+#include <csignal>
+#include <system_error>
+
+#include <fcntl.h>
+#include <fmt/format.h>
+#include <spawn.h>
+#include <sys/wait.h>
+#include <unistd.h>
+
+namespace gateway {
+
+namespace {
+
+struct Pipe {
+    Descriptor read;
+    Descriptor write;
+};
+
+Pipe make_pipe() {
+    std::array<int, 2> ends{};
+    if (::pipe2(ends.data(), O_CLOEXEC) != 0) {
+        throw std::system_error(errno, std::generic_category(), "a pipe to the venue");
+    }
+    return {Descriptor(ends[0]), Descriptor(ends[1])};
+}
+
+// What posix_spawn is told, and its release.
+class SpawnPlan {
+  public:
+    SpawnPlan() {
+        posix_spawn_file_actions_init(&actions_);
+        posix_spawnattr_init(&attributes_);
+        sigset_t none;
+        sigset_t reset;
+        sigemptyset(&none);
+        sigemptyset(&reset);
+        sigaddset(&reset, SIGPIPE);
+        posix_spawnattr_setsigmask(&attributes_, &none);
+        posix_spawnattr_setsigdefault(&attributes_, &reset);
+        posix_spawnattr_setpgroup(&attributes_, 0);
+        posix_spawnattr_setflags(&attributes_, POSIX_SPAWN_SETSIGMASK | POSIX_SPAWN_SETSIGDEF |
+                                                   POSIX_SPAWN_SETPGROUP);
+    }
+    ~SpawnPlan() {
+        posix_spawnattr_destroy(&attributes_);
+        posix_spawn_file_actions_destroy(&actions_);
+    }
+    SpawnPlan(const SpawnPlan &) = delete;
+    SpawnPlan &operator=(const SpawnPlan &) = delete;
+
+    void use(const Descriptor &descriptor, int as) {
+        posix_spawn_file_actions_adddup2(&actions_, descriptor.number(), as);
+    }
+    const posix_spawn_file_actions_t *actions() const { return &actions_; }
+    const posix_spawnattr_t *attributes() const { return &attributes_; }
+
+  private:
+    posix_spawn_file_actions_t actions_{};
+    posix_spawnattr_t attributes_{};
+};
+
+std::string read_some(const Descriptor &descriptor) {
+    std::array<char, 65536> buffer;
+    for (;;) {
+        const ssize_t count = ::read(descriptor.number(), buffer.data(), buffer.size());
+        if (count >= 0) {
+            return std::string(buffer.data(), static_cast<std::size_t>(count));
+        }
+        if (errno != EINTR) {
+            return {};
+        }
+    }
+}
+
+} // namespace
+
+Process::Process(const std::vector<std::string> &command) {
+    Pipe in = make_pipe();
+    Pipe out = make_pipe();
+    Pipe err = make_pipe();
+    SpawnPlan plan;
+    plan.use(in.read, STDIN_FILENO);
+    plan.use(out.write, STDOUT_FILENO);
+    plan.use(err.write, STDERR_FILENO);
+    std::vector<std::string> words = command;
+    std::vector<char *> arguments;
+    arguments.reserve(words.size() + 1);
+    for (std::string &word : words) {
+        arguments.push_back(word.data());
+    }
+    arguments.push_back(nullptr);
+    const int fault = ::posix_spawnp(&pid_, arguments[0], plan.actions(), plan.attributes(),
+                                     arguments.data(), environ);
+    if (fault != 0) {
+        throw std::system_error(fault, std::generic_category(), command[0]);
+    }
+    input_ = std::move(in.write);
+    output_ = std::move(out.read);
+    errors_ = std::move(err.read);
+}
+
+Process::~Process() {
+    if (pid_ > 0) {
+        kill();
+        wait();
+    }
+}
+
+bool Process::write(std::string_view bytes) {
+    while (!bytes.empty()) {
+        const ssize_t count = ::write(input_.number(), bytes.data(), bytes.size());
+        if (count < 0 && errno == EINTR) {
+            continue;
+        }
+        if (count <= 0) {
+            return false;
+        }
+        bytes.remove_prefix(static_cast<std::size_t>(count));
+    }
+    return true;
+}
+
+void Process::close_input() { input_.close(); }
+
+std::string Process::read_output() { return read_some(output_); }
+
+std::string Process::read_errors() { return read_some(errors_); }
+
+void Process::kill() {
+    if (pid_ > 0) {
+        ::kill(pid_, SIGKILL);
+    }
+}
+
+std::string Process::wait() {
+    int status = 0;
+    while (::waitpid(pid_, &status, 0) < 0 && errno == EINTR) {
+    }
+    pid_ = -1;
+    if (WIFSIGNALED(status)) {
+        return fmt::format("was ended by signal {}", WTERMSIG(status));
+    }
+    return fmt::format("ended with status {}", WEXITSTATUS(status));
+}
+
+} // namespace gateway

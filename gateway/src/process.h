@@ -1,0 +1,44 @@
+// A child process with pipes.
+#ifndef GATEWAY_PROCESS_H
+#define GATEWAY_PROCESS_H
+
+#include "descriptor.h"
+
+#include <string>
+#include <string_view>
+#include <vector>
+
+#include <sys/types.h>
+
+namespace gateway {
+
+// Starts with its own group of processes, so that a Ctrl-C at the gateway's terminal does not reach it,
+// and is killed and waited for when it is destroyed.
+class Process {
+  public:
+    // The first word is the program, looked up in PATH. Throws std::system_error.
+    explicit Process(const std::vector<std::string> &command);
+    ~Process();
+    Process(const Process &) = delete;
+    Process &operator=(const Process &) = delete;
+
+    // Writes all bytes to its standard input; false where it does not read any more.
+    bool write(std::string_view bytes);
+    void close_input();
+    // The next bytes of its standard output or error, empty at the end.
+    std::string read_output();
+    std::string read_errors();
+    void kill();
+    // Waits for its end, and says how it ended.
+    std::string wait();
+
+  private:
+    pid_t pid_ = -1;
+    Descriptor input_;
+    Descriptor output_;
+    Descriptor errors_;
+};
+
+} // namespace gateway
+
+#endif

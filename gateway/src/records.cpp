@@ -1,0 +1,111 @@
+#include "records.h"
+
+#include <stdexcept>
+
+#include <fmt/format.h>
+#include <openssl/evp.h>
+
+namespace gateway {
+
+namespace {
+
+// Takes `NAME VALUE` and its line feed off the front of the text.
+std::string_view take_line(std::string_view &text, std::string_view name) {
+    const std::size_t end = text.find('\n');
+    const std::string_view line = text.substr(0, end);
+    if (end == std::string_view::npos || !line.starts_with(name) || line.size() <= name.size() ||
+        line[name.size()] != ' ') {
+        throw std::runtime_error(fmt::format("entry 0 has no line `{}`", name));
+    }
+    text.remove_prefix(end + 1);
+    return line.substr(name.size() + 1);
+}
+
+Digest digest_of(std::string_view digits) {
+    Digest digest{};
+    if (digits.size() != digest.size() * 2) {
+        throw std::runtime_error("entry 0: a SHA-256 has 64 digits");
+    }
+    const auto value = [](char c) -> int {
+        if (c >= '0' && c <= '9') {
+            return c - '0';
+        }
+        if (c >= 'a' && c <= 'f') {
+            return c - 'a' + 10;
+        }
+        throw std::runtime_error("entry 0: a SHA-256 has small hexadecimal digits");
+    };
+    for (std::size_t at = 0; at < digest.size(); ++at) {
+        digest[at] =
+            static_cast<unsigned char>(value(digits[2 * at]) * 16 + value(digits[2 * at + 1]));
+    }
+    return digest;
+}
+
+constexpr std::string_view end_of_head = "%%\n";
+
+} // namespace
+
+Digest sha256(std::string_view bytes) {
+    Digest digest{};
+    unsigned size = 0;
+    if (EVP_Digest(bytes.data(), bytes.size(), digest.data(), &size, EVP_sha256(), nullptr) != 1 ||
+        size != digest.size()) {
+        throw std::runtime_error("SHA-256 was refused");
+    }
+    return digest;
+}
+
+std::string text_of(const Digest &digest) {
+    std::string text;
+    for (const unsigned char byte : digest) {
+        text += fmt::format("{:02x}", byte);
+    }
+    return text;
+}
+
+Digest hash_of(const Entry &entry) {
+    std::string text =
+        fmt::format("{} {} {} {} {} {} {}\n", text_of(entry.before), entry.place, entry.term,
+                    entry.moment, entry.firm.value_or("-"),
+                    entry.number ? std::to_string(*entry.number) : "-", entry.line.size());
+    text += entry.line;
+    return sha256(text);
+}
+
+void check_link(const Entry &entry, std::uint32_t place, const Digest &before) {
+    if (entry.place != place) {
+        throw std::runtime_error(fmt::format(
+            "the log has no entry {}: behind {} comes {}", place, place - 1, entry.place));
+    }
+    if (entry.before != before) {
+        throw std::runtime_error(
+            fmt::format("entry {} does not follow on entry {} as it is now", place, place - 1));
+    }
+    if (entry.hash != hash_of(entry)) {
+        throw std::runtime_error(fmt::format("entry {} was changed: its hash is another", place));
+    }
+}
+
+std::string line_of(const Day &day) {
+    return fmt::format("version {}\nprogram {}\nconfiguration {}\n{}{}", day.version,
+                       text_of(day.program), text_of(sha256(day.configuration)), end_of_head,
+                       day.configuration);
+}
+
+Day day_of(std::string_view line) {
+    Day day;
+    day.version = take_line(line, "version");
+    day.program = digest_of(take_line(line, "program"));
+    const Digest configuration = digest_of(take_line(line, "configuration"));
+    if (!line.starts_with(end_of_head)) {
+        throw std::runtime_error("entry 0 has no line `%%`");
+    }
+    day.configuration = line.substr(end_of_head.size());
+    if (sha256(day.configuration) != configuration) {
+        throw std::runtime_error("entry 0 was changed: its configuration has another SHA-256");
+    }
+    return day;
+}
+
+} // namespace gateway

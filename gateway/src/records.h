@@ -1,0 +1,74 @@
+// The rows of the log, and their chain. schema.sql says what each column is.
+#ifndef GATEWAY_RECORDS_H
+#define GATEWAY_RECORDS_H
+
+#include <array>
+#include <cstdint>
+#include <optional>
+#include <string>
+#include <string_view>
+#include <vector>
+
+namespace gateway {
+
+using Digest = std::array<unsigned char, 32>;
+
+struct Entry {
+    std::uint32_t place = 0;
+    std::uint32_t term = 0;
+    std::string moment;
+    std::optional<std::string> firm;
+    std::optional<std::uint32_t> number;
+    std::string line;
+    Digest before{};
+    Digest hash{};
+};
+
+struct Sent {
+    std::string firm;
+    std::uint32_t number = 0;
+    std::uint32_t place = 0;
+    std::string bytes;
+};
+
+struct Outgoing {
+    std::string firm;
+    std::uint32_t number = 0;
+    std::optional<std::uint32_t> sent;
+    std::string bytes;
+};
+
+struct SessionRow {
+    std::string firm;
+    std::uint32_t target = 1;
+    bool logged_on = false;
+};
+
+Digest sha256(std::string_view bytes);
+
+// Small hexadecimal digits.
+std::string text_of(const Digest &digest);
+
+// The hash that an entry must have, from its other columns.
+Digest hash_of(const Entry &entry);
+
+// Holds an entry against the place that it must have and the hash of the one before it. Throws
+// std::runtime_error that names the place.
+void check_link(const Entry &entry, std::uint32_t place, const Digest &before);
+
+// The line of place 0.
+struct Day {
+    std::string version;
+    Digest program{};
+    std::string configuration;
+};
+
+std::string line_of(const Day &day);
+
+// Reads what line_of wrote. Throws std::runtime_error where it is of another form, or where the
+// configuration has another SHA-256 than it says.
+Day day_of(std::string_view line);
+
+} // namespace gateway
+
+#endif

@@ -1,0 +1,300 @@
+#include "venue.h"
+
+#include "frame.h"
+
+#include <algorithm>
+#include <stdexcept>
+#include <utility>
+
+#include <fmt/format.h>
+
+namespace gateway {
+
+namespace {
+
+// Entries that are read from the database at once.
+constexpr std::uint32_t chunk = 1024;
+
+// Of the venue's standard error, kept as its last words.
+constexpr std::size_t longest_words = 2048;
+
+std::string_view take_word(std::string_view &text) {
+    const std::size_t end = text.find(' ');
+    const std::string_view word = text.substr(0, end);
+    text.remove_prefix(end == std::string_view::npos ? text.size() : end + 1);
+    return word;
+}
+
+} // namespace
+
+Venue::Venue(Settings settings, Database &database, Log &log, const Digest &first_hash,
+             VenueListener &listener, Metrics &metrics, std::shared_ptr<spdlog::logger> events)
+    : settings_(std::move(settings)), database_(database), log_(log), first_hash_(first_hash),
+      listener_(listener), metrics_(metrics), events_(std::move(events)),
+      // The configuration, `%%`, and the line `#` whose mark says that the configuration was read.
+      lines_before_(static_cast<std::size_t>(std::count(settings_.configuration.begin(),
+                                                        settings_.configuration.end(), '\n')) +
+                    2) {}
+
+Venue::~Venue() { stop(); }
+
+void Venue::start() {
+    thread_ = std::jthread([this](std::stop_token stop) { run(std::move(stop)); });
+}
+
+void Venue::stop() {
+    if (!thread_.joinable()) {
+        return;
+    }
+    thread_.request_stop();
+    {
+        std::unique_lock lock(mutex_);
+        if (!changed_.wait_for(lock, std::chrono::seconds(10), [&] { return ended_; }) &&
+            running_ != nullptr) {
+            events_->error("venue does not end and is killed");
+            running_->kill();
+        }
+    }
+    thread_.join();
+}
+
+void Venue::run(std::stop_token stop) {
+    try {
+        for (bool again = true; again;) {
+            const std::string end = run_once(stop);
+            again = !stop.stop_requested();
+            if (again && !may_start()) {
+                listener_.venue_failed(fmt::format("the venue {} again and again; its last words: {}",
+                                                   end, last_words_.empty() ? "none" : last_words_));
+                again = false;
+            }
+        }
+    } catch (const std::exception &fault) {
+        listener_.venue_failed(fault.what());
+    }
+    const std::lock_guard lock(mutex_);
+    ended_ = true;
+    changed_.notify_all();
+}
+
+bool Venue::may_start() {
+    const auto minute_ago = std::chrono::steady_clock::now() - std::chrono::minutes(1);
+    while (!starts_.empty() && starts_.front() < minute_ago) {
+        starts_.pop_front();
+    }
+    return starts_.size() < settings_.starts;
+}
+
+std::string Venue::run_once(std::stop_token stop) {
+    listener_.venue_starts();
+    {
+        const std::lock_guard lock(mutex_);
+        fed_.clear();
+        feeding_fault_.clear();
+        last_words_.clear();
+    }
+    answered_lines_ = 0;
+    starts_.push_back(std::chrono::steady_clock::now());
+    metrics_.venue_started();
+    Process process(settings_.command);
+    events_->info("venue started program=\"{}\"", settings_.command.front());
+    {
+        const std::lock_guard lock(mutex_);
+        running_ = &process;
+    }
+    std::jthread errors([&] { listen_to_errors(process); });
+    std::jthread feeder([&](std::stop_token own) { feed(process, std::move(own)); });
+    const std::stop_callback forward(stop, [&] { feeder.request_stop(); });
+    std::exception_ptr fault;
+    try {
+        read(process);
+    } catch (...) {
+        // The threads end where the process does.
+        fault = std::current_exception();
+        process.kill();
+    }
+    feeder.request_stop();
+    feeder.join();
+    errors.join();
+    {
+        const std::lock_guard lock(mutex_);
+        running_ = nullptr;
+    }
+    const std::string end = process.wait();
+    if (!stop.stop_requested()) {
+        events_->error("venue {} words=\"{}\"", end, last_words_);
+    }
+    if (fault) {
+        std::rethrow_exception(fault);
+    }
+    if (!feeding_fault_.empty()) {
+        throw std::runtime_error(feeding_fault_);
+    }
+    return end;
+}
+
+void Venue::feed(Process &process, std::stop_token stop) {
+    try {
+        if (!process.write(settings_.configuration) || !process.write("%%\n#\n")) {
+            process.close_input();
+            return;
+        }
+        std::unique_ptr<LogReader> reader;
+        std::uint32_t next = 1;
+        Digest before = first_hash_;
+        for (bool going = true; going;) {
+            const std::vector<LoggedEntry> entries = next_entries(next, reader, stop);
+            for (const LoggedEntry &logged : entries) {
+                check_link(logged.entry, next, before);
+                before = logged.entry.hash;
+                ++next;
+            }
+            going = !entries.empty() && feed_entries(process, entries);
+        }
+    } catch (const std::exception &fault) {
+        const std::lock_guard lock(mutex_);
+        feeding_fault_ = fault.what();
+    }
+    process.close_input();
+}
+
+// None where the stop was asked for.
+std::vector<LoggedEntry> Venue::next_entries(std::uint32_t next, std::unique_ptr<LogReader> &reader,
+                                             const std::stop_token &stop) {
+    if (auto recent = log_.committed(next, stop)) {
+        return std::move(*recent);
+    }
+    if (!reader) {
+        reader = database_.reader();
+    }
+    std::vector<LoggedEntry> old;
+    for (Entry &entry : reader->entries(next, chunk)) {
+        old.push_back({std::move(entry), std::chrono::steady_clock::now()});
+    }
+    if (old.empty()) {
+        throw std::runtime_error(fmt::format("the log has no entry {}", next));
+    }
+    return old;
+}
+
+bool Venue::feed_entries(Process &process, const std::vector<LoggedEntry> &entries) {
+    std::string lines;
+    {
+        const std::lock_guard lock(mutex_);
+        for (const LoggedEntry &logged : entries) {
+            lines.append(logged.entry.line).append("\n");
+            fed_.push_back({logged.entry.place, logged.entry.number.value_or(0), logged.received});
+        }
+    }
+    return process.write(lines);
+}
+
+void Venue::read(Process &process) {
+    std::string buffer;
+    for (;;) {
+        const std::string bytes = process.read_output();
+        if (bytes.empty()) {
+            return;
+        }
+        buffer += bytes;
+        std::string_view rest = buffer;
+        for (std::size_t end = rest.find('\n'); end != std::string_view::npos;
+             end = rest.find('\n')) {
+            take_line(rest.substr(0, end));
+            rest.remove_prefix(end + 1);
+        }
+        buffer.erase(0, buffer.size() - rest.size());
+    }
+}
+
+void Venue::take_line(std::string_view line) {
+    if (line.starts_with("done ") || line.starts_with("fault ")) {
+        take_mark(line);
+        return;
+    }
+    std::string_view frame = line;
+    std::string firm(take_word(frame));
+    std::string bytes(frame);
+    std::replace(bytes.begin(), bytes.end(), '|', soh);
+    Fed entry;
+    {
+        const std::lock_guard lock(mutex_);
+        if (answered_lines_ >= lines_before_ && !fed_.empty()) {
+            entry = fed_.front();
+        }
+    }
+    if (entry.place == 0) {
+        throw std::runtime_error(fmt::format("the venue gave a message for no entry: {}", line));
+    }
+    listener_.venue_gave(entry.place, entry.number, std::move(firm), std::move(bytes));
+}
+
+void Venue::take_mark(std::string_view line) {
+    std::string_view rest = line;
+    const std::string_view verb = take_word(rest);
+    const auto place = number_of(take_word(rest));
+    // The first mark is that of the line `#`.
+    const std::size_t expected = answered_lines_ == 0 ? lines_before_ : answered_lines_ + 1;
+    if (!place || *place != expected) {
+        throw std::runtime_error(
+            fmt::format("the venue gave the mark `{}` where that of line {} was due", line, expected));
+    }
+    if (verb == "fault") {
+        throw std::runtime_error(fmt::format("the venue refuses entry {}: {}",
+                                             expected - lines_before_, rest));
+    }
+    answered_lines_ = expected;
+    if (answered_lines_ == lines_before_) {
+        listener_.venue_answered(0, std::nullopt);
+        return;
+    }
+    std::optional<Moment> deadline;
+    if (!rest.empty()) {
+        deadline = moment_of(rest);
+        if (!deadline) {
+            throw std::runtime_error(fmt::format("the venue gave the mark `{}`", line));
+        }
+    }
+    Fed entry;
+    {
+        const std::lock_guard lock(mutex_);
+        if (!fed_.empty()) {
+            entry = fed_.front();
+            fed_.pop_front();
+        }
+    }
+    if (entry.place == 0) {
+        throw std::runtime_error(fmt::format("the venue gave the mark `{}` for no entry", line));
+    }
+    metrics_.answered(std::chrono::steady_clock::now() - entry.received);
+    listener_.venue_answered(entry.place, deadline);
+}
+
+void Venue::listen_to_errors(Process &process) {
+    std::string line;
+    for (std::string bytes = process.read_errors(); !bytes.empty(); bytes = process.read_errors()) {
+        line += bytes;
+        for (std::size_t end = line.find('\n'); end != std::string::npos; end = line.find('\n')) {
+            take_words(line.substr(0, end));
+            line.erase(0, end + 1);
+        }
+        // A line without an end is told in pieces.
+        if (line.size() > longest_words) {
+            take_words(std::exchange(line, {}));
+        }
+    }
+    if (!line.empty()) {
+        take_words(line);
+    }
+}
+
+void Venue::take_words(const std::string &line) {
+    events_->warn("venue said=\"{}\"", line);
+    const std::lock_guard lock(mutex_);
+    last_words_.append(last_words_.empty() ? "" : " / ").append(line);
+    if (last_words_.size() > longest_words) {
+        last_words_.erase(0, last_words_.size() - longest_words);
+    }
+}
+
+} // namespace gateway

@@ -1,0 +1,107 @@
+// The venue's process: fed with the log, read, and started again where it ends.
+#ifndef GATEWAY_VENUE_H
+#define GATEWAY_VENUE_H
+
+#include "log.h"
+#include "moment.h"
+#include "process.h"
+
+#include <atomic>
+#include <deque>
+#include <functional>
+#include <mutex>
+#include <string>
+#include <thread>
+
+#include <spdlog/logger.h>
+
+namespace gateway {
+
+// What the venue says, told on the thread that reads it.
+class VenueListener {
+  public:
+    virtual ~VenueListener() = default;
+
+    // The process was started; it is fed the log from its beginning. Returns when all that it said
+    // before is in the log.
+    virtual void venue_starts() = 0;
+    // A message for a firm, given for the entry of this place. number is the entry's, that of the
+    // session, or 0. The frame has SOH.
+    virtual void venue_gave(std::uint32_t place, std::uint32_t number, std::string firm,
+                            std::string frame) = 0;
+    // All messages for this entry were given. deadline is the earliest of a request, if there is one.
+    // Place 0: the configuration was read.
+    virtual void venue_answered(std::uint32_t place, std::optional<Moment> deadline) = 0;
+    // The venue is no more, for this cause. Told once.
+    virtual void venue_failed(const std::string &cause) = 0;
+};
+
+// One thread reads the venue, one feeds it. Neither of them waits for a session, and the one that feeds
+// waits for nothing but the log and the pipe.
+class Venue {
+  public:
+    struct Settings {
+        std::vector<std::string> command;
+        std::string configuration; // ends in a line feed
+        unsigned starts = 3;       // within a minute
+    };
+
+    Venue(Settings settings, Database &database, Log &log, const Digest &first_hash,
+          VenueListener &listener, Metrics &metrics, std::shared_ptr<spdlog::logger> events);
+    // Ends the process.
+    ~Venue();
+    Venue(const Venue &) = delete;
+    Venue &operator=(const Venue &) = delete;
+
+    void start();
+    // Feeds no more: the venue answers what it has and ends. Returns when it ended; one that does not
+    // end within ten seconds is killed.
+    void stop();
+
+  private:
+    // An entry that was fed and is not answered yet.
+    struct Fed {
+        std::uint32_t place = 0;
+        std::uint32_t number = 0;
+        std::chrono::steady_clock::time_point received;
+    };
+
+    void run(std::stop_token stop);
+    // From the start of a process to its end; what is thrown is no matter of another start.
+    std::string run_once(std::stop_token stop);
+    void feed(Process &process, std::stop_token stop);
+    bool feed_entries(Process &process, const std::vector<LoggedEntry> &entries);
+    std::vector<LoggedEntry> next_entries(std::uint32_t next, std::unique_ptr<LogReader> &reader,
+                                          const std::stop_token &stop);
+    void read(Process &process);
+    void take_line(std::string_view line);
+    void take_mark(std::string_view line);
+    void listen_to_errors(Process &process);
+    void take_words(const std::string &line);
+    bool may_start();
+
+    Settings settings_;
+    Database &database_;
+    Log &log_;
+    const Digest first_hash_;
+    VenueListener &listener_;
+    Metrics &metrics_;
+    std::shared_ptr<spdlog::logger> events_;
+    const std::size_t lines_before_; // of the venue's input, in front of the first entry
+
+    std::mutex mutex_;
+    std::condition_variable changed_;
+    std::deque<Fed> fed_;
+    std::string feeding_fault_;
+    std::string last_words_;
+    Process *running_ = nullptr;
+    bool ended_ = false;
+    std::size_t answered_lines_ = 0; // of the reading thread
+
+    std::deque<std::chrono::steady_clock::time_point> starts_;
+    std::jthread thread_;
+};
+
+} // namespace gateway
+
+#endif

@@ -1,0 +1,192 @@
+// The log: places without a gap from many threads, commits together, the chain, and a commit that fails.
+//
+// usage: log_test FOLDER [CONNECTION]    SQLite in the folder, or a PostgreSQL database
+#include "check.h"
+#include "log.h"
+
+#include <filesystem>
+#include <iostream>
+
+#include <unistd.h>
+
+namespace gateway::tests {
+
+namespace {
+
+// A database whose writer fails from some commit on.
+class FailingDatabase final : public Database {
+  public:
+    explicit FailingDatabase(int commits) : commits_(commits) {}
+    std::unique_ptr<LogReader> reader() override { return nullptr; }
+    std::unique_ptr<LogWriter> writer() override { return std::make_unique<Writer>(commits_); }
+
+  private:
+    class Writer final : public LogWriter {
+      public:
+        explicit Writer(int commits) : commits_(commits) {}
+        void commit(const Batch &) override {
+            if (--commits_ < 0) {
+                throw std::runtime_error("no room");
+            }
+        }
+
+      private:
+        int commits_;
+    };
+    int commits_;
+};
+
+void check_chain(LogReader &reader, std::uint32_t count) {
+    const std::vector<Entry> entries = reader.entries(0, count + 10);
+    same<std::size_t>(count + 1, entries.size(), "entries");
+    Digest before{};
+    std::string moment;
+    for (std::uint32_t place = 0; place <= count; ++place) {
+        check_link(entries[place], place, before);
+        before = entries[place].hash;
+        check(entries[place].moment >= moment, "a moment falls");
+        moment = entries[place].moment;
+    }
+}
+
+Entry begin_day(Database &database) {
+    Entry first;
+    first.moment = "00:00:00.000";
+    first.line = line_of({"program 1", Digest{}, "version = 1\n"});
+    first.hash = hash_of(first);
+    Batch batch;
+    batch.entries.push_back(first);
+    database.writer()->commit(batch);
+    return first;
+}
+
+void many_threads(Database &database) {
+    constexpr std::uint32_t threads = 4;
+    constexpr std::uint32_t messages = 200;
+    DayClock clock(today());
+    Metrics metrics(0);
+    Log::Start start;
+    start.last = begin_day(database);
+    start.waiting = 16;
+    {
+        Log log(database, clock, metrics, std::move(start),
+                [](const std::string &cause) { std::cerr << cause << '\n'; });
+        std::vector<std::jthread> writers;
+        for (std::uint32_t each = 0; each < threads; ++each) {
+            writers.emplace_back([&log, each] {
+                const std::string firm = fmt::format("F{}", each);
+                for (std::uint32_t number = 1; number <= messages; ++number) {
+                    log.append_message(firm, number, "x");
+                    log.put({firm, number, number, "wire"}, Sent{firm, number, number, "frame"});
+                    log.put_target(firm, number + 1);
+                }
+            });
+        }
+        writers.clear();
+        log.flush();
+        check(!log.append_clock_behind(threads * messages - 1), "a sweep behind an entry");
+        check(log.append_clock_behind(threads * messages), "a sweep behind the last entry");
+    }
+    const auto reader = database.reader();
+    check_chain(*reader, threads * messages + 1);
+    const auto states = reader->states();
+    same<std::size_t>(threads, states.size(), "firms");
+    for (const auto &[firm, state] : states) {
+        same(messages, state.entries, firm + "'s entries");
+        same(messages, state.last_number, firm + "'s last number");
+        same(messages, state.sent, firm + "'s messages");
+        same(messages, state.outgoing, firm + "'s session");
+        same(messages + 1, state.session.target, firm + "'s target");
+    }
+    same<std::string>("frame", reader->sent("F1", messages, 5).at(0).bytes, "a message");
+    same<std::size_t>(3, reader->outgoing("F1", 2, 4).size(), "messages of a session");
+}
+
+void a_commit_that_fails() {
+    FailingDatabase database(1);
+    DayClock clock(today());
+    Metrics metrics(0);
+    std::string told;
+    {
+        Log log(database, clock, metrics, Log::Start{},
+                [&told](const std::string &cause) { told = cause; });
+        log.wait(log.append_message("F", 1, "x"));
+        const auto ticket = log.append_message("F", 2, "x");
+        std::string thrown;
+        try {
+            log.wait(ticket);
+        } catch (const std::runtime_error &fault) {
+            thrown = fault.what();
+        }
+        same<std::string>("the log could not be written: no room", thrown, "the cause");
+        thrown.clear();
+        try {
+            log.append_message("F", 3, "x");
+        } catch (const std::runtime_error &fault) {
+            thrown = fault.what();
+        }
+        check(!thrown.empty(), "a log that failed takes a message");
+    }
+    same<std::string>("the log could not be written: no room", told, "what is told");
+}
+
+void changed_entries() {
+    Entry entry;
+    entry.place = 7;
+    entry.moment = "09:00:00.000";
+    entry.firm = "DLR1";
+    entry.number = 3;
+    entry.line = "hex DLR1 09:00:00.000 00";
+    entry.hash = hash_of(entry);
+    check_link(entry, 7, Digest{});
+    const auto told = [&](const Entry &changed) {
+        try {
+            check_link(changed, 7, Digest{});
+        } catch (const std::runtime_error &fault) {
+            return std::string(fault.what()).find('7') != std::string::npos;
+        }
+        return false;
+    };
+    std::vector<Entry> changed(6, entry);
+    changed[0].line[5] = 'X';
+    changed[1].moment = "09:00:00.001";
+    changed[2].firm = "DLR2";
+    changed[3].number.reset();
+    changed[4].place = 8;
+    changed[5].term = 1;
+    for (const Entry &each : changed) {
+        check(told(each), "a change that is not seen");
+    }
+}
+
+void run(const std::vector<std::string> &arguments) {
+    const std::filesystem::path folder = arguments.at(0);
+    if (arguments.size() > 1) {
+        const auto database =
+            open_postgres(arguments[1], fmt::format("log_test_{}", ::getpid()));
+        many_threads(*database);
+    } else {
+        const std::filesystem::path file = folder / "log_test.db";
+        for (const char *suffix : {"", "-wal", "-shm", ".lock"}) {
+            std::filesystem::remove(file.string() + suffix);
+        }
+        const auto database = open_sqlite(file.string());
+        many_threads(*database);
+    }
+    a_commit_that_fails();
+    changed_entries();
+}
+
+} // namespace
+
+} // namespace gateway::tests
+
+int main(int count, char **words) {
+    try {
+        gateway::tests::run({words + 1, words + count});
+        return 0;
+    } catch (const std::exception &fault) {
+        std::cerr << fault.what() << '\n';
+        return 1;
+    }
+}

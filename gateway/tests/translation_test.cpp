@@ -1,0 +1,118 @@
+// Numbers and times: messages of docs/CONNECTING.md on both sides of the gateway.
+#include "check.h"
+#include "frame.h"
+#include "moment.h"
+#include "translation.h"
+
+#include <iostream>
+
+namespace gateway::tests {
+
+namespace {
+
+// Reads what for_venue() gave; a refusal is told by its tag.
+std::string given(const std::string &message, unsigned number) {
+    const auto result = for_venue(with_soh(message), number);
+    if (const auto *none = std::get_if<NoFrame>(&result)) {
+        return fmt::format("tag {}", none->tag);
+    }
+    return with_bars(std::get<std::string>(result));
+}
+
+// The documents' example of a quote, as an engine sends it: other numbers, microseconds, the session's
+// fields; and as the venue is to get it.
+void a_quote() {
+    const std::string venue =
+        "8=FIXT.1.1|9=109|35=S|49=DLR1|56=VENUE|34=1|52=20250314-09:00:10.000|50=T1|131=R1|117=a1|"
+        "48=BONDA0000001|22=4|133=99.50390625|10=039|";
+    same(venue, given(venue, 1), "a quote as it is");
+    same(venue,
+          given("8=FIXT.1.1|9=0|35=S|49=DLR1|56=VENUE|34=712|43=Y|52=20250314-09:00:10.000123|"
+                "122=20250314-09:00:09|97=Y|50=T1|131=R1|117=a1|48=BONDA0000001|22=4|"
+                "133=99.50390625|10=000|",
+                1),
+          "a quote of an engine");
+}
+
+void every_byte() {
+    for (int byte = 0; byte < 256; ++byte) {
+        if (byte == 1) {
+            continue;
+        }
+        const std::string field = std::string("58=a") + static_cast<char>(byte) + "z\x01";
+        const auto result = for_venue(with_soh("8=FIXT.1.1|9=0|35=Z|34=9|") + field +
+                                          with_soh("10=000|"),
+                                      3);
+        const auto *frame = std::get_if<std::string>(&result);
+        check(frame != nullptr && frame->find(field) != std::string::npos,
+              fmt::format("58 with the byte {}", byte));
+    }
+}
+
+void no_frames() {
+    same<std::string>("tag 117", given("8=FIXT.1.1|9=0|35=Z|34=9|0117=x|10=000|", 1), "a zero");
+    same<std::string>("tag 8", given("8=FIXT.1.1|9=0|35=Z|34=9|8=x|10=000|", 1), "a second 8");
+    // 4,096 bytes are a frame, and one more is none: 8=FIXT.1.1|9=4071|, the body and 10=ccc|.
+    const std::string begin = "8=FIXT.1.1|9=0|35=Z|34=1|58=";
+    const std::size_t text = 4071 - std::string("35=Z|34=1|58=|").size();
+    same(longest_frame, given(begin + std::string(text, 'x') + "|10=000|", 1).size(), "the longest");
+    same<std::string>("tag 9", given(begin + std::string(text + 1, 'x') + "|10=000|", 1),
+                       "one byte more");
+}
+
+void cancel_of_one_that_is_gone() {
+    same<std::string>(
+        "8=FIXT.1.1|9=64|35=Z|49=DLR2|56=VENUE|34=3|52=20250314-09:00:45.000|50=T2|298=4|10=024|",
+        with_bars(cancel_of_all("DLR2", "T2", 3, "20250314-09:00:45.000")), "a cancel of all");
+}
+
+void to_firms() {
+    const auto body = [](const std::string &frame, unsigned refers_to) {
+        return with_bars(for_wire(with_soh(frame), refers_to).body);
+    };
+    same<std::string>("1181=2|131=R1|117=a1|60=20250314-09:00:10.000|297=0|",
+                       body("8=FIXT.1.1|9=73|35=AI|49=VENUE|56=DLR1|34=2|52=20250314-09:00:10.000|"
+                            "131=R1|117=a1|297=0|10=207|",
+                            5),
+                       "an acceptance");
+    same<std::string>(
+        "1181=1|131=R1|146=1|55=[N/A]|48=BONDA0000001|22=4|54=1|38=2000000|"
+        "126=20250314-09:05:00.000|60=20250314-09:00:00.000|453=1|448=INV1|447=D|452=13|",
+        body("8=FIXT.1.1|9=165|35=R|49=VENUE|56=DLR1|34=1|52=20250314-09:00:00.000|131=R1|146=1|"
+             "55=[N/A]|48=BONDA0000001|22=4|54=1|38=2000000|126=20250314-09:05:00.000|453=1|"
+             "448=INV1|447=D|452=13|10=216|",
+             5),
+        "a request, whose 60 is in its group");
+    same<std::string>("1181=6|45=31|371=50|372=Z|373=1|60=20250314-09:01:10.000|",
+                       body("8=FIXT.1.1|9=76|35=3|49=VENUE|56=DLR1|34=6|52=20250314-09:01:10.000|"
+                            "45=4|371=50|372=Z|373=1|10=010|",
+                            31),
+                       "a Reject names the session's number");
+}
+
+void moments() {
+    same<std::string>("09:05:00.007", text_of(Moment{32700007}), "a moment");
+    check(moment_of("23:59:59.999") == Moment{Moment::last}, "the last moment");
+    for (const char *text : {"24:00:00.000", "23:60:00.000", "23:59:60.000", "9:05:00.000", ""}) {
+        check(!moment_of(text), fmt::format("`{}` is a moment", text));
+    }
+}
+
+} // namespace
+
+} // namespace gateway::tests
+
+int main() {
+    try {
+        gateway::tests::a_quote();
+        gateway::tests::every_byte();
+        gateway::tests::no_frames();
+        gateway::tests::cancel_of_one_that_is_gone();
+        gateway::tests::to_firms();
+        gateway::tests::moments();
+        return 0;
+    } catch (const std::exception &fault) {
+        std::cerr << fault.what() << '\n';
+        return 1;
+    }
+}

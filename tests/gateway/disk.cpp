@@ -1,0 +1,125 @@
+// Stands between a process and its database's files, by LD_PRELOAD: it keeps what is on the disk
+// behind each sync, makes syncs slow, and makes the disk full from a given sync on.
+//
+//     DISK_COPIES=FOLDER  behind each sync of a file *.db or *.db-wal: a copy of the file,
+//                         FOLDER/N.db or FOLDER/N.wal, and a line `N KIND BEGAN ENDED` in
+//                         FOLDER/syncs, the nanoseconds of the monotonic clock at which the sync
+//                         began and ended. N counts the syncs from 1
+//     DISK_SLOW=MS        each sync of such a file takes so much longer
+//     DISK_FULL=N         from the end of the Nth sync on, each write to such a file fails: ENOSPC
+#include <dlfcn.h>
+#include <fcntl.h>
+#include <sys/uio.h>
+#include <time.h>
+#include <unistd.h>
+
+#include <atomic>
+#include <cerrno>
+#include <cstdlib>
+#include <filesystem>
+#include <fstream>
+#include <mutex>
+#include <string>
+#include <system_error>
+
+namespace {
+
+std::string path_of(int file) {
+    std::error_code fault;
+    return std::filesystem::read_symlink("/proc/self/fd/" + std::to_string(file), fault).string();
+}
+
+bool ends_with(const std::string &text, const std::string &end) {
+    return text.size() >= end.size() &&
+           text.compare(text.size() - end.size(), end.size(), end) == 0;
+}
+
+// `db`, `wal`, or nothing where the file is none of the database's.
+std::string kind_of(int file) {
+    const int before = errno;
+    const std::string path = path_of(file);
+    errno = before;
+    if (ends_with(path, ".db")) return "db";
+    return ends_with(path, ".db-wal") ? "wal" : "";
+}
+
+long number_in(const char *name) {
+    const char *text = std::getenv(name);
+    return text ? std::atol(text) : 0;
+}
+
+long long nanoseconds() {
+    timespec now{};
+    clock_gettime(CLOCK_MONOTONIC, &now);
+    return now.tv_sec * 1'000'000'000LL + now.tv_nsec;
+}
+
+std::atomic<long> syncs{0};
+std::mutex one_sync;
+
+void keep(int file, const std::string &kind, long number, long long began) {
+    const char *folder = std::getenv("DISK_COPIES");
+    if (!folder) return;
+    const std::string base = std::string(folder) + "/";
+    std::filesystem::copy_file(path_of(file), base + std::to_string(number) + "." + kind,
+                               std::filesystem::copy_options::overwrite_existing);
+    std::ofstream(base + "syncs", std::ios::app)
+        << number << ' ' << kind << ' ' << began << ' ' << nanoseconds() << '\n';
+}
+
+int synced(int file, const char *call) {
+    using Sync = int (*)(int);
+    const auto real = reinterpret_cast<Sync>(dlsym(RTLD_NEXT, call));
+    const std::string kind = kind_of(file);
+    if (kind.empty()) return real(file);
+    const std::lock_guard<std::mutex> lock(one_sync);
+    const long long began = nanoseconds();
+    const long slow = number_in("DISK_SLOW");
+    const timespec pause{slow / 1000, slow % 1000 * 1'000'000};
+    nanosleep(&pause, nullptr);
+    const int result = real(file);
+    if (result == 0) keep(file, kind, ++syncs, began);
+    return result;
+}
+
+bool is_full(int file) {
+    const long from = number_in("DISK_FULL");
+    if (from == 0 || syncs.load() < from || kind_of(file).empty()) return false;
+    errno = ENOSPC;
+    return true;
+}
+
+template <typename Call>
+Call real(const char *name) {
+    return reinterpret_cast<Call>(dlsym(RTLD_NEXT, name));
+}
+
+} // namespace
+
+extern "C" {
+
+int fsync(int file) {
+    return synced(file, "fsync");
+}
+int fdatasync(int file) {
+    return synced(file, "fdatasync");
+}
+
+ssize_t write(int file, const void *data, size_t size) {
+    static const auto call = real<ssize_t (*)(int, const void *, size_t)>("write");
+    return is_full(file) ? -1 : call(file, data, size);
+}
+ssize_t pwrite(int file, const void *data, size_t size, off_t place) {
+    static const auto call = real<ssize_t (*)(int, const void *, size_t, off_t)>("pwrite");
+    return is_full(file) ? -1 : call(file, data, size, place);
+}
+ssize_t pwrite64(int file, const void *data, size_t size, off64_t place) {
+    static const auto call = real<ssize_t (*)(int, const void *, size_t, off64_t)>("pwrite64");
+    return is_full(file) ? -1 : call(file, data, size, place);
+}
+int posix_fallocate(int file, off_t place, off_t size) {
+    static const auto call = real<int (*)(int, off_t, off_t)>("posix_fallocate");
+    return is_full(file) ? ENOSPC : call(file, place, size);
+}
+
+} // extern "C"

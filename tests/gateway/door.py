@@ -1,0 +1,181 @@
+"""The gateway of a test: its configuration, its process, and the process of the venue behind it."""
+
+import json
+import os
+import signal
+import socket
+import subprocess
+from dataclasses import dataclass, field
+from datetime import datetime, timezone
+from pathlib import Path
+
+from firm import Identity
+from ledger import Ledger, read_ledger
+from wait import until, within
+
+
+@dataclass(frozen=True)
+class Programs:
+    """What is tried: the gateway, and the words of the venue's program."""
+
+    gateway: Path
+    venue: tuple[str, ...]
+
+
+def programs_of(gateway: Path, venue: list[str]) -> Programs:
+    """With whole paths: the gateway's configuration is in another folder."""
+    words = [str(Path(word).resolve()) if Path(word).exists() else word for word in venue]
+    return Programs(gateway.resolve(), tuple(words))
+
+
+def today() -> str:
+    return datetime.now(timezone.utc).strftime("%Y%m%d")
+
+
+def free_port() -> int:
+    with socket.socket() as probe:
+        probe.bind(("127.0.0.1", 0))
+        return probe.getsockname()[1]
+
+
+def venue_text(dealers: list[Identity], investors: list[Identity]) -> str:
+    text = 'version = 1\ndate = "%s"\n[[bond]]\nid = "BONDA0000001"\n' % today()
+    for who in dealers:
+        text += '[[dealer]]\nname = "%s"\ntraders = ["%s"]\nquotes = 4096\nexposure = 60000000\n' % (who.name, who.trader)
+    for who in investors:
+        text += '[[investor]]\nname = "%s"\ntraders = ["%s"]\nrequests = 1024\nopen = 64\nquantity = 5000000\n' % (who.name, who.trader)
+    return text
+
+
+def quoted(words: tuple[str, ...]) -> str:
+    return json.dumps(words)  # texts of JSON are texts of TOML
+
+
+@dataclass
+class Door:
+    programs: Programs
+    folder: Path
+    dealers: list[Identity]
+    investors: list[Identity]
+    port: int = field(default_factory=free_port)
+    metrics: int = field(default_factory=free_port)
+    limits: dict[str, int] = field(default_factory=dict)
+    tls: dict[str, str] = field(default_factory=dict)
+    environment: dict[str, str] = field(default_factory=dict)
+    cancelled: dict[str, str] = field(default_factory=dict)  # of a dealer: the trader that cancels when it is gone
+    process: subprocess.Popen | None = None
+    _hashes: dict[str, str] = field(default_factory=dict)
+
+    @property
+    def database(self) -> Path:
+        return self.folder / "day.db"
+
+    @property
+    def told(self) -> Path:
+        """What the gateway wrote to standard output and standard error, of all its starts."""
+        return self.folder / "gateway.told"
+
+    def write(self) -> None:
+        """The gateway's configuration, the firms' credentials, and the venue's own configuration if there is none."""
+        command = quoted((*self.programs.venue, "live", "--frames", "--marks"))
+        text = '[venue]\ncommand = %s\nconfiguration = "venue.toml"\n' % command
+        text += '[log]\nsqlite = "day.db"\n[fix]\nlisten = "127.0.0.1"\nport = %d\ncredentials = "credentials.toml"\n' % self.port
+        if self.tls:
+            text += "[tls]\n" + "".join("%s = %s\n" % item for item in self.tls.items())
+        text += "[limits]\n" + "".join("%s = %d\n" % item for item in self.limits.items())
+        text += "[metrics]\nport = %d\n" % self.metrics
+        (self.folder / "gateway.toml").write_text(text)
+        venue = self.folder / "venue.toml"
+        if not venue.exists():
+            venue.write_text(venue_text(self.dealers, self.investors))
+        self.write_credentials()
+
+    def write_credentials(self) -> None:
+        text = ""
+        for who in self.dealers + self.investors:
+            if who.name not in self._hashes:
+                self._hashes[who.name] = self.hashed(who.password)
+            text += '[%s]\nusername = "%s"\npassword = "%s"\n' % (who.name, who.name, self._hashes[who.name])
+            if who.name in self.cancelled:
+                text += 'cancel_on_disconnect = "%s"\n' % self.cancelled[who.name]
+        file = self.folder / "credentials.toml"
+        file.write_text(text)
+        file.chmod(0o600)
+
+    def hashed(self, password: str) -> str:
+        run = subprocess.run([self.programs.gateway, "--hash"], input=password.encode() + b"\n", capture_output=True, check=True)
+        return run.stdout.decode().strip()
+
+    def start(self) -> None:
+        self.process = subprocess.Popen([self.programs.gateway, self.folder / "gateway.toml"], stdin=subprocess.DEVNULL,
+                                        stdout=self.told.open("ab"), stderr=subprocess.STDOUT, env={**os.environ, **self.environment})
+
+    def is_open(self) -> bool:
+        with socket.socket() as probe:
+            return probe.connect_ex(("127.0.0.1", self.port)) == 0
+
+    def wait_open(self, limit: float = 30) -> None:
+        until("the gateway takes connections", limit, lambda: self.is_open() or self.has_ended())
+        if self.has_ended():
+            raise RuntimeError("the gateway ended: %s" % self.last_words())
+
+    def has_ended(self) -> bool:
+        return self.process is not None and self.process.poll() is not None
+
+    def wait_end(self, limit: float = 30) -> int:
+        """Its status, once it has ended by itself."""
+        until("the gateway ends", limit, self.has_ended)
+        return self.process.returncode
+
+    def last_words(self) -> str:
+        return self.told.read_text(errors="replace")[-2000:]
+
+    def venues(self) -> list[int]:
+        """The processes that the gateway has started."""
+        task = Path("/proc/%d/task/" % self.process.pid)
+        found = []
+        for file in task.glob("*/children"):
+            try:
+                found += [int(word) for word in file.read_text().split()]
+            except (FileNotFoundError, ProcessLookupError):
+                continue
+        return found
+
+    def kill(self) -> None:
+        """Ends the gateway by SIGKILL; its venue has to end by itself."""
+        venues = self.venues()
+        self.process.kill()
+        self.process.wait()
+        until("the venue of a gateway that is gone ends", 20, lambda: not any(is_running(pid) for pid in venues))
+
+    def kill_venue(self) -> bool:
+        """Ends the venue by SIGKILL; whether there was one."""
+        venues = self.venues()
+        for pid in venues:
+            try:
+                os.kill(pid, signal.SIGKILL)
+            except ProcessLookupError:
+                pass
+        return bool(venues)
+
+    def stop(self, limit: float = 30) -> int:
+        self.process.terminate()
+        return self.wait_end(limit)
+
+    def close(self) -> None:
+        """Ends what is still there."""
+        if self.process and not self.has_ended():
+            venues = self.venues()
+            self.process.kill()
+            self.process.wait()
+            within(5, lambda: not any(is_running(pid) for pid in venues))
+
+    def ledger(self) -> Ledger:
+        return read_ledger(self.database)
+
+
+def is_running(pid: int) -> bool:
+    try:
+        return Path("/proc/%d/stat" % pid).read_text().rsplit(")", 1)[1].split()[0] != "Z"
+    except (FileNotFoundError, ProcessLookupError):
+        return False

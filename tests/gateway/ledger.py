@@ -1,0 +1,107 @@
+"""The gateway's log, as it stands in its database, and the venue's own answers over it."""
+
+import sqlite3
+import subprocess
+from dataclasses import dataclass
+from pathlib import Path
+
+from frames import SOH, read_frame
+
+
+@dataclass(frozen=True)
+class Entry:
+    place: int
+    firm: str | None
+    number: int | None  # of the session
+    line: bytes
+
+    @property
+    def is_clock(self) -> bool:
+        return self.line.startswith(b"clock ")
+
+    @property
+    def moment(self) -> str:
+        """The TIME of a step line."""
+        return self.line.split(b" ")[1 if self.is_clock else 2].decode()
+
+    @property
+    def message(self) -> bytes:
+        """The bytes that the venue was given: those of a `hex` line."""
+        return bytes.fromhex(self.line.rsplit(b" ", 1)[1].decode())
+
+
+@dataclass(frozen=True)
+class Ledger:
+    """All that a gateway's log holds."""
+
+    entries: tuple[Entry, ...]
+    sent: dict[str, list[tuple[int, bytes]]]  # of each firm, the venue's number and its frame
+
+    @property
+    def configuration(self) -> bytes:
+        return self.entries[0].line.split(b"%%\n", 1)[1]
+
+    def messages_of(self, firm: str) -> list[Entry]:
+        """The messages that came from a firm's session."""
+        return [entry for entry in self.entries if entry.firm == firm and entry.number is not None]
+
+    def day(self) -> bytes:
+        """The day as the venue reads it."""
+        configuration = self.configuration
+        if not configuration.endswith(b"\n"):
+            configuration += b"\n"
+        return configuration + b"%%\n" + b"".join(entry.line + b"\n" for entry in self.entries[1:])
+
+
+def rows(database: Path, query: str) -> list[tuple]:
+    connection = sqlite3.connect("file:%s?mode=ro" % database, uri=True, timeout=10)
+    try:
+        return connection.execute(query).fetchall()
+    finally:
+        connection.close()
+
+
+def read_ledger(database: Path) -> Ledger:
+    entries = rows(database, "SELECT place, firm, number, line FROM entry ORDER BY place")
+    sent: dict[str, list[tuple[int, bytes]]] = {}
+    for firm, number, data in rows(database, "SELECT firm, number, bytes FROM sent ORDER BY firm, number"):
+        sent.setdefault(firm, []).append((number, bytes(data)))
+    return Ledger(tuple(Entry(place, firm, number, bytes(line)) for place, firm, number, line in entries), sent)
+
+
+def answers(program: list[str], day: bytes) -> dict[str, list[bytes]]:
+    """The frames that the venue's program gives each firm over a day of `live`, by `replay --live`."""
+    run = subprocess.run([*program, "replay", "--live", "--frames"], input=day, capture_output=True, check=True)
+    found: dict[str, list[bytes]] = {}
+    for line in run.stdout.splitlines():
+        firm, _, text = line.partition(b" ")
+        found.setdefault(firm.decode(), []).append(text.replace(b"|", SOH))
+    return found
+
+
+@dataclass(frozen=True)
+class Mark:
+    """Where the venue stands behind an entry."""
+
+    given: dict[str, int]  # how many messages each firm was given until then
+    deadline: str | None  # the earliest of a room that has not ended
+
+
+def marks(program: list[str], day: bytes) -> list[Mark]:
+    """The marks behind the entries of a day, by their places; behind place 0 nothing has come about."""
+    run = subprocess.run([*program, "live", "--frames", "--marks"], input=day, capture_output=True, check=True)
+    found, given = [Mark({}, None)], {}
+    for line in run.stdout.splitlines():
+        words = line.decode(errors="replace").split(" ")
+        if words[0] in ("done", "fault"):
+            found.append(Mark(dict(given), words[2] if words[0] == "done" and len(words) > 2 else None))
+        else:
+            given[words[0]] = given.get(words[0], 0) + 1
+    return found
+
+
+def fields_of(frame: bytes) -> tuple[tuple[int, bytes], ...]:
+    fields = read_frame(frame)
+    if fields is None:
+        raise ValueError("no frame: %r" % frame)
+    return tuple(fields)

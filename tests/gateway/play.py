@@ -1,0 +1,158 @@
+#!/usr/bin/env python3
+"""Plays drawn days of stock initiators over TCP, and ends gateway, venue and initiators by SIGKILL on the way.
+
+usage: play.py GATEWAY PLAYER [--days N] [--messages N] [--ends N] [--seed N] [--keep FOLDER] -- VENUE WORDS ..
+
+At the end of each day every message that an initiator's engine had sent is in the log once, and each initiator
+has the messages of `VENUE WORDS replay --live` over the log: none is missing, none is different, and none came
+under two numbers of the session.
+"""
+
+import argparse
+import random
+import shutil
+import sys
+import tempfile
+import time
+from pathlib import Path
+
+HERE = Path(__file__).resolve().parent
+ROOT = HERE.parent.parent
+sys.dont_write_bytecode = True
+sys.path.insert(0, str(ROOT / "tests" / "model"))
+
+from door import Door, Programs, programs_of
+from firm import Firm, Identity, Places
+from held import count_of
+from market import Act, Market, play
+from settle import settled, wait_all_on
+from wait import TooLong, until, within
+
+DEALERS = [Identity("DLR%d" % n, "T%d" % n, "dealer-%d-secret" % n) for n in range(1, 5)]
+INVESTORS = [Identity("INV%d" % n, "V%d" % n, "investor-%d-secret" % n) for n in range(1, 3)]
+VENUE_ENDS_A_MINUTE = 2  # the gateway takes the third within a minute for a fault of the venue
+SHORT_DEADLINE = 2.0  # seconds: for so long the log is still in the end
+DICTIONARIES = (ROOT / "fix" / "FIXT11.xml", ROOT / "fix" / "MIRESEASON.xml")
+
+
+class Day:
+    """One drawn day: the gateway, its firms, and where they are ended."""
+
+    def __init__(self, programs: Programs, player: Path, folder: Path, seed: int) -> None:
+        self.draw = random.Random("ends of %d" % seed)
+        self.door = Door(programs, folder, DEALERS, INVESTORS)
+        places = Places(player, folder, DICTIONARIES, self.door.port)
+        self.dealers = [Firm(places, who) for who in DEALERS]
+        self.investors = [Firm(places, who) for who in INVESTORS]
+        self.market = Market(seed, self.dealers, self.investors)
+        self.ends = {"gateway": 0, "venue": 0, "initiator": 0}
+        self.venue_ends: list[float] = []
+        self.acts = 0
+
+    @property
+    def firms(self) -> list[Firm]:
+        return self.dealers + self.investors
+
+    def open(self) -> None:
+        self.door.write()
+        self.door.start()
+        self.door.wait_open()
+        for firm in self.firms:
+            firm.start()
+        for firm in self.firms:
+            firm.wait_on()
+
+    def send(self, act: Act) -> None:
+        """Sends a message, and now and then waits until the venue has said something to its firm."""
+        self.acts += 1
+        name, before = "m%d" % self.acts, len(act.firm.received)
+        act.firm.send(name, act.kind, act.fields)
+        act.firm.wait_sent(name)
+        if self.draw.random() < 0.3:
+            within(0.2, lambda: bool(act.firm.look()) or len(act.firm.received) > before)
+
+    def end_one(self) -> None:
+        """Ends something by SIGKILL, and starts it again where nobody else does."""
+        what = self.draw.choice(["gateway", "venue", "initiator"])
+        if what == "venue" and not self.may_end_venue():
+            what = "gateway"
+        self.ends[what] += 1
+        if what == "gateway":
+            self.door.kill()
+            self.door.start()
+        elif what == "venue":
+            self.venue_ends.append(time.monotonic())
+            until("there is a venue", 20, self.door.kill_venue)
+        else:
+            firm = self.draw.choice(self.firms)
+            firm.kill()
+            firm.start()
+        if self.draw.random() < 0.7:
+            wait_all_on(self.door, self.firms)
+
+    def may_end_venue(self) -> bool:
+        now = time.monotonic()
+        return sum(now - then < 70 for then in self.venue_ends) < VENUE_ENDS_A_MINUTE
+
+    def play(self, messages: int, ends: int) -> None:
+        places = set(self.draw.sample(range(1, messages + 1), ends))
+
+        def send(act: Act) -> None:
+            self.send(act)
+            if self.acts in places:
+                self.end_one()
+
+        play(self.market, messages, send)
+
+    def close(self) -> None:
+        for firm in self.firms:
+            if firm.process:
+                firm.kill()
+        self.door.close()
+
+
+def one_day(programs: Programs, player: Path, folder: Path, seed: int, messages: int, ends: int) -> list[str]:
+    day, began = Day(programs, player, folder, seed), time.monotonic()
+    try:
+        day.open()
+        day.play(messages, ends)
+        faults = settled(day.door, day.firms, SHORT_DEADLINE)
+        count, again = sum(count_of(firm) for firm in day.firms), sum(len(firm.received) for firm in day.firms)
+        print("day %d: %d messages of 6 firms, %d distinct ones to them, %d came again; ended %s; %.0f s" % (
+            seed, messages, count, again - count, ", ".join("%s %d" % item for item in day.ends.items()), time.monotonic() - began))
+        return faults
+    except (TooLong, RuntimeError) as fault:
+        return ["%s; the gateway's last words: %s" % (fault, day.door.last_words())]
+    finally:
+        day.close()
+
+
+def read_words() -> argparse.Namespace:
+    parser = argparse.ArgumentParser()
+    parser.add_argument("gateway", type=Path)
+    parser.add_argument("player", type=Path)
+    for name, usual in (("--days", 3), ("--messages", 2000), ("--ends", 40), ("--seed", 1)):
+        parser.add_argument(name, type=int, default=usual)
+    parser.add_argument("--keep", type=Path, help="where the files of days with a fault are put")
+    parser.add_argument("venue", nargs="+")
+    return parser.parse_args()
+
+
+def main() -> None:
+    words, failed = read_words(), 0
+    programs = programs_of(words.gateway, words.venue)
+    for seed in range(words.seed, words.seed + words.days):
+        with tempfile.TemporaryDirectory() as name:
+            folder = Path(name)
+            faults = one_day(programs, words.player.resolve(), folder, seed, words.messages, words.ends)
+            failed += bool(faults)
+            for fault in faults[:20]:
+                print("day %d: %s" % (seed, fault))
+            if faults and words.keep:
+                shutil.copytree(folder, words.keep / ("day%d" % seed))
+    print("%d passed, %d failed" % (words.days - failed, failed))
+    sys.exit(1 if failed else 0)
+
+
+if __name__ == "__main__":
+    main()

@@ -1,0 +1,68 @@
+"""Waits until a day is still, ends the gateway, and tells what is wrong with what its firms have."""
+
+import time
+from collections.abc import Iterator
+
+from door import Door
+from firm import Firm
+from held import clock_faults, count_of, differences, unkept, unlogged
+from ledger import Ledger, answers, marks
+from wait import until, within
+
+LOOKS = 5  # how often a day is looked at until no deadline comes behind its last message
+
+
+def wait_all_on(door: Door, firms: list[Firm], limit: float = 60) -> None:
+    def all_on() -> bool:
+        if door.has_ended():
+            raise RuntimeError("the gateway ended: %s" % door.last_words())
+        return all([firm.logged_on() for firm in firms])
+
+    until("all firms are logged on", limit, all_on)
+
+
+def wait_still(door: Door, seconds: float) -> None:
+    """Waits until the log has had no new entry for so long, if that comes about soon."""
+    seen = [0, time.monotonic()]
+
+    def still() -> bool:
+        count = len(door.ledger().entries)
+        if count != seen[0]:
+            seen[:] = [count, time.monotonic()]
+        return time.monotonic() - seen[1] > seconds
+
+    within(seconds + 15, still)
+
+
+def settled(door: Door, firms: list[Firm], still: float = 0.3) -> list[str]:
+    """The faults of a day, whose gateway has ended behind this, and whose firms' messages were all waited for."""
+    for _ in range(LOOKS):
+        wait_all_on(door, firms)
+        within(20, lambda: not any(True for firm in firms for _ in unlogged(firm, door.ledger())))
+        wait_still(door, still)
+        before = door.ledger()
+        wanted = answers(list(door.programs.venue), before.day())
+        within(20, lambda: all([has_all(firm, wanted) for firm in firms]))
+        status, ledger = door.stop(), door.ledger()
+        if len(ledger.entries) == len(before.entries):
+            return list(faults(door, firms, status, ledger))
+        door.start()  # a deadline came in the meantime
+    return ["the log is never still"]
+
+
+def has_all(firm: Firm, wanted: dict[str, list[bytes]]) -> bool:
+    firm.look()
+    return count_of(firm) >= len(wanted.get(firm.name, []))
+
+
+def faults(door: Door, firms: list[Firm], status: int, ledger: Ledger) -> Iterator[str]:
+    program, day = list(door.programs.venue), ledger.day()
+    wanted = answers(program, day)
+    if status != 0:
+        yield "the gateway ended with status %d" % status
+    for firm in firms:
+        firm.look()
+        yield from differences(firm, wanted.get(firm.name, []), ledger)
+        yield from unlogged(firm, ledger)
+    yield from unkept(ledger, wanted)
+    yield from clock_faults(ledger, marks(program, day))

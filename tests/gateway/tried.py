@@ -1,0 +1,87 @@
+#!/usr/bin/env python3
+"""Puts faults in by hand and looks whether what happens is what docs/CONNECTING.md says.
+
+usage: tried.py GATEWAY PLAYER SHIM [--only WORD] [--quick] [--keep FOLDER] [--jobs N] -- VENUE WORDS ..
+"""
+
+import argparse
+import shutil
+import sys
+import tempfile
+import time
+import traceback
+from collections.abc import Callable
+from concurrent.futures import ThreadPoolExecutor
+from pathlib import Path
+
+HERE = Path(__file__).resolve().parent
+ROOT = HERE.parent.parent
+sys.dont_write_bytecode = True
+sys.path.insert(0, str(ROOT / "tests" / "model"))
+
+import tried_disk
+import tried_log
+import tried_logon
+import tried_messages
+from door import programs_of
+from stage import Stage, Tools, Wrong
+from wait import TooLong
+
+DICTIONARIES = (ROOT / "fix" / "FIXT11.xml", ROOT / "fix" / "MIRESEASON.xml")
+
+
+def outcome(test: Callable[[Stage], None], stage: Stage) -> str | None:
+    """What is wrong, if anything is."""
+    try:
+        test(stage)
+        return None
+    except (Wrong, TooLong) as fault:
+        return str(fault)
+    except Exception:
+        return traceback.format_exc()
+    finally:
+        stage.close()
+
+
+def tried(test: Callable[[Stage], None], tools: Tools, keep: Path | None) -> bool:
+    """Does one test in a folder of its own; whether all was as it has to be."""
+    began = time.monotonic()
+    with tempfile.TemporaryDirectory() as name:
+        fault = outcome(test, Stage(tools, Path(name)))
+        took = time.monotonic() - began
+        if fault is None:
+            print("ok      %s (%.1f s)" % (test.__name__, took), flush=True)
+            return True
+        print("FAILED  %s (%.1f s): %s" % (test.__name__, took, fault), flush=True)
+        if keep:
+            shutil.copytree(name, keep / test.__name__, dirs_exist_ok=True)
+        return False
+
+
+def read_words() -> argparse.Namespace:
+    parser = argparse.ArgumentParser()
+    for name in ("gateway", "player", "shim"):
+        parser.add_argument(name, type=Path)
+    parser.add_argument("--only", default="", help="tests with this word in their names alone")
+    parser.add_argument("--quick", action="store_true", help="the disk is full at a few commits alone")
+    parser.add_argument("--keep", type=Path, help="where the files of tests that fail are put")
+    parser.add_argument("--jobs", type=int, default=1, help="how many tests are done at one time")
+    parser.add_argument("venue", nargs="+")
+    return parser.parse_args()
+
+
+def main() -> None:
+    words = read_words()
+    programs = programs_of(words.gateway, words.venue)
+    tools = Tools(programs, words.player.resolve(), DICTIONARIES, words.shim.resolve())
+    tests = tried_log.TRIED + tried_logon.TRIED + tried_messages.TRIED
+    tests += tried_disk.QUICK if words.quick else tried_disk.TRIED
+    chosen = [test for test in tests if words.only in test.__name__]
+    with ThreadPoolExecutor(words.jobs) as jobs:
+        passed = sum(jobs.map(lambda test: tried(test, tools, words.keep), chosen))
+    print("%d passed, %d failed" % (passed, len(chosen) - passed))
+    sys.exit(1 if passed < len(chosen) else 0)
+
+
+if __name__ == "__main__":
+    main()

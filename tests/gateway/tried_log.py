@@ -1,0 +1,189 @@
+"""Faults of the log and of the day, put in between two starts of the gateway, and its ends."""
+
+import os
+import signal
+import sqlite3
+from collections.abc import Callable
+
+from door import Door, Programs
+from stage import Stage, check
+from wait import until
+
+
+def ended_day(stage: Stage) -> None:
+    """A gateway that has ended behind an auction; its firms try to log on all the time."""
+    stage.open(*stage.firms)
+    stage.auction()
+    check(stage.door.stop() == 0, "the gateway does not end well")
+    for firm in stage.firms:
+        until("%s is logged off" % firm.name, 10, lambda: not firm.logged_on())
+
+
+def nothing_sent(stage: Stage, act: Callable[[], None]) -> None:
+    """Does something in which no firm may log on or be sent anything."""
+    before = [(firm.times_on, len(firm.received)) for firm in stage.firms]
+    act()
+    for firm, was in zip(stage.firms, before):
+        firm.look()
+        check((firm.times_on, len(firm.received)) == was, "%s was logged on or was sent something" % firm.name)
+
+
+def changed(stage: Stage, query: str, *values: object) -> None:
+    connection = sqlite3.connect(stage.door.database)
+    with connection:
+        count = connection.execute(query, values).rowcount
+    connection.close()
+    check(count == 1, "the test changes %d rows" % count)
+
+
+def place_of_a_quote(stage: Stage) -> int:
+    return [entry.place for entry in stage.door.ledger().messages_of("DLR1") if b"\x0135=S\x01" in entry.message][0]
+
+
+def changed_configuration(stage: Stage) -> None:
+    ended_day(stage)
+    file = stage.folder / "venue.toml"
+    text = file.read_text()
+    file.write_text(text.replace("quantity = 5000000", "quantity = 5000001"))
+    nothing_sent(stage, lambda: stage.refused("0", "configuration"))
+    file.write_text(text + "# a comment\n")
+    nothing_sent(stage, lambda: stage.refused("0", "configuration"))
+    file.write_text(text)
+    goes_on(stage)
+
+
+def goes_on(stage: Stage) -> None:
+    """The day goes on, and every firm has what the venue gives over the log."""
+    stage.door.start()
+    for firm in stage.firms:
+        firm.wait_on()
+    stage.auction()
+    stage.whole()
+
+
+def entry_taken_out(stage: Stage) -> None:
+    ended_day(stage)
+    place = place_of_a_quote(stage)
+    changed(stage, "DELETE FROM entry WHERE place = ?", place)
+    nothing_sent(stage, lambda: stage.refused(str(place)))
+
+
+def last_entry_taken_out(stage: Stage) -> None:
+    """Of the last entry no gap tells; the messages that answered it do."""
+    ended_day(stage)
+    last = stage.door.ledger().entries[-1]
+    changed(stage, "DELETE FROM entry WHERE place = ?", last.place)
+    nothing_sent(stage, lambda: stage.refused("INV1|DLR1|DLR2"))
+
+
+def byte_of_an_entry(stage: Stage) -> None:
+    ended_day(stage)
+    place = place_of_a_quote(stage)
+    line = stage.door.ledger().entries[place].line
+    changed(stage, "UPDATE entry SET line = ? WHERE place = ?", line[:-20] + bytes([line[-20] ^ 1]) + line[-19:], place)
+    nothing_sent(stage, lambda: stage.refused(str(place)))
+
+
+def byte_of_sent(stage: Stage) -> None:
+    ended_day(stage)
+    number, frame = stage.door.ledger().sent["DLR1"][1]
+    changed(stage, "UPDATE sent SET bytes = ? WHERE firm = 'DLR1' AND number = ?", frame.replace(b"297=0", b"297=5"), number)
+    nothing_sent(stage, lambda: stage.refused("DLR1", str(number)))
+
+
+def another_program(stage: Stage) -> None:
+    """A venue that answers otherwise than it did: the first answer that differs is named, and no firm sees it."""
+    ended_day(stage)
+    programs = stage.door.programs
+    script = stage.folder / "altered.sh"
+    script.write_text('"$@" | sed -u "s/|297=0|/|297=5|/"\n')
+    stage.door.programs = Programs(programs.gateway, ("sh", str(script), *programs.venue))
+    stage.door.write()
+    nothing_sent(stage, lambda: stage.refused("DLR1|INV1", "2|1"))
+    stage.door.programs = programs
+    stage.door.write()
+    goes_on(stage)
+
+
+def another_log_form(stage: Stage) -> None:
+    ended_day(stage)
+    changed(stage, "UPDATE form SET number = 99")
+    nothing_sent(stage, lambda: stage.refused("form"))
+
+
+def two_gateways(stage: Stage) -> None:
+    """A second gateway on the log of one that runs ends by itself, and the first goes on."""
+    stage.open(*stage.firms)
+    stage.auction()
+    second = Door(stage.door.programs, stage.folder, stage.door.dealers, stage.door.investors)
+    before = stage.door.ledger().entries
+    second.write()
+    second.start()
+    try:
+        check(second.wait_end() == 1, "the second gateway ended with another status")
+    finally:
+        second.close()
+    check(stage.door.ledger().entries == before, "the log is another")
+    stage.door.write()
+    stage.auction()
+    stage.whole()
+
+
+def venue_that_ends(stage: Stage) -> None:
+    """One that is ended is started again; more ends in a minute than the limit are the gateway's end."""
+    stage.door.limits["venue_starts"] = 3
+    stage.open(*stage.firms)
+    for count in range(1, 3):
+        until("there is a venue", 20, stage.door.kill_venue)
+        stage.auction()
+        check(not stage.door.has_ended(), "the gateway ended at the venue's end %d" % count)
+    until("there is a venue", 20, stage.door.kill_venue)
+    check(stage.door.wait_end() == 1, "the gateway ended with another status")
+
+
+def venue_that_says_something(stage: Stage) -> None:
+    """A venue that can't go on: its last words are the gateway's."""
+    words = "import sys; sys.stderr.write('the last words of a venue\\n'); sys.exit(9)"
+    stage.door.programs = type(stage.door.programs)(stage.door.programs.gateway, ("python3", "-c", words))
+    stage.door.write()
+    stage.door.start()
+    check(stage.door.wait_end(60) == 1, "the gateway ended with another status")
+    check("the last words of a venue" in stage.door.last_words(), "it does not tell the venue's last words")
+
+
+def asked_to_end(stage: Stage) -> None:
+    """SIGTERM logs the sessions out; at the next start the day goes on."""
+    ended_day(stage)
+    for firm in stage.firms:
+        check(any(message.kind == b"5" for message in firm.admin), "%s was not logged out" % firm.name)
+    goes_on(stage)
+
+
+def ended_at_once(stage: Stage) -> None:
+    """SIGKILL, in the middle of an auction; the venue ends by itself and the port is free again."""
+    stage.open(*stage.firms)
+    request = stage.ask()
+    stage.quote(stage.dealer, request)
+    stage.door.kill()
+    goes_on(stage)
+
+
+def venue_that_hangs(stage: Stage) -> None:
+    """A venue that is stopped and goes on: nothing is lost, and the sessions stand."""
+    stage.open(*stage.firms)
+    venues = stage.door.venues()
+    for pid in venues:
+        os.kill(pid, signal.SIGSTOP)
+    stage.say(stage.dealer, "Z", [(298, b"4")])
+    before = stage.dealer.times_on
+    until("the message is in the log", 10, lambda: stage.entries_of(stage.dealer) == 1)
+    for pid in venues:
+        os.kill(pid, signal.SIGCONT)
+    stage.answer(stage.dealer, "297=9", lambda message: message.value(297) == b"9")
+    check(stage.dealer.times_on == before, "the session did not stand")
+    stage.auction()
+    stage.whole()
+
+
+TRIED = [changed_configuration, entry_taken_out, last_entry_taken_out, byte_of_an_entry, byte_of_sent, another_program,
+         another_log_form, two_gateways, venue_that_ends, venue_that_says_something, venue_that_hangs, asked_to_end, ended_at_once]

@@ -1,0 +1,251 @@
+"""Faults before a session stands: credentials, firms, connections without an end, and TLS."""
+
+import ssl
+import subprocess
+from pathlib import Path
+
+from firm import Firm, Identity, Received
+from stage import DEALER, INVESTOR, LOGON_SECONDS, OTHER, Stage, check, quiet
+from wait import until, within
+from wire import Wire
+
+SLACK = 3  # seconds that a limit of the gateway may be late
+MOST_GROWTH = 24 * 2**20
+
+
+def is_logout(message: Received) -> bool:
+    return message.kind == b"5" and bool(message.value(58))
+
+
+def wrong_password(stage: Stage) -> None:
+    """A stock initiator is logged out with a text, again and again, and never on."""
+    stage.open(stage.other)
+    before = stage.counters()
+    stage.dealer = stage.firm(Identity(DEALER.name, DEALER.trader, "another"))
+    stage.dealer.start()
+    until("a Logout with a text", 10, lambda: stage.dealer.look() is None and any(map(is_logout, stage.dealer.admin)))
+    check(stage.dealer.times_on == 0, "it was logged on")
+    check(stage.entries_of(stage.dealer) == 0, "something of it is in the log")
+    check(grown(before, stage.counters()), "no counter has grown")
+    stage.dealer.kill()
+    stage.dealer = stage.firm(DEALER)
+    stage.log_on(stage.dealer)
+    stage.ping(stage.dealer)
+
+
+def grown(before: dict[str, float], after: dict[str, float]) -> list[str]:
+    """Counters of logons that were refused, by what is in their names, that have grown."""
+    names = [name for name in after if any(word in name for word in ("refused", "reject", "failed", "wrong"))]
+    return [name for name in names if after[name] > before.get(name, 0)]
+
+
+def wrong_words(stage: Stage) -> None:
+    """A wrong user, no password, an empty one, and one with any bytes."""
+    stage.open(stage.other)
+    tries = [(b"secret", b"other"), (None, None), (b"", None), (bytes(range(2, 256)), None), (OTHER.password.encode(), None)]
+    for password, user in tries:
+        with Wire(stage.door.port) as wire:
+            wire.logon(DEALER.name.encode(), password, user)
+            message = wire.read_kind(b"5")
+            check(message is not None and message.value(58), "no Logout with a text for %r" % password)
+            check(wire.closed_within(SLACK), "the connection stays for %r" % password)
+    stage.ping(stage.other)
+    stage.log_on(stage.dealer)
+    stage.ping(stage.dealer)
+
+
+def unknown_firm(stage: Stage) -> None:
+    stage.open(stage.other)
+    for name in (b"NOBODY", b"VENUE", b"", b"dlr1"):
+        before = stage.counters()
+        with Wire(stage.door.port) as wire:
+            wire.logon(name, b"secret")
+            check(wire.closed_within(LOGON_SECONDS + SLACK), "the connection of %r stays" % name)
+            check(wire.waiting == b"", "%r was told %r" % (name, wire.waiting))
+        check(grown(before, stage.counters()), "no counter has grown for %r" % name)
+    stage.ping(stage.other)
+
+
+def second_connection(stage: Stage) -> None:
+    stage.open(stage.dealer)
+    times = stage.dealer.times_on
+    for _ in range(3):
+        with Wire(stage.door.port) as wire:
+            wire.logon(DEALER.name.encode(), DEALER.password.encode())
+            check(wire.closed_within(LOGON_SECONDS + SLACK), "the second connection stays")
+            check(b"\x0135=A\x01" not in wire.waiting, "the second connection was logged on")
+        stage.ping(stage.dealer)
+    check(stage.dealer.is_on and stage.dealer.times_on == times, "the first connection was disturbed")
+
+
+def numbers_are_not_reset(stage: Stage) -> None:
+    """141=Y within the day, and a Logon under a number that came before: a Logout with a text, and the numbers stand."""
+    stage.open(*stage.firms)
+    stage.ping(stage.dealer)
+    stage.log_off(stage.dealer)
+    for number, more in ((1, [(141, b"Y")]), (1, [])):
+        with Wire(stage.door.port) as wire:
+            wire.number = number
+            wire.logon(DEALER.name.encode(), DEALER.password.encode(), more=more)
+            message = wire.read_kind(b"5")
+            check(message is not None and message.value(58), "no Logout with a text")
+            check(wire.closed_within(SLACK), "the connection stays")
+    stage.log_on(stage.dealer)
+    stage.auction()
+    stage.whole()
+
+
+def half_a_logon(stage: Stage) -> None:
+    """Connections that say nothing, or half a Logon, end at the limit; nobody waits for them."""
+    stage.open()
+    with Wire(stage.door.port) as silent, Wire(stage.door.port) as half:
+        half.raw(b"8=FIXT.1.1\x019=100\x0135=A\x0149=DLR1\x01")
+        stage.log_on(stage.other)
+        stage.ping(stage.other)
+        check(half.closed_within(LOGON_SECONDS + SLACK), "half a Logon stays")
+        check(silent.closed_within(SLACK), "a silent connection stays")
+    stage.log_on(stage.dealer)
+
+
+def endless_logon(stage: Stage) -> None:
+    """Bytes that never become a Logon: the connection ends, and memory does not grow with them."""
+    stage.open(stage.other)
+    for begin in (b"8=FIXT.1.1\x019=999999999\x0135=A\x01", b"8=FIXT.1.1\x019=", b"x", b"8=FIXT.1.1\x019=5\x0135=A\x01\x0110="):
+        before = stage.memory()
+        with Wire(stage.door.port) as wire:
+            wire.raw(begin)
+            taken = sum(wire.raw(b"z" * 65536) for _ in range(1024) if not wire.closed_within(0))
+            check(taken < 1024 or wire.closed_within(LOGON_SECONDS + SLACK), "64 MiB behind %r are taken" % begin)
+        check(stage.memory() - before < MOST_GROWTH, "%d bytes of memory more behind %r" % (stage.memory() - before, begin))
+    stage.ping(stage.other)
+
+
+def many_connections(stage: Stage) -> None:
+    """As many silent connections as the limit allows, and more: a firm logs on once they have ended."""
+    stage.door.limits["connections"] = 40
+    stage.open(stage.other)
+    wires = [Wire(stage.door.port) for _ in range(100)]
+    stage.ping(stage.other)
+    for wire in wires:
+        check(wire.closed_within(LOGON_SECONDS + SLACK), "a silent connection stays")
+        wire.socket.close()
+    stage.log_on(stage.dealer)
+    stage.ping(stage.dealer)
+
+
+def beyond_the_loopback(stage: Stage) -> None:
+    stage.door.write()
+    file = stage.folder / "gateway.toml"
+    text = file.read_text()
+    file.write_text(text.replace('listen = "127.0.0.1"', 'listen = "0.0.0.0"'))
+    stage.refused("plain_tcp_beyond_loopback|loopback")
+
+
+# ---------------------------------------------------------------- TLS
+
+
+def openssl(folder: Path, *words: str) -> None:
+    subprocess.run(["openssl", *words], cwd=folder, check=True, capture_output=True)
+
+
+def authority(folder: Path, name: str) -> None:
+    openssl(folder, "req", "-x509", "-newkey", "rsa:2048", "-nodes", "-keyout", name + ".key", "-out", name + ".pem", "-days", "2",
+            "-subj", "/CN=" + name)
+
+
+def certificate(folder: Path, name: str, common: str, signer: str) -> None:
+    """A key and a certificate of this common name by an authority."""
+    openssl(folder, "req", "-newkey", "rsa:2048", "-nodes", "-keyout", name + ".key", "-out", name + ".csr", "-subj", "/CN=" + common)
+    openssl(folder, "x509", "-req", "-in", name + ".csr", "-CA", signer + ".pem", "-CAkey", signer + ".key", "-CAcreateserial",
+            "-days", "2", "-out", name + ".pem")
+
+
+def with_tls(stage: Stage) -> None:
+    """A gateway that asks for certificates, and the keys of its firms and of strangers."""
+    folder = stage.folder
+    for name in ("authority", "stranger"):
+        authority(folder, name)
+    certificate(folder, "venue", "localhost", "authority")
+    for firm in stage.firms:
+        certificate(folder, firm.name, firm.name, "authority")
+        secured(firm, folder, firm.name)
+    certificate(folder, "strange", DEALER.name, "stranger")
+    stage.door.tls = {"certificate": '"venue.pem"', "key": '"venue.key"', "authorities": '"authority.pem"', "client_certificates": "true"}
+
+
+def secured(firm: Firm, folder: Path, name: str) -> None:
+    firm.tls = True
+    firm.more = {"CertificationAuthoritiesFile": str(folder / "authority.pem"), "ClientCertificateFile": str(folder / (name + ".pem")),
+                 "ClientCertificateKeyFile": str(folder / (name + ".key")), "SSLProtocol": "TLSv1_2"}
+
+
+def context(folder: Path, name: str | None) -> ssl.SSLContext:
+    found = ssl.create_default_context(cafile=folder / "authority.pem")
+    found.check_hostname = False
+    if name:
+        found.load_cert_chain(folder / (name + ".pem"), folder / (name + ".key"))
+    return found
+
+
+def by_tls(stage: Stage) -> None:
+    with_tls(stage)
+    stage.open(*stage.firms)
+    stage.auction()
+
+
+def certificate_of_another_firm(stage: Stage) -> None:
+    """The right password behind another firm's certificate."""
+    with_tls(stage)
+    stage.open(stage.investor)
+    before = stage.counters()
+    with Wire(stage.door.port, context(stage.folder, OTHER.name)) as wire:
+        wire.logon(DEALER.name.encode(), DEALER.password.encode())
+        message = wire.read_kind(b"5")
+        check(message is not None and message.value(58), "no Logout with a text")
+        check(wire.closed_within(LOGON_SECONDS + SLACK), "the connection stays")
+    check(grown(before, stage.counters()), "no counter has grown")
+    stage.log_on(stage.dealer, stage.other)
+    stage.auction()
+
+
+def certificate_of_another_authority(stage: Stage) -> None:
+    with_tls(stage)
+    stage.open(stage.investor)
+    for name in ("strange", None):
+        check(not gets_a_logon(stage, name), "it was logged on with the certificate %r" % name)
+    stage.log_on(stage.dealer, stage.other)
+    stage.auction()
+
+
+def gets_a_logon(stage: Stage, name: str | None) -> bool:
+    """Whether a Logon is answered on a connection with this certificate."""
+    try:
+        with Wire(stage.door.port, context(stage.folder, name)) as wire:
+            wire.logon(DEALER.name.encode(), DEALER.password.encode())
+            over = wire.closed_within(LOGON_SECONDS + SLACK)
+            check(over or b"\x0135=A\x01" in wire.waiting, "the connection stays without an answer")
+            return b"\x0135=A\x01" in wire.waiting
+    except (ssl.SSLError, OSError):
+        return False
+
+
+def plain_to_tls(stage: Stage) -> None:
+    """Plain TCP, and connections that begin no handshake: closed at the limit, and no other handshake waits for them."""
+    with_tls(stage)
+    stage.open(stage.investor)
+    silent = [Wire(stage.door.port) for _ in range(8)]
+    with Wire(stage.door.port) as plain:
+        plain.logon(DEALER.name.encode(), DEALER.password.encode())
+        stage.dealer.start()
+        check(within(LOGON_SECONDS - 1, stage.dealer.logged_on), "a handshake waits for connections that begin none")
+        check(plain.closed_within(LOGON_SECONDS + SLACK), "a plain connection stays")
+        check(b"35=A" not in plain.waiting, "a plain Logon was answered")
+    for wire in silent:
+        check(wire.closed_within(LOGON_SECONDS + SLACK), "a connection without a handshake stays")
+        wire.socket.close()
+    quiet(stage, [stage.investor], lambda: stage.ping(stage.dealer))
+    check(INVESTOR.name == stage.investor.name and stage.investor.is_on, "another session was disturbed")
+
+
+TRIED = [wrong_password, wrong_words, unknown_firm, second_connection, numbers_are_not_reset, half_a_logon, endless_logon, many_connections,
+         beyond_the_loopback, by_tls, certificate_of_another_firm, certificate_of_another_authority, plain_to_tls]

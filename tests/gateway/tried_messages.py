@@ -1,0 +1,386 @@
+"""Messages of a session that stands: what is odd in them, and firms that are away."""
+
+import threading
+
+from firm import Received
+from frames import read_frame
+from held import milliseconds
+from ledger import answers
+from market import moment_in
+from stage import DEALER, Stage, check, quiet
+from wait import until
+from wire import Fields, Wire, framed, now
+
+TEXT = 58
+
+
+def logged(stage: Stage, number: int) -> bytes:
+    """The bytes that the venue was given of DLR1's message under this number of the session."""
+    entries = [entry for entry in stage.door.ledger().messages_of("DLR1") if entry.number == number]
+    check(len(entries) == 1, "%d entries under the session's number %d" % (len(entries), number))
+    return entries[0].message
+
+
+def text_of(message: bytes) -> bytes | None:
+    return dict(read_frame(message) or []).get(TEXT)
+
+
+# ---------------------------------------------------------------- odd messages of stock initiators
+
+
+def every_byte_in_text(stage: Stage) -> None:
+    """Each value of a byte but SOH in 58: answered as without it, in the log as it came, and nobody else hears of it."""
+    stage.open(*stage.firms)
+    cancel: Fields = [(298, b"5"), (117, b"none")]
+
+    def send_all() -> None:
+        for byte in range(256):
+            if byte == 1:
+                continue
+            text = b"a" + bytes([byte]) + b"z"
+            number = stage.say(stage.dealer, "Z", cancel + [(TEXT, text)])
+            until("an entry for the byte %d" % byte, 10, lambda: stage.has_entry(stage.dealer, number))
+            check(text_of(logged(stage, number)) == text, "58 with the byte %d is %r in the log" % (byte, logged(stage, number)))
+
+    quiet(stage, [stage.other, stage.investor], send_all)
+    until("255 answers", 10, lambda: stage.dealer.look() is None and len(stage.dealer.received) >= 255)
+    check({message.value(297) for message in stage.dealer.received} == {b"9"}, "one of 255 cancels is answered otherwise")
+    stage.whole()
+
+
+def another_firms_words(stage: Stage) -> None:
+    """Bars, line feeds and lines of steps in 58 are no message of another firm."""
+    stage.open(*stage.firms)
+    request = stage.ask()
+    for dealer in (stage.dealer, stage.other):
+        stage.quote(dealer, request)
+    texts = [b"x\nhex DLR2 09:00:00 00", b"x\nsay DLR2 T2 09:00:00 Z 298=4", b"x|34=7|", b"x\r\n%%\r\n", b"\n\n\n", b"# x\n#", b"x\nclock 23:59:59\n"]
+
+    def send_all() -> None:
+        for text in texts:
+            stage.say(stage.dealer, "Z", [(298, b"5"), (117, b"none"), (TEXT, text)])
+        stage.ping(stage.dealer)
+
+    quiet(stage, [stage.other, stage.investor], send_all)
+    stage.whole()
+
+
+def rejected(stage: Stage, number: int) -> bool:
+    """Whether the gateway itself has rejected DLR1's message under this number of the session."""
+    stage.dealer.look()
+    return any(message.kind == b"3" and message.value(45) == b"%d" % number for message in stage.dealer.admin)
+
+
+def five_thousand_bytes(stage: Stage) -> None:
+    """No frame of the venue's: rejected by the gateway, not in the log, and the next message is answered as ever."""
+    stage.open(*stage.firms)
+    for size in (5000, 4097, 10_000):
+        number = stage.say(stage.dealer, "Z", [(298, b"5"), (117, b"none"), (TEXT, b"x" * size)])
+        stage.ping(stage.dealer)
+        check(rejected(stage, number), "the message with a 58 of %d bytes is not rejected" % size)
+        check(all(entry.number != number for entry in stage.door.ledger().messages_of("DLR1")), "it is in the log")
+    stage.ping(stage.other)
+    stage.whole()
+
+
+def about_the_longest_frame(stage: Stage) -> None:
+    """Messages that the gateway's framing makes a frame, or no frame any more: the venue's number follows the venue."""
+    stage.open(*stage.firms)
+    numbers = [stage.say(stage.dealer, "Z", [(298, b"5"), (117, b"none"), (TEXT, b"x" * size)]) for size in range(3950, 4030)]
+    stage.ping(stage.dealer)
+    answers_to = sum(message.value(117) == b"none" for message in stage.dealer.received)
+    check(0 < answers_to < 80, "%d of 80 were answered" % answers_to)
+    check([rejected(stage, number) for number in numbers] == [False] * answers_to + [True] * (80 - answers_to), "others were rejected")
+    longest = max(len(entry.message) for entry in stage.door.ledger().messages_of("DLR1"))
+    check(longest == 4096, "the longest that was taken has %d bytes" % longest)
+    stage.door.kill()
+    stage.door.start()
+    stage.dealer.wait_on()
+    stage.ping(stage.dealer)
+    stage.whole()
+
+
+def microseconds(stage: Stage) -> None:
+    stage.dealer.more = {"TimestampPrecision": "6"}
+    stage.other.more = {"TimestampPrecision": "9"}
+    stage.open(*stage.firms)
+    stage.auction()
+    for firm in (stage.dealer, stage.other):
+        for entry in stage.door.ledger().messages_of(firm.name):
+            sending = dict(read_frame(entry.message))[52]
+            check(len(sending) == len("20250314-09:00:00.000"), "52 is %r in the log" % sending)
+    stage.whole()
+
+
+def poss_resend(stage: Stage) -> None:
+    """A message by 97=Y is a new one, and the venue judges it: its 117 was used."""
+    stage.open(*stage.firms)
+    request = stage.ask()
+    name = stage.quote(stage.dealer, request)
+    number = stage.say(stage.dealer, "S", [(97, b"Y")] + stage.quote_fields(request, name))
+    answer = stage.answer(stage.dealer, "a refusal", lambda message: message.value(300) is not None)
+    check((answer.value(297), answer.value(300)) == (b"5", b"6"), "it is answered %r" % answer.raw)
+    check(97 not in dict(read_frame(logged(stage, number))), "97 is in the log's frame")
+    stage.whole()
+
+
+def unknown_trader(stage: Stage) -> None:
+    """The venue's Reject names the session's number, also behind a message that never came to the venue."""
+    stage.open(*stage.firms)
+    stage.ping(stage.dealer)
+    stage.say(stage.dealer, "Z", [(298, b"5"), (117, b"none"), (TEXT, b"x" * 5000)])
+    number = stage.say(stage.dealer, "Z", [(298, b"4")], trader="T9")
+    reject = stage.answer(stage.dealer, "a Reject", lambda message: message.kind == b"3")
+    check((reject.value(45), reject.value(371)) == (b"%d" % number, b"50"), "it is %r, of the session's %d" % (reject.raw, number))
+    stage.whole()
+
+
+def reject_for_one_away(stage: Stage) -> None:
+    """A dealer that ends behind its message gets the Reject at its next Logon."""
+    stage.open(*stage.firms)
+    number = stage.say(stage.dealer, "Z", [(298, b"4")], trader="T9")
+    stage.dealer.kill()
+    until("the message is in the log", 10, lambda: stage.entries_of(stage.dealer) == 1)
+    until("the venue has answered", 10, lambda: len(stage.door.ledger().sent.get("DLR1", [])) == 1)
+    stage.auction([stage.other])
+    stage.log_on(stage.dealer)
+    reject = stage.answer(stage.dealer, "a Reject", lambda message: message.kind == b"3")
+    check(reject.value(45) == b"%d" % number, "it is %r, of the session's %d" % (reject.raw, number))
+    stage.auction()
+    stage.whole()
+
+
+def one_that_was_away(stage: Stage) -> None:
+    """What a firm is sent while it is away waits for it, and comes in its order."""
+    stage.open(*stage.firms)
+    stage.log_off(stage.other)
+    stage.ask_of([stage.dealer, stage.other])
+    stage.answer(stage.dealer, "a request", lambda message: message.kind == b"R")
+    stage.log_on(stage.other)
+    stage.answer(stage.other, "a request", lambda message: message.kind == b"R")
+    stage.auction()
+    stage.whole()
+
+
+def sent_while_away(stage: Stage) -> None:
+    """What a firm's engine is told to send while the gateway is away comes to the venue once it is back, in its order."""
+    stage.open(*stage.firms)
+    stage.door.kill()
+    for _ in range(20):
+        stage.say(stage.dealer, "Z", [(298, b"5"), (117, stage.name("x"))])
+    stage.door.start()
+    until("20 answers", 20, lambda: stage.dealer.look() is None and len(stage.dealer.received) >= 20)
+    stage.whole()
+
+
+def gaps_on_both_sides(stage: Stage) -> None:
+    """A firm that missed messages, and whose own were not taken: both are made good within seconds of its Logon."""
+    stage.open(*stage.firms)
+    stage.auction()
+    stage.dealer.kill()
+    stage.ask_of([stage.dealer, stage.other])
+    until("the request is in the log", 10, lambda: len(stage.door.ledger().sent.get("DLR1", [])) == 4)
+    stage.door.kill()
+    stage.dealer.start()
+    names = [stage.name("x") for _ in range(5)]
+    for name in names:
+        stage.say(stage.dealer, "Z", [(298, b"5"), (117, name)])
+    stage.door.start()
+    stage.dealer.wait_on()
+    for name in names:
+        stage.answer(stage.dealer, "what became of a cancel", lambda message: message.value(117) == name, limit=8)
+    stage.answer(stage.dealer, "a request", lambda message: message.kind == b"R" and message.value(131) == b"R2")
+    stage.whole()
+
+
+def deadline_passes(stage: Stage) -> None:
+    """At a deadline one clock line is committed, and the request's end is told; without a deadline none is."""
+    stage.open(*stage.firms)
+    stage.ask(600)
+    stage.ask(1.5)
+    end = stage.answer(stage.investor, "that a request expired", lambda message: message.value(297) == b"7", limit=5)
+    for dealer in (stage.dealer, stage.other):
+        stage.answer(dealer, "that a request expired", lambda message: message.value(694) == b"3")
+    clocks = [entry for entry in stage.door.ledger().entries if entry.is_clock]
+    check(len(clocks) == 1, "%d clock lines" % len(clocks))
+    before, after = milliseconds(clocks[0].moment) - milliseconds(stage.deadline), milliseconds(end.value(60)[9:].decode())
+    check(0 <= before < 1000, "the clock line is %d ms behind the deadline" % before)
+    check(after == milliseconds(clocks[0].moment), "60 of the end is %r" % end.value(60))
+    stage.whole()
+
+
+def deadline_while_away(stage: Stage) -> None:
+    """A deadline that passes while there is no gateway is told once it is back."""
+    stage.open(*stage.firms)
+    stage.ask(1.5)
+    stage.door.kill()
+    until("the deadline has passed", 5, lambda: moment_in(0)[9:].decode() > stage.deadline)
+    stage.door.start()
+    stage.answer(stage.investor, "that a request expired", lambda message: message.value(297) == b"7")
+    stage.whole()
+
+
+def cancelled_for_one_gone(stage: Stage) -> None:
+    """The quotes of a dealer that is gone are cancelled by the trader that the configuration names, if it names one."""
+    stage.door.cancelled = {DEALER.name: DEALER.trader}
+    stage.open(*stage.firms)
+    request = stage.ask()
+    for dealer in (stage.dealer, stage.other):
+        stage.quote(dealer, request)
+    stage.dealer.kill()
+    stage.answer(stage.investor, "that a quote is gone", lambda message: message.value(297) == b"17")
+    stage.other.kill()
+    stage.log_on(stage.dealer, stage.other)
+    gone = stage.answer(stage.dealer, "that its quote is gone", lambda message: message.value(297) == b"17")
+    check(gone.kind == b"AI", "it is %r" % gone.raw)
+    stage.ping(stage.other)
+    check(not any(message.value(297) == b"17" for message in stage.other.received), "the other dealer's quote is gone too")
+    stage.door.stop()
+    stage.door.cancelled = {}  # else the end of the gateway is one of the dealer too
+    stage.door.write_credentials()
+    stage.door.start()
+    stage.whole()
+
+
+# ---------------------------------------------------------------- what no stock engine sends
+
+
+def on_a_wire(stage: Stage, number: int = 1) -> Wire:
+    """A session of DLR1 that begins with this number of its own, and is ready."""
+    wire = Wire(stage.door.port)
+    wire.number = number
+    wire.logon(DEALER.name.encode(), DEALER.password.encode())
+    check(wire.read_kind(b"A") is not None, "no Logon on a wire")
+    wire.read_kind(b"1", limit=1)  # a TestRequest, if one comes behind the Logon
+    return wire
+
+
+def cancel(name: bytes) -> Fields:
+    return [(50, DEALER.trader.encode()), (298, b"5"), (117, name)]
+
+
+def answered(wire: Wire, name: bytes) -> Received:
+    """The venue's answer to a cancel of this name."""
+    message = wire.read_until(lambda message: message.value(117) == name)
+    check(message is not None, "no answer to %r" % name)
+    return message
+
+
+def poss_dup(stage: Stage) -> None:
+    """43=Y under a number that came before is dropped, and is not in the log again."""
+    stage.open(stage.other, stage.investor)
+    with on_a_wire(stage) as wire:
+        number = wire.number
+        wire.raw(wire.message(b"Z", b"DLR1", cancel(b"one")))
+        answered(wire, b"one")
+        again = [(43, b"Y"), (122, now())] + cancel(b"one")
+        wire.raw(wire.message(b"Z", b"DLR1", again, number=number))
+        wire.raw(wire.message(b"Z", b"DLR1", cancel(b"two")))
+        check(answered(wire, b"two").value(297) == b"9", "the next is not answered as ever")
+        check(stage.entries_of(stage.dealer) == 2, "%d entries" % stage.entries_of(stage.dealer))
+    stage.whole()
+
+
+def no_frames(stage: Stage) -> None:
+    """What can't be parsed never reaches the log; the session goes on with the number that was not used."""
+    stage.open(stage.other, stage.investor)
+    odd = [
+        lambda wire: wire.message(b"Z", b"DLR1", cancel(b"x"), number=wire.number)[:-4] + b"999\x01",  # a wrong sum
+        lambda wire: framed(b"35=Z\x0149=DLR1\x0156=VENUE\x0134=%d\x0152=%s\x01nothing\x01" % (wire.number, now())),
+        lambda wire: framed(b"35=Z\x0149=DLR1\x0156=VENUE\x0134=%d\x0152=%s\x01=x\x01" % (wire.number, now())),
+    ]
+    number = 1
+    for place, bytes_of in enumerate(odd):
+        before = stage.entries_of(stage.dealer)
+        with on_a_wire(stage, number) as wire:
+            wire.raw(bytes_of(wire))
+            wire.raw(wire.message(b"Z", b"DLR1", cancel(b"n%d" % place)))
+            check(answered(wire, b"n%d" % place).value(297) == b"9", "the message behind no frame %d is not answered" % place)
+            number = wire.number
+        check(stage.entries_of(stage.dealer) == before + 1, "no frame %d is in the log" % place)
+    stage.whole()
+
+
+def no_numbers_of_the_venue(stage: Stage) -> None:
+    """What is no frame of the venue's uses up no number of its own: a 34 more, tags that are no tags."""
+    stage.open(stage.other, stage.investor)
+    tails = [b"34=5\x01", b"0117=x\x01", b"1234567890=x\x01", b"8=x\x01", b"9=5\x01", b"5000=\x01"]
+    with on_a_wire(stage) as wire:
+        for place, tail in enumerate(tails):
+            wire.raw(wire.message(b"Z", b"DLR1", cancel(b"x"), tail=tail))
+            name = b"n%d" % place
+            wire.raw(wire.message(b"Z", b"DLR1", cancel(name)))
+            message = answered(wire, name)
+            check(message.value(297) == b"9", "behind %r the answer is %r" % (tail, message.raw))
+    ledger = stage.door.ledger()
+    wanted = answers(list(stage.door.programs.venue), ledger.day())["DLR1"]
+    check(not any(b"\x01371=34\x01" in frame for frame in wanted), "the venue was given a number that it does not expect")
+    stage.whole()
+
+
+def resent_as_it_was(stage: Stage) -> None:
+    """A ResendRequest of all: each message of the venue comes again under its number with 43=Y, its body, and its first 52 in 122."""
+    stage.open(stage.other, stage.investor)
+    with on_a_wire(stage) as wire:
+        wire.raw(wire.message(b"Z", b"DLR1", [(50, b"T9"), (298, b"4")]))
+        first = [wire.read_kind(b"3")]
+        for number in range(5):
+            wire.raw(wire.message(b"Z", b"DLR1", cancel(b"c%d" % number)))
+            first.append(answered(wire, b"c%d" % number))
+        wire.raw(wire.message(b"2", b"DLR1", [(7, b"1"), (16, b"0")]))
+        again = [wire.read_until(lambda message, was=was: message.session_number == was.session_number) for was in first]
+        for message, was in zip(again, first):
+            check(message is not None, "%d does not come again" % was.session_number)
+            check((message.kind, message.body, message.value(43)) == (was.kind, was.body, b"Y"), "%r is sent again as %r" % (was.raw, message.raw))
+            check(message.value(122) == was.value(52), "122 of %r is not the 52 of %r" % (message.raw, was.raw))
+    stage.whole()
+
+
+def faster_than_the_log(stage: Stage) -> None:
+    """Thousands of messages at once, on a slow disk: read no faster than they are committed, and others are served."""
+    stage.door.environment = {"LD_PRELOAD": str(stage.tools.shim), "DISK_SLOW": "20"}
+    stage.open(stage.other, stage.investor)
+    with on_a_wire(stage) as wire:
+        before, count = stage.memory(), 4000
+        data = b"".join(wire.message(b"Z", b"DLR1", cancel(b"c%d" % number) + [(TEXT, b"x" * 3000)]) for number in range(count))
+        sender = threading.Thread(target=wire.raw, args=(data,))
+        sender.start()
+        stage.ping(stage.other)
+        check(wire.read_until(lambda message: message.value(117) == b"c%d" % (count - 1), 60) is not None, "the last is not answered")
+        sender.join()
+        check(stage.memory() - before < 64 * 2**20, "%d bytes of memory more" % (stage.memory() - before))
+    check(stage.entries_of(stage.dealer) == count, "%d of %d are in the log" % (stage.entries_of(stage.dealer), count))
+    stage.whole()
+
+
+def longer_than_the_limit(stage: Stage) -> None:
+    """A message past `message_bytes` ends the connection, and memory does not grow with it."""
+    stage.open(stage.other, stage.investor)
+    with on_a_wire(stage) as wire:
+        before = stage.memory()
+        wire.raw(b"8=FIXT.1.1\x019=900000000\x0135=Z\x0149=DLR1\x01")
+        taken = sum(wire.raw(b"z" * 65536) for _ in range(1024) if not wire.closed_within(0))
+        check(taken < 1024 or wire.closed_within(5), "64 MiB are taken")
+        check(stage.memory() - before < 24 * 2**20, "%d bytes of memory more" % (stage.memory() - before))
+    stage.log_on(stage.dealer)
+    stage.ping(stage.other)
+
+
+def one_that_does_not_read(stage: Stage) -> None:
+    """A firm that takes no byte is disconnected at a limit, the others are served, and it is sent all at its next Logon."""
+    stage.door.limits["send_seconds"] = 2
+    stage.open(stage.other, stage.investor)
+    with on_a_wire(stage) as wire:
+        wire.socket.setsockopt(1, 8, 2048)  # SOL_SOCKET, SO_RCVBUF
+        count = 0
+        while count < 3000 and wire.raw(wire.message(b"Z", b"DLR1", cancel(b"x" * 40))):
+            count += 1
+        stage.ping(stage.other)
+        check(stage.memory() < 512 * 2**20, "%d bytes of memory" % stage.memory())
+    stage.auction([stage.other])
+
+
+TRIED = [every_byte_in_text, another_firms_words, five_thousand_bytes, about_the_longest_frame, microseconds, poss_resend,
+         unknown_trader, reject_for_one_away, one_that_was_away, sent_while_away, gaps_on_both_sides,
+         deadline_passes, deadline_while_away, cancelled_for_one_gone, poss_dup, no_frames,
+         no_numbers_of_the_venue, resent_as_it_was, faster_than_the_log, longer_than_the_limit, one_that_does_not_read]

@@ -1,0 +1,28 @@
+"""Waits: on a condition, and never longer than a limit."""
+
+import time
+from collections.abc import Callable
+
+STEP = 0.01
+
+
+class TooLong(Exception):
+    """A condition did not come about within its limit."""
+
+
+def until(what: str, limit: float, holds: Callable[[], bool]) -> None:
+    """Waits until the condition holds; TooLong with what was waited for."""
+    end = time.monotonic() + limit
+    while not holds():
+        if time.monotonic() > end:
+            raise TooLong("%s: not within %g s" % (what, limit))
+        time.sleep(STEP)
+
+
+def within(limit: float, holds: Callable[[], bool]) -> bool:
+    """Whether the condition comes about within this time."""
+    try:
+        until("", limit, holds)
+    except TooLong:
+        return False
+    return True

@@ -1,0 +1,137 @@
+"""The commands but `live`: an input to the lines that are printed."""
+
+import functools
+from collections.abc import Iterable, Iterator
+from dataclasses import dataclass
+from typing import BinaryIO
+
+from configuration import Configuration
+from inputs import Fault, Part, configuration_of, numbered_lines, parts_of_input, read_head
+from live import audited
+from lines import (LineFault, StepReader, dealer_blotter, due_text, investor_blotter, message_line, numbered,
+                   read_due_text)
+from replay import Venue, alone
+
+
+@dataclass(frozen=True)
+class Streams:
+    """What a command reads, and where it tells of lines that it skips."""
+
+    input: BinaryIO
+    errors: BinaryIO
+
+
+def firm_of(configuration: Configuration, word: bytes, dealer: bool = False) -> int:
+    firm = configuration.firm(word)
+    if firm is None or (dealer and not configuration.is_dealer(firm)):
+        raise Fault("firm: " + word.decode())
+    return firm
+
+
+# ---------------------------------------------------------------- days
+
+
+def steps_of(configuration: Configuration, part: Part) -> list[tuple]:
+    reader, steps = StepReader(configuration), []
+    for number, line in numbered(part.lines, part.first):
+        try:
+            steps += reader.steps(line)
+        except LineFault as fault:
+            raise Fault("line %d: %s" % (number, fault.args[0])) from None
+    return steps
+
+
+@functools.lru_cache(maxsize=2)  # several commands may ask for one day
+def configured(part: Part) -> Configuration:
+    return configuration_of(part.lines)
+
+
+@functools.lru_cache(maxsize=2)
+def replayed(configuration: Configuration, part: Part) -> Venue:
+    venue = Venue(configuration)
+    for kind, *step in steps_of(configuration, part):
+        if kind != "turn":
+            getattr(venue, kind)(*step)
+            continue
+        actor, times = step
+        for _ in range(times):
+            if not venue.turn(actor):
+                break
+    return venue
+
+
+def a_day(streams: Streams, live: bool, word: bytes | None = None, dealer: bool = False) -> tuple[Venue, int | None]:
+    """The venue after the steps of the input, and the number of the firm that the word names."""
+    if live:
+        lines = numbered_lines(streams.input)
+        configuration = read_head(lines)
+        firm = None if word is None else firm_of(configuration, word, dealer)
+        return audited(configuration, lines, streams.errors), firm
+    first, second = parts_of_input(streams.input, 2)
+    configuration = configured(first)
+    firm = None if word is None else firm_of(configuration, word, dealer)
+    return replayed(configuration, second), firm
+
+
+def two_days(streams: Streams, live: bool, word: bytes) -> Iterator[tuple[Venue, int]]:
+    """Two days, and the dealer's number in each."""
+    if live:
+        lines = numbered_lines(streams.input)
+        for last in (False, True):
+            configuration = read_head(lines)
+            dealer = firm_of(configuration, word, dealer=True)
+            yield audited(configuration, lines, streams.errors, last), dealer
+        return
+    parts = parts_of_input(streams.input, 4)
+    for first, second in (parts[:2], parts[2:]):
+        configuration = configured(first)
+        dealer = firm_of(configuration, word, dealer=True)
+        yield replayed(configuration, second), dealer
+
+
+# ---------------------------------------------------------------- commands: each answers lines
+
+
+def do_alone(streams: Streams, frames: bool) -> Iterable[bytes]:
+    (part,) = parts_of_input(streams.input, 1)
+    try:
+        date, row, due = read_due_text(part.lines, part.first)
+    except LineFault as fault:
+        raise Fault("line %d: %s" % (fault.args[1], fault.args[0])) from None
+    return [message_line(row.name, fields, frames) for fields in alone(date, row, due).sent]
+
+
+def do_replay(streams: Streams, frames: bool, live: bool, word: bytes | None = None) -> Iterable[bytes]:
+    venue, firm = a_day(streams, live, word)
+    desks = venue.desks if firm is None else [venue.desks[firm]]
+    return [message_line(desk.row.name, fields, frames) for desk in desks for fields in desk.sent]
+
+
+def do_due(streams: Streams, live: bool, word: bytes) -> Iterable[bytes]:
+    venue, dealer = a_day(streams, live, word, dealer=True)
+    configuration = venue.configuration
+    return due_text(configuration.date, configuration.firms[dealer], venue.due[dealer])
+
+
+def do_blotter(streams: Streams, live: bool, word: bytes) -> Iterable[bytes]:
+    venue, firm = a_day(streams, live, word)
+    dealer = venue.configuration.is_dealer(firm)
+    return (dealer_blotter if dealer else investor_blotter)(venue.desks[firm])
+
+
+def do_compare(streams: Streams, live: bool, word: bytes) -> Iterable[bytes]:
+    days = []
+    for venue, dealer in two_days(streams, live, word):
+        row = venue.configuration.date, venue.configuration.firms[dealer]
+        days.append((row, venue.due[dealer], venue.desks[dealer].frames()))
+    (row_a, due_a, sent_a), (row_b, due_b, sent_b) = days
+    yield b"row equal" if row_a == row_b else b"row differs"
+    yield difference(b"due equal", b"due differs", due_a, due_b)
+    yield difference(b"messages equal", b"messages differ", sent_a, sent_b)
+
+
+def difference(equal: bytes, differ: bytes, a: list, b: list) -> bytes:
+    for position in range(max(len(a), len(b))):
+        if a[position : position + 1] != b[position : position + 1]:
+            return b"%s at %d" % (differ, position + 1)
+    return equal
