@@ -11,6 +11,7 @@ use clap::{Arg, ArgAction, Command, Error};
 use fix_fields::Memory;
 use std::alloc::Global;
 use std::convert::AsStr;
+use venue_text::LiveForm;
 
 /// What a command asks for.
 #[derive(Clone, Copy)]
@@ -38,6 +39,8 @@ pub(crate) enum VenueCommand<'a> {
     Live {
         /// Each message is printed as its whole frame.
         frames: bool,
+        /// Behind those of a line stands its mark.
+        marks: bool,
     },
     /// The due text of a dealer.
     Due {
@@ -74,6 +77,8 @@ pub(crate) struct Flags {
     pub(crate) frames: bool,
     /// `--woven`: behind the messages of a day stands into how many steps it is woven.
     pub(crate) woven: bool,
+    /// `--marks`: behind the messages of a line stands its mark.
+    pub(crate) marks: bool,
 }
 
 /// The command that arguments ask for, or what is wrong with arguments that are not those of one.
@@ -93,7 +98,12 @@ pub(crate) fn read_command<'a, S: AsStr>(
     };
     let frames = words.get_flag("frames");
     let woven = words.get_flag("woven");
-    let flags = Flags { frames, woven };
+    let marks = words.get_flag("marks");
+    let flags = Flags {
+        frames,
+        woven,
+        marks,
+    };
     let command = command_named(name, words.get_str("firm"), flags);
     Ok(command)
 }
@@ -123,6 +133,7 @@ fn command_named<'a>(name: &str, firm: Option<&'a str>, flags: Flags) -> VenueCo
     if name == "live" {
         return VenueCommand::Live {
             frames: flags.frames,
+            marks: flags.marks,
         };
     }
     let word = firm.unwrap_or("");
@@ -135,12 +146,15 @@ fn command_named<'a>(name: &str, firm: Option<&'a str>, flags: Flags) -> VenueCo
     VenueCommand::Blotter { firm: word }
 }
 
-/// Whether a command is `live`, and whether it prints whole frames then.
-pub(crate) fn form_of_live(command: &VenueCommand<'_>) -> Option<bool>
+/// Whether a command is `live`, and the form that it prints in then.
+pub(crate) fn form_of_live(command: &VenueCommand<'_>) -> Option<LiveForm>
     ensures { result ≡ spec.live_form (spec.meant command.now) }
 {
     match command {
-        VenueCommand::Live { frames } => Some(*frames),
+        VenueCommand::Live { frames, marks } => Some(LiveForm {
+            frames: *frames,
+            marks: *marks,
+        }),
         VenueCommand::Alone { .. } => None,
         VenueCommand::Replay { .. } => None,
         VenueCommand::Day { .. } => None,

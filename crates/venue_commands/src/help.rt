@@ -27,6 +27,9 @@ pub(crate) const FRAMES: &str =
 pub(crate) const WOVEN: &str =
     "Prints behind the messages `woven N`: N steps in a row send every firm the same";
 
+pub(crate) const MARKS: &str =
+    "Prints a mark behind each line of steps: it is done, or at fault";
+
 pub(crate) const FIRM: &str = "The name of a dealer or of an investor of the configuration";
 
 pub(crate) const DEALER: &str = "The name of a dealer of the configuration";
