@@ -37,10 +37,8 @@ pub(crate) enum VenueCommand<'a> {
     },
     /// A day that goes on: the messages of each line as it comes.
     Live {
-        /// Each message is printed as its whole frame.
-        frames: bool,
-        /// Behind those of a line stands its mark.
-        marks: bool,
+        /// How it is printed.
+        form: LiveForm,
     },
     /// The due text of a dealer.
     Due {
@@ -132,8 +130,7 @@ fn command_named<'a>(name: &str, firm: Option<&'a str>, flags: Flags) -> VenueCo
     }
     if name == "live" {
         return VenueCommand::Live {
-            frames: flags.frames,
-            marks: flags.marks,
+            form: form_by(flags),
         };
     }
     let word = firm.unwrap_or("");
@@ -146,15 +143,22 @@ fn command_named<'a>(name: &str, firm: Option<&'a str>, flags: Flags) -> VenueCo
     VenueCommand::Blotter { firm: word }
 }
 
+/// The form in which `live` prints, by the flags that are given.
+fn form_by(flags: Flags) -> LiveForm
+    ensures { result ≡ spec.form_by flags }
+{
+    LiveForm {
+        frames: flags.frames,
+        marks: flags.marks,
+    }
+}
+
 /// Whether a command is `live`, and the form that it prints in then.
 pub(crate) fn form_of_live(command: &VenueCommand<'_>) -> Option<LiveForm>
     ensures { result ≡ spec.live_form (spec.meant command.now) }
 {
     match command {
-        VenueCommand::Live { frames, marks } => Some(LiveForm {
-            frames: *frames,
-            marks: *marks,
-        }),
+        VenueCommand::Live { form } => Some(*form),
         VenueCommand::Alone { .. } => None,
         VenueCommand::Replay { .. } => None,
         VenueCommand::Day { .. } => None,
@@ -295,6 +299,10 @@ pub fn arguments_have_these_faults()
     ensures woven_twice { spec.arguments_fault
         (codes "day" ∷ codes "--woven" ∷ codes "--woven" ∷ []) ≡ ErrorKind.ArgumentConflict ∷ [] }
     ensures woven_replay { spec.arguments_fault (codes "replay" ∷ codes "--woven" ∷ [])
+        ≡ ErrorKind.UnknownArgument ∷ [] }
+    ensures marks_and_frames { spec.arguments_fault
+        (codes "live" ∷ codes "--marks" ∷ codes "--frames" ∷ []) ≡ [] }
+    ensures marks_of_replay { spec.arguments_fault (codes "replay" ∷ codes "--marks" ∷ [])
         ≡ ErrorKind.UnknownArgument ∷ [] }
     ensures one_argument_more { spec.arguments_fault (codes "alone" ∷ codes "x" ∷ [])
         ≡ ErrorKind.UnknownArgument ∷ [] }

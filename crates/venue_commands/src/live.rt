@@ -1,8 +1,8 @@
 //! The command `live`: a venue that answers line by line.
 ghost use Rattle.std.specs.Prelude.{◌≡◌, ◌≢◌, ◌==◌, ◌<◌, ◌≤◌, ◌+◌, ◌++◌, ◌⊎◌, [], ◌∷◌, length};
 ghost use Rattle.std.specs.Prelude.{IfOk, IfErr, IfSome, OnOk, OnErr};
-ghost use Rattle.std.specs.Io.KnownBytes.{Keeps};
-ghost use Rattle.venue_text.specs.Faults.{told_line};
+ghost use Rattle.std.specs.Io.KnownBytes.{Appends};
+ghost use Rattle.std.specs.Option.{option_to_list};
 ghost use Rattle.venue_text.specs.Lines.{lines_of};
 ghost use Rattle.venue_commands.specs.LiveRuns as spec;
 ghost use Rattle.venue_commands.specs.LiveStages as stages;
@@ -12,7 +12,7 @@ use crate::program::{print_text, report};
 use std::alloc::Global;
 use std::io::{Read, Write};
 use std::mem;
-use venue_text::{LiveDay, LiveForm, MOST_INPUT, ProgramFault, fault_mark, same_text};
+use venue_text::{LiveDay, LiveForm, MOST_INPUT, ProgramFault, same_text};
 
 /// How many lines a day that goes on may have.
 pub const MOST_LINES: usize = 1_000_000_000_000_000;
@@ -254,7 +254,7 @@ fn answer_at<W: Write, E: Write>(
             Ok(())
         }
         Stage::Day(day) => {
-            answer_step(alloc, form, number, day, line, out, err)?;
+            answer_step(alloc, number, day, line, out, err)?;
             Ok(())
         }
     }
@@ -293,10 +293,9 @@ fn put_line(text: &mut Vec<u8>, line: &[u8]) -> Result<(), ProgramFault>
     Ok(())
 }
 
-/// A line of steps is answered, or its fault told.
+/// A line of steps is answered: its fault told, if it has one, and its text printed.
 fn answer_step<W: Write, E: Write>(
     alloc: Global,
-    form: LiveForm,
     number: usize,
     day: &mut LiveDay,
     line: &[u8],
@@ -310,31 +309,33 @@ fn answer_step<W: Write, E: Write>(
         (record { before = W.contents out.old; after = W.contents out.new })
         (record { before = E.contents err.old; after = E.contents err.new })) }
 {
-    let text = match day.answer(alloc, number, line) {
-        Ok(text) => text,
-        Err(fault) => return refuse(alloc, form, number, &fault, out, err),
-    };
-    print_text(out, text.as_slice())?;
+    let answer = day.answer(alloc, number, line)?;
+    tell_fault(err, &answer.fault);
+    print_answer(out, answer.text.as_slice())?;
     Ok(())
 }
 
-/// Tells the fault of a line, and prints its mark; only memory ends the day.
-fn refuse<W: Write, E: Write>(
-    alloc: Global,
-    form: LiveForm,
-    number: usize,
-    fault: &ProgramFault,
-    out: &mut W,
-    err: &mut E,
-) -> Result<(), ProgramFault>
+/// Tells the fault of a line, if it has one.
+fn tell_fault<E: Write>(err: &mut E, fault: &Option<ProgramFault>)
+    ensures { spec.GainsFaults (option_to_list fault.now)
+        (record { before = E.contents err.old; after = E.contents err.new }) }
 {
-    if matches!(fault, ProgramFault::Memory) {
-        return Err(ProgramFault::Memory);
-    }
-    let mark = fault_mark(alloc, form, number, fault)?;
+    let Some(fault) = fault else {
+        return;
+    };
     report(err, b"", fault);
-    if mark.is_empty() {
+}
+
+/// Prints the text of a line; where there is none nothing is written.
+fn print_answer<W: Write>(out: &mut W, text: &[u8]) -> Result<(), ProgramFault>
+    ensures ok { OnOk result (Appends (W.contents out.old) (W.contents out.new) text.now) }
+    ensures err { IfErr result (λ fault. fault ≡ ProgramFault.Write) }
+    ensures part { OnErr result (GainsPart text.now
+        (record { before = W.contents out.old; after = W.contents out.new })) }
+{
+    if text.is_empty() {
         return Ok(());
     }
-    print_text(out, mark.as_slice())
+    print_text(out, text)?;
+    Ok(())
 }

@@ -1,43 +1,13 @@
 -- The input of a day that goes on: a configuration, a line `%%`, and lines of steps. What its lines
 -- have brought so far, one after the other: a lawful line its steps, and a line at fault its fault
 -- and nothing else.
-use Rattle.std.specs.Prelude.{ℕ, ◌+◌, Bool, List, [], ◌∷◌, ◌++◌, length, fold, Ok, Err}
-use Rattle.std.specs.Prelude.{if◌then◌else◌}
+use Rattle.std.specs.Prelude.{ℕ, ◌+◌, Bool, List, [], ◌∷◌, ◌++◌, fold}
 use Rattle.std.specs.List.{list_any}
 use Rattle.venue_config.specs.Rows.{ConfigValues, Configuration, values_of}
-use Rattle.step_replay.specs.declared.steps.Step.{Step}
 use Rattle.venue_text.specs.DueText.{Lines}
-use Rattle.venue_text.specs.Lines.{is_skipped}
-use Rattle.venue_text.specs.LiveLines.{line_text, live_steps_of}
-use Rattle.venue_text.specs.StepLines.{Heard, Read, names_of_firms, nothing_heard}
+use Rattle.venue_text.specs.LiveLines.{Taken, line_text, nothing_taken, with_any_line, with_line}
 use Rattle.venue_text.specs.VenueParts.{InputPart, is_divider, part_before, part_behind, spoken_in, text_of}
-use Rattle.venue_text.specs.declared.faults.ProgramFault.{ProgramFault}
 use Rattle.venue_text.specs.declared.live_form.LiveForm.{LiveForm}
-
--- what lines of steps have brought
-pub record Taken : Type 0 where
-  pub steps : List Step
-  pub heard : Heard
-  pub faults : List ProgramFault
-
--- before the first of them
-abbrev pub nothing_taken : ConfigValues → Taken
-nothing_taken config = record {
-  steps = [];
-  heard = nothing_heard (length (names_of_firms config));
-  faults = [];
-}
-
--- what a line brings, by what it spells
-abbrev pub with_read : Taken → Read → Taken
-with_read taken (Ok read) =
-    record { steps = taken.steps ++ read.0; heard = read.1; faults = taken.faults }
-with_read taken (Err fault) =
-    record { steps = taken.steps; heard = taken.heard; faults = taken.faults ++ fault ∷ [] }
-
-abbrev pub with_line : ConfigValues → Taken → ℕ × List ℕ → Taken
-with_line config taken line =
-    with_read taken (live_steps_of config taken.heard line.0 line.1)
 
 -- what lines bring, one after the other
 unfoldable pub taken_of : ConfigValues → Lines → Taken
@@ -85,16 +55,11 @@ numbered_from k (line ∷ lines) = (k, line) ∷ numbered_from (k + 1) lines
 abbrev pub numbered_in : InputPart → Lines
 numbered_in part = numbered_from part.first part.lines
 
--- what a line brings, also one that is skipped
-abbrev pub with_any_line : ConfigValues → Taken → ℕ × List ℕ → Taken
-with_any_line config taken line =
-    if is_skipped line.1 then taken else with_line config taken line
-
 -- what lines are answered, one behind the other, behind what was brought before
 abbrev pub lines_text : LiveForm → Configuration → Taken → Lines → List ℕ
 lines_text form config taken [] = []
 lines_text form config taken (line ∷ later) =
-    line_text form config taken.steps taken.heard line.0 line.1
+    line_text form config taken line.0 line.1
     ++ lines_text form config (with_any_line (values_of config) taken line) later
 
 -- all that is printed for the lines of an input: for each line of steps the messages that are sent

@@ -1,20 +1,19 @@
 //! A day that is read line by line, and what is printed for each line.
-ghost use Rattle.std.specs.Prelude.{◌≡◌, ◌≢◌, ◌++◌, List, true, false};
-ghost use Rattle.std.specs.Prelude.{Ok, Err, IfOk, IfErr, OnOk};
+ghost use Rattle.std.specs.Prelude.{◌≡◌, ◌≢◌, ◌++◌, List, Bool};
+ghost use Rattle.std.specs.Prelude.{Ok, Err, Some, None, IfOk, IfErr, OnOk};
 ghost use Rattle.step_replay.specs.LiveStanding.{IsAt};
 ghost use Rattle.step_replay.specs.declared.steps.Step.{Step};
 ghost use Rattle.venue_config.specs.Rows.{Configuration, values_of};
-ghost use Rattle.venue_text.specs.Lines.{is_skipped};
-ghost use Rattle.venue_text.specs.LiveLines as spec;
-ghost use Rattle.venue_text.specs.StepLines as lines;
+ghost use Rattle.venue_text.specs.LiveAnswers as spec;
+ghost use Rattle.venue_text.specs.LiveLines as lines;
+ghost use Rattle.venue_text.specs.LiveLines.{Taken};
 ghost use Rattle.venue_text.specs.VenueParts.{venue_of};
-ghost use Rattle.venue_text.specs.declared.live_form.LiveForm.{LiveForm};
 
 use crate::faults::ProgramFault;
 use crate::heard::Heard;
 use crate::lines::is_skipped;
 use crate::live_form::LiveForm;
-use crate::live_marks::push_done_mark;
+use crate::live_marks::{fault_mark, push_done_mark};
 use crate::message_lines::push_sent_line;
 use crate::parts::{cut_part, same_text};
 use crate::printed_replay::firm_name;
@@ -25,6 +24,15 @@ use fix_fields::Memory;
 use std::alloc::{AllocError, Global};
 use step_replay::{LiveVenue, SentTo, Step};
 use venue_config::VenueConfig;
+
+/// What a line gives.
+#[derive(Drop)]
+pub struct LineAnswer {
+    /// What is printed for it: its messages, and its mark.
+    pub text: Vec<u8>,
+    /// What is wrong with it, if it is at fault.
+    pub fault: Option<ProgramFault>,
+}
 
 /// A day of a venue that goes on, line by line.
 #[derive(Drop)]
@@ -58,45 +66,29 @@ impl LiveDay {
     }
 
     /// The line with this number comes: its steps are done, each with all duties that it leaves,
-    /// and the messages that are sent for them are answered, a line each in their order, and behind
-    /// them the line's mark where the form has marks. A line at
-    /// fault ([`ProgramFault::Form`], [`ProgramFault::UnknownFirm`], [`ProgramFault::UnknownRoom`]
-    /// or [`ProgramFault::Stream`]) changes nothing, and the day goes on. After
-    /// [`ProgramFault::Memory`] it can't: memory was refused, or the firm has said 10^15 lines.
-    pub fn answer(
-        &mut self,
-        alloc: Global,
-        line: usize,
-        text: &[u8],
-    ) -> Result<Vec<u8>, ProgramFault>
-        // An empty line and a comment say nothing: they have their mark alone.
-        ensures skipped { is_skipped text.now ≡ true → IfOk result (λ answer. (form : LiveForm)
-            (config : Configuration) (taken : List Step) (heard : lines.Heard)
-            → spec.Goes form config taken heard self.old
-            → spec.LineIsSkipped form config taken heard line text.now self.new answer.items) }
-        ensures of_spoken { is_skipped text.now ≡ true
-            → IfErr result (λ fault. fault ≡ ProgramFault.Memory) }
-        ensures ok { is_skipped text.now ≡ false → IfOk result (λ answer. (form : LiveForm)
-            (config : Configuration) (taken : List Step) (heard : lines.Heard)
-            → spec.Goes form config taken heard self.old
-            → spec.LineIsAnswered form config taken heard line text.now self.new
-            answer.items) }
-        ensures err { IfErr result (λ fault. fault ≢ ProgramFault.Memory
-            → (form : LiveForm) (config : Configuration) (taken : List Step)
-            (heard : lines.Heard) → spec.Goes form config taken heard self.old
-            → spec.LineIsRefused form config taken heard line text.now fault self.new) }
+    /// and the messages that are sent for them are printed, a line each in their order, and behind
+    /// them the line's mark where the form has marks. A line at fault ([`ProgramFault::Form`],
+    /// [`ProgramFault::UnknownFirm`], [`ProgramFault::UnknownRoom`] or [`ProgramFault::Stream`])
+    /// changes nothing, and the day goes on; so does an empty line or a comment. After an error it
+    /// can't: memory was refused, or the firm has said 10^15 lines.
+    pub fn answer(&mut self, alloc: Global, line: usize, text: &[u8]) -> Result<LineAnswer, Memory>
+        ensures { IfOk result (λ answer. (form : LiveForm) (config : Configuration)
+            (taken : Taken) → spec.Goes form config taken self.old
+            → spec.Gives form config taken line text.now self.new answer.text.items
+            answer.fault) }
     {
         if is_skipped(text) {
-            let mark = self.marked(Vec::new(alloc), line)?;
-            return Ok(mark);
+            let answer = self.marked(Vec::new(alloc), line)?;
+            return Ok(answer);
         }
         let steps = match read_live_line(alloc, &self.config, &mut self.heard, line, text) {
             Ok(steps) => steps,
-            Err(fault) => return Err(fault),
+            Err(fault) => return refused(alloc, self.form, line, fault),
         };
+        let frames = self.form.frames;
         let messages = answered(
             alloc,
-            self.form.frames,
+            frames,
             &self.config,
             &mut self.venue,
             steps.as_slice(),
@@ -106,15 +98,37 @@ impl LiveDay {
     }
 
     /// The messages of the line with this number, and its mark behind them.
-    fn marked(&self, messages: Vec<u8>, line: usize) -> Result<Vec<u8>, Memory>
-        ensures { IfOk result (λ text. (config : Configuration) (taken : List Step)
-            → IsAt config taken self.now.venue
-            → text.items ≡ messages.items ++ spec.done_mark self.now.form config taken line) }
+    fn marked(&self, messages: Vec<u8>, line: usize) -> Result<LineAnswer, Memory>
+        ensures none { IfOk result (λ answer. answer.fault ≡ None) }
+        ensures text { IfOk result (λ answer. (config : Configuration) (steps : List Step)
+            → IsAt config steps self.now.venue → answer.text.items
+            ≡ messages.items ++ lines.done_mark self.now.form config steps line) }
     {
         let mut text = messages;
         push_done_mark(&mut text, self.form, line, self.venue.next_deadline())?;
-        Ok(text)
+        Ok(LineAnswer { text, fault: None })
     }
+}
+
+/// What is printed of a line at fault: its mark alone.
+fn refused(
+    alloc: Global,
+    form: LiveForm,
+    line: usize,
+    fault: ProgramFault,
+) -> Result<LineAnswer, Memory>
+    ensures told { IfOk result (λ answer. answer.fault ≡ Some fault) }
+    ensures text { IfOk result (λ answer. answer.text.items ≡ lines.fault_mark form line fault) }
+    ensures other { IfOk result (λ _. fault ≢ ProgramFault.Memory) }
+{
+    if matches!(fault, ProgramFault::Memory) {
+        return Err(AllocError);
+    }
+    let text = fault_mark(alloc, form, line, &fault)?;
+    Ok(LineAnswer {
+        text,
+        fault: Some(fault),
+    })
 }
 
 /// The steps of a line. Turns are none of a day that goes on: they follow of themselves.
@@ -125,10 +139,10 @@ fn read_live_line(
     line: usize,
     text: &[u8],
 ) -> Result<Vec<Step>, ProgramFault>
-    ensures ok { IfOk result (λ steps. spec.live_steps_of (values_of config.now) heard.old line
+    ensures ok { IfOk result (λ steps. lines.live_steps_of (values_of config.now) heard.old line
         text.now ≡ Ok (steps.items, heard.new)) }
     ensures err { IfErr result (λ fault. fault ≢ ProgramFault.Memory
-        → spec.live_steps_of (values_of config.now) heard.old line text.now ≡ Err fault) }
+        → lines.live_steps_of (values_of config.now) heard.old line text.now ≡ Err fault) }
     ensures unheard { IfErr result (λ fault. fault ≢ ProgramFault.Memory
         → heard.new ≡ heard.old) }
     ensures unwritten { IfErr result (λ fault. fault ≢ ProgramFault.Write) }
@@ -173,7 +187,7 @@ fn push_sent(
     sent: &[SentTo],
 ) -> Result<(), Memory>
     ensures { OnOk result (text.new.items
-        ≡ text.old.items ++ spec.sent_text with_frames config.now sent.now) }
+        ≡ text.old.items ++ lines.sent_text with_frames config.now sent.now) }
 {
     for message in sent {
         push_one(text, with_frames, config, message)?;
@@ -189,7 +203,7 @@ fn push_one(
     sent: &SentTo,
 ) -> Result<(), Memory>
     ensures { OnOk result (text.new.items
-        ≡ text.old.items ++ spec.sent_line with_frames config.now sent.now) }
+        ≡ text.old.items ++ lines.sent_line with_frames config.now sent.now) }
 {
     let Some(name) = firm_name(config, sent.firm()) else {
         return Ok(());

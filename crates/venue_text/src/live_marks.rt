@@ -1,5 +1,5 @@
 //! The marks of a day that goes on: each tells that a line of steps was answered.
-ghost use Rattle.std.specs.Prelude.{◌≡◌, ◌++◌, ◌≤◌, [], codes, decimal, length, OnOk, IfOk};
+ghost use Rattle.std.specs.Prelude.{◌≡◌, ◌++◌, OnOk, IfOk};
 ghost use Rattle.venue_text.specs.LiveLines as spec;
 
 use crate::faults::ProgramFault;
@@ -55,8 +55,8 @@ fn push_deadline(text: &mut Vec<u8>, deadline: Option<Moment>) -> Result<(), Mem
 }
 
 /// The mark of the line with this number, which is at fault: `fault K NAME`. In a form without
-/// marks it is nothing. Of a fault that is none of a line NAME is empty.
-pub fn fault_mark(
+/// marks it is nothing.
+pub(crate) fn fault_mark(
     alloc: Global,
     form: LiveForm,
     line: usize,
