@@ -1,7 +1,7 @@
 //! The table of the commands, as clap is told of them.
 use crate::help::{
-    ALONE, BLOTTER, COMPARE, DAY, DAYS, DEALER, DUE, DUE_TEXT, FIRM, FRAMES, LIVE, LIVE_DAY,
-    MARKS, REPLAY, THREADED, THREADS, WOVEN,
+    ALONE, BLOTTER, COMPARE, DAY, DAYS, DEALER, DUE, DUE_TEXT, FIRM, FRAMES, LIVE, LIVE_DAY, MARKS,
+    REPLAY, THREADED, THREADS, WOVEN,
 };
 
 /// A command: its arguments, and the texts of its help.

@@ -1,8 +1,9 @@
 -- A day that goes on: what its lines bring and what is printed for them.
 use Rattle.std.proofs.Common.{◌≡◌, ◌≢◌, ◌<◌, ℕ, ◌+◌, Bool, List, [], ◌∷◌, ◌++◌, take, length, get_or, sym, ap, ap₂, subst, refl, ◌∙◌}
-use Rattle.std.proofs.Common.{Ok, Err, true, false, fold, Option, Some, None, inl, inr}
+use Rattle.std.proofs.Common.{Result, Ok, Err, true, false, fold, Option, Some, None, inl, inr}
 use Rattle.std.proofs.Transfers.{drop-appended}
 use Rattle.std.proofs.lemmas.Bool.{cases_Bool}
+use Rattle.std.specs.Prelude.{IfOk}
 use Rattle.std.proofs.lemmas.List.{append-nil, append_assoc, take_more}
 use Rattle.std.proofs.lemmas.List.Concat.{flat_map-append}
 use Rattle.venue_config.specs.Rows.{ConfigValues, Configuration, values_of}
@@ -196,6 +197,12 @@ line_refused form config taken k line before after what printed fault goes spoke
           ∙ sym (text_spoken config taken k line form spoken);
       told = ap (λ (t : Taken). t.faults) same;
     })
+
+-- what three clauses say of a result
+pub all_ok : {A E : Type 0} (r : Result A E) (P Q R S : A → Type 0) → IfOk r P → IfOk r Q → IfOk r R
+    → ((x : A) → P x → Q x → R x → S x) → IfOk r S
+all_ok (Ok x) P Q R S p q r f = f x p q r
+all_ok (Err e) P Q R S p q r f = tt
 
 -- All lines.
 

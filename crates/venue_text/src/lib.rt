@@ -79,9 +79,7 @@ pub use fields::{Field, read_fields};
 pub use fitting::LONGEST_BODY;
 pub use lines::{MOST_INPUT, Parts, SpokenLines, has_divider, one_past};
 pub use live_form::LiveForm;
-pub use live_laws::{
-    lines_bring_the_same_however_they_come, without_marks_a_day_is_its_messages,
-};
+pub use live_laws::{lines_bring_the_same_however_they_come, without_marks_a_day_is_its_messages};
 pub use live_lines::{LineAnswer, LiveDay};
 pub use message_lines::messages_text;
 pub use parts::{cut_part, read_side, read_time, same_text};

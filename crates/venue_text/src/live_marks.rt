@@ -27,11 +27,7 @@ pub(crate) fn push_done_mark(
 }
 
 /// `done K`, and behind it the earliest deadline where there is one.
-fn push_done_line(
-    text: &mut Vec<u8>,
-    line: usize,
-    deadline: Option<Moment>,
-) -> Result<(), Memory>
+fn push_done_line(text: &mut Vec<u8>, line: usize, deadline: Option<Moment>) -> Result<(), Memory>
     ensures { OnOk result (text.new.items ≡ text.old.items ++ spec.done_line line deadline) }
 {
     let mut digits = Buffer::new();
