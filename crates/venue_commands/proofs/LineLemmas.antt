@@ -167,13 +167,31 @@ module _ (config : Configuration) (lines : List (List ℕ)) (line : List ℕ) (d
 
 -- lines that are skipped bring nothing
 any_lines : (config : ConfigValues) (taken : Taken) (k : ℕ) (lines : List (List ℕ))
-    → fold (with_any_line config) taken (numbered_from k lines) ≡ fold (with_line config) taken (spoken_from k lines)
+    → fold (with_any_line config) taken (numbered_from k lines)
+    ≡ fold (with_line config) taken (spoken_from k lines)
 any_lines config taken k [] = refl
 any_lines config taken k (line ∷ lines) =
-    elim (cases_Bool (is_skipped line)) [
-      | inl skipped ↦ rw skipped (any_lines config taken (k + 1) lines)
-      | inr spoken ↦ rw spoken (any_lines config (with_line config taken (k, line)) (k + 1) lines)
-    ]
+    go (is_skipped line) refl (λ then. any_lines config then (k + 1) lines)
+  where
+    go : (b : Bool) → is_skipped line ≡ b
+        → ((then : Taken) → fold (with_any_line config) then (numbered_from (k + 1) lines)
+        ≡ fold (with_line config) then (spoken_from (k + 1) lines))
+        → fold (with_any_line config) taken (numbered_from k (line ∷ lines))
+        ≡ fold (with_line config) taken (spoken_from k (line ∷ lines))
+    go true skipped later =
+        let one : with_any_line config taken (k, line) ≡ taken = rw skipped refl in
+        let none : spoken_from k (line ∷ lines) ≡ spoken_from (k + 1) lines = rw skipped refl in
+        ap (λ (t : Taken). fold (with_any_line config) t (numbered_from (k + 1) lines)) one
+        ∙ later taken
+        ∙ ap (λ (l : Lines). fold (with_line config) taken l) (sym none)
+    go false spoken later =
+        let then = with_line config taken (k, line) in
+        let one : with_any_line config taken (k, line) ≡ then = rw spoken refl in
+        let some : spoken_from k (line ∷ lines) ≡ (k, line) ∷ spoken_from (k + 1) lines =
+        rw spoken refl in
+        ap (λ (t : Taken). fold (with_any_line config) t (numbered_from (k + 1) lines)) one
+        ∙ later then
+        ∙ ap (λ (l : Lines). fold (with_line config) taken l) (sym some)
 
 numbered_more : (k : ℕ) (lines : List (List ℕ)) (line : List ℕ)
     → numbered_from k (lines ++ line ∷ []) ≡ numbered_from k lines ++ (k + length lines, line) ∷ []

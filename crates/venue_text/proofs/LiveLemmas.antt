@@ -1,6 +1,7 @@
 -- A day that goes on: what its lines bring and what is printed for them.
-use Rattle.std.proofs.Common.{◌≡◌, ◌≢◌, ◌<◌, ℕ, ◌+◌, Bool, List, [], ◌∷◌, ◌++◌, take, length, get_or, sym, ap, ap₂, subst, refl, ◌∙◌}
+use Rattle.std.proofs.Common.{◌≡◌, ◌≢◌, ◌<◌, ℕ, ◌+◌, Bool, List, [], ◌∷◌, ◌++◌, take, drop, length, get_or, sym, ap, ap₂, subst, refl, ◌∙◌}
 use Rattle.std.proofs.Common.{Result, Ok, Err, true, false, fold, Option, Some, None, inl, inr}
+use Rattle.std.proofs.Math.Seq.{drop-append_seam}
 use Rattle.std.proofs.Transfers.{drop-appended}
 use Rattle.std.proofs.lemmas.Bool.{cases_Bool}
 use Rattle.std.specs.Prelude.{IfOk}
@@ -11,6 +12,7 @@ use Rattle.step_replay.specs.LiveDays.{Sent, live_messages}
 use Rattle.step_replay.specs.LiveStanding.{Answers, IsAt}
 use Rattle.step_replay.specs.declared.live.LiveVenue.{LiveVenue}
 use Rattle.step_replay.specs.declared.steps.Step.{Step}
+use Rattle.venue_text.specs.DueText.{Lines}
 use Rattle.venue_text.specs.Lines.{is_skipped, spoken_from}
 use Rattle.venue_text.specs.LiveAnswers.{Gives, Goes, IsAnswered}
 use Rattle.venue_text.specs.LiveInput.{as_part, lines_text, numbered_from, numbered_in, taken_in, taken_of, text_in}
@@ -62,9 +64,10 @@ pub gained_is : (config : Configuration) (taken more : List Step) → live_messa
 unfolding gained_messages
 gained_is config taken more =
     let grown = messages_grow config taken more in
-    grown.1 ∙ ap (λ (l : List Sent). live_messages config taken ++ l)
-    (sym (drop-appended (live_messages config taken) (live_messages config (taken ++ more)) grown.0
-    grown.1))
+    let before = live_messages config taken in
+    grown.1 ∙ ap (λ (l : List Sent). before ++ l)
+    (sym (drop-append_seam before grown.0)
+    ∙ ap (λ (l : List Sent). drop (length before) l) (sym grown.1))
 
 pub text_grows : (with_frames : Bool) (config : Configuration) (taken more : List Step)
     → live_text with_frames config (taken ++ more)
@@ -212,10 +215,27 @@ any_lines : (config : ConfigValues) (taken : Taken) (k : ℕ) (lines : List (Lis
     ≡ fold (with_line config) taken (spoken_from k lines)
 any_lines config taken k [] = refl
 any_lines config taken k (line ∷ lines) =
-    elim (cases_Bool (is_skipped line)) [
-      | inl skipped ↦ rw skipped (any_lines config taken (k + 1) lines)
-      | inr spoken ↦ rw spoken (any_lines config (with_line config taken (k, line)) (k + 1) lines)
-    ]
+    go (is_skipped line) refl (λ then. any_lines config then (k + 1) lines)
+  where
+    go : (b : Bool) → is_skipped line ≡ b
+        → ((then : Taken) → fold (with_any_line config) then (numbered_from (k + 1) lines)
+        ≡ fold (with_line config) then (spoken_from (k + 1) lines))
+        → fold (with_any_line config) taken (numbered_from k (line ∷ lines))
+        ≡ fold (with_line config) taken (spoken_from k (line ∷ lines))
+    go true skipped later =
+        let one : with_any_line config taken (k, line) ≡ taken = rw skipped refl in
+        let none : spoken_from k (line ∷ lines) ≡ spoken_from (k + 1) lines = rw skipped refl in
+        ap (λ (t : Taken). fold (with_any_line config) t (numbered_from (k + 1) lines)) one
+        ∙ later taken
+        ∙ ap (λ (l : Lines). fold (with_line config) taken l) (sym none)
+    go false spoken later =
+        let then = with_line config taken (k, line) in
+        let one : with_any_line config taken (k, line) ≡ then = rw spoken refl in
+        let some : spoken_from k (line ∷ lines) ≡ (k, line) ∷ spoken_from (k + 1) lines =
+        rw spoken refl in
+        ap (λ (t : Taken). fold (with_any_line config) t (numbered_from (k + 1) lines)) one
+        ∙ later then
+        ∙ ap (λ (l : Lines). fold (with_line config) taken l) (sym some)
 
 -- without marks
 abbrev unmarked : Bool → LiveForm
