@@ -158,13 +158,12 @@ impl KnownBoard {
         ensures board { self.new.board ≡ self.old.board }
         ensures ours { IfOk result (λ receipt. receipt.seen.board ≡ self.old.board) }
     {
-        for at in 0..self.receipts.len() {
-            if self.receipts[at].name.as_str() == name {
-                let NamedReceipt { receipt, .. } = self.receipts.remove(at);
-                return Ok(receipt);
-            }
-        }
-        Err(CaseFault::Form)
+        let kept = self.receipts.as_slice();
+        let Some(at) = kept.iter().position(|one| one.name.as_str() == name) else {
+            return Err(CaseFault::Form);
+        };
+        let NamedReceipt { receipt, .. } = self.receipts.remove(at);
+        Ok(receipt)
     }
 
     /// A word that the board has.

@@ -30,6 +30,7 @@
 //! `open`, `hit` and so on, its moment, its room, and what else it bears.
 #![tactic(auto)]
 
+mod blotters;
 mod board;
 mod dealer;
 mod duties;

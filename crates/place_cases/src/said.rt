@@ -24,6 +24,21 @@ impl Speaker {
         Ok(Speaker { name, numbered: 0 })
     }
 
+    /// What comes by a line of this word: of `own` bytes, of `long` a text many times, and of any
+    /// other a message.
+    pub(crate) fn came(
+        &mut self,
+        alloc: Global,
+        word: &str,
+        words: &mut Words<'_>,
+    ) -> Result<Came, CaseFault> {
+        match word {
+            "own" => own(alloc, words),
+            "long" => long(alloc, words),
+            _ => self.say(alloc, words),
+        }
+    }
+
     /// `TRADER TIME TYPE BODY`.
     pub(crate) fn say(&mut self, alloc: Global, words: &mut Words<'_>) -> Result<Came, CaseFault> {
         let trader = words.word()?;
@@ -107,7 +122,7 @@ pub(crate) fn own(alloc: Global, words: &mut Words<'_>) -> Result<Came, CaseFaul
 }
 
 /// `COUNT TIME TEXT`: a text so many times, one behind another.
-pub(crate) fn long(alloc: Global, words: &mut Words<'_>) -> Result<Came, CaseFault> {
+fn long(alloc: Global, words: &mut Words<'_>) -> Result<Came, CaseFault> {
     let count = words.number()?;
     let moment = words.moment()?;
     let text = words.rest();

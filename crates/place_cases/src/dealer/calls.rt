@@ -1,11 +1,11 @@
 //! The calls of an open desk.
-use super::lines::{push_line_numbered, push_lines, push_row, push_states};
+use super::lines::{push_row, push_states};
 use super::many::{push_forged, push_fronts, push_quotes};
 use super::opened::{Dropped, Opened, Taken};
+use crate::blotters::{push_line_numbered, push_lines};
 use crate::duties::push_left;
 use crate::messages::{push_count_line, push_date, push_frames, push_new, push_number_line};
 use crate::replies::{push_line, push_truth};
-use crate::said::{long, own};
 use crate::terms::{ask, close, room, short_number};
 use case_lines::{CaseFault, Words};
 use market_terms::RoomRef;
@@ -22,9 +22,7 @@ pub(crate) fn called(
     match word {
         "shown" => shown(opened, words)?,
         "show" => show(opened, words, answer)?,
-        "say" => say(opened, alloc, words)?,
-        "own" => own_bytes(opened, alloc, words)?,
-        "long" => long_bytes(opened, alloc, words)?,
+        "say" | "own" | "long" => comes(opened, alloc, word, words)?,
         "take" => take(opened, alloc, words, answer)?,
         "judge" => judge(opened, alloc, words, answer)?,
         "lifted" => lifted(opened, words)?,
@@ -100,23 +98,14 @@ fn show(opened: &mut Opened, words: &mut Words<'_>, answer: &mut String) -> Resu
     push_number_line(answer, number)
 }
 
-/// `TRADER TIME TYPE BODY`.
-fn say(opened: &mut Opened, alloc: Global, words: &mut Words<'_>) -> Result<(), CaseFault> {
-    let came = opened.speaker.say(alloc, words)?;
-    opened.take(&came)?;
-    Ok(())
-}
-
-/// `TIME BYTES`.
-fn own_bytes(opened: &mut Opened, alloc: Global, words: &mut Words<'_>) -> Result<(), CaseFault> {
-    let came = own(alloc, words)?;
-    opened.take(&came)?;
-    Ok(())
-}
-
-/// `COUNT TIME TEXT`.
-fn long_bytes(opened: &mut Opened, alloc: Global, words: &mut Words<'_>) -> Result<(), CaseFault> {
-    let came = long(alloc, words)?;
+/// A message comes, or bytes.
+fn comes(
+    opened: &mut Opened,
+    alloc: Global,
+    word: &str,
+    words: &mut Words<'_>,
+) -> Result<(), CaseFault> {
+    let came = opened.speaker.came(alloc, word, words)?;
     opened.take(&came)?;
     Ok(())
 }

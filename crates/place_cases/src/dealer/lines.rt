@@ -1,53 +1,31 @@
 //! What a desk knows, as lines.
 use super::opened::Opened;
+use crate::blotters::BlotterLine;
 use crate::messages::{clock, push_count_line, push_traders};
 use crate::replies::{push_line, side_name};
 use crate::tally::Tally;
-use crate::terms::{ascii, nth, quote_word};
-use case_lines::{CaseFault, Words};
+use crate::terms::{ascii, quote_word};
+use case_lines::CaseFault;
 use market_terms::QuoteLine;
 use std::alloc::Global;
 use venue_config::DealerRow;
 
-/// The lines of the blotter.
-pub(crate) fn push_lines(
-    alloc: Global,
-    answer: &mut String,
-    lines: &[QuoteLine],
-) -> Result<(), CaseFault> {
-    for line in lines {
-        push_quote_line(alloc, answer, line)?;
+impl BlotterLine for QuoteLine {
+    /// `N TIME TRADER REQUEST SIDE BOND QUANTITY PRICE STATE`: the price in 256ths.
+    fn push(&self, alloc: Global, answer: &mut String) -> Result<(), CaseFault> {
+        let time = clock(alloc, self.moment)?;
+        let trader = ascii(self.trader.as_bytes());
+        let side = side_name(self.side);
+        let bond = ascii(self.bond.as_bytes());
+        let quantity = self.quantity.get();
+        let price = self.price.get();
+        let state = quote_word(self.state);
+        let (q, request) = (self.q, self.request);
+        let front = format!(in alloc; "{q} {time} {trader} R{request} ")?;
+        let behind = format!(in alloc; "{side} {bond} {quantity} {price} {state}")?;
+        answer.push_str(front.as_str())?;
+        push_line(answer, behind.as_str())
     }
-    Ok(())
-}
-
-/// `N`: the n-th line of the blotter.
-pub(crate) fn push_line_numbered(
-    alloc: Global,
-    answer: &mut String,
-    lines: &[QuoteLine],
-    words: &mut Words<'_>,
-) -> Result<(), CaseFault> {
-    let Some(line) = lines.get(nth(words)?) else {
-        return Err(CaseFault::Condition);
-    };
-    push_quote_line(alloc, answer, line)
-}
-
-/// `N TIME TRADER REQUEST SIDE BOND QUANTITY PRICE STATE`: the price in 256ths.
-fn push_quote_line(alloc: Global, answer: &mut String, line: &QuoteLine) -> Result<(), CaseFault> {
-    let time = clock(alloc, line.moment)?;
-    let trader = ascii(line.trader.as_bytes());
-    let side = side_name(line.side);
-    let bond = ascii(line.bond.as_bytes());
-    let quantity = line.quantity.get();
-    let price = line.price.get();
-    let state = quote_word(line.state);
-    let (q, request) = (line.q, line.request);
-    let front = format!(in alloc; "{q} {time} {trader} R{request} ")?;
-    let behind = format!(in alloc; "{side} {bond} {quantity} {price} {state}")?;
-    answer.push_str(front.as_str())?;
-    push_line(answer, behind.as_str())
 }
 
 /// The states of the lines: `COUNT: STATE` for equal ones one behind another.

@@ -1,11 +1,11 @@
 //! The calls of an open desk.
-use super::lines::{push_event, push_line_numbered, push_lines, push_row};
+use super::lines::{push_event, push_row};
 use super::many::push_requests;
 use super::opened::Opened;
+use crate::blotters::{push_line_numbered, push_lines};
 use crate::duties::push_left;
 use crate::messages::{push_count_line, push_date, push_frames, push_new, push_number_line};
 use crate::replies::push_truth;
-use crate::said::{Came, long, own};
 use crate::terms::{last_moment, name, reply, response, short_number, ticks};
 use case_lines::{CaseFault, Words};
 use market_terms::Offer;
@@ -20,9 +20,7 @@ pub(crate) fn called(
     answer: &mut String,
 ) -> Result<(), CaseFault> {
     match word {
-        "say" => say(opened, alloc, words, answer)?,
-        "own" => own_bytes(opened, alloc, words, answer)?,
-        "long" => long_bytes(opened, alloc, words, answer)?,
+        "say" | "own" | "long" => comes(opened, alloc, word, words, answer)?,
         "quote_came" => quote_came(opened, words)?,
         "quote_gone" => quote_gone(opened, words)?,
         "dealer_declined" => dealer_declined(opened, words)?,
@@ -60,41 +58,15 @@ fn read(
     words.end()
 }
 
-/// `TRADER TIME TYPE BODY`.
-fn say(
+/// A message comes, or bytes: what is left to be done.
+fn comes(
     opened: &mut Opened,
     alloc: Global,
+    word: &str,
     words: &mut Words<'_>,
     answer: &mut String,
 ) -> Result<(), CaseFault> {
-    let came = opened.speaker.say(alloc, words)?;
-    take(opened, &came, answer)
-}
-
-/// `TIME BYTES`.
-fn own_bytes(
-    opened: &mut Opened,
-    alloc: Global,
-    words: &mut Words<'_>,
-    answer: &mut String,
-) -> Result<(), CaseFault> {
-    let came = own(alloc, words)?;
-    take(opened, &came, answer)
-}
-
-/// `COUNT TIME TEXT`.
-fn long_bytes(
-    opened: &mut Opened,
-    alloc: Global,
-    words: &mut Words<'_>,
-    answer: &mut String,
-) -> Result<(), CaseFault> {
-    let came = long(alloc, words)?;
-    take(opened, &came, answer)
-}
-
-/// The desk takes what comes: what is left to be done.
-fn take(opened: &mut Opened, came: &Came, answer: &mut String) -> Result<(), CaseFault> {
+    let came = opened.speaker.came(alloc, word, words)?;
     let left = opened.desk.take(came.moment, came.bytes.as_slice())?;
     push_left(answer, &left)
 }

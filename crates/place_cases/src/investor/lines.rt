@@ -1,5 +1,6 @@
 //! What a desk knows, as lines.
 use super::opened::Opened;
+use crate::blotters::BlotterLine;
 use crate::messages::{clock, push_count_line, push_traders};
 use crate::replies::{push_line, side_name};
 use crate::terms::{ascii, nth};
@@ -10,47 +11,20 @@ use market_terms::{RequestLine, RequestState};
 use std::alloc::Global;
 use venue_config::InvestorRow;
 
-/// The lines of the blotter.
-pub(crate) fn push_lines(
-    alloc: Global,
-    answer: &mut String,
-    lines: &[RequestLine],
-) -> Result<(), CaseFault> {
-    for line in lines {
-        push_request_line(alloc, answer, line)?;
+impl BlotterLine for RequestLine {
+    /// `N TIME TRADER SIDE BOND QUANTITY STATE`.
+    fn push(&self, alloc: Global, answer: &mut String) -> Result<(), CaseFault> {
+        let time = clock(alloc, self.moment)?;
+        let trader = ascii(self.trader.as_bytes());
+        let side = side_name(self.side);
+        let bond = ascii(self.bond.as_bytes());
+        let (n, quantity) = (self.n, self.quantity.get());
+        let state = state_text(alloc, &self.state)?;
+        let front = format!(in alloc; "{n} {time} {trader} {side} ")?;
+        let behind = format!(in alloc; "{bond} {quantity} {state}")?;
+        answer.push_str(front.as_str())?;
+        push_line(answer, behind.as_str())
     }
-    Ok(())
-}
-
-/// `N`: the n-th line of the blotter.
-pub(crate) fn push_line_numbered(
-    alloc: Global,
-    answer: &mut String,
-    lines: &[RequestLine],
-    words: &mut Words<'_>,
-) -> Result<(), CaseFault> {
-    let Some(line) = lines.get(nth(words)?) else {
-        return Err(CaseFault::Condition);
-    };
-    push_request_line(alloc, answer, line)
-}
-
-/// `N TIME TRADER SIDE BOND QUANTITY STATE`.
-fn push_request_line(
-    alloc: Global,
-    answer: &mut String,
-    line: &RequestLine,
-) -> Result<(), CaseFault> {
-    let time = clock(alloc, line.moment)?;
-    let trader = ascii(line.trader.as_bytes());
-    let side = side_name(line.side);
-    let bond = ascii(line.bond.as_bytes());
-    let (n, quantity) = (line.n, line.quantity.get());
-    let state = state_text(alloc, &line.state)?;
-    let front = format!(in alloc; "{n} {time} {trader} {side} ")?;
-    let behind = format!(in alloc; "{bond} {quantity} {state}")?;
-    answer.push_str(front.as_str())?;
-    push_line(answer, behind.as_str())
 }
 
 /// What became of a request.
