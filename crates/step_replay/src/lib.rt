@@ -83,6 +83,7 @@ mod investor_actions;
 mod laws;
 mod live;
 mod notice_laws;
+mod open_rooms;
 mod opening;
 mod prices;
 mod queues;
