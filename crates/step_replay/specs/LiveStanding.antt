@@ -16,7 +16,7 @@ use Rattle.step_replay.specs.LiveDays.{Sent, actor_of, live_messages, live_trail
 use Rattle.step_replay.specs.OpenRooms.{RoomsStand}
 use Rattle.step_replay.specs.Queues.{is_known}
 use Rattle.step_replay.specs.StepFaults.{fault_of}
-use Rattle.step_replay.specs.VenueRooms.{expiries, rooms_of}
+use Rattle.step_replay.specs.VenueRooms.{sweeps_at, rooms_of}
 use Rattle.step_replay.specs.declared.floor.Floor.{Floor}
 use Rattle.step_replay.specs.declared.live.LiveVenue.{LiveVenue}
 use Rattle.step_replay.specs.declared.replay.Replay.{Replay}
@@ -46,17 +46,17 @@ pub record Answers (config : Configuration) (steps : List Step) (next : Step) (a
 
 -- what sweeps more of these rooms bring: the venue stands behind them, the clock has no duty left,
 -- and what was told are the messages that were sent with them
-pub record AnswersExpiries (config : Configuration) (steps : List Step) (moment : ℕ)
+pub record AnswersSweepsOf (config : Configuration) (steps : List Step) (moment : ℕ)
     (rooms : List RoomRef) (after : LiveVenue) (told : List Sent) : Type 0 where
-  pub stands : IsAt config (steps ++ expiries moment rooms) after
-  pub told_is : live_messages config (steps ++ expiries moment rooms)
+  pub stands : IsAt config (steps ++ sweeps_at moment rooms) after
+  pub told_is : live_messages config (steps ++ sweeps_at moment rooms)
       ≡ live_messages config steps ++ told
-  pub none_left : pending actor.Clock (live_trail config (steps ++ expiries moment rooms)) ≡ []
+  pub none_left : pending actor.Clock (live_trail config (steps ++ sweeps_at moment rooms)) ≡ []
 
 -- what a sweep of every room of the venue brings
 abbrev pub AnswersSweeps : Configuration → List Step → ℕ → LiveVenue → List Sent → Type 0
 AnswersSweeps config steps moment after told =
-    AnswersExpiries config steps moment (rooms_of config) after told
+    AnswersSweepsOf config steps moment (rooms_of config) after told
 
 -- The desk at which a step may send messages: there is one at most.
 

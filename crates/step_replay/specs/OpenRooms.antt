@@ -54,7 +54,7 @@ IsEarliest rooms (Some deadline) = IsFirst rooms deadline
 
 -- whether an entry is that of this room, with a deadline that has come
 abbrev pub is_due_in : ℕ → RoomRef → Entry → Bool
-is_due_in moment room entry = nat_le entry.0 moment && is_same_room room entry.1
+is_due_in moment room entry = nat_le entry.0 moment && is_same_room entry.1 room
 
 abbrev pub any_due : ℕ → RoomRef → List Entry → Bool
 any_due moment room entries = list_any (is_due_in moment room) entries

@@ -28,5 +28,5 @@ abbrev pub rooms_of : Configuration → List RoomRef
 rooms_of config = rooms_from (length config.dealers) (requests_of config.investors)
 
 -- a sweep of each of these rooms at a moment, one behind the other
-abbrev pub expiries : ℕ → List RoomRef → List Step
-expiries moment rooms = map (λ room. step.Expire room moment) rooms
+abbrev pub sweeps_at : ℕ → List RoomRef → List Step
+sweeps_at moment rooms = map (λ room. step.Expire room moment) rooms
