@@ -1,7 +1,7 @@
 -- The rooms that are opening or open, where the facts have come.
 use Rattle.std.proofs.Common.{◌≡◌, ◌≤◌, ℕ, ◌==◌, Bool, true, false, ◌&&◌, ◌||◌, nat_le, nat_lt}
 use Rattle.std.proofs.Common.{List, [], ◌∷◌, ◌++◌, map, fold, Option, Some, None, if◌then◌else◌}
-use Rattle.std.proofs.Common.{refl, sym, ap, ◌∙◌, subst, arith}
+use Rattle.std.proofs.Common.{refl, sym, ap, ◌∙◌, subst, arith, eq-eqb}
 use Rattle.std.proofs.lemmas.Bool.Decides.{nat_tests}
 use Rattle.std.proofs.lemmas.List.{append-nil}
 use Rattle.market_terms.specs.declared.rooms.RoomRef.{RoomRef}
@@ -110,11 +110,12 @@ module _ (config : Configuration) (facts : List Fact) where
       → found ≡ Some deadline
   found_among None deadline is = cc
   found_among (Some other) deadline is =
-      let same : other ≡ deadline = grind (arith, nat_tests, is) in
+      let test : (other == deadline) ≡ true = is in
+      let same : other ≡ deadline = grind (arith, nat_tests, test) in
       ap (λ (d : ℕ). Some d) same
 
   own_deadline : (deadline : ℕ) → is_deadline (Some deadline) deadline ≡ true
-  own_deadline deadline = grind (arith, nat_tests)
+  own_deadline deadline = eq-eqb deadline deadline refl
 
   -- a room of the venue with a deadline is held
   held : (rooms : OpenRooms) → RoomsStand config facts rooms → (room : RoomRef) (deadline : ℕ)
@@ -166,11 +167,14 @@ module _ (config : Configuration) (facts : List Fact) where
   takes_it deadline None least = refl
   takes_it deadline (Some other) least = by_test (nat_lt deadline other) refl
     where
+      low : deadline ≤ other
+      low = least
+
       by_test : (b : Bool) → nat_lt deadline other ≡ b
           → (if b then Some deadline else Some other) ≡ Some deadline
       by_test true low = refl
       by_test false high =
-          let same : other ≡ deadline = grind (arith, nat_tests, high, least) in
+          let same : other ≡ deadline = grind (arith, nat_tests, high, low) in
           ap (λ (d : ℕ). Some d) same
 
   stays_least : (deadline : ℕ) (before next : Option ℕ) → IsNoLater deadline before
@@ -199,7 +203,8 @@ module _ (config : Configuration) (facts : List Fact) where
       kept : (next : Option ℕ) → IsNoLater deadline next → earlier (Some deadline) next ≡ Some deadline
       kept None later = refl
       kept (Some other) later =
-          let test : nat_lt other deadline ≡ false = grind (arith, nat_tests, later) in
+          let low : deadline ≤ other = later in
+          let test : nat_lt other deadline ≡ false = grind (arith, nat_tests, low) in
           rw test refl
 
   least_among : (deadline : ℕ) (first : RoomRef) → of_facts first ≡ Some deadline

@@ -245,14 +245,14 @@ pub swept_more : (config : Configuration) (steps : List Step) (moment : ℕ) (do
 swept_more config steps moment done room before after told more had all =
     let next : Step = step.Expire room moment in
     let taken = steps ++ sweeps_at moment done in
-    let then = live_more config taken next in
+    let behind = live_more config taken next in
     let same : taken ++ next ∷ [] ≡ steps ++ sweeps_at moment (done ++ room ∷ []) =
     append_assoc steps (sweeps_at moment done) (next ∷ [])
     ∙ ap (λ (l : List Step). steps ++ l)
     (sym (map-append (λ (r : RoomRef). step.Expire r moment) done (room ∷ []))) in
     let here : IsAt config (taken ++ next ∷ []) after = record {
-      stands = subst (λ (t : AuditTrail). VenueStands config t after) (sym then) all.tells.stands;
-      clock_idle = subst (λ (t : AuditTrail). pending actor.Clock t ≡ []) (sym then) all.none_left;
+      stands = subst (λ (t : AuditTrail). VenueStands config t after) (sym behind) all.tells.stands;
+      clock_idle = subst (λ (t : AuditTrail). pending actor.Clock t ≡ []) (sym behind) all.none_left;
     } in
     let there : IsAt config (steps ++ sweeps_at moment (done ++ room ∷ [])) after =
     subst (λ (l : List Step). IsAt config l after) same here in
@@ -260,7 +260,7 @@ swept_more config steps moment done room before after told more had all =
       answers = record {
         stands = there;
         told_is = ap (live_messages config) (sym same)
-            ∙ ap (λ (t : AuditTrail). messages_in config t.facts) then ∙ all.tells.told_is;
+            ∙ ap (λ (t : AuditTrail). messages_in config t.facts) behind ∙ all.tells.told_is;
         none_left = there.clock_idle;
       };
       rests = rests_more config moment (live_trail config steps) done room had.rests
