@@ -1,7 +1,6 @@
 -- A venue that answers as steps come: each step, and the duties behind it.
-use Rattle.std.proofs.Common.{◌≡◌, ℕ, zero, suc, ◌+◌, true, false, List, [], ◌∷◌, ◌++◌}
+use Rattle.std.proofs.Common.{◌≡◌, ℕ, zero, suc, ◌+◌, true, List, [], ◌∷◌, ◌++◌}
 use Rattle.std.proofs.Common.{Option, Some, None, refl, sym, ap, ◌∙◌, subst, arith}
-use Rattle.std.proofs.lemmas.List.{append-nil}
 use Rattle.market_terms.specs.declared.duties.Duty.{Duty}
 use Rattle.market_terms.specs.declared.rooms.RoomRef.{RoomRef}
 use Rattle.venue_config.specs.Rows.{Configuration}
@@ -9,8 +8,8 @@ use Rattle.step_replay.specs.Actions.{duty_effect, message_effect}
 use Rattle.step_replay.specs.AuditTrail.{AuditTrail, after_step, after_turn, no_steps, pending}
 use Rattle.step_replay.specs.LiveDays.{Sent, actor_of, live_trail, messages_in}
 use Rattle.step_replay.specs.LiveStanding.{Answers, IsAt, TellsAllOf, TellsOf, VenueStands}
-use Rattle.step_replay.specs.LiveStanding.{VenueTells, after_turns, first_in, next_duty, room_of_step}
-use Rattle.step_replay.specs.OpenRooms.{IsEmpty, Notes, RoomsStand, deadline_by, is_deadline}
+use Rattle.step_replay.specs.LiveStanding.{VenueTells, after_turns, next_duty, room_of_step}
+use Rattle.step_replay.specs.OpenRooms.{IsEmpty, Notes, RoomsStand, deadline_by}
 use Rattle.step_replay.specs.Following.{ReplayStands}
 use Rattle.step_replay.specs.Queues.{is_known}
 use Rattle.step_replay.specs.Standing.{Stands}

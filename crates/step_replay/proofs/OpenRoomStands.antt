@@ -1,7 +1,7 @@
 -- The rooms that are opening or open, where the facts have come.
 use Rattle.std.proofs.Common.{◌≡◌, ◌≤◌, ℕ, ◌==◌, Bool, true, false, ◌&&◌, ◌||◌, nat_le, nat_lt}
 use Rattle.std.proofs.Common.{List, [], ◌∷◌, ◌++◌, map, fold, Option, Some, None, if◌then◌else◌}
-use Rattle.std.proofs.Common.{refl, sym, ap, ◌∙◌, subst, arith, eq-eqb}
+use Rattle.std.proofs.Common.{refl, sym, ap, ◌∙◌, arith, eq-eqb}
 use Rattle.std.proofs.lemmas.Bool.Decides.{nat_tests}
 use Rattle.std.proofs.lemmas.List.{append-nil}
 use Rattle.market_terms.specs.declared.rooms.RoomRef.{RoomRef}
@@ -11,7 +11,7 @@ use Rattle.request_room.specs.Book.{room_after}
 use Rattle.request_room.specs.declared.events.RoomEvent.{RoomEvent}
 use Rattle.venue_config.specs.Rows.{Configuration, has_room}
 use Rattle.step_replay.specs.Deadlines.{deadline_of, earlier, next_deadline}
-use Rattle.step_replay.specs.OpenRooms.{Entry, IsEarliest, IsEmpty, IsFirst, Notes, RoomsStand}
+use Rattle.step_replay.specs.OpenRooms.{Entry, IsEarliest, IsEmpty, Notes, RoomsStand}
 use Rattle.step_replay.specs.OpenRooms.{any_due, deadline_by, holds, is_deadline}
 use Rattle.step_replay.specs.VenueFacts.{Fact, of_room}
 use Rattle.step_replay.specs.VenueRooms.{rooms_of}
@@ -20,7 +20,6 @@ use Rattle.step_replay.specs.declared.floor.InvestorPlace.{InvestorPlace}
 use Rattle.step_replay.specs.declared.open_rooms.OpenRooms.{OpenRooms}
 use Rattle.step_replay.proofs.GrowthLemmas.{same_room}
 use Rattle.step_replay.proofs.OpenRoomLemmas.{due_found, found_due, own_room}
-use Rattle.step_replay.proofs.OwnerLemmas.{same_value}
 use Rattle.step_replay.proofs.PlaceLemmas.{room_grown}
 use Rattle.step_replay.proofs.RoomEffects.{AreOf, is_there}
 use Rattle.step_replay.proofs.RoomOrder.{is_among, rooms_are}

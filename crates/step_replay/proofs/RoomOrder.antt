@@ -1,18 +1,18 @@
 -- Every room of a venue: in order, and none is left out.
 use Rattle.std.proofs.Common.{◌≡◌, ◌<◌, ◌≤◌, ℕ, zero, suc, ◌+◌, ◌-◌, ◌==◌, Bool, true, false, ◌&&◌, ◌||◌}
-use Rattle.std.proofs.Common.{List, [], ◌∷◌, ◌++◌, length, Option, Some, None, if◌then◌else◌, nat_le, nat_lt}
-use Rattle.std.proofs.Common.{refl, sym, ap, ◌∙◌, subst, arith}
+use Rattle.std.proofs.Common.{List, [], ◌∷◌, ◌++◌, length, Option, None, if◌then◌else◌, nat_le, nat_lt}
+use Rattle.std.proofs.Common.{refl, sym, ap, ◌∙◌, arith}
 use Rattle.std.specs.Prelude.{slice_get}
 use Rattle.std.specs.List.{AllByRecursion, list_any}
 use Rattle.std.specs.List.Sorted.{IsStrictlySortedBy}
 use Rattle.std.specs.Ordering.{nat_cmp, ordering_then}
 use Rattle.std.specs.declared.cmp.Ordering.{Ordering}
-use Rattle.std.specs.declared.cmp.Ordering.TheVariants.{Less, Equal, Greater}
+use Rattle.std.specs.declared.cmp.Ordering.TheVariants.{Less, Equal}
 use Rattle.std.proofs.lemmas.Bool.Decides.{nat_tests}
 use Rattle.std.proofs.lemmas.List.Folds.{list_any-append}
 use Rattle.market_terms.specs.declared.rooms.RoomRef.{RoomRef}
 use Rattle.dealer_desk.specs.DealerOutput.{is_same_room}
-use Rattle.venue_config.specs.Rows.{Configuration, has_room, investor_numbered, may_request}
+use Rattle.venue_config.specs.Rows.{Configuration, has_room, may_request}
 use Rattle.venue_config.specs.declared.investor_rows.InvestorRow.{InvestorRow}
 use Rattle.step_replay.specs.OpenRooms.{room_cmp}
 use Rattle.step_replay.specs.VenueRooms.{requests_of, rooms_behind, rooms_from, rooms_of}
@@ -67,9 +67,10 @@ before_both room (r ∷ one) other first second = (first.0, before_both room one
 before_behind_of : (room : RoomRef) (investor first more : ℕ) → room.investor < investor
     → IsBefore room (rooms_behind investor first more)
 before_behind_of room investor first zero low = tt
-before_behind_of room investor first (suc more) low =
-    (next_investor room (record { investor = investor; n = first + 1 }) low,
-    before_behind_of room investor (first + 1) more low)
+before_behind_of room investor first (suc more) low = (
+  next_investor room (record { investor = investor; n = first + 1 }) low,
+  before_behind_of room investor (first + 1) more low,
+)
 
 before_from : (room : RoomRef) (investor : ℕ) (requests : List ℕ) → room.investor < investor
     → IsBefore room (rooms_from investor requests)
@@ -85,10 +86,11 @@ both_sorted : (investor first more : ℕ) (later : List RoomRef)
     → IsStrictlySortedBy room_cmp (rooms_behind investor first more ++ later)
 unfolding IsStrictlySortedBy
 both_sorted investor first zero later before sorted = sorted
-both_sorted investor first (suc more) later before sorted =
-    (before_both (record { investor = investor; n = first + 1 }) (rooms_behind investor (first + 1) more) later
-    (before_behind investor (first + 1) (first + 1) more (omega arith)) (before (first + 1)),
-    both_sorted investor (first + 1) more later before sorted)
+both_sorted investor first (suc more) later before sorted = (
+  before_both (record { investor = investor; n = first + 1 }) (rooms_behind investor (first + 1) more) later
+      (before_behind investor (first + 1) (first + 1) more (omega arith)) (before (first + 1)),
+  both_sorted investor (first + 1) more later before sorted,
+)
 
 from_sorted : (investor : ℕ) (requests : List ℕ)
     → IsStrictlySortedBy room_cmp (rooms_from investor requests)

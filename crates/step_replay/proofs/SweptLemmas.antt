@@ -1,13 +1,12 @@
 -- A sweep of every room of the venue is one of the rooms that are due, in their order.
-use Rattle.std.proofs.Common.{◌≡◌, ℕ, Bool, true, false, ◌&&◌, ◌||◌, not, cond, nat_le}
-use Rattle.std.proofs.Common.{List, [], ◌∷◌, ◌++◌, map, fold, Option, Some, None, if◌then◌else◌}
+use Rattle.std.proofs.Common.{◌≡◌, ℕ, Bool, true, false, ◌&&◌, ◌||◌, not, cond}
+use Rattle.std.proofs.Common.{List, [], ◌∷◌, ◌++◌, fold, Option, Some, None, if◌then◌else◌}
 use Rattle.std.proofs.Common.{refl, sym, ap, ◌∙◌, subst}
 use Rattle.std.specs.Prelude.{is_some, slice_get}
 use Rattle.std.specs.BTreeSet.{BTreeSet, contains}
 use Rattle.std.specs.List.{filter, list_any}
 use Rattle.std.specs.Option.{option_map}
 use Rattle.std.specs.Ordering.{is_eq}
-use Rattle.std.specs.declared.cmp.Ordering.TheVariants.{Equal}
 use Rattle.std.proofs.lemmas.List.{append-nil, append_assoc, map-append}
 use Rattle.std.proofs.lemmas.List.Kept.{IsStrictlySortedBy-filter}
 use Rattle.std.proofs.lemmas.Map.Keys.{any_passes_from_place}
@@ -15,7 +14,7 @@ use Rattle.std.proofs.lemmas.Map.Lookups.{btree_set_from_contains}
 use Rattle.market_terms.specs.declared.rooms.RoomRef.{RoomRef}
 use Rattle.dealer_desk.specs.DealerOutput.{is_same_room}
 use Rattle.request_room.specs.Book.{is_past_deadline, may_expire}
-use Rattle.request_room.specs.RoomFacts.{RoomFact, is_ended, is_ready, request_of}
+use Rattle.request_room.specs.RoomFacts.{is_ended, is_ready, request_of}
 use Rattle.request_room.specs.declared.requests.RoomRequest.{RoomRequest}
 use Rattle.venue_config.specs.Rows.{Configuration, has_room}
 use Rattle.step_replay.specs.AuditTrail.{AuditTrail, after_step, pending}
