@@ -134,7 +134,9 @@ fn push_rooms<T: AllocGlobal>(
     for index in 0..row.requests {
         let n = index + 1;
         let place = format!(in rt.alloc(); "room {name} {n}")?;
-        let order = record.room_order(RoomRef { investor, n }).ok_or("the order in a room")?;
+        let order = record
+            .room_order(RoomRef { investor, n })
+            .ok_or("the order in a room")?;
         push_order(rt, config, text, place.as_str(), order)?;
     }
     Ok(())
