@@ -1,5 +1,5 @@
-//! Days that a script forces whole: what each firm is sent, and what the record says that each actor
-//! did, in which order at each place.
+//! Days that a script forces whole: what each firm is sent, and what the record says that each
+//! actor did, in which order at each place.
 use super::fixtures::{VENUE, are_views, day_text, is_woven, name_of, runs};
 use super::forced_days::{FORCED_DAYS, ForcedDay};
 use super::scripts::{Script, kind_name};
