@@ -1,5 +1,5 @@
-//! Days that a script forces whole: what each firm is sent, and what the record says that each actor
-//! did, in which order at each place.
+//! Days that a script forces whole: what each firm is sent, and what the record says that each
+//! actor did, in which order at each place.
 use super::fixtures::{VENUE, are_views, day_text, is_woven, name_of, runs};
 use super::forced_days::{FORCED_DAYS, ForcedDay};
 use super::scripts::{Script, kind_name};
@@ -134,7 +134,9 @@ fn push_rooms<T: AllocGlobal>(
     for index in 0..row.requests {
         let n = index + 1;
         let place = format!(in rt.alloc(); "room {name} {n}")?;
-        let order = record.room_order(RoomRef { investor, n }).ok_or("the order in a room")?;
+        let order = record
+            .room_order(RoomRef { investor, n })
+            .ok_or("the order in a room")?;
         push_order(rt, config, text, place.as_str(), order)?;
     }
     Ok(())
