@@ -33,7 +33,8 @@ module _ (config : Configuration) (trail : AuditTrail) (next : Step) (before aft
     (told : List Sent) (known : is_known config (actor_of next) ≡ true)
     (stood : VenueStands config trail before)
     (tells : TellsOf config (after_step config trail next) after.replay told) where
-  room_is : (room : Option RoomRef) → room ≡ room_of_step next (next_duty before.replay (actor_of next))
+  room_is : (room : Option RoomRef) → room ≡ room_of_step next
+      (next_duty before.replay (actor_of next))
       → AreOf room (step_adds config trail next).more
   room_is room is =
       subst (λ (r : Option RoomRef). AreOf r (step_adds config trail next).more)
@@ -49,7 +50,8 @@ module _ (config : Configuration) (trail : AuditTrail) (next : Step) (before aft
       record {
         stands = record {
           replay_stands = tells.stands;
-          rooms_stand = subst (λ (f : List Fact). RoomsStand config f after.open_rooms) (sym adds.grown)
+          rooms_stand = subst (λ (f : List Fact). RoomsStand config f after.open_rooms)
+              (sym adds.grown)
               (subst (RoomsStand config (trail.facts ++ adds.more)) (sym same)
               (rooms_kept config trail.facts adds.more before.open_rooms stood.rooms_stand
               (room_is None none)));
@@ -74,7 +76,8 @@ module _ (config : Configuration) (trail : AuditTrail) (next : Step) (before aft
       record {
         stands = record {
           replay_stands = tells.stands;
-          rooms_stand = subst (λ (f : List Fact). RoomsStand config f after.open_rooms) (sym adds.grown)
+          rooms_stand = subst (λ (f : List Fact). RoomsStand config f after.open_rooms)
+              (sym adds.grown)
               (rooms_noted config trail.facts adds.more room had now before.open_rooms
               after.open_rooms stood.rooms_stand (room_is (Some room) is)
               (had_is config trail.facts stood.replay_stands.floor_stands)
@@ -86,7 +89,8 @@ module _ (config : Configuration) (trail : AuditTrail) (next : Step) (before aft
 -- The clock has no duty but behind its own steps.
 
 turn_of_firm : (config : Configuration) (firm : ℕ) (trail : AuditTrail) (duties : List Duty)
-    → pending actor.Clock (after_turn config (actor.Firm firm) trail duties) ≡ pending actor.Clock trail
+    → pending actor.Clock (after_turn config (actor.Firm firm) trail duties)
+    ≡ pending actor.Clock trail
 turn_of_firm config firm trail [] = refl
 turn_of_firm config firm trail (duty ∷ later) =
     other_turned (actor.Firm firm) actor.Clock trail
@@ -106,8 +110,10 @@ step_of_firm config (step.Turn actor.Clock) firm trail is = cc
 step_of_firm config (step.Expire room moment) firm trail is = cc
 
 turns_of_firm : (config : Configuration) (firm count : ℕ) (trail : AuditTrail)
-    → pending actor.Clock (after_turns config (actor.Firm firm) count trail) ≡ pending actor.Clock trail
-turns_of_firm config firm zero trail = ap (pending actor.Clock) (no_turn config (actor.Firm firm) trail)
+    → pending actor.Clock (after_turns config (actor.Firm firm) count trail)
+    ≡ pending actor.Clock trail
+turns_of_firm config firm zero trail = ap (pending actor.Clock)
+    (no_turn config (actor.Firm firm) trail)
 turns_of_firm config firm (suc count) trail =
     let same : suc count ≡ count + 1 = omega arith in
     ap (λ (k : ℕ). pending actor.Clock (after_turns config (actor.Firm firm) k trail)) same
@@ -119,7 +125,8 @@ turns_of_firm config firm (suc count) trail =
 clock_rests : (config : Configuration) (next : Step) (trail : AuditTrail) (by : Actor)
     → actor_of next ≡ by → pending actor.Clock trail ≡ []
     → pending by (after_turns config by MOST_TURNS_BEHIND (after_step config trail next)) ≡ []
-    → pending actor.Clock (after_turns config by MOST_TURNS_BEHIND (after_step config trail next)) ≡ []
+    → pending actor.Clock (after_turns config by MOST_TURNS_BEHIND (after_step config trail next))
+    ≡ []
 clock_rests config next trail (actor.Firm firm) is idle left =
     turns_of_firm config firm MOST_TURNS_BEHIND (after_step config trail next)
     ∙ step_of_firm config next firm trail is ∙ idle
@@ -127,14 +134,17 @@ clock_rests config next trail actor.Clock is idle left = left
 
 -- Where a venue is.
 
-pub is_at_start : (config : Configuration) (live : LiveVenue) → ReplayStands config no_steps live.replay
+pub is_at_start : (config : Configuration) (live : LiveVenue)
+    → ReplayStands config no_steps live.replay
     → IsEmpty live.open_rooms → IsAt config [] live
 is_at_start config live stands empty =
     let start = live_begins config in
     record {
       stands = record {
-        replay_stands = subst (λ (t : AuditTrail). ReplayStands config t live.replay) (sym start) stands;
-        rooms_stand = subst (λ (t : AuditTrail). RoomsStand config t.facts live.open_rooms) (sym start)
+        replay_stands = subst (λ (t : AuditTrail). ReplayStands config t live.replay)
+            (sym start) stands;
+        rooms_stand = subst (λ (t : AuditTrail). RoomsStand config t.facts live.open_rooms)
+            (sym start)
             (rooms_begin config live.open_rooms empty);
       };
       clock_idle = ap (pending actor.Clock) start;
@@ -151,7 +161,8 @@ answered config steps next after told idle all =
       stands = record {
         stands = subst (λ (t : AuditTrail). VenueStands config t after) (sym more) all.tells.stands;
         clock_idle = subst (λ (t : AuditTrail). pending actor.Clock t ≡ []) (sym more)
-            (clock_rests config next (live_trail config steps) (actor_of next) refl idle all.none_left);
+            (clock_rests config next (live_trail config steps)
+            (actor_of next) refl idle all.none_left);
       };
       told_is = ap (λ (t : AuditTrail). messages_in config t.facts) more ∙ all.tells.told_is;
       none_left = subst (λ (t : AuditTrail). pending (actor_of next) t ≡ []) (sym more)

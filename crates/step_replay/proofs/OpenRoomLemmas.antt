@@ -49,7 +49,8 @@ pub own_room : (room : RoomRef) → is_same_room room room ≡ true
 own_room room = rw (eq-eqb room.investor room.investor refl, eq-eqb room.n room.n refl) refl
 
 -- no later entry has an earlier deadline
-no_earlier : (one other : ℕ) (o p : Ordering) → MatchOrdering o (one < other) (one ≡ other) (other < one)
+no_earlier : (one other : ℕ) (o p : Ordering) → MatchOrdering o (one < other) (one ≡ other)
+    (other < one)
     → is_gt (ordering_then o p) ≡ false → one ≤ other
 no_earlier one other Less p ranks is = omega arith
 no_earlier one other Equal p ranks is = omega arith
@@ -75,7 +76,8 @@ none_due moment room first (entry ∷ entries) after all =
     rw past (none_due moment room first entries after all.1)
 
 -- a room more
-pub due_more : (moment : ℕ) (room : RoomRef) (entry : Entry) (entries : List Entry) (before after : Bool)
+pub due_more : (moment : ℕ) (room : RoomRef) (entry : Entry) (entries : List Entry)
+    (before after : Bool)
     → nat_le entry.0 moment ≡ true → after ≡ cond (is_eq (room_cmp entry.1 room)) true before
     → (after || any_due moment room entries) ≡ (before || any_due moment room (entry ∷ entries))
 due_more moment room entry entries before after come is =

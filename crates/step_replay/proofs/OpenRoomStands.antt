@@ -63,9 +63,11 @@ module _ (config : Configuration) (facts : List Fact) where
   -- After facts more.
 
   deadline_kept : (more : List Fact) (at : Option RoomRef) (room : RoomRef) → AreOf at more
-      → is_there at room ≡ false → deadline_by config (facts ++ more) room ≡ deadline_by config facts room
+      → is_there at room ≡ false → deadline_by config (facts ++ more) room
+      ≡ deadline_by config facts room
   deadline_kept more at room are other =
-      ap (λ (l : List RoomFact). if has_room config room.investor room.n then deadline_of l else None)
+      ap (λ (l : List RoomFact). if has_room config room.investor room.n then deadline_of l else
+      None)
       (room_grown room facts more
       ∙ ap (λ (l : List RoomFact). of_room room facts ++ l) (are.elsewhere room other)
       ∙ append-nil (of_room room facts))
@@ -74,9 +76,11 @@ module _ (config : Configuration) (facts : List Fact) where
       → AreOf None more → RoomsStand config (facts ++ more) rooms
   rooms_kept more rooms stands are entry =
       stands entry
-      ∙ ap (λ (d : Option ℕ). is_deadline d entry.0) (sym (deadline_kept more None entry.1 are refl))
+      ∙ ap (λ (d : Option ℕ). is_deadline d entry.0) (sym
+      (deadline_kept more None entry.1 are refl))
 
-  pub rooms_noted : (more : List Fact) (room : RoomRef) (had now : Option ℕ) (before after : OpenRooms)
+  pub rooms_noted : (more : List Fact) (room : RoomRef) (had now : Option ℕ)
+      (before after : OpenRooms)
       → RoomsStand config facts before → AreOf (Some room) more
       → had ≡ deadline_by config facts room → now ≡ deadline_by config (facts ++ more) room
       → Notes room had now before after → RoomsStand config (facts ++ more) after
@@ -133,7 +137,8 @@ module _ (config : Configuration) (facts : List Fact) where
       by_room (has_room config room.investor room.n) refl
     where
       found : deadline_by config facts room ≡ Some deadline
-      found = found_among (deadline_by config facts room) deadline (sym (stands (deadline, room)) ∙ held)
+      found = found_among (deadline_by config facts room) deadline
+          (sym (stands (deadline, room)) ∙ held)
 
       by_room : (b : Bool) → has_room config room.investor room.n ≡ b
           → (has_room config room.investor room.n ≡ true) × (of_facts room ≡ Some deadline)
@@ -193,13 +198,15 @@ module _ (config : Configuration) (facts : List Fact) where
   it_stays deadline (room ∷ rooms) least =
       ap (λ (d : Option ℕ). fold earlier d (map of_facts rooms))
       (kept (of_facts room) (least room (rw (own_room room) refl)))
-      ∙ it_stays deadline rooms (λ other among. least other (behind (is_same_room other room) _ among))
+      ∙ it_stays deadline rooms (λ other among. least other
+      (behind (is_same_room other room) _ among))
     where
       behind : (a b : Bool) → b ≡ true → (a || b) ≡ true
       behind true b is = refl
       behind false b is = is
 
-      kept : (next : Option ℕ) → IsNoLater deadline next → earlier (Some deadline) next ≡ Some deadline
+      kept : (next : Option ℕ) → IsNoLater deadline next → earlier (Some deadline) next
+          ≡ Some deadline
       kept None later = refl
       kept (Some other) later =
           let low : deadline ≤ other = later in
@@ -232,19 +239,22 @@ module _ (config : Configuration) (facts : List Fact) where
           → (b : Bool) → is_same_room first room ≡ b → (b || is_among first rooms) ≡ true
           → fold earlier (earlier before (of_facts room)) (map of_facts rooms) ≡ Some deadline
       here_or_later deadline first is room rooms before low own least later true same among =
-          let here : of_facts room ≡ Some deadline = ap of_facts (sym (same_room first room same)) ∙ is in
+          let here : of_facts room ≡ Some deadline = ap of_facts (sym (same_room first room same))
+              ∙ is in
           ap (λ (d : Option ℕ). fold earlier d (map of_facts rooms))
           (ap (earlier before) here ∙ takes_it deadline before low)
           ∙ it_stays deadline rooms least
       here_or_later deadline first is room rooms before low own least later false other among =
-          later (earlier before (of_facts room)) (stays_least deadline before (of_facts room) low own) among
+          later (earlier before (of_facts room)) (stays_least deadline before
+              (of_facts room) low own) among
 
   -- the earliest by the facts
   pub earliest_is : (rooms : OpenRooms) (found : Option ℕ) → RoomsStand config facts rooms
       → IsEarliest rooms found → found ≡ next_deadline config facts
   unfolding next_deadline
   earliest_is rooms None stands empty =
-      sym (none_among (rooms_of config) (λ room among. nothing room (sym (rooms_are config room) ∙ among)
+      sym (none_among (rooms_of config) (λ room among. nothing room
+      (sym (rooms_are config room) ∙ among)
       (of_facts room) refl))
     where
       nothing : (room : RoomRef) → has_room config room.investor room.n ≡ true → (found : Option ℕ)
@@ -263,7 +273,8 @@ module _ (config : Configuration) (facts : List Fact) where
       least : (room : RoomRef) → has_room config room.investor room.n ≡ true → (found : Option ℕ)
           → of_facts room ≡ found → IsNoLater deadline found
       least room has None is = tt
-      least room has (Some other) is = first.least (other, room) (held rooms stands room other has is)
+      least room has (Some other) is = first.least (other, room)
+          (held rooms stands room other has is)
 
   -- The rooms whose deadline has come.
 

@@ -1,6 +1,8 @@
 -- Every room of a venue: in order, and none is left out.
-use Rattle.std.proofs.Common.{◌≡◌, ◌<◌, ◌≤◌, ℕ, zero, suc, ◌+◌, ◌-◌, ◌==◌, Bool, true, false, ◌&&◌, ◌||◌}
-use Rattle.std.proofs.Common.{List, [], ◌∷◌, ◌++◌, length, Option, None, if◌then◌else◌, nat_le, nat_lt}
+use Rattle.std.proofs.Common.{◌≡◌, ◌<◌, ◌≤◌, ℕ, zero, suc, ◌+◌}
+use Rattle.std.proofs.Common.{◌-◌, ◌==◌, Bool, true, false, ◌&&◌, ◌||◌}
+use Rattle.std.proofs.Common.{List, [], ◌∷◌, ◌++◌, length}
+use Rattle.std.proofs.Common.{Option, None, if◌then◌else◌, nat_le, nat_lt}
 use Rattle.std.proofs.Common.{refl, sym, ap, ◌∙◌, arith}
 use Rattle.std.specs.Prelude.{slice_get}
 use Rattle.std.specs.List.{AllByRecursion, list_any}
@@ -32,14 +34,16 @@ equal_cmp one =
 
 -- an earlier request of the same investor, and a request of an earlier investor
 next_request : (investor one other : ℕ) → one < other
-    → room_cmp (record { investor = investor; n = one }) (record { investor = investor; n = other }) ≡ Less
+    → room_cmp (record { investor = investor; n = one })
+    (record { investor = investor; n = other }) ≡ Less
 next_request investor one other low =
     ap (λ (o : Ordering). ordering_then o (nat_cmp one other)) (equal_cmp investor)
     ∙ before_cmp one other low
 
 next_investor : (one other : RoomRef) → one.investor < other.investor → room_cmp one other ≡ Less
 next_investor one other low =
-    ap (λ (o : Ordering). ordering_then o (nat_cmp one.n other.n)) (before_cmp one.investor other.investor low)
+    ap (λ (o : Ordering). ordering_then o (nat_cmp one.n other.n))
+    (before_cmp one.investor other.investor low)
 
 abbrev IsBefore : RoomRef → List RoomRef → Type 0
 IsBefore room rooms = AllByRecursion (λ other. room_cmp room other ≡ Less) rooms
@@ -52,11 +56,13 @@ before_behind investor one first (suc more) low =
     let rest : one ≤ first + 1 = omega arith in
     (next_request investor one (first + 1) here, before_behind investor one (first + 1) more rest)
 
-behind_sorted : (investor first more : ℕ) → IsStrictlySortedBy room_cmp (rooms_behind investor first more)
+behind_sorted : (investor first more : ℕ) → IsStrictlySortedBy room_cmp
+    (rooms_behind investor first more)
 unfolding IsStrictlySortedBy
 behind_sorted investor first zero = tt
 behind_sorted investor first (suc more) =
-    (before_behind investor (first + 1) (first + 1) more (omega arith), behind_sorted investor (first + 1) more)
+    (before_behind investor (first + 1) (first + 1) more (omega arith), behind_sorted investor
+    (first + 1) more)
 
 before_both : (room : RoomRef) (one other : List RoomRef) → IsBefore room one → IsBefore room other
     → IsBefore room (one ++ other)
@@ -87,7 +93,8 @@ both_sorted : (investor first more : ℕ) (later : List RoomRef)
 unfolding IsStrictlySortedBy
 both_sorted investor first zero later before sorted = sorted
 both_sorted investor first (suc more) later before sorted = (
-  before_both (record { investor = investor; n = first + 1 }) (rooms_behind investor (first + 1) more) later
+  before_both (record { investor = investor; n = first + 1 })
+      (rooms_behind investor (first + 1) more) later
       (before_behind investor (first + 1) (first + 1) more (omega arith)) (before (first + 1)),
   both_sorted investor (first + 1) more later before sorted,
 )

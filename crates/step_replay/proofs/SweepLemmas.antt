@@ -102,7 +102,8 @@ none_by_dealer : (found : Option Dealer) (action : Dealer → Effect)
 none_by_dealer None action none = refl
 none_by_dealer (Some dealer) action none = none dealer
 
-none_if : (b : Bool) (effect : Effect) → effect.duties ≡ [] → (if b then effect else nothing).duties ≡ []
+none_if : (b : Bool) (effect : Effect) → effect.duties ≡ []
+    → (if b then effect else nothing).duties ≡ []
 none_if true effect none = none
 none_if false effect none = refl
 
@@ -234,14 +235,16 @@ pub record ClockRests (trail : AuditTrail) : Type 0 where
 
 unfoldable pub after_sweep : Configuration → ℕ → AuditTrail → RoomRef → AuditTrail
 after_sweep config moment trail room =
-    after_turns config actor.Clock MOST_TURNS_BEHIND (after_step config trail (step.Expire room moment))
+    after_turns config actor.Clock MOST_TURNS_BEHIND (after_step config trail
+        (step.Expire room moment))
 
 pub sweep_idle : (config : Configuration) (moment : ℕ) (trail : AuditTrail) (room : RoomRef)
     → pending actor.Clock trail ≡ [] → may_expire (of_room room trail.facts) moment ≡ false
     → after_sweep config moment trail room ≡ trail
 unfolding after_sweep
 sweep_idle config moment trail room idle none =
-    ap (after_turns config actor.Clock MOST_TURNS_BEHIND) (sweep_not_due config trail room moment none)
+    ap (after_turns config actor.Clock MOST_TURNS_BEHIND)
+    (sweep_not_due config trail room moment none)
     ∙ idle_turns config actor.Clock MOST_TURNS_BEHIND trail idle
 
 other_kept : (config : Configuration) (moment : ℕ) (trail : AuditTrail) (at room : RoomRef)
@@ -251,7 +254,8 @@ unfolding after_sweep
 other_kept config moment trail at room rests other =
     let effect = sweep_effect config trail.facts at moment in
     let same = swept config trail at moment in
-    let left : pending actor.Clock (after_step config trail (step.Expire at moment)) ≡ effect.duties =
+    let left : pending actor.Clock (after_step config trail (step.Expire at moment))
+        ≡ effect.duties =
     ap (pending actor.Clock) same ∙ own_pending actor.Clock trail effect rests.within
     ∙ ap (λ (l : List Duty). l ++ effect.duties) rests.idle in
     turns_tell config room MOST_TURNS_BEHIND (after_step config trail (step.Expire at moment))
@@ -278,5 +282,6 @@ due_before config moment trail at room rests due =
         subst (λ (t : AuditTrail). may_expire (of_room room t.facts) moment ≡ true)
         (sweep_idle config moment trail at rests.idle none) due
     by_room false other c was =
-        ap (λ (l : List RoomFact). may_expire l moment) (sym (other_kept config moment trail at room rests other))
+        ap (λ (l : List RoomFact). may_expire l moment)
+        (sym (other_kept config moment trail at room rests other))
         ∙ due

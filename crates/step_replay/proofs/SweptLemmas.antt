@@ -71,7 +71,8 @@ rests_more : (config : Configuration) (moment : ℕ) (trail : AuditTrail) (rooms
     → RestsAlong config moment trail (rooms ++ room ∷ [])
 rests_more config moment trail [] room rests last = (rests, last)
 rests_more config moment trail (first ∷ rooms) room rests last =
-    (rests.0, rests_more config moment (after_sweep config moment trail first) rooms room rests.1 last)
+    (rests.0, rests_more config moment (after_sweep config moment trail first) rooms room rests.1
+    last)
 
 -- Rooms that are not due may be left out.
 
@@ -98,7 +99,8 @@ skips_by config moment kept room rooms trail covers later true is rests =
     later (after_sweep config moment trail room)
     (λ other due. covers other (due_before config moment trail room other rests.0 due)) rests.1
 skips_by config moment kept room rooms trail covers later false is rests =
-    let none = not_due (may_expire (of_room room trail.facts) moment) (kept room) (covers room) is in
+    let none = not_due (may_expire (of_room room trail.facts) moment) (kept room)
+        (covers room) is in
     let same = sweep_idle config moment trail room
     (rests_first config moment trail (filter kept rooms) rests).idle none in
     ap (λ (t : AuditTrail). all_swept config moment t rooms) same ∙ later trail covers rests
@@ -138,9 +140,11 @@ none_and true = refl
 none_and false = refl
 
 filtered_by : (kept : RoomRef → Bool) (room first : RoomRef) (rooms : List RoomRef)
-    → list_any (λ k. is_eq (room_cmp room k)) (filter kept rooms) ≡ (kept room && is_among room rooms)
+    → list_any (λ k. is_eq (room_cmp room k)) (filter kept rooms)
+    ≡ (kept room && is_among room rooms)
     → (a : Bool) → kept first ≡ a → (b : Bool) → is_same_room room first ≡ b
-    → list_any (λ k. is_eq (room_cmp room k)) (cond a (first ∷ filter kept rooms) (filter kept rooms))
+    → list_any (λ k. is_eq (room_cmp room k)) (cond a (first ∷ filter kept rooms)
+    (filter kept rooms))
     ≡ (kept room && (b || is_among room rooms))
 filtered_by kept room first rooms rest true is true same =
     let own : kept room ≡ true = ap kept (same_room room first same) ∙ is in
@@ -157,7 +161,8 @@ filtered_by kept room first rooms rest false is true same =
 filtered_by kept room first rooms rest false is false other = rest
 
 filtered : (kept : RoomRef → Bool) (room : RoomRef) (rooms : List RoomRef)
-    → list_any (λ k. is_eq (room_cmp room k)) (filter kept rooms) ≡ (kept room && is_among room rooms)
+    → list_any (λ k. is_eq (room_cmp room k)) (filter kept rooms)
+    ≡ (kept room && is_among room rooms)
 filtered kept room [] = none_and (kept room)
 filtered kept room (first ∷ rooms) =
     filtered_by kept room first rooms (filtered kept room rooms) (kept first) refl
@@ -170,7 +175,8 @@ due_keys config facts rooms moment due stands are =
     let kept = filter (is_due facts moment) (rooms_of config) in
     let others : BTreeSet RoomRef = record { keys = kept } in
     btree_set_from_contains room_total due others are.ordered
-    (IsStrictlySortedBy-filter room_cmp (is_due facts moment) (rooms_of config) (rooms_sorted config))
+    (IsStrictlySortedBy-filter room_cmp (is_due facts moment) (rooms_of config)
+    (rooms_sorted config))
     (λ room. are.each room ∙ due_is config facts rooms moment room stands
     ∙ sym (filtered (is_due facts moment) room (rooms_of config)
     ∙ ap (λ (b : Bool). is_due facts moment room && b) (rooms_are config room)))
@@ -189,7 +195,8 @@ room_known config steps live moment due at room is_at are there =
     let both : (is_due facts moment room && has_room config room.investor room.n) ≡ true =
     sym (due_is config facts live.open_rooms moment room is_at.stands.rooms_stand)
     ∙ sym (are.each room) ∙ member in
-    let has : has_room config room.investor room.n ≡ true = second (is_due facts moment room) _ both in
+    let has : has_room config room.investor room.n ≡ true =
+        second (is_due facts moment room) _ both in
     rw has refl
   where
     second : (a b : Bool) → (a && b) ≡ true → b ≡ true
@@ -251,7 +258,8 @@ swept_more config steps moment done room before after told more had all =
     (sym (map-append (λ (r : RoomRef). step.Expire r moment) done (room ∷ []))) in
     let here : IsAt config (taken ++ next ∷ []) after = record {
       stands = subst (λ (t : AuditTrail). VenueStands config t after) (sym behind) all.tells.stands;
-      clock_idle = subst (λ (t : AuditTrail). pending actor.Clock t ≡ []) (sym behind) all.none_left;
+      clock_idle = subst (λ (t : AuditTrail). pending actor.Clock t ≡ [])
+          (sym behind) all.none_left;
     } in
     let there : IsAt config (steps ++ sweeps_at moment (done ++ room ∷ [])) after =
     subst (λ (l : List Step). IsAt config l after) same here in
@@ -274,8 +282,10 @@ pub swept_all : (config : Configuration) (steps : List Step) (moment : ℕ) (bef
 swept_all config steps moment before after due done told is_at are is so =
     let trail = live_trail config steps in
     let kept = filter (is_due trail.facts moment) (rooms_of config) in
-    let keys = due_keys config trail.facts before.open_rooms moment due is_at.stands.rooms_stand are in
-    let swept = subst (λ (l : List RoomRef). SweptSo config steps moment l after told) (is ∙ keys) so in
+    let keys = due_keys config trail.facts before.open_rooms moment due is_at.stands.rooms_stand
+        are in
+    let swept = subst (λ (l : List RoomRef). SweptSo config steps moment l after told)
+        (is ∙ keys) so in
     let same : live_trail config (steps ++ sweeps_at moment kept)
     ≡ live_trail config (steps ++ sweeps_at moment (rooms_of config)) =
     swept_is config steps moment kept
@@ -289,7 +299,8 @@ swept_all config steps moment before after due done told is_at are is so =
         clock_idle = subst (λ (t : AuditTrail). pending actor.Clock t ≡ []) same
             swept.answers.stands.clock_idle;
       };
-      told_is = ap (λ (t : AuditTrail). messages_in config t.facts) (sym same) ∙ swept.answers.told_is;
+      told_is = ap (λ (t : AuditTrail). messages_in config t.facts) (sym same)
+          ∙ swept.answers.told_is;
       none_left = subst (λ (t : AuditTrail). pending actor.Clock t ≡ []) same
           swept.answers.none_left;
     }

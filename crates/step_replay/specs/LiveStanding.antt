@@ -27,7 +27,8 @@ use Rattle.step_replay.specs.declared.steps.Step.TheVariants as step
 use Rattle.step_replay.specs.declared.steps.TheConstants.{MOST_TURNS_BEHIND}
 
 -- a venue stands where a day has come: its replay, and the rooms that are opening or open
-pub record VenueStands (config : Configuration) (trail : AuditTrail) (live : LiveVenue) : Type 0 where
+pub record VenueStands (config : Configuration) (trail : AuditTrail)
+    (live : LiveVenue) : Type 0 where
   pub replay_stands : ReplayStands config trail live.replay
   pub rooms_stand : RoomsStand config trail.facts live.open_rooms
 

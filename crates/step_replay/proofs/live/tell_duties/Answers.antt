@@ -8,7 +8,8 @@ pub loop-init : goal.loop-init
 loop-init c = record {
   within = omega arith;
   tells = λ config trail start known stood told.
-      subst (λ (t : AuditTrail). VenueTells config t c.args.venue.now (start ++ c.args.told.now.items))
+      subst (λ (t : AuditTrail). VenueTells config t c.args.venue.now
+      (start ++ c.args.told.now.items))
       (sym (no_turn config c.args.by trail))
       (record { stands = stood; told_is = told });
 }

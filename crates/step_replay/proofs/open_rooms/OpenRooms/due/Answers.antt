@@ -10,7 +10,8 @@ pub returns-then-get : goal.returns-then-get
 returns-then-get c =
     let entry : Entry = c.in-Some.field-0.now in
     let left : c.loop-deadline.deadline-iterator ≡ entry ∷ c.next.new.self =
-    rest_more deref c.loop-deadline.deadline-iterator c.next.new.self c.next.result c.in-Some.field-0
+    rest_more deref c.loop-deadline.deadline-iterator c.next.new.self c.next.result
+        c.in-Some.field-0
     c.in-Some.is c.next.ensures.steps in
     let value = c.get.ensures.value in
     let bound = c.get-in-loop-deadline.ensures.value in
@@ -24,7 +25,8 @@ pub loop-deadline-preserved : goal.loop-deadline-preserved
 loop-deadline-preserved c =
     let entry : Entry = c.in-Some.field-0.now in
     let left : c.loop-deadline.deadline-iterator ≡ entry ∷ c.next.new.self =
-    rest_more deref c.loop-deadline.deadline-iterator c.next.new.self c.next.result c.in-Some.field-0
+    rest_more deref c.loop-deadline.deadline-iterator c.next.new.self c.next.result
+        c.in-Some.field-0
     c.in-Some.is c.next.ensures.steps in
     let value = c.get.ensures.value in
     let bound = c.get-in-loop-deadline.ensures.value in
