@@ -72,7 +72,7 @@ beside() {
         python3 tests/isolation/pairs.py "$program" 2000 "$seed" "$jobs"
     form hostile 75 python3 's/^\([0-9]*\) inputs from seed .*/\1/p' \
         python3 tests/hostile/inputs.py "$program" spoilt 1500 "$seed" "$jobs"
-    form gateway 330 "$(gateway/packages.sh) openssl" 's/^\([0-9]*\) passed, 0 failed$/\1/p' \
+    form gateway 330 "$(gateway/packages.sh) openssl postgresql" 's/^\([0-9]*\) passed, 0 failed$/\1/p' \
         env VENUE="$program" SEED="$seed" tests/gateway/run.sh short
 }
 
