@@ -37,7 +37,8 @@ toml::table parse(const fs::path &path, const std::string &text) {
     }
 }
 
-// A table of a file, whose keys are all asked for: one that is not is a fault, since it is a misspelling.
+// A table of a file, whose keys are all asked for: one that is not is a fault, since it is a
+// misspelling.
 class Section {
   public:
     Section(fs::path file, std::string name, const toml::table *table)
@@ -320,6 +321,8 @@ class ConfigReader {
 
 } // namespace
 
-Config read_config(const fs::path &path) { return ConfigReader(path).read(); }
+Config read_config(const fs::path &path) {
+    return ConfigReader(path).read();
+}
 
 } // namespace gateway

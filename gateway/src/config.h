@@ -1,4 +1,5 @@
-// What the gateway is told: its own file, the credentials, and the firms of the venue's configuration.
+// What the gateway is told: its own file, the credentials, and the firms of the venue's
+// configuration.
 #ifndef GATEWAY_CONFIG_H
 #define GATEWAY_CONFIG_H
 
@@ -13,7 +14,7 @@ namespace gateway {
 
 struct Credentials {
     std::string username;
-    std::string password_hash;       // as crypt(5) has it
+    std::string password_hash;        // as crypt(5) has it
     std::string cancel_on_disconnect; // a trader, or empty
 };
 
@@ -44,7 +45,8 @@ struct Config {
     std::string event_level = "info";
 };
 
-// Reads the file and those that it names. Throws std::runtime_error that names the file and the key.
+// Reads the file and those that it names. Throws std::runtime_error that names the file and the
+// key.
 Config read_config(const std::filesystem::path &path);
 
 } // namespace gateway

@@ -10,7 +10,8 @@
 
 namespace gateway {
 
-// Rows that are put into the log by one transaction. A session's row takes the place of its old one.
+// Rows that are put into the log by one transaction. A session's row takes the place of its old
+// one.
 struct Batch {
     std::vector<Entry> entries;
     std::vector<Sent> sent;
@@ -31,8 +32,8 @@ struct FirmState {
     std::uint32_t outgoing = 0;    // messages of its session
 };
 
-// Reads through a connection of its own; one thread at a time. Every call throws std::runtime_error, or
-// what is derived of it, with the database's words.
+// Reads through a connection of its own; one thread at a time. Every call throws
+// std::runtime_error, or what is derived of it, with the database's words.
 class LogReader {
   public:
     virtual ~LogReader() = default;
@@ -56,8 +57,8 @@ class LogWriter {
   public:
     virtual ~LogWriter() = default;
 
-    // Puts all rows there and returns when they are safe on disk. Throws as the reader does; the rows
-    // may then be there or not, and nothing more is written.
+    // Puts all rows there and returns when they are safe on disk. Throws as the reader does; the
+    // rows may then be there or not, and nothing more is written.
     virtual void commit(const Batch &batch) = 0;
 };
 

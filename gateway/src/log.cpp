@@ -35,28 +35,35 @@ Log::Ticket Log::append_message(const std::string &firm, std::optional<std::uint
     Entry entry;
     entry.firm = firm;
     entry.number = number;
-    return append(std::move(entry), fmt::format("hex {} ", firm),
-                  fmt::format(" {}", hexadecimal(frame)));
+    const std::string verb = fmt::format("hex {} ", firm);
+    const std::string rest = fmt::format(" {}", hexadecimal(frame));
+    const auto received = std::chrono::steady_clock::now();
+    std::unique_lock lock(mutex_);
+    changed_.wait(lock, [&] { return (!held_ && has_room()) || !failure_.empty(); });
+    throw_if_failed();
+    return append_here(std::move(entry), verb, rest, received);
 }
 
-Log::Ticket Log::append_clock() { return append(Entry{}, "clock ", ""); }
-
-bool Log::append_clock_behind(std::uint32_t place) {
+std::optional<std::uint32_t> Log::append_clock_behind(std::uint32_t place) {
     const auto now = std::chrono::steady_clock::now();
     std::unique_lock lock(mutex_);
     wait_for_room(lock);
     if (next_place_ != place + 1) {
-        return false;
+        return std::nullopt;
     }
     append_here(Entry{}, "clock ", "", now);
-    return true;
+    return place + 1;
 }
 
-Log::Ticket Log::append(Entry entry, std::string_view verb, std::string_view rest) {
-    const auto received = std::chrono::steady_clock::now();
-    std::unique_lock lock(mutex_);
-    wait_for_room(lock);
-    return append_here(std::move(entry), verb, rest, received);
+Log::Hold::Hold(Log &log) : log_(log) {
+    const std::lock_guard lock(log_.mutex_);
+    log_.held_ = true;
+}
+
+Log::Hold::~Hold() {
+    const std::lock_guard lock(log_.mutex_);
+    log_.held_ = false;
+    log_.changed_.notify_all();
 }
 
 Log::Ticket Log::append_here(Entry entry, std::string_view verb, std::string_view rest,
@@ -149,7 +156,7 @@ std::string Log::failure() {
 }
 
 void Log::wait_for_room(std::unique_lock<std::mutex> &lock) {
-    changed_.wait(lock, [&] { return filling_.size < limit_ || !failure_.empty(); });
+    changed_.wait(lock, [&] { return has_room() || !failure_.empty(); });
     throw_if_failed();
 }
 

@@ -22,21 +22,22 @@ struct LoggedEntry {
     std::chrono::steady_clock::time_point received;
 };
 
-// Rows are put into the batch that is being filled; one thread commits it as soon as the one before is
-// committed, and at once where it has an entry or somebody waits for it. Rows that nobody waits for ride
-// along, for a few milliseconds at most. Any thread may put rows, and waits where too many are there.
+// Rows are put into the batch that is being filled; one thread commits it as soon as the one before
+// is committed, and at once where it has an entry or somebody waits for it. Rows that nobody waits
+// for ride along, for a few milliseconds at most. Any thread may put rows, and waits where too many
+// are there.
 //
-// Where a commit fails nothing is written any more: every call that needs the log throws, with the cause,
-// and `failed` is called once.
+// Where a commit fails nothing is written any more: every call that needs the log throws, with the
+// cause, and `failed` is called once.
 class Log {
   public:
     // The number of a batch: what wait() waits for.
     using Ticket = std::uint64_t;
 
     struct Start {
-        Entry last;                              // the last entry of the log
+        Entry last; // the last entry of the log
         std::map<std::string, SessionRow> sessions;
-        std::size_t waiting = 4096;              // rows that may wait
+        std::size_t waiting = 4096; // rows that may wait
     };
 
     Log(Database &database, DayClock &clock, Metrics &metrics, Start start,
@@ -46,14 +47,25 @@ class Log {
     Log(const Log &) = delete;
     Log &operator=(const Log &) = delete;
 
-    // A message of a firm: the next place and the moment are given here. number is the session's, or
-    // nothing where the gateway speaks for the firm.
+    // A message of a firm: the next place and the moment are given here. number is the session's,
+    // or nothing where the gateway speaks for the firm.
     Ticket append_message(const std::string &firm, std::optional<std::uint32_t> number,
                           std::string_view frame);
-    // A sweep of the clock, at the moment of now, if this place is the last one. Whether it was.
-    bool append_clock_behind(std::uint32_t place);
-    // A sweep of the clock, whatever came.
-    Ticket append_clock();
+    // A sweep of the clock, at the moment of now, if this place is the last one: then its own
+    // place.
+    std::optional<std::uint32_t> append_clock_behind(std::uint32_t place);
+
+    // Messages of firms wait for as long as it lives; sweeps do not. One at a time.
+    class Hold {
+      public:
+        explicit Hold(Log &log);
+        ~Hold();
+        Hold(const Hold &) = delete;
+        Hold &operator=(const Hold &) = delete;
+
+      private:
+        Log &log_;
+    };
 
     // A message of a session, with the venue's message that it carries.
     Ticket put(Outgoing outgoing, std::optional<Sent> carried);
@@ -65,8 +77,8 @@ class Log {
     // Returns when all that was put so far is on disk.
     void flush();
 
-    // The entries from a place on that are committed, at least one: waits for it. Nothing where they are
-    // no longer kept here, but in the database alone; none where the stop was asked for.
+    // The entries from a place on that are committed, at least one: waits for it. Nothing where
+    // they are no longer kept here, but in the database alone; none where the stop was asked for.
     std::optional<std::vector<LoggedEntry>> committed(std::uint32_t from, std::stop_token stop);
 
     std::uint32_t last_place();
@@ -81,10 +93,10 @@ class Log {
         std::size_t size = 0;
     };
 
-    Ticket append(Entry entry, std::string_view verb, std::string_view rest);
     // The lock is held.
     Ticket append_here(Entry entry, std::string_view verb, std::string_view rest,
                        std::chrono::steady_clock::time_point received);
+    bool has_room() const { return filling_.size < limit_; }
     // Waits for room; the lock is held before and behind.
     void wait_for_room(std::unique_lock<std::mutex> &lock);
     void throw_if_failed() const;
@@ -103,6 +115,7 @@ class Log {
     std::condition_variable_any changed_;
     Filling filling_;
     bool urgent_ = false;
+    bool held_ = false;
     Ticket filling_ticket_ = 1;
     Ticket committed_ = 0;
     std::string failure_;

@@ -23,7 +23,9 @@ std::string bytea(const Digest &digest) {
     return bytea({reinterpret_cast<const char *>(digest.data()), digest.size()});
 }
 
-std::string bytes_of(const pqxx::field &field) { return pqxx::binarystring(field).str(); }
+std::string bytes_of(const pqxx::field &field) {
+    return pqxx::binarystring(field).str();
+}
 
 Digest digest_of(const pqxx::field &field) {
     const std::string text = bytes_of(field);
@@ -34,7 +36,9 @@ Digest digest_of(const pqxx::field &field) {
     return digest;
 }
 
-std::uint32_t number_of(const pqxx::field &field) { return field.as<std::uint32_t>(); }
+std::uint32_t number_of(const pqxx::field &field) {
+    return field.as<std::uint32_t>();
+}
 
 // What libpqxx throws, with the place at which it was thrown.
 template <typename Work> auto told(std::string_view what, Work work) {
@@ -45,7 +49,8 @@ template <typename Work> auto told(std::string_view what, Work work) {
     }
 }
 
-std::unique_ptr<pqxx::connection> connect(const std::string &connection, const std::string &schema) {
+std::unique_ptr<pqxx::connection> connect(const std::string &connection,
+                                          const std::string &schema) {
     auto made = std::make_unique<pqxx::connection>(connection);
     pqxx::nontransaction work(*made);
     work.exec(fmt::format("SET search_path TO {}", work.quote_name(schema)));
@@ -73,8 +78,9 @@ class PostgresReader final : public LogReader {
   public:
     PostgresReader(const std::string &connection, const std::string &schema)
         : connection_(connect(connection, schema)) {
-        connection_->prepare("entries", "SELECT place, term, moment, firm, number, line, before, "
-                                        "hash FROM entry WHERE place >= $1 ORDER BY place LIMIT $2");
+        connection_->prepare("entries",
+                             "SELECT place, term, moment, firm, number, line, before, "
+                             "hash FROM entry WHERE place >= $1 ORDER BY place LIMIT $2");
         connection_->prepare("last", "SELECT place, term, moment, firm, number, line, before, hash "
                                      "FROM entry ORDER BY place DESC LIMIT 1");
         connection_->prepare("sent", "SELECT number, place, bytes FROM sent "
@@ -193,8 +199,8 @@ class Nullable {
     bool null_;
 };
 
-// A gateway's own connection, on which it has the schema's lock: where the connection is lost the lock is,
-// and nothing more is written, since another gateway may have it.
+// A gateway's own connection, on which it has the schema's lock: where the connection is lost the
+// lock is, and nothing more is written, since another gateway may have it.
 class WritingConnection {
   public:
     WritingConnection(const std::string &connection, const std::string &schema)
@@ -221,8 +227,9 @@ class WritingConnection {
     void begin(const std::string &schema) {
         pqxx::nontransaction work(*connection_);
         const std::string name = work.quote_name(schema);
-        const pqxx::row lock = work.exec1(
-            fmt::format("SELECT pg_try_advisory_lock(hashtext({}))", work.quote(fmt::format("mireseason {}", schema))));
+        const pqxx::row lock =
+            work.exec1(fmt::format("SELECT pg_try_advisory_lock(hashtext({}))",
+                                   work.quote(fmt::format("mireseason {}", schema))));
         if (!lock[0].as<bool>()) {
             throw std::runtime_error(
                 fmt::format("another gateway has the log: schema {} is locked", schema));
@@ -238,9 +245,9 @@ class WritingConnection {
         }
         const pqxx::result form = work.exec("SELECT number FROM form");
         if (form.size() != 1 || number_of(form[0][0]) != 1) {
-            throw std::runtime_error(fmt::format(
-                "{} has tables of form {}, and this gateway's are of form 1", schema,
-                form.empty() ? 0 : number_of(form[0][0])));
+            throw std::runtime_error(
+                fmt::format("{} has tables of form {}, and this gateway's are of form 1", schema,
+                            form.empty() ? 0 : number_of(form[0][0])));
         }
         connection_->prepare("session",
                              "INSERT INTO session (firm, target, logged_on) VALUES ($1, $2, $3) "
@@ -306,8 +313,7 @@ class PostgresWriter final : public LogWriter {
 class Postgres final : public Database {
   public:
     Postgres(std::string connection, std::string schema)
-        : text_(std::move(connection)), schema_(std::move(schema)),
-          writing_(told("the log", [&] {
+        : text_(std::move(connection)), schema_(std::move(schema)), writing_(told("the log", [&] {
               return std::make_shared<WritingConnection>(text_, schema_);
           })) {}
 

@@ -1,4 +1,5 @@
-// The log: places without a gap from many threads, commits together, the chain, and a commit that fails.
+// The log: places without a gap from many threads, commits together, the chain, and a commit that
+// fails.
 //
 // usage: log_test FOLDER [CONNECTION]    SQLite in the folder, or a PostgreSQL database
 #include "check.h"
@@ -60,9 +61,34 @@ Entry begin_day(Database &database) {
     return first;
 }
 
+constexpr std::uint32_t threads = 4;
+constexpr std::uint32_t messages = 200;
+
+void write_from(Log &log, std::uint32_t thread) {
+    const std::string firm = fmt::format("F{}", thread);
+    for (std::uint32_t number = 1; number <= messages; ++number) {
+        log.append_message(firm, number, "x");
+        log.put({firm, number, number, "wire"}, Sent{firm, number, number, "frame"});
+        log.put_target(firm, number + 1);
+    }
+}
+
+void check_rows(LogReader &reader) {
+    check_chain(reader, threads * messages + 1);
+    const auto states = reader.states();
+    same<std::size_t>(threads, states.size(), "firms");
+    for (const auto &[firm, state] : states) {
+        same(messages, state.entries, firm + "'s entries");
+        same(messages, state.last_number, firm + "'s last number");
+        same(messages, state.sent, firm + "'s messages");
+        same(messages, state.outgoing, firm + "'s session");
+        same(messages + 1, state.session.target, firm + "'s target");
+    }
+    same<std::string>("frame", reader.sent("F1", messages, 5).at(0).bytes, "a message");
+    same<std::size_t>(3, reader.outgoing("F1", 2, 4).size(), "messages of a session");
+}
+
 void many_threads(Database &database) {
-    constexpr std::uint32_t threads = 4;
-    constexpr std::uint32_t messages = 200;
     DayClock clock(today());
     Metrics metrics(0);
     Log::Start start;
@@ -72,34 +98,39 @@ void many_threads(Database &database) {
         Log log(database, clock, metrics, std::move(start),
                 [](const std::string &cause) { std::cerr << cause << '\n'; });
         std::vector<std::jthread> writers;
-        for (std::uint32_t each = 0; each < threads; ++each) {
-            writers.emplace_back([&log, each] {
-                const std::string firm = fmt::format("F{}", each);
-                for (std::uint32_t number = 1; number <= messages; ++number) {
-                    log.append_message(firm, number, "x");
-                    log.put({firm, number, number, "wire"}, Sent{firm, number, number, "frame"});
-                    log.put_target(firm, number + 1);
-                }
-            });
+        for (std::uint32_t thread = 0; thread < threads; ++thread) {
+            writers.emplace_back([&log, thread] { write_from(log, thread); });
         }
         writers.clear();
         log.flush();
         check(!log.append_clock_behind(threads * messages - 1), "a sweep behind an entry");
-        check(log.append_clock_behind(threads * messages), "a sweep behind the last entry");
+        same(threads * messages + 1, log.append_clock_behind(threads * messages).value_or(0),
+             "a sweep behind the last entry");
     }
-    const auto reader = database.reader();
-    check_chain(*reader, threads * messages + 1);
-    const auto states = reader->states();
-    same<std::size_t>(threads, states.size(), "firms");
-    for (const auto &[firm, state] : states) {
-        same(messages, state.entries, firm + "'s entries");
-        same(messages, state.last_number, firm + "'s last number");
-        same(messages, state.sent, firm + "'s messages");
-        same(messages, state.outgoing, firm + "'s session");
-        same(messages + 1, state.session.target, firm + "'s target");
+    check_rows(*database.reader());
+}
+
+// While messages are held a sweep is not, and they come behind it.
+void a_held_log(Database &database) {
+    DayClock clock(today());
+    Metrics metrics(0);
+    Log::Start start;
+    start.last = database.reader()->last_entry().value();
+    const std::uint32_t last = start.last.place;
+    Log log(database, clock, metrics, std::move(start),
+            [](const std::string &cause) { std::cerr << cause << '\n'; });
+    std::jthread writer;
+    {
+        const Log::Hold hold(log);
+        writer = std::jthread([&log] { log.append_message("F0", messages + 1, "x"); });
+        same(last + 1, log.append_clock_behind(last).value_or(0), "a sweep in a held log");
     }
-    same<std::string>("frame", reader->sent("F1", messages, 5).at(0).bytes, "a message");
-    same<std::size_t>(3, reader->outgoing("F1", 2, 4).size(), "messages of a session");
+    writer.join();
+    log.flush();
+    const auto entries = database.reader()->entries(last + 1, 9);
+    same<std::size_t>(2, entries.size(), "entries behind the hold");
+    check(!entries[0].firm && entries[1].firm == "F0",
+          "the message does not come behind the sweep");
 }
 
 void a_commit_that_fails() {
@@ -162,9 +193,9 @@ void changed_entries() {
 void run(const std::vector<std::string> &arguments) {
     const std::filesystem::path folder = arguments.at(0);
     if (arguments.size() > 1) {
-        const auto database =
-            open_postgres(arguments[1], fmt::format("log_test_{}", ::getpid()));
+        const auto database = open_postgres(arguments[1], fmt::format("log_test_{}", ::getpid()));
         many_threads(*database);
+        a_held_log(*database);
     } else {
         const std::filesystem::path file = folder / "log_test.db";
         for (const char *suffix : {"", "-wal", "-shm", ".lock"}) {
@@ -172,6 +203,7 @@ void run(const std::vector<std::string> &arguments) {
         }
         const auto database = open_sqlite(file.string());
         many_threads(*database);
+        a_held_log(*database);
     }
     a_commit_that_fails();
     changed_entries();

@@ -1,0 +1,226 @@
+#include "venue_day.h"
+
+#include "day.h"
+#include "translation.h"
+
+#include <algorithm>
+#include <stdexcept>
+
+#include <fmt/format.h>
+
+namespace gateway {
+
+namespace {
+
+using namespace std::chrono_literals;
+
+// How long the venue has to answer what came, at the end.
+constexpr auto longest_end = 10s;
+
+std::unique_ptr<Database> open_database(const Config &config) {
+    return config.sqlite.empty() ? open_postgres(config.postgres, config.schema)
+                                 : open_sqlite(config.sqlite.string());
+}
+
+} // namespace
+
+VenueDay::VenueDay(const Config &config, Metrics &metrics, Status &status,
+                   std::shared_ptr<spdlog::logger> events)
+    : config_(config), metrics_(metrics), status_(status), events_(std::move(events)),
+      clock_(config_.firms.date) {
+    if (!clock_.is_today()) {
+        throw std::runtime_error(fmt::format(
+            "the venue's configuration is of {}, and today is {} in UTC", clock_.date(), today()));
+    }
+    database_ = open_database(config_);
+    const OpenedDay day = open_day(config_, *database_, clock_, events_);
+    first_hash_ = day.first.hash;
+    reader_ = database_->reader();
+    states_ = reader_->states();
+    comparison_ = std::make_unique<Comparison>(database_->reader(), states_);
+    open_log(day.last);
+    open_firms();
+}
+
+void VenueDay::open_log(const Entry &last) {
+    Log::Start start;
+    start.waiting = config_.waiting_entries;
+    start.last = last;
+    for (const auto &[name, state] : states_) {
+        start.sessions[name] = state.session;
+    }
+    if (const auto latest = moment_of(last.moment)) {
+        clock_.not_before(*latest);
+    }
+    log_ = std::make_unique<Log>(*database_, clock_, metrics_, std::move(start),
+                                 [this](const std::string &cause) { status_.fail(cause); });
+}
+
+VenueDay::~VenueDay() {
+    close();
+}
+
+void VenueDay::close() {
+    sweeper_.reset();
+    // The venue ends, what it gave is handed over, and the log commits it.
+    venue_.reset();
+    for (auto &[name, firm] : firms_) {
+        firm.mailbox.reset();
+    }
+}
+
+void VenueDay::open_firms() {
+    for (const std::string &name : config_.firms.names) {
+        Firm &firm = firms_[name];
+        const auto credentials = config_.credentials.find(name);
+        if (credentials != config_.credentials.end()) {
+            firm.credentials = credentials->second;
+            firm.may_log_on = true;
+        }
+        const auto state = states_.find(name);
+        if (state != states_.end()) {
+            firm.entries = state->second.entries;
+            firm.last_number = state->second.last_number;
+        }
+    }
+    for (const auto &[name, state] : states_) {
+        if (!firms_.contains(name)) {
+            throw std::runtime_error(fmt::format("the log has {}, which the venue has not", name));
+        }
+    }
+}
+
+std::vector<SessionStart> VenueDay::session_starts() {
+    std::vector<SessionStart> starts;
+    for (const auto &[name, firm] : firms_) {
+        SessionStart start;
+        start.firm = name;
+        start.host = this;
+        const auto found = states_.find(name);
+        if (found != states_.end()) {
+            const FirmState &state = found->second;
+            start.sender = state.outgoing + 1;
+            // A message that is in the log came, whether the number behind it was committed or not.
+            start.target = std::max(state.session.target, state.last_number + 1);
+        }
+        starts.push_back(start);
+    }
+    return starts;
+}
+
+void VenueDay::open_mailboxes(Engine &engine) {
+    const auto failed = [this](const std::string &cause) {
+        const std::string log = log_->failure();
+        status_.fail(log.empty() ? cause : log);
+    };
+    for (auto &[name, firm] : firms_) {
+        firm.mailbox = std::make_unique<Mailbox>(name, engine, config_.waiting_messages, failed);
+    }
+}
+
+void VenueDay::start(Engine &engine) {
+    open_mailboxes(engine);
+    Venue::Settings settings{config_.command, config_.configuration, config_.venue_starts};
+    VenueListener &listener = *this;
+    venue_ = std::make_unique<Venue>(std::move(settings), *database_, *log_, first_hash_, listener,
+                                     metrics_, events_);
+    venue_->start();
+    if (!answers_.wait(log_->last_place(), status_.stopping())) {
+        return;
+    }
+    finish_replay();
+    withdraw_for_lost_sessions();
+    sweeper_ = std::make_unique<Sweeper>(answers_, *log_, clock_);
+}
+
+// All entries are answered: the log can have no message that the venue did not give.
+void VenueDay::finish_replay() {
+    wait_until_handed_over();
+    comparison_->check_complete();
+    log_->flush();
+}
+
+void VenueDay::wait_until_handed_over() {
+    for (auto &[name, firm] : firms_) {
+        firm.mailbox->wait_until_empty();
+    }
+}
+
+void VenueDay::finish() {
+    sweeper_.reset();
+    const std::uint32_t last = log_->last_place();
+    answers_.wait(last, longest_end, status_.failed());
+    wait_until_handed_over();
+    status_.end();
+    venue_->stop();
+    log_->flush();
+    events_->info("ended entries={}", last);
+}
+
+// Sessions that were there when the gateway ended, and ended with it.
+void VenueDay::withdraw_for_lost_sessions() {
+    for (auto &[name, firm] : firms_) {
+        const auto state = states_.find(name);
+        if (state != states_.end() && state->second.session.logged_on) {
+            cancel_all_of(name, firm);
+            log_->put_logged_on(name, false);
+        }
+    }
+}
+
+void VenueDay::cancel_all_of(const std::string &name, Firm &firm) {
+    if (firm.credentials.cancel_on_disconnect.empty()) {
+        return;
+    }
+    const std::lock_guard lock(firm.mutex);
+    const std::string moment = fmt::format("{}-{}", clock_.date(), text_of(clock_.now()));
+    log_->append_message(
+        name, std::nullopt,
+        cancel_of_all(name, firm.credentials.cancel_on_disconnect, firm.entries + 1, moment));
+    ++firm.entries;
+    events_->info("cancel of all firm={} trader={}", name, firm.credentials.cancel_on_disconnect);
+}
+
+VenueDay::Firm &VenueDay::firm_of(const std::string &name) {
+    const auto found = firms_.find(name);
+    if (found == firms_.end()) {
+        throw std::runtime_error(fmt::format("there is no firm {}", name));
+    }
+    return found->second;
+}
+
+// What the venue says.
+
+void VenueDay::venue_starts() {
+    wait_until_handed_over();
+    comparison_->begin();
+    log_->flush();
+    answers_.begin(log_->last_place());
+}
+
+void VenueDay::venue_gave(std::uint32_t place, std::uint32_t number, std::string name,
+                          std::string frame) {
+    Firm &firm = firm_of(name);
+    ForWire message = for_wire(frame, number);
+    if (!comparison_->is_new(name, message.number, frame)) {
+        return;
+    }
+    Delivery delivery;
+    delivery.firm = std::move(name);
+    delivery.number = message.number;
+    delivery.place = place;
+    delivery.frame = std::move(frame);
+    delivery.type = std::move(message.type);
+    delivery.body = std::move(message.body);
+    firm.mailbox->put(std::move(delivery));
+}
+
+void VenueDay::venue_answered(std::uint32_t place, std::optional<Moment> deadline) {
+    answers_.put(place, deadline);
+}
+
+void VenueDay::venue_failed(const std::string &cause) {
+    status_.fail(cause);
+}
+
+} // namespace gateway
