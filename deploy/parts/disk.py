@@ -1,5 +1,6 @@
 """A host's disk: a file system of its own in an image, that can be full and can lose its power."""
 
+import errno
 import fcntl
 import os
 import pwd
@@ -11,6 +12,19 @@ from parts.run import run, tried
 
 # Of ext4 and xfs: the file system ends at once and writes back nothing.
 SHUT_DOWN, WRITE_NOTHING = 0x8004587D, 2
+
+PARTS = (16 << 20, 1 << 20, 64 << 10, 4 << 10)
+
+
+def has_room(file: int, size: int, part: int) -> bool:
+    """Makes a file longer, if the disk has room for that."""
+    try:
+        os.posix_fallocate(file, size, part)
+    except OSError as fault:
+        if fault.errno == errno.ENOSPC:
+            return False
+        raise
+    return True
 
 
 class Disk:
@@ -43,9 +57,11 @@ class Disk:
 
     def fill(self) -> None:
         """Leaves no room."""
-        room = os.statvfs(self.mount)
+        size = 0
         with self.ballast.open("wb") as file:
-            os.posix_fallocate(file.fileno(), 0, max(room.f_bavail * room.f_frsize, 1))
+            for part in PARTS:
+                while has_room(file.fileno(), size, part):
+                    size += part
 
     def empty(self) -> None:
         self.ballast.unlink(missing_ok=True)

@@ -9,6 +9,7 @@
 
 #include <fmt/format.h>
 #include <toml++/toml.h>
+#include <unistd.h>
 
 namespace gateway {
 
@@ -27,6 +28,11 @@ std::string read_file(const fs::path &path) {
         fail(path, "can't be read");
     }
     return text.str();
+}
+
+std::string host_name() {
+    std::array<char, 256> name{};
+    return ::gethostname(name.data(), name.size() - 1) == 0 ? std::string(name.data()) : "";
 }
 
 toml::table parse(const fs::path &path, const std::string &text) {
@@ -209,6 +215,8 @@ class ConfigReader {
         const std::string file = log.text("sqlite");
         config_.postgres = log.text("postgres");
         config_.schema = with_date(log.text("schema", "day_{date}"));
+        config_.name = log.text("gateway", host_name());
+        config_.synchronous_commit = log.text("synchronous_commit", "on");
         log.end();
         if (file.empty() == config_.postgres.empty()) {
             fail(path_, "[log] names neither sqlite nor postgres, or both");

@@ -33,6 +33,8 @@ struct Config {
     std::filesystem::path sqlite; // empty where the next two name the log
     std::string postgres;
     std::string schema;
+    std::string name;               // of this gateway, for those who look who speaks
+    std::string synchronous_commit; // of PostgreSQL: `on` waits for a standby, if there is one
 
     EngineSettings engine;
     std::map<std::string, Credentials> credentials;

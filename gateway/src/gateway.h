@@ -19,14 +19,15 @@ namespace gateway {
 
 class Gateway final {
   public:
-    // Opens the log. Throws std::runtime_error where it can't be served.
+    // Throws std::runtime_error where the log can't be served.
     Gateway(Config config, std::shared_ptr<spdlog::logger> events);
     // Ends everything at once.
     ~Gateway();
     Gateway(const Gateway &) = delete;
     Gateway &operator=(const Gateway &) = delete;
 
-    // Feeds the log to the venue, and takes connections when all of it is answered.
+    // Feeds the log to the venue, while another gateway speaks too; takes connections when this
+    // one does and all of it is answered.
     void start();
 
     // Asks run() to end; of any thread.
