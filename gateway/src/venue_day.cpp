@@ -56,9 +56,9 @@ void VenueDay::close() {
     }
 }
 
-void VenueDay::follow() {
+void VenueDay::follow(const std::function<bool()> &may) {
     const std::stop_token stop = status_.stopping();
-    Follower follower(*database_, events_, [] { return true; });
+    Follower follower(*database_, events_, may);
     // A day begins with the gateway that speaks first.
     if (!follower.follow(stop, [](LogReader &log) { return log.last_entry().has_value(); })) {
         return;
@@ -72,10 +72,14 @@ void VenueDay::follow() {
         ahead_.settle(log);
         return false;
     };
-    if (follower.follow(stop, read) && catch_up()) {
+    if (!follower.follow(stop, read)) {
+        return;
+    }
+    has_term_ = true;
+    if (catch_up()) {
         open_log(*follower.term());
         open_firms();
-        events_->info("speaks term={} entries={}", *follower.term(), last_.place);
+        events_->info("speaks{} term={} entries={}", of_venue(), *follower.term(), last_.place);
     }
 }
 
@@ -90,7 +94,7 @@ void VenueDay::begin_venue(std::optional<std::uint32_t> term) {
                                      listener, metrics_, events_);
     venue_->start();
     if (!term) {
-        events_->info("follows entries={}", last_.place);
+        events_->info("follows{} entries={}", of_venue(), last_.place);
     }
 }
 
@@ -168,6 +172,7 @@ std::vector<SessionStart> VenueDay::session_starts() {
     for (const auto &[name, firm] : firms_) {
         SessionStart start;
         start.firm = name;
+        start.venue = config_.venue;
         start.host = this;
         const auto found = states_.find(name);
         if (found != states_.end()) {
@@ -187,7 +192,8 @@ void VenueDay::open_mailboxes(Engine &engine) {
         status_.fail(log.empty() ? cause : log);
     };
     for (auto &[name, firm] : firms_) {
-        firm.mailbox = std::make_unique<Mailbox>(name, engine, config_.waiting_messages, failed);
+        firm.mailbox = std::make_unique<Mailbox>(session_name(config_.venue, name), engine,
+                                                 config_.waiting_messages, failed);
     }
 }
 
@@ -223,7 +229,7 @@ void VenueDay::finish() {
     status_.end();
     venue_->stop();
     log_->flush();
-    events_->info("ended entries={}", last);
+    events_->info("ended{} entries={}", of_venue(), last);
 }
 
 // Sessions that were there when the gateway ended, and ended with it.
@@ -248,6 +254,11 @@ void VenueDay::cancel_all_of(const std::string &name, Firm &firm) {
         cancel_of_all(name, firm.credentials.cancel_on_disconnect, firm.entries + 1, moment));
     ++firm.entries;
     events_->info("cancel of all firm={} trader={}", name, firm.credentials.cancel_on_disconnect);
+}
+
+// For events: which venue it is, where there are several.
+std::string VenueDay::of_venue() const {
+    return config_.venue.empty() ? "" : fmt::format(" venue={}", config_.venue);
 }
 
 VenueDay::Firm &VenueDay::firm_of(const std::string &name) {
@@ -278,6 +289,7 @@ void VenueDay::venue_gave(std::uint32_t place, std::uint32_t number, std::string
         return;
     }
     Delivery delivery;
+    delivery.session = session_name(config_.venue, name);
     delivery.firm = std::move(name);
     delivery.number = message.number;
     delivery.place = place;

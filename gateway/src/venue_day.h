@@ -17,6 +17,8 @@
 #include "sweeper.h"
 #include "venue.h"
 
+#include <atomic>
+#include <functional>
 #include <map>
 #include <memory>
 #include <mutex>
@@ -38,7 +40,10 @@ class VenueDay final : private SessionHost, private VenueListener {
     // Feeds the log to the venue, also while another gateway writes it. Returns when this one
     // speaks and all of the log is answered and agrees, or when the gateway is to stop; throws
     // std::runtime_error where it does not agree.
-    void follow();
+    // It takes over where `may` says so.
+    void follow(const std::function<bool()> &may);
+    // Whether it has, or is about to: nobody else writes the log.
+    bool has_term() const { return has_term_; }
     // Where the firms' sessions begin, behind follow().
     std::vector<SessionStart> session_starts();
     // Has what the log lacks handed to the engine.
@@ -73,6 +78,7 @@ class VenueDay final : private SessionHost, private VenueListener {
     void wait_until_handed_over();
     void withdraw_for_lost_sessions();
     void cancel_all_of(const std::string &name, Firm &firm);
+    std::string of_venue() const;
     Firm &firm_of(const std::string &name);
 
     // SessionHost
@@ -106,6 +112,7 @@ class VenueDay final : private SessionHost, private VenueListener {
 
     std::mutex speaking_mutex_; // of the next one, and of what the venue gave until then
     bool speaks_ = false;
+    std::atomic<bool> has_term_{false};
 
     std::mutex reader_mutex_;
     std::unique_ptr<LogReader> reader_; // for what sessions send again
