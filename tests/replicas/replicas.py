@@ -36,6 +36,7 @@ from parts.gateway import PORT, Programs
 from parts.machine import FIRMS, GATEWAYS, Machine
 from parts.run import Fault
 from wait import TooLong, until, within
+from watch import Watch
 from wrong import SET_UPS, spoil, synchronous_of
 
 DEALERS = [Identity("DLR%d" % n, "T%d" % n, "dealer-%d-secret" % n) for n in range(1, 5)]
@@ -124,16 +125,17 @@ class Day:
         if damage.silenced and self.machine.supervisor.services[damage.silenced].starts == starts:
             self.problems.append("%s: %s did not end" % (damage.what, damage.silenced))
         end = time.monotonic() + RECOVERY
-        while not self.recovered():
-            self.send(PACE)
-            if time.monotonic() > end:
-                raise TooLong("%s: not all is as it was within %g s" % (damage.what, RECOVERY))
+        with Watch(self.hosts_are_well) as watch:
+            while not (watch.well and self.all_on()):
+                self.send(PACE)
+                if time.monotonic() > end:
+                    raise TooLong("%s: not all is as it was within %g s" % (damage.what, RECOVERY))
         self.figures.add(damage.what, damage.began, time.monotonic())
         print("  %-34s %5.1f s until all was as before" % (
             damage.what, time.monotonic() - damage.began), flush=True)
 
-    def recovered(self) -> bool:
-        return (self.all_on() and self.machine.speaking() is not None and self.machine.cluster.is_ready()
+    def hosts_are_well(self) -> bool:
+        return (self.machine.speaking() is not None and self.machine.cluster.is_ready()
                 and all(gateway.service.is_running() for gateway in self.machine.gateways))
 
     # ------------------------------------------------------------ its end

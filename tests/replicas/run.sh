@@ -35,4 +35,7 @@ g++ -std=c++14 -DHAVE_SSL=1 -O1 -Wall -Wextra -Werror -o "$work/player" "$root/t
     -lquickfix -lpthread -lssl -lcrypto
 
 # shellcheck disable=SC2086 # the words of $days and $venue
-python3 "$here/replicas.py" "$gateway" "$work/player" $days "$@" -- $venue
+{
+    python3 "$here/venues.py" "$gateway" "$work/player" -- $venue
+    python3 "$here/replicas.py" "$gateway" "$work/player" $days "$@" -- $venue
+}
