@@ -27,9 +27,9 @@ std::string_view take_word(std::string_view &text) {
 
 } // namespace
 
-Venue::Venue(Settings settings, Database &database, Log &log, const Digest &first_hash,
+Venue::Venue(Settings settings, Database &database, Committed &committed, const Digest &first_hash,
              VenueListener &listener, Metrics &metrics, std::shared_ptr<spdlog::logger> events)
-    : settings_(std::move(settings)), database_(database), log_(log), first_hash_(first_hash),
+    : settings_(std::move(settings)), database_(database), committed_(committed), first_hash_(first_hash),
       listener_(listener), metrics_(metrics), events_(std::move(events)),
       // The configuration, `%%`, and the line `#` whose mark says that the configuration was read.
       lines_before_(static_cast<std::size_t>(std::count(settings_.configuration.begin(),
@@ -166,7 +166,7 @@ void Venue::feed(Process &process, std::stop_token stop) {
 // None where the stop was asked for.
 std::vector<LoggedEntry> Venue::next_entries(std::uint32_t next, std::unique_ptr<LogReader> &reader,
                                              const std::stop_token &stop) {
-    if (auto recent = log_.committed(next, stop)) {
+    if (auto recent = committed_.wait(next, stop)) {
         return std::move(*recent);
     }
     if (!reader) {

@@ -2,7 +2,9 @@
 #ifndef GATEWAY_VENUE_H
 #define GATEWAY_VENUE_H
 
-#include "log.h"
+#include "committed.h"
+#include "database.h"
+#include "metrics.h"
 #include "moment.h"
 #include "process.h"
 
@@ -47,7 +49,7 @@ class Venue {
         unsigned starts = 3;       // within a minute
     };
 
-    Venue(Settings settings, Database &database, Log &log, const Digest &first_hash,
+    Venue(Settings settings, Database &database, Committed &committed, const Digest &first_hash,
           VenueListener &listener, Metrics &metrics, std::shared_ptr<spdlog::logger> events);
     // Ends the process.
     ~Venue();
@@ -86,7 +88,7 @@ class Venue {
 
     Settings settings_;
     Database &database_;
-    Log &log_;
+    Committed &committed_;
     const Digest first_hash_;
     VenueListener &listener_;
     Metrics &metrics_;
