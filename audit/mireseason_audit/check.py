@@ -44,6 +44,17 @@ class Verdict:
         listed = placed or self.findings
         return min(listed, key=lambda finding: finding.place or 0) if listed else None
 
+    @property
+    def words(self) -> str:
+        """The verdict in one sentence."""
+        if self.is_good:
+            text = "each firm was sent what the rules give, byte for byte"
+            return text + (", and the record is whole" if self.has_chain else "")
+        first, count = self.first, len(self.findings)
+        where = first.place_words if first else ""
+        words = "%d thing%s not as it should be" % (count, " is" if count == 1 else "s are")
+        return words + (", the first at %s" % where if where else "")
+
 
 @dataclass(frozen=True)
 class Checker:
@@ -124,12 +135,13 @@ def target_findings(log: Log) -> list[Finding]:
 
 
 def once_each(findings: list[Finding]) -> list[Finding]:
-    """Of what several jobs found alike, the first."""
+    """Of what several jobs found alike, the first; where another has the place, that."""
     seen: dict[object, Finding] = {}
     for finding in findings:
         about = (finding.number, finding.given, finding.found)
         key = finding if about == (None, None, None) else (finding.where, *about)
-        seen.setdefault(key, finding)
+        if key not in seen or (seen[key].place is None and finding.place is not None):
+            seen[key] = finding
     return list(seen.values())
 
 
@@ -142,18 +154,8 @@ def report(verdict: Verdict) -> list[str]:
         lines.append("seal      %s" % verdict.seal)
     for finding in verdict.findings:
         lines += finding.lines()
-    lines.append("verdict: " + verdict_words(verdict))
+    lines.append("verdict: " + verdict.words)
     return lines
-
-
-def verdict_words(verdict: Verdict) -> str:
-    if verdict.is_good:
-        text = "each firm was sent what the rules give, byte for byte"
-        return text + (", and the record is whole" if verdict.has_chain else "")
-    first, count = verdict.first, len(verdict.findings)
-    where = first.place_words if first else ""
-    words = "%d thing%s not as it should be" % (count, " is" if count == 1 else "s are")
-    return words + (", the first at %s" % where if where else "")
 
 
 def entries_line(verdict: Verdict) -> str:

@@ -90,17 +90,20 @@ class PlacesJob:
 
     def _findings(self, log: Log, step: Step) -> Iterator[Finding]:
         rows: dict[str, Iterator[Sent]] = {}
+        numbers: dict[str, int] = {}
         told: set[str] = set()
         arguments = ["live", "--frames", "--marks"]
         with self.audited.venue.run(arguments, self.audited.files.day) as run:
             for place, messages in by_place(run.lines(), places_of(log)):
                 for line in messages:
                     firm = first_word(line)
-                    row = next(rows.setdefault(firm, log.sent(firm)), None)
-                    if row is not None and row.place != place and firm not in told:
+                    numbers[firm] = number = numbers.get(firm, 0) + 1
+                    if firm not in rows:
+                        rows[firm] = log.sent(firm)
+                    row = next(rows[firm], None)
+                    if (row is None or row.place != place) and firm not in told:
                         told.add(firm)
-                        text = "it is given for entry %d" % place
-                        yield Finding(firm, text, row.place, row.number)
+                        yield place_finding(row, place, number, line)
                 step(len(messages))
 
 
@@ -129,6 +132,14 @@ class WireJob:
     def __call__(self, step: Step) -> list[Finding]:
         with self.audited.source.open() as log:
             return list(check_wire(log, self.firm))
+
+
+def place_finding(row: Sent | None, place: int, number: int, line: bytes) -> Finding:
+    """A message that stands for another entry, or nowhere."""
+    firm, given = message_of(line)
+    if row is None:
+        return Finding(firm, NOT_SENT, place, number, given=given)
+    return Finding(firm, "it is given for entry %d" % place, row.place, row.number)
 
 
 def first_word(line: bytes) -> str:

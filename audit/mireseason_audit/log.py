@@ -31,6 +31,10 @@ class Log(AbstractContextManager["Log"], ABC):
         """All entries, by their places."""
 
     @abstractmethod
+    def came(self, firm: str) -> Iterator[Entry]:
+        """The entries of one firm, by their places."""
+
+    @abstractmethod
     def sent(self, firm: str) -> Iterator[Sent]:
         """What the venue gave for a firm, by its numbers."""
 

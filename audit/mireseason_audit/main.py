@@ -16,9 +16,10 @@ from .files_log import TwoFiles
 from .findings import Finding
 from .jobs import Files
 from .log import Source
+from .pages import Pager
 from .postgres_log import PostgresSource
 from .progress import Progress
-from .seal import compared, read_seal, sealed, write_seal
+from .seal import compared, read_seal, sealed, write_seal, write_sums
 from .sqlite_log import SqliteSource
 from .venue import Venue
 from .work import processors
@@ -56,6 +57,13 @@ def parser_of() -> argparse.ArgumentParser:
     seal = command(commands, "seal", "signs what the log has", do_seal)
     seal.add_argument("--key", type=Path, required=True, help="a private Ed25519 key in PEM")
     seal.add_argument("--out", type=Path, help="the seal (LOG.seal if it is not named)")
+    page = command(commands, "page", "writes the day as static pages", do_page)
+    page.add_argument("folder", metavar="DIR", type=Path, help="an empty folder, or a new one")
+    page.add_argument("--request", type=int, help="the request of the certificates' second day")
+    page.add_argument("--dictionary", type=Path, default=DICTIONARY, help="fix/MIRESEASON.xml")
+    page.add_argument("--key", type=Path, help="the public key of the seal, in PEM")
+    page.add_argument("--seal", type=Path, help="the seal (LOG.seal if it is not named)")
+    page.add_argument("--sign", type=Path, help="a private Ed25519 key that signs the pages")
     return parser
 
 
@@ -141,6 +149,20 @@ def do_seal(work: Work) -> int:
     print("sealed: %d entries, the last %s" % (chained.entries, chained.last.hex()))
     print("the seal is %s" % path)
     return 0
+
+
+def do_page(work: Work) -> int:
+    words = work.words
+    verdict = checked(work)
+    key = None if words.request is None else words.request - 1
+    pager = Pager(
+        work.checker(), verdict, words.dictionary, words.folder, work.folder, key
+    )
+    summary = pager.write()
+    write_sums(words.folder, words.sign)
+    print("\n".join(report(verdict)))
+    print("%d requests: %s" % (len(summary.requests), words.folder / "index.html"))
+    return 0 if verdict.is_good else 1
 
 
 def main(arguments: list[str] | None = None) -> int:

@@ -62,8 +62,14 @@ class PostgresLog(Log):
             raise Unreadable("%s: %s" % (self._name, one_line(fault))) from None
 
     def entries(self) -> Iterator[Entry]:
+        return self._entries(" ORDER BY place")
+
+    def came(self, firm: str) -> Iterator[Entry]:
+        return self._entries(" WHERE firm = %s ORDER BY place", firm)
+
+    def _entries(self, which: str, *values: object) -> Iterator[Entry]:
         query = "SELECT place, term, moment, firm, number, line, before, hash FROM entry"
-        for row in self._rows(query + " ORDER BY place"):
+        for row in self._rows(query + which, *values):
             place, term, moment, firm, number, line, before, hash_ = row
             yield Entry(
                 place, term, moment, firm, number, bytes(line), bytes(before), bytes(hash_)

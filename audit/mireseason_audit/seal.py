@@ -126,6 +126,22 @@ def between(first: int, last: int) -> str:
     return "from entry %d to %d they are not those that were sealed" % (first, last)
 
 
+def write_sums(folder: Path, key: Path | None) -> None:
+    """The SHA-256 of each file of a folder, as sha256sum reads them, and a signature of that."""
+    lines = []
+    for path in sorted(folder.rglob("*")):
+        if path.is_file():
+            with path.open("rb") as file:
+                found = hashlib.sha256()
+                while block := file.read(1 << 20):
+                    found.update(block)
+            lines.append("%s  %s\n" % (found.hexdigest(), path.relative_to(folder)))
+    text = "".join(lines).encode()
+    (folder / "SHA256SUMS").write_bytes(text)
+    if key is not None:
+        (folder / "SHA256SUMS.sig").write_bytes(sign(text, key))
+
+
 def sign(text: bytes, key: Path) -> bytes:
     """The signature of a private key in PEM."""
     with tempfile.NamedTemporaryFile() as file:

@@ -10,7 +10,7 @@ from .faults import Unreadable
 from .log import FORM, Counts, Log, Source
 from .records import Entry, Outgoing, Sent
 
-ENTRY = "SELECT place, term, moment, firm, number, line, before, hash FROM entry ORDER BY place"
+ENTRY = "SELECT place, term, moment, firm, number, line, before, hash FROM entry"
 SENT = "SELECT firm, number, place, bytes FROM sent WHERE firm = ? ORDER BY number"
 OUTGOING = "SELECT firm, number, sent, bytes FROM outgoing WHERE firm = ? ORDER BY number"
 REJECTED = """SELECT place, number FROM entry WHERE number IS NOT NULL AND place IN
@@ -56,7 +56,13 @@ class SqliteLog(Log):
             raise Unreadable("%s: %s" % (self._name, fault)) from None
 
     def entries(self) -> Iterator[Entry]:
-        for row in self._rows(ENTRY):
+        return self._entries(" ORDER BY place")
+
+    def came(self, firm: str) -> Iterator[Entry]:
+        return self._entries(" WHERE firm = ? ORDER BY place", firm)
+
+    def _entries(self, which: str, *values: object) -> Iterator[Entry]:
+        for row in self._rows(ENTRY + which, *values):
             place, term, moment, firm, number, line, before, hash_ = row
             if type(line) is not bytes or type(before) is not bytes or type(hash_) is not bytes:
                 line, before, hash_ = as_bytes(line), as_bytes(before), as_bytes(hash_)
