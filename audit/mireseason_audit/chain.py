@@ -13,7 +13,7 @@ from .log import Log
 from .records import Day, Entry
 
 NO_HASH = bytes(32)
-CHECKPOINT = 1000  # entries from one hash of a seal to the next
+CHECKPOINT = 100  # entries from one hash of a seal to the next
 
 
 def hash_of(entry: Entry) -> bytes:

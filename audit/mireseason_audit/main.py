@@ -17,6 +17,7 @@ from .findings import Finding
 from .jobs import Files
 from .log import Source
 from .pages import Pager
+from .pair_command import PairCommand
 from .postgres_log import PostgresSource
 from .progress import Progress
 from .seal import compared, read_seal, sealed, write_seal, write_sums
@@ -64,6 +65,9 @@ def parser_of() -> argparse.ArgumentParser:
     page.add_argument("--key", type=Path, help="the public key of the seal, in PEM")
     page.add_argument("--seal", type=Path, help="the seal (LOG.seal if it is not named)")
     page.add_argument("--sign", type=Path, help="a private Ed25519 key that signs the pages")
+    pair = command(commands, "pair", "second days beside this one, for one dealer", do_pair)
+    pair.add_argument("dealer", metavar="DEALER")
+    pair.add_argument("--seed", type=int, default=1, help="of the prices that are drawn")
     return parser
 
 
@@ -163,6 +167,21 @@ def do_page(work: Work) -> int:
     print("\n".join(report(verdict)))
     print("%d requests: %s" % (len(summary.requests), words.folder / "index.html"))
     return 0 if verdict.is_good else 1
+
+
+def do_pair(work: Work) -> int:
+    with work.source.open() as log:
+        firm = log.day().firm(work.words.dealer)
+    if firm is None or not firm.is_dealer:
+        raise Unreadable("the day has no dealer %s" % work.words.dealer)
+    told = PairCommand(work.checker(), firm.name, work.words.seed, work.folder).run()
+    print("\n".join(told.lines))
+    print()
+    if told.is_good:
+        print("verdict: what differs is declared, and nothing else of another firm reaches %s" % firm.name)
+    else:
+        print("verdict: %s is sent what is not declared" % firm.name)
+    return 0 if told.is_good else 1
 
 
 def main(arguments: list[str] | None = None) -> int:

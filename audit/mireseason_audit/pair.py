@@ -1,5 +1,6 @@
 """`compare` of the day with a second one, and in words what it says."""
 
+from collections import Counter
 from dataclasses import dataclass, field
 from pathlib import Path
 
@@ -43,99 +44,113 @@ def compare(venue: Venue, dealer: str, both: Path) -> Compared:
 
 
 @dataclass
+class DueList:
+    """What of a list of what was due is looked at."""
+
+    items: int = 0
+    notices: dict[int, tuple[str, str]] = field(default_factory=dict)  # request to kind and moment
+    lifted: set[str] = field(default_factory=set)
+    others: dict[str, Counter[int]] = field(default_factory=dict)  # hashes of lines, by their kind
+
+    def take(self, line: bytes) -> None:
+        self.items += 1
+        words = line.split()
+        kind = decoded(words[0]) if words else ""
+        if kind == "closed" and len(words) == 4:
+            self.notices[int(words[1])] = (decoded(words[2]), decoded(words[3]))
+        elif kind == "lifted" and len(words) == 2:
+            self.lifted.add(decoded(words[1]))
+        else:
+            kind = "own" if kind == "hex" else kind
+            self.others.setdefault(kind, Counter())[hash(line)] += 1
+
+
+def read_due(path: Path) -> DueList:
+    """Reads a list; its first two lines are the date and the dealer's row."""
+    found = DueList()
+    with path.open("rb") as file:
+        for number, line in enumerate(file):
+            if number > 1:
+                found.take(line)
+    return found
+
+
+@dataclass
 class Differences:
     """How two lists of what was due to a dealer differ."""
 
     items: int = 0  # of the first list
-    notices: dict[tuple[str, str], int] = field(default_factory=dict)  # kinds before and after
-    first_notice: dict[tuple[str, str], str] = field(default_factory=dict)  # the request of the first
+    notices: Counter[tuple[str, str]] = field(default_factory=Counter)  # kinds before and after
+    first_notice: dict[tuple[str, str], str] = field(default_factory=dict)
     moved_notices: int = 0  # of one kind, at another moment
     lifted: tuple[int, int] = (0, 0)  # only in the first list, only in the second
-    other: int = 0  # own messages, requests shown, drops: those that are not in both
+    others: Counter[str] = field(default_factory=Counter)  # by kind, items that are not in both
+
+    @property
+    def are_declared(self) -> bool:
+        """Whether the dealer's own messages are the same."""
+        return self.others["own"] == 0
 
     @property
     def only_cover(self) -> bool:
         """Whether nothing differs but cover against done away."""
         kinds = {frozenset(pair) for pair in self.notices}
-        rest = self.moved_notices + sum(self.lifted) + self.other
+        rest = self.moved_notices + sum(self.lifted) + sum(self.others.values())
         return kinds <= {frozenset(("cover", "done away"))} and rest == 0
-
-
-@dataclass
-class DueList:
-    """What of a list of what was due is looked at: notices and liftings, and how many others."""
-
-    notices: dict[str, tuple[str, str]] = field(default_factory=dict)  # request to kind and moment
-    lifted: set[str] = field(default_factory=set)
-    others: dict[int, int] = field(default_factory=dict)  # hash of a line to how often it stands
-    items: int = 0
-
-
-def read_due(path: Path) -> DueList:
-    found = DueList()
-    with path.open("rb") as file:
-        for number, line in enumerate(file):
-            if number < 2:  # the date, and the dealer's row
-                continue
-            found.items += 1
-            words = line.split()
-            if words[:1] == [b"closed"] and len(words) == 4:
-                found.notices[decoded(words[1])] = (decoded(words[2]), decoded(words[3]))
-            elif words[:1] == [b"lifted"]:
-                found.lifted.add(decoded(words[1]))
-            else:
-                found.others[hash(line)] = found.others.get(hash(line), 0) + 1
-    return found
 
 
 def differences(first: Path, second: Path) -> Differences:
     """Holds two lists against one another."""
     before, after = read_due(first), read_due(second)
     found = Differences(items=before.items)
-    for request in sorted(before.notices.keys() | after.notices.keys(), key=int):
+    for request in sorted(before.notices.keys() | after.notices.keys()):
         kind, moment = before.notices.get(request, ("", ""))
         other, then = after.notices.get(request, ("", ""))
         if kind != other:
             pair = (KINDS.get(kind, "no notice"), KINDS.get(other, "no notice"))
-            found.notices[pair] = found.notices.get(pair, 0) + 1
-            found.first_notice.setdefault(pair, "R" + request)
+            found.notices[pair] += 1
+            found.first_notice.setdefault(pair, "R%d" % request)
         elif moment != then:
             found.moved_notices += 1
-    lost, won = before.lifted - after.lifted, after.lifted - before.lifted
-    found.lifted = (len(lost), len(won))
-    for line in before.others.keys() | after.others.keys():
-        found.other += abs(before.others.get(line, 0) - after.others.get(line, 0))
+    found.lifted = (len(before.lifted - after.lifted), len(after.lifted - before.lifted))
+    for kind in before.others.keys() | after.others.keys():
+        one, two = before.others.get(kind, Counter()), after.others.get(kind, Counter())
+        found.others[kind] = sum(((one - two) + (two - one)).values())
     return found
 
 
-COVER_WORDS = (
-    "That is declared: a notice says whether the dealer's quote was the best of the others, and"
-    " this alone of other dealers' prices reaches it."
+COVER = (
+    "That is declared: a notice says whether the dealer's quote was the best of the others, and of"
+    " all other dealers' prices this alone reaches it."
 )
-END_WORDS = (
-    "That is declared: a dealer is told how each request ended. The investor hit quotes that the"
-    " second day does not have."
+END = "That is declared: a dealer is told how each request that it was shown ended."
+LIFTED = "That is declared: an investor's hit of its own quote is the dealer's to know."
+SHOWN = (
+    "That is declared: the requests shown to it are in its list. Requests that end otherwise use up"
+    " an investor's limits otherwise."
 )
-LIFTED_WORDS = "That is declared: a dealer's list says which of its quotes an investor lifted."
-OTHER_WORDS = "This is not declared of such a day, and should be looked into."
+DROP = "That is declared: the drops of its own quotes are in its list."
+OWN = "THAT MUST NOT BE: the second day has the dealer's own messages as they were."
 
 
 def difference_words(found: Differences) -> list[str]:
     """What differs, and why that is declared."""
     words = []
-    for (before, after), count in sorted(found.notices.items()):
-        which = "on %d request%s (the first is %s)" % (
-            count, "" if count == 1 else "s", found.first_notice[before, after],
+    for pair, count in sorted(found.notices.items()):
+        which = "%d request%s, the first is %s" % (
+            count, "" if count == 1 else "s", found.first_notice[pair],
         )
-        text = "%s it is told `%s` where it was told `%s`." % (which, after, before)
-        cover = {before, after} == {"cover", "done away"}
-        words.append("%s %s" % (text, COVER_WORDS if cover else END_WORDS))
+        text = "it is told `%s` where it was told `%s` (%s)." % (pair[1], pair[0], which)
+        is_cover = set(pair) == {"cover", "done away"}
+        words.append("%s %s" % (text, COVER if is_cover else END))
     if found.moved_notices:
-        text = "%d notices come at another moment. %s"
-        words.append(text % (found.moved_notices, END_WORDS))
+        words.append("%d notices come at another moment. %s" % (found.moved_notices, END))
     if any(found.lifted):
         text = "%d of its quotes are lifted no longer, and %d others are. %s"
-        words.append(text % (*found.lifted, LIFTED_WORDS))
-    if found.other:
-        words.append("%d other items are not in both lists. %s" % (found.other, OTHER_WORDS))
+        words.append(text % (*found.lifted, LIFTED))
+    reasons = {"shown": ("requests shown", SHOWN), "drop": ("drops", DROP)}
+    for kind, count in sorted(found.others.items()):
+        if count:
+            name, reason = reasons.get(kind, ("own messages", OWN))
+            words.append("%d %s are not in both lists. %s" % (count, name, reason))
     return words

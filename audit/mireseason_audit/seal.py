@@ -1,6 +1,6 @@
 """The seal of a log: what stands in it, signed with an Ed25519 key by openssl.
 
-A seal is text. It has the hash of the last entry, from which all others follow, and that of each thousandth, so
+A seal is text. It has the hash of the last entry, from which all others follow, and that of each hundredth, so
 that a log whose chain was made anew is told by its place; of each firm, how many messages it was sent, and those
 of its session, with their SHA-256; and a signature of all that in its last line.
 """

@@ -1,6 +1,6 @@
 """A second day beside the one in a log: other dealers' prices moved, or their messages left out."""
 
-from collections.abc import Callable, Iterable, Iterator
+from collections.abc import Callable, Iterator
 from dataclasses import dataclass, field
 from pathlib import Path
 
@@ -11,7 +11,7 @@ from .prices import Price
 from .records import Day
 from .requests import Request
 
-BID, OFFER, SEQ_NUM = 132, 133, 34
+BID, OFFER, SEQ_NUM, QUOTE = 132, 133, 34, 117
 
 
 @dataclass(frozen=True)
@@ -20,6 +20,7 @@ class Moved:
 
     place: int
     dealer: str
+    number: str  # 34
     before: Price
     after: Price
 
@@ -50,7 +51,8 @@ class MovedDay:
         if changed is None:
             return line
         fields, before, after = changed
-        self.moved.append(Moved(place, came.firm, before, after))
+        number = text_of(came.fields, SEQ_NUM)
+        self.moved.append(Moved(place, came.firm, number, before, after))
         return line_of(came, fields)
 
 
@@ -99,11 +101,3 @@ def blocks_of(path: Path) -> Iterator[bytes]:
     with path.open("rb") as file:
         while block := file.read(1 << 20):
             yield block
-
-
-def counted(names: Iterable[str]) -> dict[str, int]:
-    """How often each name stands there."""
-    found: dict[str, int] = {}
-    for name in names:
-        found[name] = found.get(name, 0) + 1
-    return found

@@ -14,7 +14,7 @@ from .reading import Shape, Words
 from .requests import Act
 from .story import Quote, Story
 
-TIME_WIDTH, EDGE = 104, 12
+TIME_WIDTH, EDGE = 122, 12
 NARROWEST, WIDEST, ALL_LANES = 172, 250, 1050  # widths: of a lane, and of all where they have room
 HEAD_HEIGHT, LINE_HEIGHT, ROW_PAD = 58, 16, 20
 MOST_GAP = 30
@@ -104,7 +104,7 @@ class Drawing:
     def _row(self, row: Row, at: int) -> str:
         act, y = row.act, row.y + 6
         parts = ['<g class="row">', self._time(row, at)]
-        start = self._lanes.get(act.actor or "", EDGE + TIME_WIDTH - 8)
+        start = self._lanes.get(act.actor or "", EDGE + TIME_WIDTH - 12)
         targets = [self._lanes[note.firm] for note in act.told if note.firm in self._lanes]
         others = sorted({x for x in targets if x != start})
         if others:

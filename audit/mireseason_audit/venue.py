@@ -126,6 +126,62 @@ class Run(AbstractContextManager["Run"]):
         self._told.close()
 
 
+@dataclass
+class Conversation(AbstractContextManager["Conversation"]):
+    """`live --marks`, line by line: each line is answered before the next is given."""
+
+    venue: Venue
+
+    def __enter__(self) -> "Conversation":
+        words = [*self.venue.words, "live", "--frames", "--marks"]
+        try:
+            self._process = subprocess.Popen(
+                words,
+                stdin=subprocess.PIPE,
+                stdout=subprocess.PIPE,
+                stderr=subprocess.DEVNULL,
+            )
+        except OSError as fault:
+            raise Unreadable("the venue's program %s: %s" % (self.venue, fault)) from None
+        return self
+
+    def begin(self, head: bytes) -> None:
+        """The configuration and its divider."""
+        self._give(head)
+
+    def say(self, line: bytes) -> list[tuple[str, bytes]]:
+        """Gives a line; answers what it brings, each frame with its firm."""
+        self._give(line + b"\n")
+        assert self._process.stdout is not None
+        messages: list[tuple[str, bytes]] = []
+        for answer in self._process.stdout:
+            if answer.startswith((b"done ", b"fault ")):
+                return messages
+            messages.append(message_of(answer.removesuffix(b"\n")))
+        raise Unreadable("`%s live` ends before it has answered all lines" % self.venue)
+
+    def _give(self, data: bytes) -> None:
+        assert self._process.stdin is not None
+        try:
+            self._process.stdin.write(data)
+            self._process.stdin.flush()
+        except BrokenPipeError:
+            raise Unreadable("`%s live` takes no more lines" % self.venue) from None
+
+    def __exit__(
+        self,
+        kind: type[BaseException] | None,
+        value: BaseException | None,
+        trace: TracebackType | None,
+    ) -> None:
+        if kind is not None:
+            self._process.kill()
+        for stream in (self._process.stdin, self._process.stdout):
+            if stream is not None:
+                stream.close()
+        self._process.wait()
+
+
 def message_of(line: bytes) -> tuple[str, bytes]:
     """The firm and the frame of a line `FIRM FRAME`. No frame of the venue has a bar of its own."""
     firm, _, text = line.partition(b" ")

@@ -1,7 +1,7 @@
 #!/usr/bin/python3
 """Draws a day of a venue by a seed, and writes its log as the gateway does.
 
-usage: draw_day.py LOG [--requests N] [--seed N] [--noise N] -- VENUE WORDS ..
+usage: draw_day.py LOG [--requests N] [--seed N] [--noise N] [--dealers N] [--investors N] -- VENUE WORDS ..
 
 Investors ask, dealers quote, replace, withdraw and decline, by what each was sent so far: the venue's program answers
 each line before the next is drawn. `--noise` has so many messages more for each dealer and request, of those
@@ -23,18 +23,34 @@ DATE = "20261125"
 OPENING, CLOSING = 8 * 3_600_000, 17 * 3_600_000
 BONDS = {"US91282CAA18": 256, "US91282CBB27": 128, "US912810TM09": 64, "US912810SX72": 32}
 MIDDLES = {"US91282CAA18": 99.5, "US91282CBB27": 101.25, "US912810TM09": 87.75, "US912810SX72": 73.0}
-DEALERS = {"ALPHA": ("AL1", "AL2"), "BRAVO": ("BR1",), "CEDAR": ("CE1",), "DELTA": ("DE1",), "EIGER": ("EI1",)}
-INVESTORS = {"FJORD": ("FJ1", "FJ2"), "GROVE": ("GR1",)}
+ALL_DEALERS = {"ALPHA": ("AL1", "AL2"), "BRAVO": ("BR1",), "CEDAR": ("CE1",), "DELTA": ("DE1",), "EIGER": ("EI1",)}
+ALL_INVESTORS = {"FJORD": ("FJ1", "FJ2"), "GROVE": ("GR1",)}
 
 
-def configuration() -> bytes:
+@dataclass(frozen=True)
+class Firms:
+    """The firms of a day, each with its traders."""
+
+    dealers: dict[str, tuple[str, ...]]
+    investors: dict[str, tuple[str, ...]]
+
+    @property
+    def all(self) -> dict[str, tuple[str, ...]]:
+        return {**self.dealers, **self.investors}
+
+
+def first_of(table: dict[str, tuple[str, ...]], count: int) -> dict[str, tuple[str, ...]]:
+    return dict(itertools.islice(table.items(), count))
+
+
+def configuration(firms: Firms) -> bytes:
     text = 'version = 2\ndate = "%s"\n' % DATE
     for bond, grid in BONDS.items():
         text += '\n[[bond]]\nid = "%s"\ngrid = %d\n' % (bond, grid)
-    for name, traders in DEALERS.items():
+    for name, traders in firms.dealers.items():
         text += '\n[[dealer]]\nname = "%s"\ntraders = [%s]\n' % (name, quoted(traders))
         text += "quotes = 4096\nexposure = 60000000\n"
-    for name, traders in INVESTORS.items():
+    for name, traders in firms.investors.items():
         text += '\n[[investor]]\nname = "%s"\ntraders = [%s]\n' % (name, quoted(traders))
         text += "requests = 1024\nopen = 16\nquantity = 20000000\n"
     return text.encode()
@@ -59,18 +75,19 @@ class Request:
     standing: dict[str, tuple[str, float]] = field(default_factory=dict)  # quote to dealer and price
     live: dict[str, str] = field(default_factory=dict)  # dealer to its own name of its quote
     ended: bool = False
+    hits: int = 0
 
 
 class Market:
     """The venue, its firms and what is still to come."""
 
-    def __init__(self, path: Path, seed: int, noise: int, venue: list[str]) -> None:
-        self.draw, self.noise = random.Random(seed), noise
-        self.ledger = Ledger(path, DATE, configuration())
+    def __init__(self, path: Path, seed: int, noise: int, firms: Firms, venue: list[str]) -> None:
+        self.draw, self.noise, self.firms = random.Random(seed), noise, firms
+        self.ledger = Ledger(path, DATE, configuration(firms))
         self.venue = subprocess.Popen(
             [*venue, "live", "--frames", "--marks"], stdin=subprocess.PIPE, stdout=subprocess.PIPE
         )
-        self.write(configuration() + b"%%\n")
+        self.write(configuration(firms) + b"%%\n")
         self.coming: list[tuple[int, int, Callable[[int], None]]] = []
         self.order, self.names = itertools.count(), itertools.count(1)
         self.numbers: dict[str, int] = {}
@@ -126,7 +143,7 @@ class Market:
         if kind == "R":
             request = next(one for one in reversed(self.requests.values()) if firm in one.dealers)
             request.shown[firm] = told["131"]
-        elif firm in INVESTORS and (firm, told.get("131", "")) in self.requests:
+        elif firm in self.firms.investors and (firm, told.get("131", "")) in self.requests:
             self.learn_request(self.requests[firm, told["131"]], told)
 
     def learn_request(self, request: Request, told: dict[str, str]) -> None:
@@ -145,7 +162,7 @@ class Market:
         heapq.heappush(self.coming, (moment, next(self.order), act))
 
     def play(self, count: int) -> None:
-        for firm in [*DEALERS, *INVESTORS]:
+        for firm in self.firms.all:
             self.ledger.log_on(firm, OPENING)
         for at in range(count):
             span = (CLOSING - OPENING - 1_200_000) // count
@@ -158,7 +175,7 @@ class Market:
             _, _, act = heapq.heappop(self.coming)
             self.now = max(self.now, moment)
             act(self.now)
-        for firm in [*DEALERS, *INVESTORS]:
+        for firm in self.firms.all:
             self.ledger.log_off(firm, CLOSING)
         self.ledger.close()
         assert self.venue.stdin is not None
@@ -169,11 +186,12 @@ class Market:
 
     def ask(self, moment: int) -> None:
         draw = self.draw
-        investor, bond = draw.choice(list(INVESTORS)), draw.choice(list(BONDS))
-        dealers = draw.sample(list(DEALERS), draw.choice([2, 3, 3, 4, 5]))
+        investor, bond = draw.choice(list(self.firms.investors)), draw.choice(list(BONDS))
+        listed = list(self.firms.dealers)
+        dealers = draw.sample(listed, min(len(listed), draw.choice([2, 3, 3, 4, 5])))
         name = "%s-%03d" % (investor[0], next(self.names))
         deadline = (moment // 1000 + draw.choice([120, 180, 300, 300, 600])) * 1000
-        quantity = draw.choice([1, 2, 2, 5, 5, 10, 25 if draw.random() < 0.3 else 15]) * 1_000_000
+        quantity = draw.choice([1, 2, 2, 5, 5, 10, 25 if draw.random() < 0.2 else 15]) * 1_000_000
         request = Request(investor, name, bond, draw.random() < 0.5, quantity, deadline, dealers)
         self.requests[investor, name] = request
         if draw.random() < 0.06:
@@ -199,11 +217,11 @@ class Market:
         body += [("126", until), ("453", str(len(request.dealers)))]
         for dealer in request.dealers:
             body += [("448", dealer), ("447", "D"), ("452", "35")]
-        self.say(request.investor, self.draw.choice(INVESTORS[request.investor]), "R", body)
+        self.say(request.investor, self.draw.choice(self.firms.all[request.investor]), "R", body)
 
     def respond(self, request: Request, kind: str, tag: str, name: str) -> None:
         body = [("693", "%s%d" % (kind, next(self.names))), ("694", kind), (tag, name)]
-        self.say(request.investor, INVESTORS[request.investor][0], "AJ", body)
+        self.say(request.investor, self.firms.all[request.investor][0], "AJ", body)
 
     def hit(self, request: Request) -> None:
         if request.ended or not request.standing:
@@ -216,6 +234,13 @@ class Market:
             cancel = lambda now: self.cancel(request, dealer)  # noqa: E731
             self.later(self.now + self.draw.choice([0, 40]), cancel)
         self.later(self.now + self.draw.choice([0, 20]), lambda now: self.respond(request, "1", "117", name))
+        request.hits += 1
+        if request.hits < 3:
+            self.later(self.now + 2_500, lambda now: self.hit_again(request))
+
+    def hit_again(self, request: Request) -> None:
+        if not request.ended and request.standing:
+            self.hit(request)
 
     def hit_gone(self, request: Request) -> None:
         self.respond(request, "1", "117", "Q%d" % self.draw.randrange(1, 60))
@@ -258,21 +283,21 @@ class Market:
         if draw.random() < 0.1:
             until = min(request.deadline, self.now + draw.choice([30_000, 60_000]))
             body.append(("62", "%s-%s" % (DATE, time_text(until))))
-        self.say(dealer, draw.choice(DEALERS[dealer]), "S", body)
+        self.say(dealer, draw.choice(self.firms.all[dealer]), "S", body)
         if not spoilt:
             request.live[dealer] = name
 
     def cancel(self, request: Request, dealer: str, trader: str = "") -> None:
         body = [("298", "5"), ("117", request.live.get(dealer, "none"))]
-        self.say(dealer, trader or DEALERS[dealer][0], "Z", body)
+        self.say(dealer, trader or self.firms.all[dealer][0], "Z", body)
 
     def cancel_all(self, dealer: str) -> None:
         number = self.draw.random() < 0.5  # without one it is the gateway's own, of a dealer that is gone
-        self.say(dealer, DEALERS[dealer][0], "Z", [("298", "4")], number)
+        self.say(dealer, self.firms.all[dealer][0], "Z", [("298", "4")], number)
 
     def decline(self, request: Request, dealer: str) -> None:
         body = [("131", request.shown[dealer]), ("658", "10")]
-        self.say(dealer, DEALERS[dealer][0], "AG", body)
+        self.say(dealer, self.firms.all[dealer][0], "AG", body)
 
 
 def moment_of(text: str) -> int:
@@ -287,9 +312,12 @@ def main() -> None:
     parser.add_argument("--seed", type=int, default=1)
     parser.add_argument("--noise", type=int, default=0)
     parser.add_argument("venue", nargs="+")
+    parser.add_argument("--dealers", type=int, default=len(ALL_DEALERS))
+    parser.add_argument("--investors", type=int, default=len(ALL_INVESTORS))
     words = parser.parse_args()
     words.log.unlink(missing_ok=True)
-    Market(words.log, words.seed, words.noise, words.venue).play(words.requests)
+    firms = Firms(first_of(ALL_DEALERS, words.dealers), first_of(ALL_INVESTORS, words.investors))
+    Market(words.log, words.seed, words.noise, firms, words.venue).play(words.requests)
 
 
 if __name__ == "__main__":
