@@ -119,10 +119,11 @@ def do_check(work: Work) -> int:
 
 def checked(work: Work, files: Files | None = None) -> Verdict:
     """The verdict, that of the seal too where a key is given."""
+    words, seal = work.words, None
+    if words.key is not None:
+        seal = read_seal(seal_path(words, work.source, words.seal), words.key)
     verdict = work.checker(files).check()
-    if work.words.key is not None:
-        path = seal_path(work.words, work.source, work.words.seal)
-        seal = read_seal(path, work.words.key)
+    if seal is not None:
         with work.source.open() as log:
             found = list(compared(seal, sealed(log, verdict.day, verdict.chained)))
         verdict.findings += found

@@ -1,7 +1,9 @@
 """The venue's program: every rule is asked of it."""
 
 import hashlib
+import os
 import re
+import select
 import subprocess
 import tempfile
 from collections.abc import Iterator
@@ -14,6 +16,7 @@ from .faults import Unreadable
 from .records import SOH
 
 LINE_FAULT = re.compile(rb"line ([0-9]+): (.*)\Z")
+ANSWER_SECONDS = 60  # the program answers a line by then
 MOST_TOLD = 1000  # of the lines on standard error, so many are kept
 
 
@@ -131,6 +134,7 @@ class Conversation(AbstractContextManager["Conversation"]):
     """`live --marks`, line by line: each line is answered before the next is given."""
 
     venue: Venue
+    _read: bytes = b""
 
     def __enter__(self) -> "Conversation":
         words = [*self.venue.words, "live", "--frames", "--marks"]
@@ -152,13 +156,25 @@ class Conversation(AbstractContextManager["Conversation"]):
     def say(self, line: bytes) -> list[tuple[str, bytes]]:
         """Gives a line; answers what it brings, each frame with its firm."""
         self._give(line + b"\n")
-        assert self._process.stdout is not None
         messages: list[tuple[str, bytes]] = []
-        for answer in self._process.stdout:
+        while True:
+            answer = self._line()
             if answer.startswith((b"done ", b"fault ")):
                 return messages
-            messages.append(message_of(answer.removesuffix(b"\n")))
-        raise Unreadable("`%s live` ends before it has answered all lines" % self.venue)
+            messages.append(message_of(answer))
+
+    def _line(self) -> bytes:
+        """The next line that it prints."""
+        assert self._process.stdout is not None
+        while b"\n" not in self._read:
+            ready, _, _ = select.select([self._process.stdout], [], [], ANSWER_SECONDS)
+            data = os.read(self._process.stdout.fileno(), 1 << 16) if ready else b""
+            if not data:
+                what = "ends before it has answered" if ready else "does not answer"
+                raise Unreadable("`%s live --frames --marks` %s a line" % (self.venue, what))
+            self._read += data
+        line, _, self._read = self._read.partition(b"\n")
+        return line
 
     def _give(self, data: bytes) -> None:
         assert self._process.stdin is not None
