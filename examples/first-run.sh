@@ -24,6 +24,7 @@ command -v rt >/dev/null || { echo "the command rt is not on the PATH" >&2; exit
 say() { printf '\n== %s\n' "$*"; }
 
 say "Packages of Debian"
+# shellcheck disable=SC2046 # a word for each package
 "$root/tests/packages.sh" $("$root/gateway/packages.sh")
 
 if [ -n "$unproved" ]; then

@@ -65,14 +65,14 @@ beside() {
         failed=$((failed + 1))
         return
     fi
-    form engines 150 "g++ libquickfix-dev" '$s/.*/1/p' tests/engines/run.sh "$program"
-    form model 75 python3 's/^\([0-9]*\) inputs, .*: no difference$/\1/p' \
-        python3 tests/model/compare.py "$program" 1500 "$seed" "$jobs"
-    form isolation 75 python3 's/^seeds .*: \([0-9]*\) pairs with equal due lists.*/\1/p' \
-        python3 tests/isolation/pairs.py "$program" 2000 "$seed" "$jobs"
-    form hostile 75 python3 's/^\([0-9]*\) inputs from seed .*/\1/p' \
-        python3 tests/hostile/inputs.py "$program" spoilt 1500 "$seed" "$jobs"
-    form gateway 330 "$(gateway/packages.sh) openssl postgresql" 's/^\([0-9]*\) passed, 0 failed$/\1/p' \
+    form engines 120 "g++ libquickfix-dev" '$s/.*/1/p' tests/engines/run.sh "$program"
+    form model 45 python3 's/^\([0-9]*\) inputs, .*: no difference$/\1/p' \
+        python3 tests/model/compare.py "$program" 1000 "$seed" "$jobs"
+    form isolation 45 python3 's/^seeds .*: \([0-9]*\) pairs with equal due lists.*/\1/p' \
+        python3 tests/isolation/pairs.py "$program" 1000 "$seed" "$jobs"
+    form hostile 45 python3 's/^\([0-9]*\) inputs from seed .*/\1/p' \
+        python3 tests/hostile/inputs.py "$program" spoilt 1000 "$seed" "$jobs"
+    form gateway 465 "$(gateway/packages.sh) openssl postgresql" 's/^\([0-9]*\) passed, 0 failed$/\1/p' \
         env VENUE="$program" SEED="$seed" tests/gateway/run.sh short
 }
 
