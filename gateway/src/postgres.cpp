@@ -4,6 +4,7 @@
 #include "postgres_parts.h"
 
 #include <chrono>
+#include <mutex>
 #include <stdexcept>
 #include <tuple>
 
@@ -220,30 +221,37 @@ class Postgres final : public Database {
     explicit Postgres(PostgresPlace place) : place_(std::move(place)) {}
 
     std::unique_ptr<LogReader> reader() override {
+        told("the log", [&] { connection(); });
         return read_postgres(place_.connection, place_.schema);
     }
 
     std::optional<std::uint32_t> take_over() override {
         try {
-            return told("taking over", [&] {
-                if (!writing_) {
-                    writing_ = std::make_shared<WritingConnection>(place_);
-                }
-                return writing_->take_over(place_.gateway);
-            });
+            return told("taking over", [&] { return connection()->take_over(place_.gateway); });
         } catch (const DatabaseAway &) {
             // The next call has a new connection.
+            const std::lock_guard lock(mutex_);
             writing_.reset();
             throw;
         }
     }
 
     std::unique_ptr<LogWriter> writer() override {
-        return std::make_unique<PostgresWriter>(writing_);
+        return std::make_unique<PostgresWriter>(told("a writer", [&] { return connection(); }));
     }
 
   private:
+    // The first one makes the tables.
+    std::shared_ptr<WritingConnection> connection() {
+        const std::lock_guard lock(mutex_);
+        if (!writing_) {
+            writing_ = std::make_shared<WritingConnection>(place_);
+        }
+        return writing_;
+    }
+
     PostgresPlace place_;
+    std::mutex mutex_;
     std::shared_ptr<WritingConnection> writing_;
 };
 
