@@ -4,6 +4,7 @@
 #include "postgres_parts.h"
 
 #include <chrono>
+#include <cstring>
 #include <mutex>
 #include <stdexcept>
 #include <tuple>
@@ -58,11 +59,28 @@ class Nullable {
     bool null_;
 };
 
+// Sees whether the server did not wait for a standby: that it says by a warning, and the commit
+// succeeds.
+class Warnings final : public pqxx::errorhandler {
+  public:
+    explicit Warnings(pqxx::connection_base &connection) : errorhandler(connection) {}
+
+    bool operator()(const char text[]) noexcept override {
+        unsafe_ = unsafe_ || std::strstr(text, "wait for synchronous replication") != nullptr;
+        return !unsafe_;
+    }
+    bool unsafe() const { return unsafe_; }
+
+  private:
+    bool unsafe_ = false;
+};
+
 // The connection on which a gateway writes, in a term that is tied to it.
 class WritingConnection {
   public:
     explicit WritingConnection(const PostgresPlace &place)
-        : connection_(std::make_unique<pqxx::connection>(place.connection)) {
+        : connection_(std::make_unique<pqxx::connection>(place.connection)),
+          warnings_(*connection_) {
         begin(place);
         backend_ = connection_->backendpid();
     }
@@ -77,7 +95,7 @@ class WritingConnection {
         term_ = number_of(rows[0][0]);
         const auto old_backend = rows[0][1].as<int>();
         const auto old_began = rows[0][2].as<std::string>();
-        work.commit();
+        commit(work);
         end_backend(old_backend, old_began);
         return term_;
     }
@@ -98,10 +116,18 @@ class WritingConnection {
         } else {
             work.exec_prepared("speak", term_);
         }
-        work.commit();
+        commit(work);
     }
 
   private:
+    void commit(pqxx::work &work) {
+        work.commit();
+        if (warnings_.unsafe()) {
+            throw std::runtime_error("PostgreSQL: the wait for a standby was cancelled, and what "
+                                     "was committed may be on one machine alone");
+        }
+    }
+
     void begin(const PostgresPlace &place) {
         const std::string &schema = place.schema;
         pqxx::nontransaction work(*connection_);
@@ -197,6 +223,7 @@ class WritingConnection {
     }
 
     std::unique_ptr<pqxx::connection> connection_;
+    Warnings warnings_;
     int backend_ = 0;
     std::uint32_t term_ = 0;
     std::chrono::steady_clock::time_point seen_{};
