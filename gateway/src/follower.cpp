@@ -39,18 +39,17 @@ bool Follower::follow(const std::stop_token &stop, const std::function<bool(LogR
 
 bool Follower::turn(const std::function<bool(LogReader &)> &look) {
     try {
-        if (!term_ && may_take_over_()) {
-            term_ = database_.take_over();
-        }
-        if (term_) {
-            return true;
-        }
         if (!reader_) {
             reader_ = database_.reader();
         }
-        const bool enough = look(*reader_);
+        if (look(*reader_)) {
+            return true;
+        }
         told_.clear();
-        return enough;
+        if (may_take_over_()) {
+            term_ = database_.take_over();
+        }
+        return term_.has_value();
     } catch (const DatabaseAway &fault) {
         reader_.reset();
         tell(fault.what());

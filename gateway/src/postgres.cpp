@@ -4,6 +4,8 @@
 #include "postgres_parts.h"
 
 #include <chrono>
+#include <cstring>
+#include <mutex>
 #include <stdexcept>
 #include <tuple>
 
@@ -57,11 +59,28 @@ class Nullable {
     bool null_;
 };
 
+// Sees whether the server did not wait for a standby: that it says by a warning, and the commit
+// succeeds.
+class Warnings final : public pqxx::errorhandler {
+  public:
+    explicit Warnings(pqxx::connection_base &connection) : errorhandler(connection) {}
+
+    bool operator()(const char text[]) noexcept override {
+        unsafe_ = unsafe_ || std::strstr(text, "wait for synchronous replication") != nullptr;
+        return !unsafe_;
+    }
+    bool unsafe() const { return unsafe_; }
+
+  private:
+    bool unsafe_ = false;
+};
+
 // The connection on which a gateway writes, in a term that is tied to it.
 class WritingConnection {
   public:
     explicit WritingConnection(const PostgresPlace &place)
-        : connection_(std::make_unique<pqxx::connection>(place.connection)) {
+        : connection_(std::make_unique<pqxx::connection>(place.connection)),
+          warnings_(*connection_) {
         begin(place);
         backend_ = connection_->backendpid();
     }
@@ -76,7 +95,7 @@ class WritingConnection {
         term_ = number_of(rows[0][0]);
         const auto old_backend = rows[0][1].as<int>();
         const auto old_began = rows[0][2].as<std::string>();
-        work.commit();
+        commit(work);
         end_backend(old_backend, old_began);
         return term_;
     }
@@ -97,10 +116,18 @@ class WritingConnection {
         } else {
             work.exec_prepared("speak", term_);
         }
-        work.commit();
+        commit(work);
     }
 
   private:
+    void commit(pqxx::work &work) {
+        work.commit();
+        if (warnings_.unsafe()) {
+            throw std::runtime_error("PostgreSQL: the wait for a standby was cancelled, and what "
+                                     "was committed may be on one machine alone");
+        }
+    }
+
     void begin(const PostgresPlace &place) {
         const std::string &schema = place.schema;
         pqxx::nontransaction work(*connection_);
@@ -196,6 +223,7 @@ class WritingConnection {
     }
 
     std::unique_ptr<pqxx::connection> connection_;
+    Warnings warnings_;
     int backend_ = 0;
     std::uint32_t term_ = 0;
     std::chrono::steady_clock::time_point seen_{};
@@ -220,30 +248,37 @@ class Postgres final : public Database {
     explicit Postgres(PostgresPlace place) : place_(std::move(place)) {}
 
     std::unique_ptr<LogReader> reader() override {
+        told("the log", [&] { connection(); });
         return read_postgres(place_.connection, place_.schema);
     }
 
     std::optional<std::uint32_t> take_over() override {
         try {
-            return told("taking over", [&] {
-                if (!writing_) {
-                    writing_ = std::make_shared<WritingConnection>(place_);
-                }
-                return writing_->take_over(place_.gateway);
-            });
+            return told("taking over", [&] { return connection()->take_over(place_.gateway); });
         } catch (const DatabaseAway &) {
             // The next call has a new connection.
+            const std::lock_guard lock(mutex_);
             writing_.reset();
             throw;
         }
     }
 
     std::unique_ptr<LogWriter> writer() override {
-        return std::make_unique<PostgresWriter>(writing_);
+        return std::make_unique<PostgresWriter>(told("a writer", [&] { return connection(); }));
     }
 
   private:
+    // The first one makes the tables.
+    std::shared_ptr<WritingConnection> connection() {
+        const std::lock_guard lock(mutex_);
+        if (!writing_) {
+            writing_ = std::make_shared<WritingConnection>(place_);
+        }
+        return writing_;
+    }
+
     PostgresPlace place_;
+    std::mutex mutex_;
     std::shared_ptr<WritingConnection> writing_;
 };
 

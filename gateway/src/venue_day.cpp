@@ -21,6 +21,9 @@ constexpr auto longest_end = 10s;
 // Entries that are read from the database at once.
 constexpr std::uint32_t chunk = 1024;
 
+// How often a gateway that speaks and does not write yet says that it is there.
+constexpr auto sign_of_life = 500ms;
+
 std::unique_ptr<Database> open_database(const Config &config) {
     if (!config.sqlite.empty()) {
         return open_sqlite(config.sqlite.string());
@@ -58,8 +61,12 @@ void VenueDay::close() {
 
 void VenueDay::follow(const std::function<bool()> &may) {
     const std::stop_token stop = status_.stopping();
-    Follower follower(*database_, events_, may);
-    // A day begins with the gateway that speaks first.
+    // A day begins with the gateway that speaks first. Where there is a log, only one whose venue
+    // has answered it takes over: another may be ready at once.
+    const auto ready = [&] {
+        return may() && (!committed_ || answers_.wait(found_, 0ms, stop));
+    };
+    Follower follower(*database_, events_, ready);
     if (!follower.follow(stop, [](LogReader &log) { return log.last_entry().has_value(); })) {
         return;
     }
@@ -72,7 +79,7 @@ void VenueDay::follow(const std::function<bool()> &may) {
         ahead_.settle(log);
         return false;
     };
-    if (!follower.follow(stop, read)) {
+    if (!follower.term() && !follower.follow(stop, read)) {
         return;
     }
     has_term_ = true;
@@ -87,6 +94,7 @@ void VenueDay::begin_venue(std::optional<std::uint32_t> term) {
     const OpenedDay day = open_day(config_, *database_, term, clock_, events_);
     first_hash_ = day.first.hash;
     last_ = day.last;
+    found_ = last_.place;
     committed_ = std::make_unique<Committed>(last_.place);
     Venue::Settings settings{config_.command, config_.configuration, config_.venue_starts};
     VenueListener &listener = *this;
@@ -122,8 +130,12 @@ bool VenueDay::catch_up() {
     while (read_on(*reader_)) {
     }
     ahead_.lift_limit();
-    if (!answers_.wait(last_.place, status_.stopping())) {
-        return false;
+    const auto writer = database_->writer();
+    while (!answers_.wait(last_.place, sign_of_life, status_.stopping())) {
+        if (status_.stopping().stop_requested()) {
+            return false;
+        }
+        writer->be_seen();
     }
     ahead_.settle(*reader_);
     states_ = reader_->states();

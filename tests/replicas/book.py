@@ -3,21 +3,28 @@
 from ledger import Entry, Ledger
 from parts.database import DatabaseHost
 from parts.machine import Machine
-from parts.run import Fault
+from parts.run import Fault, until
+
+PATIENCE = 60.0
 
 
 def rows(database: DatabaseHost, query: str) -> list[list[str]]:
     text = database.asked(query, limit=60)
     if text is None:
-        raise Fault("%s does not answer" % database.name)
+        raise Fault("%s does not answer: %s" % (database.name, query))
     return [line.split("|") for line in text.splitlines()]
 
 
 def primary(machine: Machine) -> DatabaseHost:
-    found = machine.cluster.primary()
-    if found is None:
-        raise Fault("there is no primary")
-    return found
+    """The primary, which may still have to come."""
+    found: list[DatabaseHost] = []
+
+    def is_there() -> bool:
+        found[:] = [each for each in [machine.cluster.primary()] if each]
+        return bool(found)
+
+    until("there is a primary", PATIENCE, is_there)
+    return found[0]
 
 
 def read_ledger(machine: Machine, schema: str) -> Ledger:

@@ -5,8 +5,11 @@ import time
 from collections.abc import Callable
 from dataclasses import dataclass
 
+from book import PATIENCE, primary
+from parts.database import DatabaseHost
+from parts.gateway import GatewayHost
 from parts.machine import DATABASES, GATEWAYS, Machine
-from parts.run import Fault
+from parts.run import until
 
 CUT_SECONDS = 20.0
 POWER_SECONDS = 5.0
@@ -50,23 +53,17 @@ class Damages:
         damage.look()
         return damage
 
-    def primary(self):
-        primary = self.machine.cluster.primary()
-        if primary is None:
-            raise Fault("there is no primary")
-        return primary
+    def primary(self) -> DatabaseHost:
+        return primary(self.machine)
 
-    def speaking(self):
-        speaking = self.machine.speaking()
-        if speaking is None:
-            raise Fault("no gateway speaks")
-        return speaking
+    def speaking(self) -> GatewayHost:
+        until("a gateway speaks", PATIENCE, lambda: self.machine.speaking() is not None)
+        return self.machine.speaking()
 
     # ------------------------------------------------------------ kinds
 
     def kill_primary(self) -> Damage:
-        primary = self.primary()
-        primary.kill_database()
+        self.primary().kill_database()
         return Damage("primary killed")
 
     def kill_gateway(self) -> Damage:
@@ -80,19 +77,20 @@ class Damages:
         return Damage("etcd's leader killed")
 
     def cut_standby(self) -> Damage:
-        primary, standby = self.primary(), self.machine.cluster.synchronous_standby()
-        if standby is None:
-            raise Fault("there is no synchronous standby")
-        network = self.machine.network
-        network.cut(primary.name, standby.name)
-        return Damage("link of primary and standby cut",
-                      lambda: network.heal(primary.name, standby.name), CUT_SECONDS)
+        cluster, network = self.machine.cluster, self.machine.network
+        until("there is a synchronous standby", PATIENCE,
+              lambda: cluster.synchronous_standby() is not None)
+        one, other = self.primary().name, cluster.synchronous_standby().name
+        network.cut(one, other)
+        return Damage("link of primary and standby cut", lambda: network.heal(one, other),
+                      CUT_SECONDS)
 
     def cut_gateway(self) -> Damage:
-        gateway, primary, network = self.speaking(), self.primary(), self.machine.network
-        network.cut(gateway.name, primary.name)
-        return Damage("link of gateway and primary cut",
-                      lambda: network.heal(gateway.name, primary.name), CUT_SECONDS, gateway.name)
+        one, other = self.speaking().name, self.primary().name
+        network = self.machine.network
+        network.cut(one, other)
+        return Damage("link of gateway and primary cut", lambda: network.heal(one, other),
+                      CUT_SECONDS, one)
 
     def cut_host(self) -> Damage:
         speaking, network = self.speaking().name, self.machine.network
@@ -102,11 +100,11 @@ class Damages:
                       name if name == speaking else "")
 
     def cut_power(self) -> Damage:
-        primary = self.primary()
-        primary.cut_power()
-        return Damage("power of the primary cut", primary.power_up, POWER_SECONDS)
+        host = self.primary()
+        host.cut_power()
+        return Damage("power of the primary cut", host.power_up, POWER_SECONDS)
 
     def fill_disk(self) -> Damage:
-        primary = self.primary()
-        primary.disk.fill()
-        return Damage("disk of the primary full", primary.disk.empty, FULL_SECONDS)
+        host = self.primary()
+        host.disk.fill()
+        return Damage("disk of the primary full", host.disk.empty, FULL_SECONDS)
