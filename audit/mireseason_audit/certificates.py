@@ -1,4 +1,6 @@
-"""The certificate of a dealer: its list, its messages, their hashes, and the commands that make them again."""
+"""The certificate of a dealer: its list, its messages, their hashes, and the commands that make
+them again.
+"""
 
 import hashlib
 import itertools
@@ -101,7 +103,8 @@ class CertificateJob:
         after: list[Seen],
     ) -> None:
         with messages.open("rb") as file:
-            shown = [line.decode("utf-8", "replace") for line in itertools.islice(file, SHOWN_LINES)]
+            first = itertools.islice(file, SHOWN_LINES)
+            shown = [line.decode("utf-8", "replace") for line in first]
             rest = sum(1 for _ in file)
         text = Templates(self.day).page(
             "certificate.html",
@@ -150,7 +153,7 @@ class Sums:
 def seconds_for(
     source: Source, day: Day, requests: list[Request], folder: Path, day_file: Path, key: int | None
 ) -> list[Second]:
-    """Two second days on one request: one dealer's prices moved, and for its own certificate another's."""
+    """Second days: one dealer's prices on a request moved, and for its certificate another's."""
     request = chosen(requests, key)
     if request is None:
         return []

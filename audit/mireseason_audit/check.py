@@ -1,7 +1,9 @@
-"""The check of a day: its entries and their chain, and what firms were sent against what the venue gives.
+"""The check of a day: its entries and their chain, and what firms were sent against what the venue
+gives.
 
-One pass over the entries writes the day into a file. Over that file the venue's program is run by each job of a
-list, in as many processes as there are processors; each holds what is printed against the log as it comes.
+One pass over the entries writes the day into a file. Over that file the venue's program is run
+by each job of a list, in as many processes as there are processors; each holds what is printed
+against the log as it comes.
 """
 
 from dataclasses import dataclass, field

@@ -1,4 +1,6 @@
-"""Two files as a log: a day of `live`, and what was sent, as `live --frames` or `replay --frames` print it."""
+"""Two files as a log: a day of `live`, and what was sent, as `live --frames` or `replay --frames`
+print it.
+"""
 
 import itertools
 import sqlite3
@@ -18,7 +20,8 @@ CREATE TABLE form (number INTEGER NOT NULL);
 INSERT INTO form (number) VALUES (1);
 CREATE TABLE entry (place INTEGER PRIMARY KEY, term INTEGER, moment TEXT, firm TEXT, number INTEGER,
     line BLOB, before BLOB, hash BLOB);
-CREATE TABLE sent (firm TEXT, number INTEGER, place INTEGER, bytes BLOB, PRIMARY KEY (firm, number));
+CREATE TABLE sent (firm TEXT, number INTEGER, place INTEGER, bytes BLOB,
+    PRIMARY KEY (firm, number));
 CREATE TABLE outgoing (firm TEXT, number INTEGER, sent INTEGER, bytes BLOB);
 CREATE TABLE session (firm TEXT, target INTEGER, logged_on INTEGER);
 """

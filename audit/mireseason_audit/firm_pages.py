@@ -1,4 +1,6 @@
-"""The pages of a firm: all that came from it, and all that it was sent, a page for so many entries."""
+"""The pages of a firm: all that came from it, and all that it was sent, a page for so many
+entries.
+"""
 
 from collections.abc import Iterator
 from contextlib import closing

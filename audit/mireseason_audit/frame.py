@@ -57,7 +57,7 @@ def fault_of(data: bytes) -> str | None:
 
 
 def barred(data: bytes) -> str:
-    """The bytes as text: a vertical bar for each SOH, and an escape for what is no printable ASCII."""
+    """The bytes as text: a vertical bar for each SOH, an escape for what is not printable."""
     if data.isascii():
         text = data.decode("ascii").replace("\x01", "|")
         if text.isprintable():

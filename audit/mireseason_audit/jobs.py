@@ -1,4 +1,6 @@
-"""The jobs of a check: each runs the venue's program once, and holds the lines that it prints against the log."""
+"""The jobs of a check: each runs the venue's program once, and holds the lines that it prints
+against the log.
+"""
 
 import itertools
 from collections.abc import Iterable, Iterator
@@ -70,7 +72,7 @@ class ReplayJob:
         yield from self._faulty_lines(log, run.faults)
 
     def _faulty_lines(self, log: Log, faults: list[LineFault]) -> Iterator[Finding]:
-        """Entries whose line the venue does not take. A day that is no gateway's may have such lines."""
+        """Entries whose line the venue does not take; a day of no gateway may have some."""
         if faults and log.has_chain:
             index = faults[0].line - lines_before(self.audited.day) - 1
             place = next(itertools.islice(places_of(log), index, None), None)
@@ -109,7 +111,7 @@ class PlacesJob:
 
 @dataclass(frozen=True)
 class AloneJob:
-    """`due --live` of a dealer, and `alone` of that, against what it was sent. Answers the list's SHA-256, too."""
+    """`due --live` of a dealer, and `alone` of that, against what it was sent."""
 
     audited: Audited
     dealer: str
@@ -160,7 +162,7 @@ def by_place(lines: Iterable[bytes], places: Iterator[int]) -> Iterator[tuple[in
 def held(
     firm: str, rows: Iterable[Sent], lines: Iterable[bytes], step: Step, another: str = ANOTHER
 ) -> Iterator[Finding]:
-    """Holds a firm's rows against the lines that the venue prints for it; tells the first difference."""
+    """Holds a firm's rows against the lines that the venue prints; the first difference."""
     number = 0
     for row, line in itertools.zip_longest(rows, lines):
         number += 1

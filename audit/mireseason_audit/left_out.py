@@ -1,8 +1,9 @@
 """A second day without the messages of the other dealers.
 
-Quotes are shown to an investor under names that are counted, so a hit of the first day may name another quote, or none,
-on the second. The venue's program is asked line by line: a hit of the dealer's own quote is given the name that the quote
-has on the second day, and one of a quote that is no longer there is left out with it.
+Quotes are shown to an investor under names that are counted, so a hit of the first day may name
+another quote, or none, on the second. The venue's program is asked line by line: a hit of the
+dealer's own quote is given the name that the quote has on the second day, and one of a quote
+that is no longer there is left out with it.
 """
 
 from collections.abc import Callable

@@ -48,11 +48,12 @@ class Work:
 def parser_of() -> argparse.ArgumentParser:
     parser = argparse.ArgumentParser(
         prog="mireseason-audit",
-        description="What firms were really sent on a day, checked against the venue's program and shown.",
+        description="What firms were really sent on a day, checked and shown.",
         epilog="Status 0: all is as it should be; 1: it is not; 2: something could not be read.",
     )
     commands = parser.add_subparsers(dest="command", required=True, metavar="COMMAND")
-    check = command(commands, "check", "holds what was sent, and the record, against the venue", do_check)
+    text = "holds what was sent, and the record, against the venue"
+    check = command(commands, "check", text, do_check)
     check.add_argument("--key", type=Path, help="the public key of the seal, in PEM")
     check.add_argument("--seal", type=Path, help="the seal (LOG.seal if it is not named)")
     seal = command(commands, "seal", "signs what the log has", do_seal)
@@ -179,7 +180,8 @@ def do_pair(work: Work) -> int:
     print("\n".join(told.lines))
     print()
     if told.is_good:
-        print("verdict: what differs is declared, and nothing else of another firm reaches %s" % firm.name)
+        text = "verdict: what differs is declared, and nothing else of another firm reaches %s"
+        print(text % firm.name)
     else:
         print("verdict: %s is sent what is not declared" % firm.name)
     return 0 if told.is_good else 1

@@ -37,7 +37,8 @@ class MessageWriter:
         return (
             '<article class="message %s" id="%s"><p class="head"><span class="way">%s</span>'
             " <b>%s</b> <span>34=%s</span> <span>%s</span> <span>entry %d</span>%s</p>"
-            "<code>%s</code><details><summary>%d fields by name</summary><ul>%s</ul></details></article>\n"
+            "<code>%s</code><details><summary>%d fields by name</summary><ul>%s</ul></details>"
+            "</article>\n"
             % (
                 "came" if shown.incoming else "told",
                 shown.anchor,

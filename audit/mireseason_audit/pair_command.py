@@ -127,10 +127,10 @@ class PairCommand:
         count = sum(count for firm, count in second.left_out.items() if firm in dealers)
         hits = sum(second.left_out.values()) - count
         told.lines.append("")
-        text = "Others' messages: all %d of the other dealers are left out, and %d hits of their quotes."
+        text = "Others' messages: all %d of the other dealers are left out, and %d hits of quotes."
         told.say(text % (count, hits), indent=0)
         if second.renamed:
-            text = "%d hits of its quotes name them as the investor is shown them on the second day."
+            text = "%d hits of its quotes name them as they are shown on the second day."
             told.say(text % second.renamed)
         self._compared(path, told)
 

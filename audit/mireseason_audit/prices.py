@@ -34,7 +34,7 @@ class Price:
 
     @property
     def thirty_seconds(self) -> str:
-        """Points, 32nds and eighths of a 32nd, a plus sign for four of them; empty where it has none."""
+        """Points, 32nds and eighths of a 32nd, a plus sign for four; empty where it has none."""
         ticks = self.ticks
         if ticks is None:
             return ""

@@ -1,8 +1,8 @@
 """Which request each message is about, by the names that the messages bear.
 
-A request has its own name in the messages of its investor (131), and one for each dealer (`R1`, `R2`, ..); a quote has
-its dealer's (117) and the one by which the investor is shown it (`Q1`, `Q2`, ..). Each is learnt from the message
-that brings it, and none is counted.
+A request has its own name in the messages of its investor (131), and one for each dealer (`R1`,
+`R2`, ..); a quote has its dealer's (117) and the one by which the investor is shown it (`Q1`,
+`Q2`, ..). Each is learnt from the message that brings it, and none is counted.
 """
 
 from collections import defaultdict
@@ -171,8 +171,9 @@ class Requests:
         if kind == "Z" and text_of(came.fields, 298).lstrip("0") != "4":
             return names.quotes.get((firm, quote))
         if kind == "AJ":
-            hit = text_of(came.fields, 694).lstrip("0") == "1"
-            return names.shown.get((firm, quote)) if hit else names.of_investors.get((firm, request))
+            if text_of(came.fields, 694).lstrip("0") == "1":
+                return names.shown.get((firm, quote))
+            return names.of_investors.get((firm, request))
         return None
 
     # ------------------------------------------------------------ acts

@@ -1,8 +1,9 @@
 """The seal of a log: what stands in it, signed with an Ed25519 key by openssl.
 
-A seal is text. It has the hash of the last entry, from which all others follow, and that of each hundredth, so
-that a log whose chain was made anew is told by its place; of each firm, how many messages it was sent, and those
-of its session, with their SHA-256; and a signature of all that in its last line.
+A seal is text. It has the hash of the last entry, from which all others follow, and that of
+each hundredth, so that a log whose chain was made anew is told by its place; of each firm, how
+many messages it was sent, and those of its session, with their SHA-256; and a signature of all
+that in its last line.
 """
 
 import base64
@@ -57,7 +58,7 @@ def sealed(log: Log, day: Day, chained: Chained) -> Sealed:
 
 
 def digest(rows: Iterable[tuple[int, int | None, bytes]]) -> str:
-    """How many rows there are, and the SHA-256 of them: of each its numbers, its length, its bytes."""
+    """How many rows, and their SHA-256: of each its numbers, its length, its bytes."""
     found, count = hashlib.sha256(), 0
     for number, other, data in rows:
         found.update(b"%d %d %d\n" % (number, -1 if other is None else other, len(data)))

@@ -92,7 +92,8 @@ class SqliteLog(Log):
         return {place: number for place, number in self._rows(REJECTED)}
 
     def targets(self) -> dict[str, int]:
-        return {str(firm): target for firm, target in self._rows("SELECT firm, target FROM session")}
+        rows = self._rows("SELECT firm, target FROM session")
+        return {str(firm): target for firm, target in rows}
 
     def firms(self) -> set[str]:
         query = "SELECT DISTINCT firm FROM sent UNION SELECT DISTINCT firm FROM outgoing"

@@ -75,7 +75,8 @@ class Story:
     @property
     def gaps(self) -> list[float]:
         """Of each act but the first, the seconds since the one before."""
-        return [seconds(after.moment) - seconds(before.moment) for before, after in pairwise(self.acts)]
+        moments = [seconds(act.moment) for act in self.acts]
+        return [after - before for before, after in pairwise(moments)]
 
 
 def seconds(moment: str) -> float:

@@ -1,4 +1,6 @@
-"""What a day came to: one pass over its exchanges, which leaves the acts and the faults behind on disk."""
+"""What a day came to: one pass over its exchanges, which leaves the acts and the faults behind on
+disk.
+"""
 
 from collections import Counter
 from collections.abc import Callable

@@ -1,8 +1,9 @@
-"""The line of time of a request, as SVG: a lane for each firm, time going down, an act in each row.
+"""The line of time of a request, as SVG: a lane for each firm, time going down, an act in each
+row.
 
-A row has a mark on the lane of whoever acts, whose shape says what it is, and an arrow to each firm that was told;
-under them stand the words. A quote is a bar on its dealer's lane for as long as it stood. Nothing is said by
-colour alone.
+A row has a mark on the lane of whoever acts, whose shape says what it is, and an arrow to each
+firm that was told; under them stand the words. A quote is a bar on its dealer's lane for as
+long as it stood. Nothing is said by colour alone.
 """
 
 import math
@@ -72,7 +73,8 @@ class Drawing:
         for act, gap in zip(self._story.acts, gaps):
             y += min(MOST_GAP, 5 * math.log2(1 + max(0.0, gap)))
             cells = cells_of(act, int(self._lane_width / LETTER))
-            height = ROW_PAD + LINE_HEIGHT * max((len(lines) for lines in cells.values()), default=1)
+            most = max((len(lines) for lines in cells.values()), default=1)
+            height = ROW_PAD + LINE_HEIGHT * most
             rows.append(Row(act, round(y, 1), height, cells))
             y += height
         return rows
@@ -84,7 +86,8 @@ class Drawing:
         end = self._height - 8
         return (
             '<g><line class="lane" x1="%g" y1="%d" x2="%g" y2="%g"/>'
-            '<text class="firm" x="%g" y="22">%s</text><text class="role" x="%g" y="38">%s</text></g>'
+            '<text class="firm" x="%g" y="22">%s</text>'
+            '<text class="role" x="%g" y="38">%s</text></g>'
             % (x, HEAD_HEIGHT - 10, x, end, x - 6, escape(name), x - 6, escape(role))
         )
 
@@ -97,9 +100,8 @@ class Drawing:
         foot = self._height - 10 if quote.last is None else self._rows[quote.last].y + 6
         kind = quote.fate.replace(" ", "-")
         words = "%s %s, %s" % (quote.dealer, price_text(quote.price), quote.fate)
-        return '<rect class="bar %s" x="%g" y="%g" width="6" height="%g"><title>%s</title></rect>' % (
-            kind, x - 3, top, max(2.0, foot - top), escape(words),
-        )
+        text = '<rect class="bar %s" x="%g" y="%g" width="6" height="%g"><title>%s</title></rect>'
+        return text % (kind, x - 3, top, max(2.0, foot - top), escape(words))
 
     def _row(self, row: Row, at: int) -> str:
         act, y = row.act, row.y + 6
@@ -109,7 +111,8 @@ class Drawing:
         others = sorted({x for x in targets if x != start})
         if others:
             ends = min(start, others[0]), max(start, others[-1])
-            parts.append('<line class="wire" x1="%g" y1="%g" x2="%g" y2="%g"/>' % (ends[0], y, ends[1], y))
+            wire = '<line class="wire" x1="%g" y1="%g" x2="%g" y2="%g"/>'
+            parts.append(wire % (ends[0], y, ends[1], y))
             parts += [arrow(x, y, start) for x in others]
         shape = Shape.REFUSED if act.is_refused else act.said.shape
         parts.append(mark(shape, start, y))
@@ -123,7 +126,8 @@ class Drawing:
         return "".join(parts) + "</g>"
 
     def _time(self, row: Row, at: int) -> str:
-        text = '<text class="time" x="%d" y="%g">%s</text>' % (EDGE, row.y + 10, escape(row.act.moment))
+        moment = escape(row.act.moment)
+        text = '<text class="time" x="%d" y="%g">%s</text>' % (EDGE, row.y + 10, moment)
         gap = self._story.gaps[at - 1] if at else 0.0
         if gap > 0:
             text += '<text class="gap" x="%d" y="%g">%s</text>' % (EDGE, row.y + 25, gap_text(gap))
@@ -165,7 +169,7 @@ def words_lines(words: Words, style: str, letters: int) -> list[tuple[str, str]]
     first = words.text + (" " + price_text(words.price) if words.price else "")
     lines = [(style + (" strong" if strong else "") + (" refused" if words.refused else ""), first)]
     if words.price and words.price.thirty_seconds:
-        lines.append(("decimal", "%s%s" % (words.price, " · " + words.detail if words.detail else "")))
+        lines.append(("decimal", " · ".join(filter(None, (str(words.price), words.detail)))))
     elif words.detail:
         lines.append(("decimal", words.detail))
     return [(name, piece) for name, line in lines for piece in broken(line, letters)]

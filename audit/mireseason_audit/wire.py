@@ -1,7 +1,9 @@
-"""What a session sent of the venue's messages, against `sent`: the translation of gateway/README.md, read back.
+"""What a session sent of the venue's messages, against `sent`: the translation of
+gateway/README.md, read back.
 
-A message on the wire has the venue's number in ApplSeqNum (1181), first behind the header, and its moment in
-TransactTime (60), whose place depends on the type; the rest of its body is the venue's, byte for byte.
+A message on the wire has the venue's number in ApplSeqNum (1181), first behind the header, and
+its moment in TransactTime (60), whose place depends on the type; the rest of its body is the
+venue's, byte for byte.
 """
 
 from collections.abc import Iterator
@@ -52,7 +54,7 @@ def carried(frame: bytes, session_number: int | None) -> bytes | None:
 
 
 def check_wire(log: Log, firm: str) -> Iterator[Finding]:
-    """Holds a firm's session against what the venue gave for it. Of a session the first fault is told."""
+    """Holds a firm's session against what the venue gave for it; the first fault is told."""
     rejects = log.session_numbers()
     waiting = log.sent(firm)
     expected = next(waiting, None)

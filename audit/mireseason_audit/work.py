@@ -32,7 +32,7 @@ def processors() -> int:
 
 
 def run_jobs(jobs: Sequence[Job[Result]], at_once: int, progress: Progress) -> list[Result]:
-    """Does all jobs; answers their results in the order of the jobs. The first that fails is raised."""
+    """Does all jobs; answers their results in the jobs' order. The first that fails is raised."""
     context = multiprocessing.get_context("fork")
     counter: "Synchronized[int]" = context.Value(ctypes.c_longlong, 0)  # type: ignore[assignment]
     waiting = list(enumerate(jobs))

@@ -1,4 +1,5 @@
-"""Writes a log as the gateway does: entries with their chain, what the venue gave, and the sessions that carried it.
+"""Writes a log as the gateway does: entries with their chain, what the venue gave, and the
+sessions that carried it.
 
 It is written from gateway/README.md and gateway/schema.sql, and shares nothing with the audit.
 """

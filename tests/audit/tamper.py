@@ -1,4 +1,6 @@
-"""Changes a log by hand, as whoever has its file could: drawn by a seed, each with the place where it must be found."""
+"""Changes a log by hand, as whoever has its file could: drawn by a seed, each with the place where
+it must be found.
+"""
 
 import hashlib
 import random

@@ -1,4 +1,5 @@
-"""The pages in a browser: Debian's chromium, headless, at 1280 and at 400 pixels, light and dark."""
+"""The pages in a browser: Debian's chromium, headless, at 1280 and at 400 pixels, light and dark.
+"""
 
 import json
 import re

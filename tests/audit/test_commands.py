@@ -1,4 +1,6 @@
-"""The commands and their statuses: 0 where all is as it should be, 1 where it is not, 2 where something can't be read."""
+"""The commands and their statuses: 0 where all is as it should be, 1 where it is not, 2 where
+something can't be read.
+"""
 
 import base64
 import os

@@ -1,4 +1,6 @@
-"""The gateway's example, as a supervisor gets it: two commands, from its log to pages and a verdict."""
+"""The gateway's example, as a supervisor gets it: two commands, from its log to pages and a
+verdict.
+"""
 
 import os
 import shlex

@@ -1,4 +1,6 @@
-"""The parts of the audit, one by one, against what docs/ and gateway/ say of frames, prices, entries and names."""
+"""The parts of the audit, one by one, against what docs/ and gateway/ say of frames, prices,
+entries and names.
+"""
 
 import hashlib
 import unittest

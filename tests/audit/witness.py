@@ -1,4 +1,6 @@
-"""Reads a log's messages by itself, to say what the pages of the audit have to say. It shares nothing with the audit."""
+"""Reads a log's messages by itself, to say what the pages of the audit have to say. It shares
+nothing with the audit.
+"""
 
 import re
 import sqlite3
