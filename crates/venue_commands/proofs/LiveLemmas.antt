@@ -28,7 +28,7 @@ use Rattle.venue_text.specs.declared.faults.ProgramFault.TheVariants.{Stream, Un
 use Rattle.venue_text.specs.declared.lines.TheConstants.{MOST_INPUT}
 use Rattle.venue_text.specs.declared.live_form.LiveForm.{LiveForm}
 use Rattle.venue_text.specs.declared.live_lines.LiveDay.{LiveDay}
-use Rattle.venue_commands.specs.LiveRuns.{AnswersDay, EndsWith, EndsDay, EndsInAnswers, EndsInLive, GainsFaults, HasAnswered}
+use Rattle.venue_commands.specs.LiveRuns.{EndsWith, EndsDay, EndsInAnswers, EndsInLive, GainsFaults, HasAnswered}
 use Rattle.venue_commands.specs.LiveRuns.{ended_lines}
 use Rattle.venue_commands.specs.LiveStages.{AwaitsDay, DayGoes, IsBad, IsConfiguration, IsCut, IsDay, StageIs, StandsAt, Start}
 use Rattle.venue_commands.specs.LiveStages.{OfConfig, OfLength, OfMemory, err_new, err_old, out_new, out_old}

@@ -1,5 +1,5 @@
 -- A day that goes on: what its lines bring and what is printed for them.
-use Rattle.std.proofs.Common.{◌≡◌, ◌≢◌, ◌<◌, ℕ, ◌+◌, Bool, List, [], ◌∷◌, ◌++◌, take, drop, length, get_or, sym, ap, ap₂, subst, refl, ◌∙◌}
+use Rattle.std.proofs.Common.{◌≡◌, ◌<◌, ℕ, ◌+◌, Bool, List, [], ◌∷◌, ◌++◌, take, drop, length, get_or, sym, ap, ap₂, subst, refl, ◌∙◌}
 use Rattle.std.proofs.Common.{Result, Ok, Err, true, false, fold, Option, Some, None, inl, inr}
 use Rattle.std.proofs.Math.Seq.{drop-append_seam}
 use Rattle.std.proofs.Transfers.{drop-appended}

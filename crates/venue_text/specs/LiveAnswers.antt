@@ -1,5 +1,5 @@
 -- Where a day that goes on stands, and what a line gives.
-use Rattle.std.specs.Prelude.{◌≡◌, ℕ, Bool, List, [], ◌++◌, Option, Ok}
+use Rattle.std.specs.Prelude.{◌≡◌, ℕ, Bool, List, ◌++◌, Option, Ok}
 use Rattle.std.specs.Option.{option_to_list}
 use Rattle.venue_config.specs.Rows.{Configuration, values_of}
 use Rattle.step_replay.specs.LiveStanding.{IsAt}
