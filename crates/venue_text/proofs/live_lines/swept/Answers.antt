@@ -11,4 +11,4 @@ returns c taken at =
     (c.in_ok-told.ensures config taken at)
     (c.in_ok-push_sent.ensures
     ∙ ap₂ (λ (l : List ℕ) (told : List Sent). l ++ sent_text c.args.with_frames config told)
-    c.new.ensures.items c.as_slice.ensures.value)
+    c.new-text.ensures.items c.as_slice.ensures.value)
