@@ -43,7 +43,7 @@ std::string field(const FIX::FieldMap &map, int tag) {
 
 // What both ends have in common: a session, and the callbacks that say nothing.
 class End : public FIX::Application {
-public:
+  public:
     void onCreate(const FIX::SessionID &session) override { m_session = session; }
     void onLogon(const FIX::SessionID &) override {}
     void onLogout(const FIX::SessionID &) override {}
@@ -52,20 +52,21 @@ public:
     void fromAdmin(const FIX::Message &, const FIX::SessionID &) noexcept override {}
     void fromApp(const FIX::Message &, const FIX::SessionID &) noexcept override {}
 
-protected:
+  protected:
     void send(FIX::Message &message) {
         message.getHeader().removeField(1128);
         FIX::Session::sendToTarget(message, m_session);
     }
 
-private:
+  private:
     FIX::SessionID m_session;
 };
 
 class Echo : public End {
-public:
+  public:
     explicit Echo(const char *path) : m_file(::open(path, O_WRONLY | O_CREAT | O_APPEND, 0600)) {
-        if (m_file < 0) throw std::runtime_error("the file cannot be opened");
+        if (m_file < 0)
+            throw std::runtime_error("the file cannot be opened");
     }
     ~Echo() override { ::close(m_file); }
     Echo(const Echo &) = delete;
@@ -83,18 +84,19 @@ public:
         send(answer);
     }
 
-private:
+  private:
     int m_file;
 };
 
 // A firm that logs on, and waits for messages by their type.
 class Firm : public End {
-public:
+  public:
     Firm(std::string username, std::string password)
         : m_username(std::move(username)), m_password(std::move(password)) {}
 
     void toAdmin(FIX::Message &message, const FIX::SessionID &) override {
-        if (field(message.getHeader(), 35) != "A") return;
+        if (field(message.getHeader(), 35) != "A")
+            return;
         message.setField(553, m_username);
         message.setField(554, m_password);
     }
@@ -104,9 +106,12 @@ public:
     void fromApp(const FIX::Message &message, const FIX::SessionID &) noexcept override {
         const std::string type = field(message.getHeader(), 35);
         change([&] {
-            if (type == "R") m_request = field(message, 131);
-            if (type == "AI" && field(message, 297) == "0") ++m_accepted;
-            if (type == "AI" && field(message, 297) != "0") ++m_refused;
+            if (type == "R")
+                m_request = field(message, 131);
+            if (type == "AI" && field(message, 297) == "0")
+                ++m_accepted;
+            if (type == "AI" && field(message, 297) != "0")
+                ++m_refused;
         });
     }
 
@@ -119,7 +124,8 @@ public:
     }
     void wait_answers(std::size_t count) {
         wait([=] { return m_accepted + m_refused >= count; });
-        if (m_refused) throw std::runtime_error("a quote was refused");
+        if (m_refused)
+            throw std::runtime_error("a quote was refused");
     }
 
     void ask(const std::string &deadline) {
@@ -151,15 +157,13 @@ public:
         send(quote);
     }
 
-private:
-    template <typename Change>
-    void change(Change what) {
+  private:
+    template <typename Change> void change(Change what) {
         const std::lock_guard<std::mutex> lock(m_mutex);
         what();
         m_changed.notify_all();
     }
-    template <typename Holds>
-    void wait(Holds holds) {
+    template <typename Holds> void wait(Holds holds) {
         std::unique_lock<std::mutex> lock(m_mutex);
         if (!m_changed.wait_for(lock, LONGEST_WAIT, holds))
             throw std::runtime_error("no answer in 60 s");

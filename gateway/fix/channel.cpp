@@ -34,9 +34,13 @@ struct FreeCertificate {
 
 } // namespace
 
-void TlsServer::Free::operator()(ssl_ctx_st *context) const { SSL_CTX_free(context); }
+void TlsServer::Free::operator()(ssl_ctx_st *context) const {
+    SSL_CTX_free(context);
+}
 
-void Channel::Free::operator()(ssl_st *connection) const { SSL_free(connection); }
+void Channel::Free::operator()(ssl_st *connection) const {
+    SSL_free(connection);
+}
 
 TlsServer::TlsServer(const std::string &certificate, const std::string &key,
                      const std::string &authorities, bool client_certificates)
@@ -44,8 +48,8 @@ TlsServer::TlsServer(const std::string &certificate, const std::string &key,
     require(context_ != nullptr, "TLS");
     SSL_CTX_set_min_proto_version(context_.get(), TLS1_2_VERSION);
     SSL_CTX_set_options(context_.get(), SSL_OP_NO_RENEGOTIATION);
-    SSL_CTX_set_mode(context_.get(), SSL_MODE_ENABLE_PARTIAL_WRITE |
-                                         SSL_MODE_ACCEPT_MOVING_WRITE_BUFFER);
+    SSL_CTX_set_mode(context_.get(),
+                     SSL_MODE_ENABLE_PARTIAL_WRITE | SSL_MODE_ACCEPT_MOVING_WRITE_BUFFER);
     require(SSL_CTX_use_certificate_chain_file(context_.get(), certificate.c_str()) == 1,
             certificate);
     require(SSL_CTX_use_PrivateKey_file(context_.get(), key.c_str(), SSL_FILETYPE_PEM) == 1, key);
@@ -147,14 +151,15 @@ std::size_t Channel::write_at_once(const char *bytes, std::size_t size) const {
     return result > 0 ? static_cast<std::size_t>(result) : 0;
 }
 
-void Channel::shut() { ::shutdown(socket_.number(), SHUT_RDWR); }
+void Channel::shut() {
+    ::shutdown(socket_.number(), SHUT_RDWR);
+}
 
 std::string Channel::common_name() const {
     if (!tls_) {
         return {};
     }
-    const std::unique_ptr<X509, FreeCertificate> certificate(
-        SSL_get1_peer_certificate(tls_.get()));
+    const std::unique_ptr<X509, FreeCertificate> certificate(SSL_get1_peer_certificate(tls_.get()));
     if (!certificate) {
         return {};
     }

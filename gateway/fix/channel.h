@@ -46,8 +46,8 @@ class Channel {
     // `done` with at least one byte.
     Progress read(char *bytes, std::size_t room, std::size_t &count);
     Progress write(const char *bytes, std::size_t size, std::size_t &count);
-    // Writes what the socket takes at once, and returns how much that is; nothing where there is TLS. Any
-    // thread may call it, one at a time, while no other writes.
+    // Writes what the socket takes at once, and returns how much that is; nothing where there is
+    // TLS. Any thread may call it, one at a time, while no other writes.
     std::size_t write_at_once(const char *bytes, std::size_t size) const;
     // Both directions end. Any thread may call it.
     void shut();

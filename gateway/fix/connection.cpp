@@ -40,15 +40,15 @@ std::string value_in(const std::string &message, const char *tag) {
 
 Connection::Connection(Descriptor socket, std::string peer, const TlsServer *tls,
                        const SessionMap &sessions, const EngineSettings &settings,
-                       SessionHost &host)
+                       EngineEvents &events)
     : peer_(std::move(peer)), tls_(tls != nullptr), sessions_(sessions), settings_(settings),
-      host_(host), channel_(std::move(socket), tls),
+      events_(events), channel_(std::move(socket), tls),
       bell_(::eventfd(0, EFD_CLOEXEC | EFD_NONBLOCK)), cutter_(settings.message_bytes),
       opened_(Clock::now()), progress_(opened_), ticked_(opened_) {
     if (bell_.number() < 0) {
         throw std::runtime_error("no event descriptor for a connection");
     }
-    host_.connection_opened(peer_);
+    events_.connection_opened(peer_);
     thread_ = std::thread([this] { run(); });
 }
 
@@ -138,7 +138,7 @@ void Connection::run() {
         const std::lock_guard<std::mutex> lock(mutex_);
         why = why_;
     }
-    host_.connection_closed(peer_, why);
+    events_.connection_closed(peer_, why);
     ended_ = true;
 }
 
@@ -149,7 +149,7 @@ bool Connection::shake_hands() {
             return true;
         }
         if (progress == Channel::Progress::ended) {
-            host_.refused("tls", peer_ + ": " + channel_.fault());
+            events_.refused("tls", peer_ + ": " + channel_.fault());
             shut("no TLS: " + channel_.fault());
             return false;
         }
@@ -205,7 +205,7 @@ void Connection::read() {
             return;
         }
         if (result == Cutter::Result::too_long) {
-            host_.dropped("too long", peer_);
+            events_.dropped("too long", peer_);
             shut("a message of more than " + std::to_string(settings_.message_bytes) + " bytes");
             return;
         }
@@ -230,20 +230,23 @@ void Connection::take(const std::string &message) {
 bool Connection::find_session(const std::string &logon) {
     const std::string firm = value_in(logon, "49");
     if (value_in(logon, "35") != "A" || value_in(logon, "56") != "VENUE") {
-        host_.refused("no logon", peer_);
+        events_.refused("no logon", peer_);
         shut("the first message is no Logon to VENUE");
         return false;
     }
-    const auto found = sessions_.find(firm);
+    auto found = sessions_.find(session_name(value_in(logon, "57"), firm));
     if (found == sessions_.end()) {
-        host_.refused("unknown firm", peer_ + ": " + firm.substr(0, 40));
+        found = sessions_.find(firm);
+    }
+    if (found == sessions_.end()) {
+        events_.refused("unknown firm", peer_ + ": " + firm.substr(0, 40));
         shut("an unknown firm");
         return false;
     }
     const Clock::time_point latest = Clock::now() + old_connection;
     while (!found->second->attach(*this)) {
         if (Clock::now() >= latest || shut_) {
-            host_.refused("second connection", peer_ + ": " + firm);
+            events_.refused("second connection", peer_ + ": " + firm);
             shut("the firm has a connection");
             return false;
         }
@@ -306,7 +309,7 @@ void Connection::keep_time() {
         shut("the firm takes no byte");
     } else if ((session_ == nullptr || !session_->has_logged_on()) &&
                now - opened_ >= seconds(settings_.logon_seconds)) {
-        host_.refused("no logon", peer_);
+        events_.refused("no logon", peer_);
         shut("no Logon in time");
     }
 }

@@ -22,20 +22,20 @@ class FirmSession;
 
 using SessionMap = std::map<std::string, std::unique_ptr<FirmSession>>;
 
-// A thread reads and writes the connection and calls its session. Other threads leave bytes to be written,
-// or shut it.
+// A thread reads and writes the connection and calls its session. Other threads leave bytes to be
+// written, or shut it.
 class Connection final : public FIX::Responder {
   public:
-    Connection(Descriptor socket, std::string peer, const TlsServer *tls, const SessionMap &sessions,
-               const EngineSettings &settings, SessionHost &host);
+    Connection(Descriptor socket, std::string peer, const TlsServer *tls,
+               const SessionMap &sessions, const EngineSettings &settings, EngineEvents &events);
     // Shuts it and waits for the thread.
     ~Connection() override;
     Connection(const Connection &) = delete;
     Connection &operator=(const Connection &) = delete;
 
     // Leaves bytes to be written. False where it ends. Where more waits than may, the thread of the
-    // connection writes until there is room, and for any other thread the connection is shut: the firm
-    // does not read, and what it was to be sent is in its session's store.
+    // connection writes until there is room, and for any other thread the connection is shut: the
+    // firm does not read, and what it was to be sent is in its session's store.
     bool send(const std::string &bytes) override;
     // Ends when what waits was written, and soon in any case. Any thread may call it.
     void disconnect() override;
@@ -47,7 +47,8 @@ class Connection final : public FIX::Responder {
     std::string certificate() const { return channel_.common_name(); }
     const std::string &peer() const { return peer_; }
 
-    // Writes until nothing waits, or the firm takes nothing for too long. Of the connection's thread.
+    // Writes until nothing waits, or the firm takes nothing for too long. Of the connection's
+    // thread.
     void drain();
     // Wakes the thread, so that it looks at its session.
     void wake();
@@ -71,7 +72,7 @@ class Connection final : public FIX::Responder {
     const bool tls_;
     const SessionMap &sessions_;
     const EngineSettings &settings_;
-    SessionHost &host_;
+    EngineEvents &events_;
     Channel channel_;
     Descriptor bell_;
     Cutter cutter_;

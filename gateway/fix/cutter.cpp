@@ -23,7 +23,9 @@ bool read_length(const std::string &text, std::size_t from, std::size_t end, std
 
 } // namespace
 
-void Cutter::add(const char *bytes, std::size_t count) { kept_.append(bytes, count); }
+void Cutter::add(const char *bytes, std::size_t count) {
+    kept_.append(bytes, count);
+}
 
 Cutter::Result Cutter::too_long_or_more() const {
     return kept_.size() > longest_ ? Result::too_long : Result::more;
@@ -56,7 +58,8 @@ Cutter::Result Cutter::next(std::string &message) {
             return Result::too_long;
         }
         const std::size_t trailer = second_end + 1 + length;
-        const std::size_t end = trailer < kept_.size() ? kept_.find(soh, trailer) : std::string::npos;
+        const std::size_t end =
+            trailer < kept_.size() ? kept_.find(soh, trailer) : std::string::npos;
         if (end == std::string::npos) {
             return too_long_or_more();
         }

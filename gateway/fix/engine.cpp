@@ -56,21 +56,26 @@ Descriptor listen_at(const std::string &address, std::uint16_t port) {
 
 } // namespace
 
+std::string session_name(const std::string &venue, const std::string &firm) {
+    return venue.empty() ? firm : venue + "/" + firm;
+}
+
 class Engine::Parts {
   public:
     Parts(const EngineSettings &settings, const std::vector<SessionStart> &starts,
-          SessionHost &host)
-        : settings_(settings), host_(host), bell_(::eventfd(0, EFD_CLOEXEC | EFD_NONBLOCK)) {
+          EngineEvents &events)
+        : settings_(settings), events_(events), bell_(::eventfd(0, EFD_CLOEXEC | EFD_NONBLOCK)) {
         if (bell_.number() < 0) {
             throw fault_of("no event descriptor");
         }
         if (!settings_.certificate.empty()) {
-            tls_ = std::make_unique<TlsServer>(settings_.certificate, settings_.key,
-                                               settings_.authorities,
-                                               settings_.client_certificates);
+            tls_ =
+                std::make_unique<TlsServer>(settings_.certificate, settings_.key,
+                                            settings_.authorities, settings_.client_certificates);
         }
         for (const SessionStart &start : starts) {
-            sessions_[start.firm] = std::make_unique<FirmSession>(start, settings_, host_);
+            sessions_[session_name(start.venue, start.firm)] =
+                std::make_unique<FirmSession>(start, settings_, events_);
         }
     }
     ~Parts() { stop(""); }
@@ -80,10 +85,10 @@ class Engine::Parts {
         thread_ = std::thread([this] { run(); });
     }
 
-    FirmSession &session(const std::string &firm) const {
-        const auto found = sessions_.find(firm);
+    FirmSession &session(const std::string &name) const {
+        const auto found = sessions_.find(name);
         if (found == sessions_.end()) {
-            throw std::runtime_error("no session of " + firm);
+            throw std::runtime_error("no session " + name);
         }
         return *found->second;
     }
@@ -145,21 +150,21 @@ class Engine::Parts {
         }
         const std::string peer = text_of(address);
         if (connections_.size() >= settings_.connections) {
-            host_.refused("too many connections", peer);
+            events_.refused("too many connections", peer);
             return;
         }
         const int yes = 1;
         ::setsockopt(socket.number(), IPPROTO_TCP, TCP_NODELAY, &yes, sizeof yes);
         try {
             connections_.push_back(std::make_unique<Connection>(std::move(socket), peer, tls_.get(),
-                                                                sessions_, settings_, host_));
+                                                                sessions_, settings_, events_));
         } catch (const std::exception &fault) {
-            host_.refused("connection", peer + ": " + fault.what());
+            events_.refused("connection", peer + ": " + fault.what());
         }
     }
 
     const EngineSettings settings_;
-    SessionHost &host_;
+    EngineEvents &events_;
     Descriptor bell_;
     std::unique_ptr<TlsServer> tls_;
     SessionMap sessions_;
@@ -170,21 +175,29 @@ class Engine::Parts {
 };
 
 Engine::Engine(const EngineSettings &settings, const std::vector<SessionStart> &sessions,
-               SessionHost &host)
-    : parts_(std::make_unique<Parts>(settings, sessions, host)) {}
+               EngineEvents &events)
+    : parts_(std::make_unique<Parts>(settings, sessions, events)) {}
 
 Engine::~Engine() = default;
 
-void Engine::listen() { parts_->listen(); }
-
-void Engine::deliver(const Delivery &delivery) { parts_->session(delivery.firm).deliver(delivery); }
-
-bool Engine::is_settling(const std::string &firm) const {
-    return parts_->session(firm).is_settling();
+void Engine::listen() {
+    parts_->listen();
 }
 
-void Engine::disconnect(const std::string &firm) { parts_->session(firm).shut(); }
+void Engine::deliver(const Delivery &delivery) {
+    parts_->session(delivery.session).deliver(delivery);
+}
 
-void Engine::stop(const std::string &reason) { parts_->stop(reason); }
+bool Engine::is_settling(const std::string &session) const {
+    return parts_->session(session).is_settling();
+}
+
+void Engine::disconnect(const std::string &session) {
+    parts_->session(session).shut();
+}
+
+void Engine::stop(const std::string &reason) {
+    parts_->stop(reason);
+}
 
 } // namespace gateway

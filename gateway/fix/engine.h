@@ -1,5 +1,5 @@
-// The FIX sessions, over TCP or TLS. This is all that is seen of QuickFIX: its headers are C++14 and no
-// later, so that what includes them is a library of its own, and this header is plain C++14.
+// The FIX sessions, over TCP or TLS. This is all that is seen of QuickFIX: its headers are C++14
+// and no later, so that what includes them is a library of its own, and this header is plain C++14.
 #ifndef GATEWAY_FIX_ENGINE_H
 #define GATEWAY_FIX_ENGINE_H
 
@@ -13,6 +13,7 @@ namespace gateway {
 
 // A message of the venue on its way to a firm.
 struct Delivery {
+    std::string session; // its name
     std::string firm;
     std::uint32_t number = 0; // the venue's
     std::uint32_t place = 0;  // of the entry that it answers
@@ -36,15 +37,9 @@ struct StoredMessage {
     std::string bytes;
 };
 
-// Where a session is when the gateway starts.
-struct SessionStart {
-    std::string firm;
-    std::uint32_t sender = 1; // the next number to the firm
-    std::uint32_t target = 1; // the next number that is expected of it
-};
-
-// What the sessions need of the gateway. Called on the threads of connections and of deliveries; where
-// the gateway can't do it any more, a std::runtime_error is thrown and the session is disconnected.
+// What the sessions need of the gateway. Called on the threads of connections and of deliveries;
+// where the gateway can't do it any more, a std::runtime_error is thrown and the session is
+// disconnected.
 class SessionHost {
   public:
     virtual ~SessionHost() = default;
@@ -53,8 +48,8 @@ class SessionHost {
     virtual std::string refusal_of(const LogonFacts &facts) = 0;
     virtual void logged_on(const std::string &firm) = 0;
     virtual void logged_off(const std::string &firm) = 0;
-    // A message of the application, with its session number, as it came. Returns the tag at fault where
-    // it is no frame of the venue's, or 0: then it is the log's.
+    // A message of the application, with its session number, as it came. Returns the tag at fault
+    // where it is no frame of the venue's, or 0: then it is the log's.
     virtual int received(const std::string &firm, std::uint32_t number,
                          const std::string &bytes) = 0;
 
@@ -66,8 +61,23 @@ class SessionHost {
     virtual void store_target(const std::string &firm, std::uint32_t target) = 0;
     virtual std::vector<StoredMessage> stored_messages(const std::string &firm, std::uint32_t first,
                                                        std::uint32_t last) = 0;
+};
 
-    // For the operator. what is one of a few fixed words.
+// Where a session is when the gateway starts.
+struct SessionStart {
+    std::string firm;
+    std::string venue;           // that its Logon names as TargetSubID (57); empty where it need not
+    SessionHost *host = nullptr; // outlives the engine
+    std::uint32_t sender = 1;    // the next number to the firm
+    std::uint32_t target = 1;    // the next number that is expected of it
+};
+
+// What happens at connections and sessions, told for the operator; of any thread. what is one of a
+// few fixed words.
+class EngineEvents {
+  public:
+    virtual ~EngineEvents() = default;
+
     virtual void connection_opened(const std::string &peer) = 0;
     virtual void connection_closed(const std::string &peer, const std::string &why) = 0;
     virtual void refused(const std::string &what, const std::string &text) = 0;
@@ -92,12 +102,15 @@ struct EngineSettings {
     std::size_t waiting_bytes = 4194304;
 };
 
-// One session a firm, VENUE to it. Each connection has a thread of its own.
+// The name of a firm's session with a venue. A venue that is the only one has no name.
+std::string session_name(const std::string &venue, const std::string &firm);
+
+// One session a firm and venue, VENUE to it. Each connection has a thread of its own.
 class Engine {
   public:
     // Throws std::runtime_error where a certificate or a key can't be used.
     Engine(const EngineSettings &settings, const std::vector<SessionStart> &sessions,
-           SessionHost &host);
+           EngineEvents &events);
     ~Engine();
     Engine(const Engine &) = delete;
     Engine &operator=(const Engine &) = delete;
@@ -105,14 +118,14 @@ class Engine {
     // Takes connections from now on. Throws std::runtime_error where the address can't be had.
     void listen();
 
-    // Gives a message to the firm's session: it is stored under the session's next number, and sent if
-    // the firm is there. One thread at a time for one firm. Throws what the host throws.
+    // Gives a message to its session: it is stored under the session's next number, and sent
+    // if the firm is there. One thread at a time for one firm. Throws what the host throws.
     void deliver(const Delivery &delivery);
-    // Whether the firm's session is between its Logon and the answer to the TestRequest behind it. Then
-    // the firm may be filling a gap, and messages had better wait.
-    bool is_settling(const std::string &firm) const;
+    // Whether the firm's session is between its Logon and the answer to the TestRequest behind it.
+    // Then the firm may be filling a gap, and messages had better wait.
+    bool is_settling(const std::string &session) const;
     // Ends the firm's connection, if there is one. Does not wait for anything.
-    void disconnect(const std::string &firm);
+    void disconnect(const std::string &session);
 
     // No new connections, and all sessions are logged out, for this reason; where it is empty the
     // connections end at once. Returns when all connections have ended.

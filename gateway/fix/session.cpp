@@ -15,9 +15,9 @@ namespace {
 
 using Clock = std::chrono::steady_clock;
 
-// The answer to this TestRequest tells that a firm that has logged on has filled its gap. It is waited for
-// so long, and longer once the firm has asked for a gap: a stock engine that is sent a Reject while it
-// fills one counts wrong.
+// The answer to this TestRequest tells that a firm that has logged on has filled its gap. It is
+// waited for so long, and longer once the firm has asked for a gap: a stock engine that is sent a
+// Reject while it fills one counts wrong.
 const std::string settle = "MIRESEASON-";
 constexpr auto settling = std::chrono::seconds(1);
 constexpr auto filling = std::chrono::seconds(30);
@@ -55,7 +55,8 @@ bool is_of_session(int tag) {
 int number_in(const FIX::FieldMap &fields, int tag) {
     int number = 0;
     const std::string text = text_in(fields, tag);
-    return FIX::IntConvertor::convert(text.begin(), text.end(), number) && number >= 0 ? number : -1;
+    return FIX::IntConvertor::convert(text.begin(), text.end(), number) && number >= 0 ? number
+                                                                                       : -1;
 }
 
 // All that stands in front of the value of the first body field of the venue's messages.
@@ -63,22 +64,21 @@ constexpr std::size_t behind_first_tag = 5; // `1181=`
 
 void set_body(FIX::Message &message, const std::string &body) {
     // The whole body as one field: so it is neither parsed nor sorted, and keeps every byte.
-    message.setField(FIX::StringField(FIX::FIELD::ApplSeqNum,
-                                      body.substr(behind_first_tag,
-                                                  body.size() - behind_first_tag - 1)));
+    message.setField(FIX::StringField(
+        FIX::FIELD::ApplSeqNum, body.substr(behind_first_tag, body.size() - behind_first_tag - 1)));
 }
 
 } // namespace
 
 FirmSession::FirmSession(const SessionStart &start, const EngineSettings &settings,
-                         SessionHost &host)
-    : firm_(start.firm), settings_(settings), host_(host), store_(start, host) {
+                         EngineEvents &events)
+    : firm_(start.firm), settings_(settings), host_(*start.host), events_(events), store_(start) {
     // From midnight to midnight is always.
     const FIX::TimeRange always(FIX::UtcTimeOnly(0, 0, 0), FIX::UtcTimeOnly(0, 0, 0));
     FIX::Application &application = *this;
-    session_ = std::make_unique<FIX::Session>(
-        application, stores_, FIX::SessionID("FIXT.1.1", "VENUE", firm_), FIX::DataDictionaryProvider(),
-        always, 0, &logs_);
+    session_ = std::make_unique<FIX::Session>(application, stores_,
+                                              FIX::SessionID("FIXT.1.1", "VENUE", firm_, start.venue),
+                                              FIX::DataDictionaryProvider(), always, 0, &logs_);
     session_->setSenderDefaultApplVerID(FIX::ApplVerID_FIX50SP2);
     session_->setTimestampPrecision(3);
     // A frame's length and sum are looked at before the session has it.
@@ -139,7 +139,7 @@ void FirmSession::take(const std::string &bytes) {
         }
         message.setString(bytes, false);
     } catch (const FIX::InvalidMessage &fault) {
-        host_.dropped("no message", firm_ + ": " + fault.what());
+        events_.dropped("no message", firm_ + ": " + fault.what());
         return;
     }
     const std::string type = text_in(message.getHeader(), FIX::FIELD::MsgType);
@@ -155,8 +155,8 @@ void FirmSession::take(const std::string &bytes) {
     }
 }
 
-// The answer tells it whatever its own number is: while the firm's messages have a gap too, the engine keeps
-// the answer, and may be told to leave it out.
+// The answer tells it whatever its own number is: while the firm's messages have a gap too, the
+// engine keeps the answer, and may be told to leave it out.
 void FirmSession::look_for_answer(const std::string &type, const FIX::Message &message) {
     if (type == "0" && session_->isLoggedOn() &&
         text_in(message, FIX::FIELD::TestReqID) == settle + std::to_string(questions_)) {
@@ -168,7 +168,7 @@ void FirmSession::next(const FIX::Message &message) {
     try {
         session_->next(message, FIX::UtcTimeStamp());
     } catch (const std::exception &fault) {
-        host_.dropped("session", firm_ + ": " + fault.what());
+        events_.dropped("session", firm_ + ": " + fault.what());
         session_->disconnect();
     }
 }
@@ -210,7 +210,7 @@ std::string FirmSession::refusal_of(const FIX::Message &logon) {
 }
 
 void FirmSession::refuse(const std::string &why) {
-    host_.refused("logon", firm_ + ": " + why);
+    events_.refused("logon", firm_ + ": " + why);
     FIX::Message logout;
     logout.getHeader().setField(FIX::MsgType(FIX::MsgType_Logout));
     logout.setField(FIX::Text(why));
@@ -218,8 +218,8 @@ void FirmSession::refuse(const std::string &why) {
     session_->disconnect();
 }
 
-// The engine reads a whole gap into memory before it sends the first message of it; given piece by piece,
-// a gap of any length takes little.
+// The engine reads a whole gap into memory before it sends the first message of it; given piece by
+// piece, a gap of any length takes little.
 void FirmSession::take_resend_request(FIX::Message message, Connection &connection) {
     const int last_sent = session_->getExpectedSenderNum() - 1;
     const int first = number_in(message, FIX::FIELD::BeginSeqNo);
@@ -242,7 +242,8 @@ void FirmSession::take_resend_request(FIX::Message message, Connection &connecti
         there = session_->isLoggedOn();
     }
     if (there && is_settling()) {
-        // The one behind the Logon was part of the gap, and is left out of it like all of the session's.
+        // The one behind the Logon was part of the gap, and is left out of it like all of the
+        // session's.
         ask_whether_settled();
     }
 }
@@ -258,9 +259,10 @@ void FirmSession::take_application(const FIX::Message &message, const std::strin
     const FIX::Header &header = message.getHeader();
     const int number = number_in(header, FIX::FIELD::MsgSeqNum);
     if (number > session_->getExpectedTargetNum()) {
-        // The engine keeps it until the gap is filled, and asks for all of the gap: so it comes again.
+        // The engine keeps it until the gap is filled, and asks for all of the gap: so it comes
+        // again.
         if (ahead_.size() >= settings_.gap_messages) {
-            host_.dropped("gap", firm_);
+            events_.dropped("gap", firm_);
             return;
         }
         ahead_.insert(number);
@@ -289,7 +291,9 @@ void FirmSession::tick() {
     session_->next();
 }
 
-bool FirmSession::is_settling() const { return Clock::now() < settled_at_.load(); }
+bool FirmSession::is_settling() const {
+    return Clock::now() < settled_at_.load();
+}
 
 void FirmSession::deliver(const Delivery &delivery) {
     FIX::Message message;
@@ -316,7 +320,7 @@ void FirmSession::onLogout(const FIX::SessionID &) {
 void FirmSession::toAdmin(FIX::Message &message, const FIX::SessionID &) {
     if (text_in(message.getHeader(), FIX::FIELD::MsgType) == "3" &&
         !message.isSetField(FIX::FIELD::ApplSeqNum)) {
-        host_.dropped("session reject", firm_ + ": " + text_in(message, FIX::FIELD::Text));
+        events_.dropped("session reject", firm_ + ": " + text_in(message, FIX::FIELD::Text));
     }
 }
 
@@ -343,9 +347,11 @@ void FirmSession::fromAdmin(const FIX::Message &message, const FIX::SessionID &)
     }
 }
 
-void FirmSession::fromApp(const FIX::Message &message, const FIX::SessionID &) throw(
-    FIX::FieldNotFound, FIX::IncorrectDataFormat, FIX::IncorrectTagValue,
-    FIX::UnsupportedMessageType) {
+void FirmSession::fromApp(const FIX::Message &message,
+                          const FIX::SessionID &) throw(FIX::FieldNotFound,
+                                                        FIX::IncorrectDataFormat,
+                                                        FIX::IncorrectTagValue,
+                                                        FIX::UnsupportedMessageType) {
     const int number = number_in(message.getHeader(), FIX::FIELD::MsgSeqNum);
     ahead_.erase(number);
     int fault = 0;
@@ -361,6 +367,8 @@ void FirmSession::fromApp(const FIX::Message &message, const FIX::SessionID &) t
     }
 }
 
-void FirmSession::onEvent(const std::string &text) { host_.session_event(firm_, text); }
+void FirmSession::onEvent(const std::string &text) {
+    events_.session_event(firm_, text);
+}
 
 } // namespace gateway

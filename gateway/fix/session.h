@@ -17,12 +17,12 @@ namespace gateway {
 
 class Connection;
 
-// QuickFIX's session, with what it needs of an application, a store and a log, for one firm. At most one
-// connection has it. The thread of that connection calls take() and tick(); deliver() is called by the
-// one thread that delivers to the firm.
+// QuickFIX's session, with what it needs of an application, a store and a log, for one firm. At
+// most one connection has it. The thread of that connection calls take() and tick(); deliver() is
+// called by the one thread that delivers to the firm.
 class FirmSession final : private FIX::Application, private FIX::Log {
   public:
-    FirmSession(const SessionStart &start, const EngineSettings &settings, SessionHost &host);
+    FirmSession(const SessionStart &start, const EngineSettings &settings, EngineEvents &events);
     ~FirmSession() override;
     FirmSession(const FirmSession &) = delete;
     FirmSession &operator=(const FirmSession &) = delete;
@@ -65,12 +65,13 @@ class FirmSession final : private FIX::Application, private FIX::Log {
     void onLogout(const FIX::SessionID &) override;
     void toAdmin(FIX::Message &, const FIX::SessionID &) override;
     void toApp(FIX::Message &, const FIX::SessionID &) throw(FIX::DoNotSend) override;
-    void fromAdmin(const FIX::Message &, const FIX::SessionID &) throw(
-        FIX::FieldNotFound, FIX::IncorrectDataFormat, FIX::IncorrectTagValue,
-        FIX::RejectLogon) override;
-    void fromApp(const FIX::Message &, const FIX::SessionID &) throw(
-        FIX::FieldNotFound, FIX::IncorrectDataFormat, FIX::IncorrectTagValue,
-        FIX::UnsupportedMessageType) override;
+    void fromAdmin(const FIX::Message &,
+                   const FIX::SessionID &) throw(FIX::FieldNotFound, FIX::IncorrectDataFormat,
+                                                 FIX::IncorrectTagValue, FIX::RejectLogon) override;
+    void fromApp(const FIX::Message &,
+                 const FIX::SessionID &) throw(FIX::FieldNotFound, FIX::IncorrectDataFormat,
+                                               FIX::IncorrectTagValue,
+                                               FIX::UnsupportedMessageType) override;
     // FIX::Log
     void clear() override {}
     void backup() override {}
@@ -102,6 +103,7 @@ class FirmSession final : private FIX::Application, private FIX::Log {
     std::string firm_;
     const EngineSettings &settings_;
     SessionHost &host_;
+    EngineEvents &events_;
     SessionStore store_;
     Stores stores_{store_};
     Logs logs_{*this};
@@ -112,7 +114,7 @@ class FirmSession final : private FIX::Application, private FIX::Log {
     std::mutex mutex_;
     Connection *connection_ = nullptr;
     std::string farewell_; // why the session is to be logged out, until it is
-    std::set<int> ahead_; // numbers that came while an earlier one is missing
+    std::set<int> ahead_;  // numbers that came while an earlier one is missing
 
     std::unique_ptr<FIX::Session> session_;
 };

@@ -6,8 +6,8 @@ namespace gateway {
 
 namespace {
 
-// What marks a message of the venue: ApplSeqNum stands first behind its header. No field that a session
-// echoes can have it, since none has SOH.
+// What marks a message of the venue: ApplSeqNum stands first behind its header. No field that a
+// session echoes can have it, since none has SOH.
 const std::string marks_body = "\x01"
                                "1181=";
 
@@ -24,8 +24,9 @@ std::string value_in(const std::string &bytes, const std::string &field) {
     return bytes.substr(value, bytes.find('\x01', value) - value);
 }
 
-// The header alone, for the engine's resend: it asks for the type, the number and the time. A message of
-// the venue gets a type that the engine sends again whatever its own is: a Reject would be left out.
+// The header alone, for the engine's resend: it asks for the type, the number and the time. A
+// message of the venue gets a type that the engine sends again whatever its own is: a Reject would
+// be left out.
 std::string header_for_resend(const std::string &firm, const StoredMessage &message) {
     std::string header;
     const auto add = [&header](const char *field, const std::string &value) {
@@ -44,8 +45,8 @@ std::string header_for_resend(const std::string &firm, const StoredMessage &mess
 
 } // namespace
 
-SessionStore::SessionStore(const SessionStart &start, SessionHost &host)
-    : firm_(start.firm), host_(host), sender_(static_cast<int>(start.sender)),
+SessionStore::SessionStore(const SessionStart &start)
+    : firm_(start.firm), host_(*start.host), sender_(static_cast<int>(start.sender)),
       target_(static_cast<int>(start.target)) {}
 
 const SessionStore::Carried *SessionStore::read_last(int number) const {
@@ -56,9 +57,8 @@ const SessionStore::Carried *SessionStore::read_last(int number) const {
 bool SessionStore::set(int number, const std::string &bytes) throw(FIX::IOException) {
     const bool carries = bytes.find(marks_body) != std::string::npos;
     try {
-        const std::uint64_t ticket =
-            host_.store_outgoing(firm_, static_cast<std::uint32_t>(number), bytes,
-                                 carries ? carried_ : nullptr);
+        const std::uint64_t ticket = host_.store_outgoing(firm_, static_cast<std::uint32_t>(number),
+                                                          bytes, carries ? carried_ : nullptr);
         unsafe_ = carries ? 0 : ticket;
     } catch (const std::runtime_error &fault) {
         throw FIX::IOException(fault.what());
@@ -70,9 +70,8 @@ void SessionStore::get(int first, int last, std::vector<std::string> &messages) 
     throw(FIX::IOException) {
     read_.clear();
     try {
-        for (const StoredMessage &message :
-             host_.stored_messages(firm_, static_cast<std::uint32_t>(first),
-                                   static_cast<std::uint32_t>(last))) {
+        for (const StoredMessage &message : host_.stored_messages(
+                 firm_, static_cast<std::uint32_t>(first), static_cast<std::uint32_t>(last))) {
             messages.push_back(header_for_resend(firm_, message));
             const std::size_t body = message.bytes.find(marks_body);
             if (message.carries && body != std::string::npos) {
@@ -86,9 +85,13 @@ void SessionStore::get(int first, int last, std::vector<std::string> &messages) 
     }
 }
 
-int SessionStore::getNextSenderMsgSeqNum() const throw(FIX::IOException) { return sender_; }
+int SessionStore::getNextSenderMsgSeqNum() const throw(FIX::IOException) {
+    return sender_;
+}
 
-int SessionStore::getNextTargetMsgSeqNum() const throw(FIX::IOException) { return target_; }
+int SessionStore::getNextTargetMsgSeqNum() const throw(FIX::IOException) {
+    return target_;
+}
 
 void SessionStore::setNextSenderMsgSeqNum(int) throw(FIX::IOException) {
     throw FIX::IOException("numbers to a firm are never set");

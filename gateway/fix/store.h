@@ -11,15 +11,16 @@
 
 namespace gateway {
 
-// QuickFIX asks it for the next numbers; here they stand in memory, and every change goes to the log.
+// QuickFIX asks it for the next numbers; here they stand in memory, and every change goes to the
+// log.
 //
-// A message of the session itself (Logon, Heartbeat, ..) leaves only when it is on disk, and with it all
-// that had lower numbers. A message of the venue need not be: whatever left and was lost can only be
-// messages of the venue behind all that is on disk, and the venue gives them again, in their order, before
-// any session logs on. So each gets its number again.
+// A message of the session itself (Logon, Heartbeat, ..) leaves only when it is on disk, and with
+// it all that had lower numbers. A message of the venue need not be: whatever left and was lost can
+// only be messages of the venue behind all that is on disk, and the venue gives them again, in
+// their order, before any session logs on. So each gets its number again.
 class SessionStore final : public FIX::MessageStore {
   public:
-    SessionStore(const SessionStart &start, SessionHost &host);
+    explicit SessionStore(const SessionStart &start);
 
     // The message of the venue that is sent next, by this thread; null for none.
     void carry(const Delivery *delivery) { carried_ = delivery; }

@@ -21,8 +21,8 @@ struct Field {
     std::string_view value;
 };
 
-// All fields of a message, the first to the last, 8, 9 and 10 among them; nothing where a field has no
-// equal sign or the bytes do not end in SOH.
+// All fields of a message, the first to the last, 8, 9 and 10 among them; nothing where a field has
+// no equal sign or the bytes do not end in SOH.
 std::optional<std::vector<Field>> fields_of(std::string_view message);
 
 // The first value of a tag among the fields, or nothing.
@@ -31,7 +31,8 @@ std::optional<std::string_view> value_of(const std::vector<Field> &fields, std::
 // A body in its frame: 8, 9, the body, 10.
 std::string framed(std::string_view body);
 
-// Whether a tag may stand in the venue's frames: 1 to 9 digits, the first not 0, and none of 8, 9, 10.
+// Whether a tag may stand in the venue's frames: 1 to 9 digits, the first not 0, and none of 8,
+// 9, 10.
 bool is_body_tag(std::string_view tag);
 
 // Capital hexadecimal digits, two a byte.

@@ -16,17 +16,16 @@ using namespace std::chrono_literals;
 constexpr auto patience = 20ms;
 constexpr std::size_t many = 512;
 
-// Committed entries that are kept for the venue: one that is slower reads them from the database.
-constexpr std::size_t kept = 8192;
+// How often a gateway that has nothing to commit says that it is there.
+constexpr auto sign_of_life = 1s;
 
 } // namespace
 
-Log::Log(Database &database, DayClock &clock, Metrics &metrics, Start start,
+Log::Log(Database &database, Committed &committed, DayClock &clock, Metrics &metrics, Start start,
          std::function<void(const std::string &)> failed)
-    : clock_(clock), metrics_(metrics), failed_(std::move(failed)), writer_(database.writer()),
-      limit_(start.waiting), sessions_(std::move(start.sessions)),
-      next_place_(start.last.place + 1), committed_place_(start.last.place),
-      before_(start.last.hash), thread_([this](std::stop_token stop) { write(std::move(stop)); }) {}
+    : committed_entries_(committed), clock_(clock), metrics_(metrics), failed_(std::move(failed)),
+      writer_(database.writer()), limit_(start.waiting), sessions_(std::move(start.sessions)),
+      next_place_(start.last.place + 1), term_(start.term), before_(start.last.hash), thread_([this](const std::stop_token &stop) { write(stop); }) {}
 
 Log::~Log() = default;
 
@@ -35,33 +34,41 @@ Log::Ticket Log::append_message(const std::string &firm, std::optional<std::uint
     Entry entry;
     entry.firm = firm;
     entry.number = number;
-    return append(std::move(entry), fmt::format("hex {} ", firm),
-                  fmt::format(" {}", hexadecimal(frame)));
+    const std::string verb = fmt::format("hex {} ", firm);
+    const std::string rest = fmt::format(" {}", hexadecimal(frame));
+    const auto received = std::chrono::steady_clock::now();
+    std::unique_lock lock(mutex_);
+    changed_.wait(lock, [&] { return (!held_ && has_room()) || !failure_.empty(); });
+    throw_if_failed();
+    return append_here(std::move(entry), verb, rest, received);
 }
 
-Log::Ticket Log::append_clock() { return append(Entry{}, "clock ", ""); }
-
-bool Log::append_clock_behind(std::uint32_t place) {
+std::optional<std::uint32_t> Log::append_clock_behind(std::uint32_t place) {
     const auto now = std::chrono::steady_clock::now();
     std::unique_lock lock(mutex_);
     wait_for_room(lock);
     if (next_place_ != place + 1) {
-        return false;
+        return std::nullopt;
     }
     append_here(Entry{}, "clock ", "", now);
-    return true;
+    return place + 1;
 }
 
-Log::Ticket Log::append(Entry entry, std::string_view verb, std::string_view rest) {
-    const auto received = std::chrono::steady_clock::now();
-    std::unique_lock lock(mutex_);
-    wait_for_room(lock);
-    return append_here(std::move(entry), verb, rest, received);
+Log::Hold::Hold(Log &log) : log_(log) {
+    const std::lock_guard lock(log_.mutex_);
+    log_.held_ = true;
+}
+
+Log::Hold::~Hold() {
+    const std::lock_guard lock(log_.mutex_);
+    log_.held_ = false;
+    log_.changed_.notify_all();
 }
 
 Log::Ticket Log::append_here(Entry entry, std::string_view verb, std::string_view rest,
                              std::chrono::steady_clock::time_point received) {
     entry.place = next_place_++;
+    entry.term = term_;
     // Under the lock, so that places and moments rise together.
     entry.moment = text_of(clock_.now());
     entry.line.reserve(verb.size() + entry.moment.size() + rest.size());
@@ -124,20 +131,6 @@ void Log::flush() {
     wait(ticket);
 }
 
-std::optional<std::vector<LoggedEntry>> Log::committed(std::uint32_t from, std::stop_token stop) {
-    std::unique_lock lock(mutex_);
-    changed_.wait(lock, stop, [&] { return committed_place_ >= from || !failure_.empty(); });
-    if (stop.stop_requested() || committed_place_ < from) {
-        return std::vector<LoggedEntry>{};
-    }
-    if (recent_.empty() || recent_.front().entry.place > from) {
-        return std::nullopt;
-    }
-    const auto first =
-        recent_.begin() + static_cast<std::ptrdiff_t>(from - recent_.front().entry.place);
-    return std::vector<LoggedEntry>(first, recent_.end());
-}
-
 std::uint32_t Log::last_place() {
     const std::lock_guard lock(mutex_);
     return next_place_ - 1;
@@ -149,7 +142,7 @@ std::string Log::failure() {
 }
 
 void Log::wait_for_room(std::unique_lock<std::mutex> &lock) {
-    changed_.wait(lock, [&] { return filling_.size < limit_ || !failure_.empty(); });
+    changed_.wait(lock, [&] { return has_room() || !failure_.empty(); });
     throw_if_failed();
 }
 
@@ -159,31 +152,45 @@ void Log::throw_if_failed() const {
     }
 }
 
-void Log::write(std::stop_token stop) {
+void Log::write(const std::stop_token &stop) {
+    try {
+        while (write_batch(stop)) {
+        }
+    } catch (const std::exception &fault) {
+        fail(fault.what());
+    }
+}
+
+// False at the end.
+bool Log::write_batch(const std::stop_token &stop) {
     std::unique_lock lock(mutex_);
-    for (;;) {
-        changed_.wait(lock, stop, [&] { return urgent_ || filling_.size > 0; });
-        if (!urgent_ && !stop.stop_requested()) {
-            changed_.wait_for(lock, stop, patience,
-                              [&] { return urgent_ || filling_.size >= many; });
-        }
-        if (filling_.rows.empty() && stop.stop_requested()) {
-            return;
-        }
-        Filling filling = std::move(filling_);
-        filling_ = Filling{};
-        urgent_ = false;
-        ++filling_ticket_;
-        changed_.notify_all();
+    wait_for_rows(lock, stop);
+    if (!urgent_ && !stop.stop_requested()) {
+        changed_.wait_for(lock, stop, patience,
+                          [&] { return urgent_ || filling_.size >= many; });
+    }
+    if (filling_.rows.empty() && stop.stop_requested()) {
+        return false;
+    }
+    Filling filling = std::move(filling_);
+    filling_ = Filling{};
+    urgent_ = false;
+    ++filling_ticket_;
+    changed_.notify_all();
+    lock.unlock();
+    commit(filling);
+    lock.lock();
+    publish(filling);
+    return true;
+}
+
+// Until there are some or the stop was asked for. The lock is held before and behind.
+void Log::wait_for_rows(std::unique_lock<std::mutex> &lock, const std::stop_token &stop) {
+    const auto has_rows = [&] { return urgent_ || filling_.size > 0; };
+    while (!changed_.wait_for(lock, stop, sign_of_life, has_rows) && !stop.stop_requested()) {
         lock.unlock();
-        try {
-            commit(filling);
-        } catch (const std::exception &fault) {
-            fail(fault.what());
-            return;
-        }
+        writer_->be_seen();
         lock.lock();
-        publish(filling);
     }
 }
 
@@ -205,16 +212,12 @@ void Log::commit(Filling &filling) {
 // The lock is held.
 void Log::publish(Filling &filling) {
     const auto now = std::chrono::steady_clock::now();
+    std::vector<LoggedEntry> entries;
     for (std::size_t at = 0; at < filling.rows.entries.size(); ++at) {
         metrics_.logged(now - filling.received[at]);
-        recent_.push_back({std::move(filling.rows.entries[at]), filling.received[at]});
+        entries.push_back({std::move(filling.rows.entries[at]), filling.received[at]});
     }
-    while (recent_.size() > kept) {
-        recent_.pop_front();
-    }
-    if (!recent_.empty()) {
-        committed_place_ = recent_.back().entry.place;
-    }
+    committed_entries_.put(std::move(entries));
     ++committed_;
     changed_.notify_all();
 }
@@ -225,6 +228,7 @@ void Log::fail(const std::string &cause) {
         failure_ = fmt::format("the log could not be written: {}", cause);
         changed_.notify_all();
     }
+    committed_entries_.close();
     failed_(failure_);
 }
 

@@ -2,13 +2,13 @@
 #ifndef GATEWAY_LOG_H
 #define GATEWAY_LOG_H
 
+#include "committed.h"
 #include "database.h"
 #include "metrics.h"
 #include "moment.h"
 
 #include <chrono>
 #include <condition_variable>
-#include <deque>
 #include <functional>
 #include <mutex>
 #include <stop_token>
@@ -16,44 +16,52 @@
 
 namespace gateway {
 
-// An entry that is in the log, and when its message came.
-struct LoggedEntry {
-    Entry entry;
-    std::chrono::steady_clock::time_point received;
-};
-
-// Rows are put into the batch that is being filled; one thread commits it as soon as the one before is
-// committed, and at once where it has an entry or somebody waits for it. Rows that nobody waits for ride
-// along, for a few milliseconds at most. Any thread may put rows, and waits where too many are there.
+// Rows are put into the batch that is being filled; one thread commits it as soon as the one before
+// is committed, and at once where it has an entry or somebody waits for it. Rows that nobody waits
+// for ride along, for a few milliseconds at most. Any thread may put rows, and waits where too many
+// are there.
 //
-// Where a commit fails nothing is written any more: every call that needs the log throws, with the cause,
-// and `failed` is called once.
+// Where a commit fails nothing is written any more: every call that needs the log throws, with the
+// cause, and `failed` is called once.
 class Log {
   public:
     // The number of a batch: what wait() waits for.
     using Ticket = std::uint64_t;
 
     struct Start {
-        Entry last;                              // the last entry of the log
+        Entry last;             // the last entry of the log
+        std::uint32_t term = 0; // in which this gateway writes
         std::map<std::string, SessionRow> sessions;
-        std::size_t waiting = 4096;              // rows that may wait
+        std::size_t waiting = 4096; // rows that may wait
     };
 
-    Log(Database &database, DayClock &clock, Metrics &metrics, Start start,
+    // What is committed is put into `committed`.
+    Log(Database &database, Committed &committed, DayClock &clock, Metrics &metrics, Start start,
         std::function<void(const std::string &)> failed);
     // Commits what waits.
     ~Log();
     Log(const Log &) = delete;
     Log &operator=(const Log &) = delete;
 
-    // A message of a firm: the next place and the moment are given here. number is the session's, or
-    // nothing where the gateway speaks for the firm.
+    // A message of a firm: the next place and the moment are given here. number is the session's,
+    // or nothing where the gateway speaks for the firm.
     Ticket append_message(const std::string &firm, std::optional<std::uint32_t> number,
                           std::string_view frame);
-    // A sweep of the clock, at the moment of now, if this place is the last one. Whether it was.
-    bool append_clock_behind(std::uint32_t place);
-    // A sweep of the clock, whatever came.
-    Ticket append_clock();
+    // A sweep of the clock, at the moment of now, if this place is the last one: then its own
+    // place.
+    std::optional<std::uint32_t> append_clock_behind(std::uint32_t place);
+
+    // Messages of firms wait for as long as it lives; sweeps do not. One at a time.
+    class Hold {
+      public:
+        explicit Hold(Log &log);
+        ~Hold();
+        Hold(const Hold &) = delete;
+        Hold &operator=(const Hold &) = delete;
+
+      private:
+        Log &log_;
+    };
 
     // A message of a session, with the venue's message that it carries.
     Ticket put(Outgoing outgoing, std::optional<Sent> carried);
@@ -64,10 +72,6 @@ class Log {
     void wait(Ticket ticket);
     // Returns when all that was put so far is on disk.
     void flush();
-
-    // The entries from a place on that are committed, at least one: waits for it. Nothing where they are
-    // no longer kept here, but in the database alone; none where the stop was asked for.
-    std::optional<std::vector<LoggedEntry>> committed(std::uint32_t from, std::stop_token stop);
 
     std::uint32_t last_place();
 
@@ -81,18 +85,21 @@ class Log {
         std::size_t size = 0;
     };
 
-    Ticket append(Entry entry, std::string_view verb, std::string_view rest);
     // The lock is held.
     Ticket append_here(Entry entry, std::string_view verb, std::string_view rest,
                        std::chrono::steady_clock::time_point received);
+    bool has_room() const { return filling_.size < limit_; }
     // Waits for room; the lock is held before and behind.
     void wait_for_room(std::unique_lock<std::mutex> &lock);
     void throw_if_failed() const;
-    void write(std::stop_token stop);
+    void write(const std::stop_token &stop);
+    bool write_batch(const std::stop_token &stop);
+    void wait_for_rows(std::unique_lock<std::mutex> &lock, const std::stop_token &stop);
     void commit(Filling &filling);
     void publish(Filling &filling);
     void fail(const std::string &cause);
 
+    Committed &committed_entries_;
     DayClock &clock_;
     Metrics &metrics_;
     std::function<void(const std::string &)> failed_;
@@ -103,13 +110,13 @@ class Log {
     std::condition_variable_any changed_;
     Filling filling_;
     bool urgent_ = false;
+    bool held_ = false;
     Ticket filling_ticket_ = 1;
     Ticket committed_ = 0;
     std::string failure_;
     std::map<std::string, SessionRow> sessions_;
     std::uint32_t next_place_;
-    std::uint32_t committed_place_;
-    std::deque<LoggedEntry> recent_;
+    const std::uint32_t term_;
 
     Digest before_; // of the writing thread alone
     std::jthread thread_;

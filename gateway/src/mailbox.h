@@ -14,16 +14,16 @@
 
 namespace gateway {
 
-// One firm's messages of the venue. Whoever reads the venue puts them here, so that a session which is
-// slow holds up nobody but its firm.
+// One firm's messages of the venue. Whoever reads the venue puts them here, so that a session which
+// is slow holds up nobody but its firm.
 class Mailbox {
   public:
     // failed is called where a message can't be handed over: the log takes nothing any more.
     Mailbox(std::string firm, Engine &engine, std::size_t limit,
             std::function<void(const std::string &)> failed);
 
-    // Where too many wait, the firm's connection is ended, and room waited for: without a connection
-    // messages are handed over as fast as the log takes them.
+    // Where too many wait, the firm's connection is ended, and room waited for: without a
+    // connection messages are handed over as fast as the log takes them.
     void put(Delivery delivery);
 
     // Returns when all that was put is handed over.

@@ -92,27 +92,35 @@ void Metrics::committed(std::size_t entries, std::size_t messages, Duration took
     parts_->commit.Observe(in_seconds(took));
 }
 
-void Metrics::logged(Duration since_receipt) { parts_->logged.Observe(in_seconds(since_receipt)); }
+void Metrics::logged(Duration since_receipt) {
+    parts_->logged.Observe(in_seconds(since_receipt));
+}
 
 void Metrics::answered(Duration since_receipt) {
     parts_->answered.Observe(in_seconds(since_receipt));
 }
 
-void Metrics::delivered() { parts_->delivered.Increment(); }
+void Metrics::delivered() {
+    parts_->delivered.Increment();
+}
 
 void Metrics::connected() {
     parts_->connections.Increment();
     parts_->open.Increment();
 }
 
-void Metrics::disconnected() { parts_->open.Decrement(); }
+void Metrics::disconnected() {
+    parts_->open.Decrement();
+}
 
 void Metrics::logged_on() {
     parts_->logons.Increment();
     parts_->sessions.Increment();
 }
 
-void Metrics::logged_off() { parts_->sessions.Decrement(); }
+void Metrics::logged_off() {
+    parts_->sessions.Decrement();
+}
 
 void Metrics::refused(const std::string &reason) {
     parts_->refused.Add({{"reason", reason}}).Increment();
@@ -122,6 +130,8 @@ void Metrics::dropped(const std::string &reason) {
     parts_->dropped.Add({{"reason", reason}}).Increment();
 }
 
-void Metrics::venue_started() { parts_->starts.Increment(); }
+void Metrics::venue_started() {
+    parts_->starts.Increment();
+}
 
 } // namespace gateway

@@ -80,12 +80,16 @@ void DayClock::not_before(Moment moment) {
     }
 }
 
-bool DayClock::is_today() const { return read_clock().date == date_; }
+bool DayClock::is_today() const {
+    return read_clock().date == date_;
+}
 
 std::chrono::milliseconds DayClock::until(Moment moment) {
     return std::chrono::milliseconds(std::max(0, moment.milliseconds - now().milliseconds));
 }
 
-std::string today() { return read_clock().date; }
+std::string today() {
+    return read_clock().date;
+}
 
 } // namespace gateway

@@ -26,8 +26,8 @@ std::string text_of(Moment moment);
 // Reads HH:MM:SS.sss, and nothing else.
 std::optional<Moment> moment_of(std::string_view text);
 
-// The UTC clock of one day. It never goes back: behind a clock that was set back it stands until the
-// old moment is passed. Any thread may ask.
+// The UTC clock of one day. It never goes back: behind a clock that was set back it stands until
+// the old moment is passed. Any thread may ask.
 class DayClock {
   public:
     // date is YYYYMMDD.

@@ -6,8 +6,8 @@
 
 namespace gateway {
 
-// Whether a password has this hash, as crypt(5) writes it. Takes as long as the hash asks for, whatever
-// the answer is.
+// Whether a password has this hash, as crypt(5) writes it. Takes as long as the hash asks for,
+// whatever the answer is.
 bool has_hash(const std::string &password, const std::string &hash);
 
 // The hash of a password with a new salt. Throws std::runtime_error.

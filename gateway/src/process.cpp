@@ -124,11 +124,17 @@ bool Process::write(std::string_view bytes) {
     return true;
 }
 
-void Process::close_input() { input_.close(); }
+void Process::close_input() {
+    input_.close();
+}
 
-std::string Process::read_output() { return read_some(output_); }
+std::string Process::read_output() {
+    return read_some(output_);
+}
 
-std::string Process::read_errors() { return read_some(errors_); }
+std::string Process::read_errors() {
+    return read_some(errors_);
+}
 
 void Process::kill() {
     if (pid_ > 0) {

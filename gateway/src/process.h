@@ -12,8 +12,8 @@
 
 namespace gateway {
 
-// Starts with its own group of processes, so that a Ctrl-C at the gateway's terminal does not reach it,
-// and is killed and waited for when it is destroyed.
+// Starts with its own group of processes, so that a Ctrl-C at the gateway's terminal does not reach
+// it, and is killed and waited for when it is destroyed.
 class Process {
   public:
     // The first word is the program, looked up in PATH. Throws std::system_error.

@@ -75,8 +75,8 @@ Digest hash_of(const Entry &entry) {
 
 void check_link(const Entry &entry, std::uint32_t place, const Digest &before) {
     if (entry.place != place) {
-        throw std::runtime_error(fmt::format(
-            "the log has no entry {}: behind {} comes {}", place, place - 1, entry.place));
+        throw std::runtime_error(fmt::format("the log has no entry {}: behind {} comes {}", place,
+                                             place - 1, entry.place));
     }
     if (entry.before != before) {
         throw std::runtime_error(

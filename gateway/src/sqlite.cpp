@@ -92,9 +92,9 @@ class Statement {
     std::string bytes(int column) const {
         const void *data = sqlite3_column_blob(statement_.get(), column);
         const int size = sqlite3_column_bytes(statement_.get(), column);
-        return data == nullptr ? std::string()
-                               : std::string(static_cast<const char *>(data),
-                                             static_cast<std::size_t>(size));
+        return data == nullptr
+                   ? std::string()
+                   : std::string(static_cast<const char *>(data), static_cast<std::size_t>(size));
     }
     Digest digest(int column) const {
         const std::string text = bytes(column);
@@ -125,8 +125,8 @@ ConnectionPointer connect(const std::string &path, int flags) {
     const int result = sqlite3_open_v2(path.c_str(), &raw, flags | SQLITE_OPEN_NOMUTEX, nullptr);
     ConnectionPointer connection(raw);
     if (result != SQLITE_OK) {
-        throw std::runtime_error(fmt::format(
-            "SQLite, {}: {}", path, raw == nullptr ? "no memory" : sqlite3_errmsg(raw)));
+        throw std::runtime_error(fmt::format("SQLite, {}: {}", path,
+                                             raw == nullptr ? "no memory" : sqlite3_errmsg(raw)));
     }
     sqlite3_extended_result_codes(raw, 1);
     sqlite3_busy_timeout(raw, 10000);
@@ -160,15 +160,15 @@ class SqliteReader final : public LogReader {
   public:
     explicit SqliteReader(const std::string &path)
         : connection_(connect(path, SQLITE_OPEN_READONLY)),
-          entries_(connection_.get(), "SELECT place, term, moment, firm, number, line, before, hash "
-                                      "FROM entry WHERE place >= ? ORDER BY place LIMIT ?"),
+          entries_(connection_.get(),
+                   "SELECT place, term, moment, firm, number, line, before, hash "
+                   "FROM entry WHERE place >= ? ORDER BY place LIMIT ?"),
           last_(connection_.get(), "SELECT place, term, moment, firm, number, line, before, hash "
                                    "FROM entry ORDER BY place DESC LIMIT 1"),
           sent_(connection_.get(), "SELECT number, place, bytes FROM sent "
                                    "WHERE firm = ? AND number >= ? ORDER BY number LIMIT ?"),
-          outgoing_(connection_.get(),
-                    "SELECT number, sent, bytes FROM outgoing "
-                    "WHERE firm = ? AND number BETWEEN ? AND ? ORDER BY number"),
+          outgoing_(connection_.get(), "SELECT number, sent, bytes FROM outgoing "
+                                       "WHERE firm = ? AND number BETWEEN ? AND ? ORDER BY number"),
           session_(connection_.get(), "SELECT firm, target, logged_on FROM session"),
           came_(connection_.get(), "SELECT firm, count(*), coalesce(max(number), 0) FROM entry "
                                    "WHERE firm IS NOT NULL GROUP BY firm"),
@@ -251,8 +251,8 @@ class SqliteReader final : public LogReader {
 class SqliteWriter final : public LogWriter {
   public:
     explicit SqliteWriter(const std::string &path)
-        : connection_(connect_synchronised(path)),
-          begin_(connection_.get(), "BEGIN IMMEDIATE"), commit_(connection_.get(), "COMMIT"),
+        : connection_(connect_synchronised(path)), begin_(connection_.get(), "BEGIN IMMEDIATE"),
+          commit_(connection_.get(), "COMMIT"),
           entry_(connection_.get(),
                  "INSERT INTO entry (place, term, moment, firm, number, line, before, hash) "
                  "VALUES (?, ?, ?, ?, ?, ?, ?, ?)"),
@@ -286,6 +286,9 @@ class SqliteWriter final : public LogWriter {
         }
         commit_.run();
     }
+
+    // The file is locked: nobody looks.
+    void be_seen() override {}
 
   private:
     static ConnectionPointer connect_synchronised(const std::string &path) {
@@ -341,12 +344,13 @@ class Sqlite final : public Database {
         Statement form(connection_.get(), "SELECT number FROM form");
         const std::uint32_t number = form.step() ? form.number(0) : 0;
         if (number != 1) {
-            throw std::runtime_error(
-                fmt::format("{} has tables of form {}, and this gateway's are of form 1", path, number));
+            throw std::runtime_error(fmt::format(
+                "{} has tables of form {}, and this gateway's are of form 1", path, number));
         }
     }
 
     std::unique_ptr<LogReader> reader() override { return std::make_unique<SqliteReader>(path_); }
+    std::optional<std::uint32_t> take_over() override { return 0; }
     std::unique_ptr<LogWriter> writer() override { return std::make_unique<SqliteWriter>(path_); }
 
   private:

@@ -27,16 +27,18 @@ std::string_view take_word(std::string_view &text) {
 
 } // namespace
 
-Venue::Venue(Settings settings, Database &database, Log &log, const Digest &first_hash,
+Venue::Venue(Settings settings, Database &database, Committed &committed, const Digest &first_hash,
              VenueListener &listener, Metrics &metrics, std::shared_ptr<spdlog::logger> events)
-    : settings_(std::move(settings)), database_(database), log_(log), first_hash_(first_hash),
+    : settings_(std::move(settings)), database_(database), committed_(committed), first_hash_(first_hash),
       listener_(listener), metrics_(metrics), events_(std::move(events)),
       // The configuration, `%%`, and the line `#` whose mark says that the configuration was read.
       lines_before_(static_cast<std::size_t>(std::count(settings_.configuration.begin(),
                                                         settings_.configuration.end(), '\n')) +
                     2) {}
 
-Venue::~Venue() { stop(); }
+Venue::~Venue() {
+    stop();
+}
 
 void Venue::start() {
     thread_ = std::jthread([this](std::stop_token stop) { run(std::move(stop)); });
@@ -64,8 +66,9 @@ void Venue::run(std::stop_token stop) {
             const std::string end = run_once(stop);
             again = !stop.stop_requested();
             if (again && !may_start()) {
-                listener_.venue_failed(fmt::format("the venue {} again and again; its last words: {}",
-                                                   end, last_words_.empty() ? "none" : last_words_));
+                listener_.venue_failed(
+                    fmt::format("the venue {} again and again; its last words: {}", end,
+                                last_words_.empty() ? "none" : last_words_));
                 again = false;
             }
         }
@@ -98,28 +101,9 @@ std::string Venue::run_once(std::stop_token stop) {
     metrics_.venue_started();
     Process process(settings_.command);
     events_->info("venue started program=\"{}\"", settings_.command.front());
-    {
-        const std::lock_guard lock(mutex_);
-        running_ = &process;
-    }
-    std::jthread errors([&] { listen_to_errors(process); });
-    std::jthread feeder([&](std::stop_token own) { feed(process, std::move(own)); });
-    const std::stop_callback forward(stop, [&] { feeder.request_stop(); });
-    std::exception_ptr fault;
-    try {
-        read(process);
-    } catch (...) {
-        // The threads end where the process does.
-        fault = std::current_exception();
-        process.kill();
-    }
-    feeder.request_stop();
-    feeder.join();
-    errors.join();
-    {
-        const std::lock_guard lock(mutex_);
-        running_ = nullptr;
-    }
+    set_running(&process);
+    const std::exception_ptr fault = serve(process, stop);
+    set_running(nullptr);
     const std::string end = process.wait();
     if (!stop.stop_requested()) {
         events_->error("venue {} words=\"{}\"", end, last_words_);
@@ -131,6 +115,27 @@ std::string Venue::run_once(std::stop_token stop) {
         throw std::runtime_error(feeding_fault_);
     }
     return end;
+}
+
+void Venue::set_running(Process *process) {
+    const std::lock_guard lock(mutex_);
+    running_ = process;
+}
+
+// Until the process ends, or says something at which it is killed: then that.
+std::exception_ptr Venue::serve(Process &process, const std::stop_token &stop) {
+    std::jthread errors([&] { listen_to_errors(process); });
+    std::jthread feeder([&](std::stop_token own) { feed(process, std::move(own)); });
+    const std::stop_callback forward(stop, [&] { feeder.request_stop(); });
+    std::exception_ptr fault;
+    try {
+        read(process);
+    } catch (...) {
+        // The threads end where the process does.
+        fault = std::current_exception();
+        process.kill();
+    }
+    return fault;
 }
 
 void Venue::feed(Process &process, std::stop_token stop) {
@@ -161,7 +166,7 @@ void Venue::feed(Process &process, std::stop_token stop) {
 // None where the stop was asked for.
 std::vector<LoggedEntry> Venue::next_entries(std::uint32_t next, std::unique_ptr<LogReader> &reader,
                                              const std::stop_token &stop) {
-    if (auto recent = log_.committed(next, stop)) {
+    if (auto recent = committed_.wait(next, stop)) {
         return std::move(*recent);
     }
     if (!reader) {
@@ -232,42 +237,40 @@ void Venue::take_line(std::string_view line) {
 void Venue::take_mark(std::string_view line) {
     std::string_view rest = line;
     const std::string_view verb = take_word(rest);
-    const auto place = number_of(take_word(rest));
+    const auto number = number_of(take_word(rest));
     // The first mark is that of the line `#`.
     const std::size_t expected = answered_lines_ == 0 ? lines_before_ : answered_lines_ + 1;
-    if (!place || *place != expected) {
-        throw std::runtime_error(
-            fmt::format("the venue gave the mark `{}` where that of line {} was due", line, expected));
+    if (!number || *number != expected) {
+        throw std::runtime_error(fmt::format(
+            "the venue gave the mark `{}` where that of line {} was due", line, expected));
     }
     if (verb == "fault") {
-        throw std::runtime_error(fmt::format("the venue refuses entry {}: {}",
-                                             expected - lines_before_, rest));
+        throw std::runtime_error(
+            fmt::format("the venue refuses entry {}: {}", expected - lines_before_, rest));
     }
     answered_lines_ = expected;
     if (answered_lines_ == lines_before_) {
         listener_.venue_answered(0, std::nullopt);
         return;
     }
-    std::optional<Moment> deadline;
-    if (!rest.empty()) {
-        deadline = moment_of(rest);
-        if (!deadline) {
-            throw std::runtime_error(fmt::format("the venue gave the mark `{}`", line));
-        }
+    const auto deadline = rest.empty() ? std::nullopt : moment_of(rest);
+    const auto entry = take_fed();
+    if (!entry || (!rest.empty() && !deadline)) {
+        throw std::runtime_error(
+            fmt::format("the venue gave the mark `{}`{}", line, entry ? "" : " for no entry"));
     }
-    Fed entry;
-    {
-        const std::lock_guard lock(mutex_);
-        if (!fed_.empty()) {
-            entry = fed_.front();
-            fed_.pop_front();
-        }
+    metrics_.answered(std::chrono::steady_clock::now() - entry->received);
+    listener_.venue_answered(entry->place, deadline);
+}
+
+std::optional<Venue::Fed> Venue::take_fed() {
+    const std::lock_guard lock(mutex_);
+    if (fed_.empty()) {
+        return std::nullopt;
     }
-    if (entry.place == 0) {
-        throw std::runtime_error(fmt::format("the venue gave the mark `{}` for no entry", line));
-    }
-    metrics_.answered(std::chrono::steady_clock::now() - entry.received);
-    listener_.venue_answered(entry.place, deadline);
+    const Fed entry = fed_.front();
+    fed_.pop_front();
+    return entry;
 }
 
 void Venue::listen_to_errors(Process &process) {

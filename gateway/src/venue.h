@@ -2,12 +2,15 @@
 #ifndef GATEWAY_VENUE_H
 #define GATEWAY_VENUE_H
 
-#include "log.h"
+#include "committed.h"
+#include "database.h"
+#include "metrics.h"
 #include "moment.h"
 #include "process.h"
 
 #include <atomic>
 #include <deque>
+#include <exception>
 #include <functional>
 #include <mutex>
 #include <string>
@@ -29,15 +32,15 @@ class VenueListener {
     // session, or 0. The frame has SOH.
     virtual void venue_gave(std::uint32_t place, std::uint32_t number, std::string firm,
                             std::string frame) = 0;
-    // All messages for this entry were given. deadline is the earliest of a request, if there is one.
-    // Place 0: the configuration was read.
+    // All messages for this entry were given. deadline is the earliest of a request, if there is
+    // one. Place 0: the configuration was read.
     virtual void venue_answered(std::uint32_t place, std::optional<Moment> deadline) = 0;
     // The venue is no more, for this cause. Told once.
     virtual void venue_failed(const std::string &cause) = 0;
 };
 
-// One thread reads the venue, one feeds it. Neither of them waits for a session, and the one that feeds
-// waits for nothing but the log and the pipe.
+// One thread reads the venue, one feeds it. Neither of them waits for a session, and the one that
+// feeds waits for nothing but the log and the pipe.
 class Venue {
   public:
     struct Settings {
@@ -46,7 +49,7 @@ class Venue {
         unsigned starts = 3;       // within a minute
     };
 
-    Venue(Settings settings, Database &database, Log &log, const Digest &first_hash,
+    Venue(Settings settings, Database &database, Committed &committed, const Digest &first_hash,
           VenueListener &listener, Metrics &metrics, std::shared_ptr<spdlog::logger> events);
     // Ends the process.
     ~Venue();
@@ -54,8 +57,8 @@ class Venue {
     Venue &operator=(const Venue &) = delete;
 
     void start();
-    // Feeds no more: the venue answers what it has and ends. Returns when it ended; one that does not
-    // end within ten seconds is killed.
+    // Feeds no more: the venue answers what it has and ends. Returns when it ended; one that does
+    // not end within ten seconds is killed.
     void stop();
 
   private:
@@ -69,6 +72,8 @@ class Venue {
     void run(std::stop_token stop);
     // From the start of a process to its end; what is thrown is no matter of another start.
     std::string run_once(std::stop_token stop);
+    std::exception_ptr serve(Process &process, const std::stop_token &stop);
+    void set_running(Process *process);
     void feed(Process &process, std::stop_token stop);
     bool feed_entries(Process &process, const std::vector<LoggedEntry> &entries);
     std::vector<LoggedEntry> next_entries(std::uint32_t next, std::unique_ptr<LogReader> &reader,
@@ -76,13 +81,14 @@ class Venue {
     void read(Process &process);
     void take_line(std::string_view line);
     void take_mark(std::string_view line);
+    std::optional<Fed> take_fed();
     void listen_to_errors(Process &process);
     void take_words(const std::string &line);
     bool may_start();
 
     Settings settings_;
     Database &database_;
-    Log &log_;
+    Committed &committed_;
     const Digest first_hash_;
     VenueListener &listener_;
     Metrics &metrics_;

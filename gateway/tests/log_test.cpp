@@ -1,4 +1,5 @@
-// The log: places without a gap from many threads, commits together, the chain, and a commit that fails.
+// The log: places without a gap from many threads, commits together, the chain, and a commit that
+// fails.
 //
 // usage: log_test FOLDER [CONNECTION]    SQLite in the folder, or a PostgreSQL database
 #include "check.h"
@@ -18,6 +19,7 @@ class FailingDatabase final : public Database {
   public:
     explicit FailingDatabase(int commits) : commits_(commits) {}
     std::unique_ptr<LogReader> reader() override { return nullptr; }
+    std::optional<std::uint32_t> take_over() override { return 0; }
     std::unique_ptr<LogWriter> writer() override { return std::make_unique<Writer>(commits_); }
 
   private:
@@ -29,6 +31,7 @@ class FailingDatabase final : public Database {
                 throw std::runtime_error("no room");
             }
         }
+        void be_seen() override {}
 
       private:
         int commits_;
@@ -51,6 +54,7 @@ void check_chain(LogReader &reader, std::uint32_t count) {
 
 Entry begin_day(Database &database) {
     Entry first;
+    first.term = database.take_over().value();
     first.moment = "00:00:00.000";
     first.line = line_of({"program 1", Digest{}, "version = 1\n"});
     first.hash = hash_of(first);
@@ -60,36 +64,21 @@ Entry begin_day(Database &database) {
     return first;
 }
 
-void many_threads(Database &database) {
-    constexpr std::uint32_t threads = 4;
-    constexpr std::uint32_t messages = 200;
-    DayClock clock(today());
-    Metrics metrics(0);
-    Log::Start start;
-    start.last = begin_day(database);
-    start.waiting = 16;
-    {
-        Log log(database, clock, metrics, std::move(start),
-                [](const std::string &cause) { std::cerr << cause << '\n'; });
-        std::vector<std::jthread> writers;
-        for (std::uint32_t each = 0; each < threads; ++each) {
-            writers.emplace_back([&log, each] {
-                const std::string firm = fmt::format("F{}", each);
-                for (std::uint32_t number = 1; number <= messages; ++number) {
-                    log.append_message(firm, number, "x");
-                    log.put({firm, number, number, "wire"}, Sent{firm, number, number, "frame"});
-                    log.put_target(firm, number + 1);
-                }
-            });
-        }
-        writers.clear();
-        log.flush();
-        check(!log.append_clock_behind(threads * messages - 1), "a sweep behind an entry");
-        check(log.append_clock_behind(threads * messages), "a sweep behind the last entry");
+constexpr std::uint32_t threads = 4;
+constexpr std::uint32_t messages = 200;
+
+void write_from(Log &log, std::uint32_t thread) {
+    const std::string firm = fmt::format("F{}", thread);
+    for (std::uint32_t number = 1; number <= messages; ++number) {
+        log.append_message(firm, number, "x");
+        log.put({firm, number, number, "wire"}, Sent{firm, number, number, "frame"});
+        log.put_target(firm, number + 1);
     }
-    const auto reader = database.reader();
-    check_chain(*reader, threads * messages + 1);
-    const auto states = reader->states();
+}
+
+void check_rows(LogReader &reader) {
+    check_chain(reader, threads * messages + 1);
+    const auto states = reader.states();
     same<std::size_t>(threads, states.size(), "firms");
     for (const auto &[firm, state] : states) {
         same(messages, state.entries, firm + "'s entries");
@@ -98,8 +87,57 @@ void many_threads(Database &database) {
         same(messages, state.outgoing, firm + "'s session");
         same(messages + 1, state.session.target, firm + "'s target");
     }
-    same<std::string>("frame", reader->sent("F1", messages, 5).at(0).bytes, "a message");
-    same<std::size_t>(3, reader->outgoing("F1", 2, 4).size(), "messages of a session");
+    same<std::string>("frame", reader.sent("F1", messages, 5).at(0).bytes, "a message");
+    same<std::size_t>(3, reader.outgoing("F1", 2, 4).size(), "messages of a session");
+}
+
+void many_threads(Database &database) {
+    DayClock clock(today());
+    Metrics metrics(0);
+    Log::Start start;
+    start.last = begin_day(database);
+    start.term = start.last.term;
+    start.waiting = 16;
+    {
+        Committed committed(0);
+        Log log(database, committed, clock, metrics, std::move(start),
+                [](const std::string &cause) { std::cerr << cause << '\n'; });
+        std::vector<std::jthread> writers;
+        for (std::uint32_t thread = 0; thread < threads; ++thread) {
+            writers.emplace_back([&log, thread] { write_from(log, thread); });
+        }
+        writers.clear();
+        log.flush();
+        check(!log.append_clock_behind(threads * messages - 1), "a sweep behind an entry");
+        same(threads * messages + 1, log.append_clock_behind(threads * messages).value_or(0),
+             "a sweep behind the last entry");
+    }
+    check_rows(*database.reader());
+}
+
+// While messages are held a sweep is not, and they come behind it.
+void a_held_log(Database &database) {
+    DayClock clock(today());
+    Metrics metrics(0);
+    Log::Start start;
+    start.last = database.reader()->last_entry().value();
+    start.term = start.last.term;
+    const std::uint32_t last = start.last.place;
+    Committed committed(last);
+    Log log(database, committed, clock, metrics, std::move(start),
+            [](const std::string &cause) { std::cerr << cause << '\n'; });
+    std::jthread writer;
+    {
+        const Log::Hold hold(log);
+        writer = std::jthread([&log] { log.append_message("F0", messages + 1, "x"); });
+        same(last + 1, log.append_clock_behind(last).value_or(0), "a sweep in a held log");
+    }
+    writer.join();
+    log.flush();
+    const auto entries = database.reader()->entries(last + 1, 9);
+    same<std::size_t>(2, entries.size(), "entries behind the hold");
+    check(!entries[0].firm && entries[1].firm == "F0",
+          "the message does not come behind the sweep");
 }
 
 void a_commit_that_fails() {
@@ -108,7 +146,8 @@ void a_commit_that_fails() {
     Metrics metrics(0);
     std::string told;
     {
-        Log log(database, clock, metrics, Log::Start{},
+        Committed committed(0);
+        Log log(database, committed, clock, metrics, Log::Start{},
                 [&told](const std::string &cause) { told = cause; });
         log.wait(log.append_message("F", 1, "x"));
         const auto ticket = log.append_message("F", 2, "x");
@@ -162,9 +201,10 @@ void changed_entries() {
 void run(const std::vector<std::string> &arguments) {
     const std::filesystem::path folder = arguments.at(0);
     if (arguments.size() > 1) {
-        const auto database =
-            open_postgres(arguments[1], fmt::format("log_test_{}", ::getpid()));
+        const auto database = open_postgres(
+            {arguments[1], fmt::format("log_test_{}", ::getpid()), "log_test"});
         many_threads(*database);
+        a_held_log(*database);
     } else {
         const std::filesystem::path file = folder / "log_test.db";
         for (const char *suffix : {"", "-wal", "-shm", ".lock"}) {
@@ -172,6 +212,7 @@ void run(const std::vector<std::string> &arguments) {
         }
         const auto database = open_sqlite(file.string());
         many_threads(*database);
+        a_held_log(*database);
     }
     a_commit_that_fails();
     changed_entries();

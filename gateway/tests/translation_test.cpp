@@ -19,19 +19,19 @@ std::string given(const std::string &message, unsigned number) {
     return with_bars(std::get<std::string>(result));
 }
 
-// The documents' example of a quote, as an engine sends it: other numbers, microseconds, the session's
-// fields; and as the venue is to get it.
+// The documents' example of a quote, as an engine sends it: other numbers, microseconds, the
+// session's fields; and as the venue is to get it.
 void a_quote() {
     const std::string venue =
         "8=FIXT.1.1|9=109|35=S|49=DLR1|56=VENUE|34=1|52=20250314-09:00:10.000|50=T1|131=R1|117=a1|"
         "48=BONDA0000001|22=4|133=99.50390625|10=039|";
     same(venue, given(venue, 1), "a quote as it is");
     same(venue,
-          given("8=FIXT.1.1|9=0|35=S|49=DLR1|56=VENUE|34=712|43=Y|52=20250314-09:00:10.000123|"
-                "122=20250314-09:00:09|97=Y|50=T1|131=R1|117=a1|48=BONDA0000001|22=4|"
-                "133=99.50390625|10=000|",
-                1),
-          "a quote of an engine");
+         given("8=FIXT.1.1|9=0|35=S|49=DLR1|56=VENUE|34=712|43=Y|52=20250314-09:00:10.000123|"
+               "122=20250314-09:00:09|97=Y|50=T1|131=R1|117=a1|48=BONDA0000001|22=4|"
+               "133=99.50390625|10=000|",
+               1),
+         "a quote of an engine");
 }
 
 void every_byte() {
@@ -40,9 +40,8 @@ void every_byte() {
             continue;
         }
         const std::string field = std::string("58=a") + static_cast<char>(byte) + "z\x01";
-        const auto result = for_venue(with_soh("8=FIXT.1.1|9=0|35=Z|34=9|") + field +
-                                          with_soh("10=000|"),
-                                      3);
+        const auto result =
+            for_venue(with_soh("8=FIXT.1.1|9=0|35=Z|34=9|") + field + with_soh("10=000|"), 3);
         const auto *frame = std::get_if<std::string>(&result);
         check(frame != nullptr && frame->find(field) != std::string::npos,
               fmt::format("58 with the byte {}", byte));
@@ -55,9 +54,10 @@ void no_frames() {
     // 4,096 bytes are a frame, and one more is none: 8=FIXT.1.1|9=4071|, the body and 10=ccc|.
     const std::string begin = "8=FIXT.1.1|9=0|35=Z|34=1|58=";
     const std::size_t text = 4071 - std::string("35=Z|34=1|58=|").size();
-    same(longest_frame, given(begin + std::string(text, 'x') + "|10=000|", 1).size(), "the longest");
+    same(longest_frame, given(begin + std::string(text, 'x') + "|10=000|", 1).size(),
+         "the longest");
     same<std::string>("tag 9", given(begin + std::string(text + 1, 'x') + "|10=000|", 1),
-                       "one byte more");
+                      "one byte more");
 }
 
 void cancel_of_one_that_is_gone() {
@@ -71,10 +71,10 @@ void to_firms() {
         return with_bars(for_wire(with_soh(frame), refers_to).body);
     };
     same<std::string>("1181=2|131=R1|117=a1|60=20250314-09:00:10.000|297=0|",
-                       body("8=FIXT.1.1|9=73|35=AI|49=VENUE|56=DLR1|34=2|52=20250314-09:00:10.000|"
-                            "131=R1|117=a1|297=0|10=207|",
-                            5),
-                       "an acceptance");
+                      body("8=FIXT.1.1|9=73|35=AI|49=VENUE|56=DLR1|34=2|52=20250314-09:00:10.000|"
+                           "131=R1|117=a1|297=0|10=207|",
+                           5),
+                      "an acceptance");
     same<std::string>(
         "1181=1|131=R1|146=1|55=[N/A]|48=BONDA0000001|22=4|54=1|38=2000000|"
         "126=20250314-09:05:00.000|60=20250314-09:00:00.000|453=1|448=INV1|447=D|452=13|",
@@ -84,10 +84,10 @@ void to_firms() {
              5),
         "a request, whose 60 is in its group");
     same<std::string>("1181=6|45=31|371=50|372=Z|373=1|60=20250314-09:01:10.000|",
-                       body("8=FIXT.1.1|9=76|35=3|49=VENUE|56=DLR1|34=6|52=20250314-09:01:10.000|"
-                            "45=4|371=50|372=Z|373=1|10=010|",
-                            31),
-                       "a Reject names the session's number");
+                      body("8=FIXT.1.1|9=76|35=3|49=VENUE|56=DLR1|34=6|52=20250314-09:01:10.000|"
+                           "45=4|371=50|372=Z|373=1|10=010|",
+                           31),
+                      "a Reject names the session's number");
 }
 
 void moments() {

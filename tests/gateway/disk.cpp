@@ -39,7 +39,8 @@ std::string kind_of(int file) {
     const int before = errno;
     const std::string path = path_of(file);
     errno = before;
-    if (ends_with(path, ".db")) return "db";
+    if (ends_with(path, ".db"))
+        return "db";
     return ends_with(path, ".db-wal") ? "wal" : "";
 }
 
@@ -59,7 +60,8 @@ std::mutex one_sync;
 
 void keep(int file, const std::string &kind, long number, long long began) {
     const char *folder = std::getenv("DISK_COPIES");
-    if (!folder) return;
+    if (!folder)
+        return;
     const std::string base = std::string(folder) + "/";
     std::filesystem::copy_file(path_of(file), base + std::to_string(number) + "." + kind,
                                std::filesystem::copy_options::overwrite_existing);
@@ -71,26 +73,28 @@ int synced(int file, const char *call) {
     using Sync = int (*)(int);
     const auto real = reinterpret_cast<Sync>(dlsym(RTLD_NEXT, call));
     const std::string kind = kind_of(file);
-    if (kind.empty()) return real(file);
+    if (kind.empty())
+        return real(file);
     const std::lock_guard<std::mutex> lock(one_sync);
     const long long began = nanoseconds();
     const long slow = number_in("DISK_SLOW");
     const timespec pause{slow / 1000, slow % 1000 * 1'000'000};
     nanosleep(&pause, nullptr);
     const int result = real(file);
-    if (result == 0) keep(file, kind, ++syncs, began);
+    if (result == 0)
+        keep(file, kind, ++syncs, began);
     return result;
 }
 
 bool is_full(int file) {
     const long from = number_in("DISK_FULL");
-    if (from == 0 || syncs.load() < from || kind_of(file).empty()) return false;
+    if (from == 0 || syncs.load() < from || kind_of(file).empty())
+        return false;
     errno = ENOSPC;
     return true;
 }
 
-template <typename Call>
-Call real(const char *name) {
+template <typename Call> Call real(const char *name) {
     return reinterpret_cast<Call>(dlsym(RTLD_NEXT, name));
 }
 

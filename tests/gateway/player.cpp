@@ -12,6 +12,7 @@
 //           refused NAME WHY the engine does not send it
 //           got              the file has one message more
 //           admin HEX        a Reject of the engine itself or a Logout came
+// PLAYER_VENUE  in the environment: the venue (57) that its Logons name
 // RECEIVED  a line for each message of the venue: the nanoseconds of the monotonic clock and,
 //           behind one space, its bytes as they came, in hexadecimal digits
 //
@@ -42,6 +43,7 @@ namespace {
 const int USERNAME = 553;
 const int PASSWORD = 554;
 const int VENUE_NUMBER = 1181;
+const int TARGET_SUB = 57;
 
 std::string field(const FIX::FieldMap &map, int tag) {
     return map.isSetField(tag) ? map.getField(tag) : std::string();
@@ -67,10 +69,11 @@ std::string from_hex(const std::string &text) {
 
 // A file that is only ever added to, a whole line by one write.
 class Lines {
-public:
+  public:
     explicit Lines(const std::string &path)
         : m_file(::open(path.c_str(), O_WRONLY | O_CREAT | O_APPEND, 0600)) {
-        if (m_file < 0) throw std::runtime_error(path + ": cannot be opened");
+        if (m_file < 0)
+            throw std::runtime_error(path + ": cannot be opened");
     }
     explicit Lines(int file) : m_file(file) {}
     ~Lines() { ::close(m_file); }
@@ -85,56 +88,60 @@ public:
         }
     }
 
-private:
+  private:
     int m_file;
 };
 
 // The bytes of messages that came, by session number, until the application sees them.
 class Wire : public FIX::Log {
-public:
+  public:
     void clear() override {}
     void backup() override {}
     void onOutgoing(const std::string &) override {}
     void onEvent(const std::string &text) override {
-        if (std::getenv("PLAYER_EVENTS")) std::cerr << text << std::endl;
+        if (std::getenv("PLAYER_EVENTS"))
+            std::cerr << text << std::endl;
     }
     void onIncoming(const std::string &bytes) override {
         const std::size_t at = bytes.find("\00134=");
-        if (at == std::string::npos) return;
+        if (at == std::string::npos)
+            return;
         const std::lock_guard<std::mutex> lock(m_mutex);
         m_bytes[std::atoi(bytes.c_str() + at + 4)] = bytes;
-        if (m_bytes.size() > MOST_MESSAGES) m_bytes.erase(m_bytes.begin());
+        if (m_bytes.size() > MOST_MESSAGES)
+            m_bytes.erase(m_bytes.begin());
     }
     // The bytes that came under this number last. A message that came ahead of others waits in the
     // engine, so the numbers are not asked for in their order.
     std::string take(int number) {
         const std::lock_guard<std::mutex> lock(m_mutex);
         const auto found = m_bytes.find(number);
-        if (found == m_bytes.end()) return std::string();
+        if (found == m_bytes.end())
+            return std::string();
         const std::string bytes = found->second;
         m_bytes.erase(found);
         return bytes;
     }
 
-private:
+  private:
     static const std::size_t MOST_MESSAGES = 10000; // those of the session itself among them
     std::mutex m_mutex;
     std::map<int, std::string> m_bytes;
 };
 
 class Wires : public FIX::LogFactory {
-public:
+  public:
     explicit Wires(Wire &wire) : m_wire(wire) {}
     FIX::Log *create() override { return &m_wire; }
     FIX::Log *create(const FIX::SessionID &) override { return &m_wire; }
     void destroy(FIX::Log *) override {}
 
-private:
+  private:
     Wire &m_wire;
 };
 
 class Player : public FIX::Application {
-public:
+  public:
     Player(Wire &wire, const std::string &received, std::string username, std::string password)
         : m_wire(wire), m_received(received), m_out(STDOUT_FILENO), m_username(std::move(username)),
           m_password(std::move(password)) {}
@@ -144,7 +151,10 @@ public:
     void onLogout(const FIX::SessionID &) override { m_out.put("off"); }
     void toApp(FIX::Message &, const FIX::SessionID &) noexcept override {}
     void toAdmin(FIX::Message &message, const FIX::SessionID &) override {
-        if (field(message.getHeader(), 35) != "A") return;
+        if (field(message.getHeader(), 35) != "A")
+            return;
+        if (const char *venue = std::getenv("PLAYER_VENUE"))
+            message.getHeader().setField(TARGET_SUB, venue);
         message.setField(USERNAME, m_username);
         message.setField(PASSWORD, m_password);
     }
@@ -174,7 +184,7 @@ public:
     }
     FIX::Session &session() const { return *FIX::Session::lookupSession(m_session); }
 
-private:
+  private:
     std::string bytes_of(const FIX::Message &message) {
         const std::string bytes = m_wire.take(std::stoi(field(message.getHeader(), 34)));
         return bytes.empty() ? message.toString() : bytes;

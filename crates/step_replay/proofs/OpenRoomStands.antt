@@ -240,13 +240,13 @@ module _ (config : Configuration) (facts : List Fact) where
           → fold earlier (earlier before (of_facts room)) (map of_facts rooms) ≡ Some deadline
       here_or_later deadline first is room rooms before low own least later true same among =
           let here : of_facts room ≡ Some deadline = ap of_facts (sym (same_room first room same))
-              ∙ is in
+          ∙ is in
           ap (λ (d : Option ℕ). fold earlier d (map of_facts rooms))
           (ap (earlier before) here ∙ takes_it deadline before low)
           ∙ it_stays deadline rooms least
       here_or_later deadline first is room rooms before low own least later false other among =
           later (earlier before (of_facts room)) (stays_least deadline before
-              (of_facts room) low own) among
+          (of_facts room) low own) among
 
   -- the earliest by the facts
   pub earliest_is : (rooms : OpenRooms) (found : Option ℕ) → RoomsStand config facts rooms

@@ -60,9 +60,11 @@ behind_sorted : (investor first more : ℕ) → IsStrictlySortedBy room_cmp
     (rooms_behind investor first more)
 unfolding IsStrictlySortedBy
 behind_sorted investor first zero = tt
-behind_sorted investor first (suc more) =
-    (before_behind investor (first + 1) (first + 1) more (omega arith), behind_sorted investor
-    (first + 1) more)
+behind_sorted investor first (suc more) = (
+  before_behind investor (first + 1) (first + 1) more (omega arith),
+  behind_sorted investor
+      (first + 1) more,
+)
 
 before_both : (room : RoomRef) (one other : List RoomRef) → IsBefore room one → IsBefore room other
     → IsBefore room (one ++ other)

@@ -236,7 +236,7 @@ pub record ClockRests (trail : AuditTrail) : Type 0 where
 unfoldable pub after_sweep : Configuration → ℕ → AuditTrail → RoomRef → AuditTrail
 after_sweep config moment trail room =
     after_turns config actor.Clock MOST_TURNS_BEHIND (after_step config trail
-        (step.Expire room moment))
+    (step.Expire room moment))
 
 pub sweep_idle : (config : Configuration) (moment : ℕ) (trail : AuditTrail) (room : RoomRef)
     → pending actor.Clock trail ≡ [] → may_expire (of_room room trail.facts) moment ≡ false
@@ -255,7 +255,7 @@ other_kept config moment trail at room rests other =
     let effect = sweep_effect config trail.facts at moment in
     let same = swept config trail at moment in
     let left : pending actor.Clock (after_step config trail (step.Expire at moment))
-        ≡ effect.duties =
+    ≡ effect.duties =
     ap (pending actor.Clock) same ∙ own_pending actor.Clock trail effect rests.within
     ∙ ap (λ (l : List Duty). l ++ effect.duties) rests.idle in
     turns_tell config room MOST_TURNS_BEHIND (after_step config trail (step.Expire at moment))

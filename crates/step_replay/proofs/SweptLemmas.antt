@@ -70,9 +70,11 @@ rests_more : (config : Configuration) (moment : ℕ) (trail : AuditTrail) (rooms
     → ClockRests (all_swept config moment trail (rooms ++ room ∷ []))
     → RestsAlong config moment trail (rooms ++ room ∷ [])
 rests_more config moment trail [] room rests last = (rests, last)
-rests_more config moment trail (first ∷ rooms) room rests last =
-    (rests.0, rests_more config moment (after_sweep config moment trail first) rooms room rests.1
-    last)
+rests_more config moment trail (first ∷ rooms) room rests last = (
+  rests.0,
+  rests_more config moment (after_sweep config moment trail first) rooms room rests.1
+      last,
+)
 
 -- Rooms that are not due may be left out.
 
@@ -100,7 +102,7 @@ skips_by config moment kept room rooms trail covers later true is rests =
     (λ other due. covers other (due_before config moment trail room other rests.0 due)) rests.1
 skips_by config moment kept room rooms trail covers later false is rests =
     let none = not_due (may_expire (of_room room trail.facts) moment) (kept room)
-        (covers room) is in
+    (covers room) is in
     let same = sweep_idle config moment trail room
     (rests_first config moment trail (filter kept rooms) rests).idle none in
     ap (λ (t : AuditTrail). all_swept config moment t rooms) same ∙ later trail covers rests
@@ -196,7 +198,7 @@ room_known config steps live moment due at room is_at are there =
     sym (due_is config facts live.open_rooms moment room is_at.stands.rooms_stand)
     ∙ sym (are.each room) ∙ member in
     let has : has_room config room.investor room.n ≡ true =
-        second (is_due facts moment room) _ both in
+    second (is_due facts moment room) _ both in
     rw has refl
   where
     second : (a b : Bool) → (a && b) ≡ true → b ≡ true
@@ -283,9 +285,9 @@ swept_all config steps moment before after due done told is_at are is so =
     let trail = live_trail config steps in
     let kept = filter (is_due trail.facts moment) (rooms_of config) in
     let keys = due_keys config trail.facts before.open_rooms moment due is_at.stands.rooms_stand
-        are in
+    are in
     let swept = subst (λ (l : List RoomRef). SweptSo config steps moment l after told)
-        (is ∙ keys) so in
+    (is ∙ keys) so in
     let same : live_trail config (steps ++ sweeps_at moment kept)
     ≡ live_trail config (steps ++ sweeps_at moment (rooms_of config)) =
     swept_is config steps moment kept

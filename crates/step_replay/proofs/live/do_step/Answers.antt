@@ -13,7 +13,7 @@ returns-in_default c config trail start none stood told =
 pub returns : goal.returns
 returns c config trail start none stood told =
     noted_step config trail c.args.step.now c.args.venue.now _
-        (start ++ c.tell_step-2.new.told.items)
+    (start ++ c.tell_step-2.new.told.items)
     (actor_known config c.args.step.now none) stood
     (c.in_ok-tell_step-2.ensures config trail start none stood.replay_stands told)
     c.in-Some.room c.deadline_at-before.result c.deadline_at-after.result c.in-Some.ensures

@@ -11,7 +11,7 @@ returns-then-get c =
     let entry : Entry = c.in-Some.field-0.now in
     let left : c.loop-deadline.deadline-iterator ≡ entry ∷ c.next.new.self =
     rest_more deref c.loop-deadline.deadline-iterator c.next.new.self c.next.result
-        c.in-Some.field-0
+    c.in-Some.field-0
     c.in-Some.is c.next.ensures.steps in
     let value = c.get.ensures.value in
     let bound = c.get-in-loop-deadline.ensures.value in
@@ -26,7 +26,7 @@ loop-deadline-preserved c =
     let entry : Entry = c.in-Some.field-0.now in
     let left : c.loop-deadline.deadline-iterator ≡ entry ∷ c.next.new.self =
     rest_more deref c.loop-deadline.deadline-iterator c.next.new.self c.next.result
-        c.in-Some.field-0
+    c.in-Some.field-0
     c.in-Some.is c.next.ensures.steps in
     let value = c.get.ensures.value in
     let bound = c.get-in-loop-deadline.ensures.value in

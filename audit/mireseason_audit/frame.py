@@ -1,0 +1,68 @@
+"""Frames of FIXT.1.1: bytes into fields, and fields into bytes."""
+
+from collections.abc import Iterable
+
+from .records import SOH
+
+Fields = list[tuple[int, bytes]]
+START = b"8=FIXT.1.1\x019="
+ENDS = (8, 9, 10)
+CHECKSUM_BYTES = 7  # 10=ccc and its SOH
+
+
+def fields_of(data: bytes) -> Fields:
+    """All fields, in their order; of what is no field (no digits, no equals sign) the tag is 0."""
+    fields: Fields = []
+    for part in data.removesuffix(SOH).split(SOH):
+        tag, equals, value = part.partition(b"=")
+        if equals and tag.isdigit():
+            fields.append((int(tag), value))
+        else:
+            fields.append((0, part))
+    return fields
+
+
+def value_of(fields: Fields, tag: int) -> bytes | None:
+    """The first value of a tag."""
+    for there, value in fields:
+        if there == tag:
+            return value
+    return None
+
+
+def text_of(fields: Fields, tag: int) -> str:
+    """The first value of a tag as text; empty where there is none."""
+    value = value_of(fields, tag)
+    return "" if value is None else value.decode("utf-8", "replace")
+
+
+def framed(fields: Iterable[tuple[int, bytes]]) -> bytes:
+    """The frame of the fields of a body, MsgType (35) first."""
+    body = b"".join(b"%d=%s\x01" % field for field in fields)
+    head = b"8=FIXT.1.1\x019=%d\x01" % len(body) + body
+    return head + b"10=%03d\x01" % (sum(head) % 256)
+
+
+def fault_of(data: bytes) -> str | None:
+    """What is wrong with a frame's length or sum; None where nothing is."""
+    if not data.startswith(START) or len(data) < len(START) + CHECKSUM_BYTES:
+        return "it does not begin as a frame of FIXT.1.1"
+    length, soh, rest = data[len(START) :].partition(SOH)
+    if not soh or not length.isdigit() or int(length) != len(rest) - CHECKSUM_BYTES:
+        return "its length is not the one that it says"
+    end = data[-CHECKSUM_BYTES:]
+    if end != b"10=%03d\x01" % (sum(data[:-CHECKSUM_BYTES]) % 256):
+        return "its sum is not the one that it says"
+    return None
+
+
+def barred(data: bytes) -> str:
+    """The bytes as text: a vertical bar for each SOH, and an escape for what is no printable ASCII."""
+    if data.isascii():
+        text = data.decode("ascii").replace("\x01", "|")
+        if text.isprintable():
+            return text
+    return "".join(
+        "|" if byte == 1 else chr(byte) if 0x20 <= byte < 0x7F else "\\x%02x" % byte
+        for byte in data
+    )

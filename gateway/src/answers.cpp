@@ -1,0 +1,55 @@
+#include "answers.h"
+
+namespace gateway {
+
+void Answers::begin(std::uint32_t last_place) {
+    const std::lock_guard lock(mutex_);
+    heeded_from_ = last_place;
+    answered_.reset();
+    deadline_.reset();
+    changed_.notify_all();
+}
+
+void Answers::put(std::uint32_t place, std::optional<Moment> deadline) {
+    const std::lock_guard lock(mutex_);
+    answered_ = place;
+    deadline_ = deadline;
+    changed_.notify_all();
+}
+
+bool Answers::wait(std::uint32_t place, const std::stop_token &stop) {
+    std::unique_lock lock(mutex_);
+    return changed_.wait(lock, stop, [&] { return has_answered(place); });
+}
+
+bool Answers::wait(std::uint32_t place, std::chrono::milliseconds longest,
+                   const std::stop_token &stop) {
+    std::unique_lock lock(mutex_);
+    return changed_.wait_for(lock, stop, longest, [&] { return has_answered(place); });
+}
+
+std::optional<Answers::Deadline> Answers::deadline_here() const {
+    if (!deadline_ || !has_answered(heeded_from_)) {
+        return std::nullopt;
+    }
+    return Deadline{*deadline_, *answered_};
+}
+
+std::optional<Answers::Deadline> Answers::deadline() {
+    const std::lock_guard lock(mutex_);
+    return deadline_here();
+}
+
+std::optional<Answers::Deadline> Answers::wait_for_deadline(const std::stop_token &stop) {
+    std::unique_lock lock(mutex_);
+    changed_.wait(lock, stop, [&] { return deadline_here().has_value(); });
+    return stop.stop_requested() ? std::nullopt : deadline_here();
+}
+
+void Answers::wait_for_news(const Deadline &known, std::chrono::milliseconds longest,
+                            const std::stop_token &stop) {
+    std::unique_lock lock(mutex_);
+    changed_.wait_for(lock, stop, longest, [&] { return deadline_here() != known; });
+}
+
+} // namespace gateway

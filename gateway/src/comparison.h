@@ -1,0 +1,46 @@
+// What the venue gives again, held against what the log says was sent.
+#ifndef GATEWAY_COMPARISON_H
+#define GATEWAY_COMPARISON_H
+
+#include "database.h"
+
+#include <deque>
+#include <map>
+#include <memory>
+#include <mutex>
+#include <string>
+
+namespace gateway {
+
+// Used by the thread that reads the venue; check_sent() by any.
+class Comparison {
+  public:
+    explicit Comparison(Database &database) : database_(database) {}
+
+    // A process of the venue begins. What the log has of its messages now is held against them.
+    void begin();
+    // Whether the venue's next message to a firm is one that the log had not then. Throws
+    // std::runtime_error that names the firm and the number where it is another than the log has,
+    // or not the next one.
+    bool is_new(const std::string &firm, std::uint32_t number, const std::string &frame);
+    // Throws where the log has a message that the venue did not give.
+    void check_sent(const std::map<std::string, FirmState> &states);
+
+  private:
+    struct Messages {
+        std::uint32_t given = 0;   // by this process
+        std::uint32_t known = 0;   // in the log when the process was started
+        std::deque<Sent> recorded; // the next of them
+    };
+
+    void compare(const std::string &firm, Messages &messages, const std::string &frame);
+
+    Database &database_;
+    std::unique_ptr<LogReader> reader_;
+    std::mutex mutex_;
+    std::map<std::string, Messages> firms_;
+};
+
+} // namespace gateway
+
+#endif

@@ -1,0 +1,113 @@
+#include "day.h"
+
+#include "process.h"
+
+#include <cstdlib>
+#include <fstream>
+#include <sstream>
+#include <stdexcept>
+
+#include <fmt/format.h>
+
+namespace gateway {
+
+namespace {
+
+std::string first_line(const std::vector<std::string> &command) {
+    try {
+        Process process(command);
+        process.close_input();
+        std::string text;
+        for (std::string bytes = process.read_output(); !bytes.empty();
+             bytes = process.read_output()) {
+            text += bytes;
+        }
+        if (process.wait() != "ended with status 0" || text.empty()) {
+            return "unknown";
+        }
+        return text.substr(0, text.find('\n'));
+    } catch (const std::exception &) {
+        return "unknown";
+    }
+}
+
+// The file of a program, as it is looked up in PATH.
+std::filesystem::path find_program(const std::filesystem::path &program) {
+    if (program.has_parent_path()) {
+        return program;
+    }
+    const char *path = std::getenv("PATH");
+    std::istringstream places(path == nullptr ? "" : path);
+    for (std::string place; std::getline(places, place, ':');) {
+        const std::filesystem::path file = std::filesystem::path(place) / program;
+        if (std::filesystem::exists(file)) {
+            return file;
+        }
+    }
+    return program;
+}
+
+std::string read_program(const std::filesystem::path &program) {
+    const std::filesystem::path path = find_program(program);
+    std::ifstream file(path, std::ios::binary);
+    std::ostringstream bytes;
+    if (!file || !(bytes << file.rdbuf())) {
+        throw std::runtime_error(
+            fmt::format("the venue's program {} can't be read", path.string()));
+    }
+    return bytes.str();
+}
+
+Day day_now(const Config &config) {
+    Day day;
+    day.version = first_line({config.program.string(), "--version"});
+    day.program = sha256(read_program(config.program));
+    day.configuration = config.configuration;
+    return day;
+}
+
+Entry begin_log(const Day &day, Database &database, std::optional<std::uint32_t> term,
+                DayClock &clock) {
+    if (!term) {
+        throw std::runtime_error("the log has no begin");
+    }
+    Entry first;
+    first.term = *term;
+    first.moment = text_of(clock.now());
+    first.line = line_of(day);
+    first.hash = hash_of(first);
+    Batch batch;
+    batch.entries.push_back(first);
+    database.writer()->commit(batch);
+    return first;
+}
+
+} // namespace
+
+OpenedDay open_day(const Config &config, Database &database, std::optional<std::uint32_t> term,
+                   DayClock &clock, const std::shared_ptr<spdlog::logger> &events) {
+    const Day now = day_now(config);
+    const auto reader = database.reader();
+    const std::vector<Entry> found = reader->entries(0, 1);
+    if (found.empty()) {
+        const Entry first = begin_log(now, database, term, clock);
+        events->info("log begun date={} program=\"{}\"", clock.date(), now.version);
+        return {first, first};
+    }
+    const Entry &first = found.front();
+    check_link(first, 0, Digest{});
+    const Day begun = day_of(first.line);
+    if (begun.configuration != now.configuration) {
+        throw std::runtime_error("entry 0: the venue's configuration is not the one that the day "
+                                 "began with");
+    }
+    if (begun.program != now.program) {
+        events->warn("the venue's program is another than at the day's begin was=\"{}\" is=\"{}\"",
+                     begun.version, now.version);
+    }
+    const Entry last = reader->last_entry().value_or(first);
+    events->info("log found date={} entries={}", clock.date(), last.place);
+    return {first, last};
+}
+
+} // namespace gateway

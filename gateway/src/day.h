@@ -1,0 +1,29 @@
+// The day that a log is of.
+#ifndef GATEWAY_DAY_H
+#define GATEWAY_DAY_H
+
+#include "config.h"
+#include "database.h"
+#include "moment.h"
+
+#include <memory>
+
+#include <spdlog/logger.h>
+
+namespace gateway {
+
+// The ends of a log, which are one and the same at its begin.
+struct OpenedDay {
+    Entry first;
+    Entry last;
+};
+
+// Holds the day of the configuration against the one that the log began with. A log that has none is
+// begun with it, in this term. Throws std::runtime_error where they differ, and where there is no
+// term in which to begin it.
+OpenedDay open_day(const Config &config, Database &database, std::optional<std::uint32_t> term,
+                   DayClock &clock, const std::shared_ptr<spdlog::logger> &events);
+
+} // namespace gateway
+
+#endif

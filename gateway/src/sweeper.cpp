@@ -1,0 +1,69 @@
+#include "sweeper.h"
+
+#include <chrono>
+
+namespace gateway {
+
+namespace {
+
+using namespace std::chrono_literals;
+
+// By how much a sweep may be late before messages are held for it.
+constexpr auto patience = 100ms;
+
+// How long a mark is waited for before the next look.
+constexpr auto look = 10ms;
+
+} // namespace
+
+Sweeper::Sweeper(Answers &answers, Log &log, DayClock &clock)
+    : answers_(answers), log_(log), clock_(clock),
+      thread_([this](const std::stop_token &stop) { run(stop); }) {}
+
+void Sweeper::run(const std::stop_token &stop) {
+    try {
+        while (const auto next = answers_.wait_for_deadline(stop)) {
+            const auto left = clock_.until(next->moment);
+            if (left > 0ms) {
+                answers_.wait_for_news(*next, left, stop);
+            } else {
+                sweep(*next, stop);
+            }
+        }
+    } catch (const std::exception &) {
+        // The log takes nothing any more, and has told it.
+    }
+}
+
+void Sweeper::sweep(Answers::Deadline due, const std::stop_token &stop) {
+    const Moment moment = due.moment;
+    const auto latest = std::chrono::steady_clock::now() + patience;
+    while (!sweep_behind(due.place, stop)) {
+        answers_.wait_for_news(due, look, stop);
+        const auto now_due = answers_.deadline();
+        if (stop.stop_requested() || !now_due || now_due->moment != moment) {
+            return;
+        }
+        due = *now_due;
+        if (std::chrono::steady_clock::now() >= latest) {
+            sweep_held(stop);
+            return;
+        }
+    }
+}
+
+void Sweeper::sweep_held(const std::stop_token &stop) {
+    const Log::Hold hold(log_);
+    answers_.wait(log_.last_place(), stop);
+    const auto due = answers_.deadline();
+    if (due && clock_.until(due->moment) <= 0ms) {
+        sweep_behind(due->place, stop);
+    }
+}
+
+bool Sweeper::sweep_behind(std::uint32_t place, const std::stop_token &stop) {
+    const auto swept = log_.append_clock_behind(place);
+    return swept && (answers_.wait(*swept, stop), true);
+}
+
+} // namespace gateway

@@ -1,0 +1,36 @@
+// The thread that has the venue's clock told of its deadlines.
+#ifndef GATEWAY_SWEEPER_H
+#define GATEWAY_SWEEPER_H
+
+#include "answers.h"
+#include "log.h"
+#include "moment.h"
+
+#include <stop_token>
+#include <thread>
+
+namespace gateway {
+
+// Commits a sweep when a deadline has come, behind the entry whose mark told it: what came since
+// may have ended the request. Where messages come so fast that there is always one, they are held
+// until the venue has answered those before. So no sweep is committed for which nothing is due.
+class Sweeper {
+  public:
+    Sweeper(Answers &answers, Log &log, DayClock &clock);
+
+  private:
+    void run(const std::stop_token &stop);
+    void sweep(Answers::Deadline due, const std::stop_token &stop);
+    // Whether it was committed; then it is answered.
+    bool sweep_behind(std::uint32_t place, const std::stop_token &stop);
+    void sweep_held(const std::stop_token &stop);
+
+    Answers &answers_;
+    Log &log_;
+    DayClock &clock_;
+    std::jthread thread_;
+};
+
+} // namespace gateway
+
+#endif

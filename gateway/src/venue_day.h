@@ -1,0 +1,132 @@
+// A venue's day at the gateway: its log, its process and its firms.
+#ifndef GATEWAY_VENUE_DAY_H
+#define GATEWAY_VENUE_DAY_H
+
+#include "ahead.h"
+#include "answers.h"
+#include "committed.h"
+#include "comparison.h"
+#include "config.h"
+#include "database.h"
+#include "engine.h"
+#include "log.h"
+#include "mailbox.h"
+#include "metrics.h"
+#include "moment.h"
+#include "status.h"
+#include "sweeper.h"
+#include "venue.h"
+
+#include <atomic>
+#include <functional>
+#include <map>
+#include <memory>
+#include <mutex>
+
+#include <spdlog/logger.h>
+
+namespace gateway {
+
+// Sessions call it on the threads of their connections and mailboxes, the venue's process on the
+// one that reads it.
+class VenueDay final : private SessionHost, private VenueListener {
+  public:
+    // Throws std::runtime_error where the log can't be served.
+    VenueDay(const Config &config, Metrics &metrics, Status &status,
+             std::shared_ptr<spdlog::logger> events);
+    // Commits what waits. The engine has to be gone.
+    ~VenueDay() override;
+
+    // Feeds the log to the venue, also while another gateway writes it. Returns when this one
+    // speaks and all of the log is answered and agrees, or when the gateway is to stop; throws
+    // std::runtime_error where it does not agree.
+    // It takes over where `may` says so.
+    void follow(const std::function<bool()> &may);
+    // Whether it has, or is about to: nobody else writes the log.
+    bool has_term() const { return has_term_; }
+    // Where the firms' sessions begin, behind follow().
+    std::vector<SessionStart> session_starts();
+    // Has what the log lacks handed to the engine.
+    void start(Engine &engine);
+    // Lets the venue answer what came, hands that over, and commits.
+    void finish();
+    // Ends the venue's process, and what is handed to the engine.
+    void close();
+
+    bool is_today() const { return clock_.is_today(); }
+    std::size_t firms() const { return firms_.size(); }
+
+  private:
+    // One firm, as its venue's day sees it.
+    struct Firm {
+        Credentials credentials;
+        bool may_log_on = false;
+        std::unique_ptr<Mailbox> mailbox;
+
+        std::mutex mutex;              // of the next two
+        std::uint32_t entries = 0;     // messages of the firm in the log, each with a number
+        std::uint32_t last_number = 0; // the session's, of the last message in the log
+    };
+
+    void begin_venue(std::optional<std::uint32_t> term);
+    bool read_on(LogReader &log);
+    bool catch_up();
+    void open_log(std::uint32_t term);
+    void open_firms();
+    void open_mailboxes(Engine &engine);
+    void begin_to_speak(Engine &engine);
+    void wait_until_handed_over();
+    void withdraw_for_lost_sessions();
+    void cancel_all_of(const std::string &name, Firm &firm);
+    std::string of_venue() const;
+    Firm &firm_of(const std::string &name);
+
+    // SessionHost
+    std::string refusal_of(const LogonFacts &facts) override;
+    void logged_on(const std::string &firm) override;
+    void logged_off(const std::string &firm) override;
+    int received(const std::string &firm, std::uint32_t number, const std::string &bytes) override;
+    std::uint64_t store_outgoing(const std::string &firm, std::uint32_t number,
+                                 const std::string &bytes, const Delivery *delivery) override;
+    void wait_stored(std::uint64_t ticket) override;
+    void store_target(const std::string &firm, std::uint32_t target) override;
+    std::vector<StoredMessage> stored_messages(const std::string &firm, std::uint32_t first,
+                                               std::uint32_t last) override;
+
+    // VenueListener
+    void venue_starts() override;
+    void venue_gave(std::uint32_t place, std::uint32_t number, std::string firm,
+                    std::string frame) override;
+    void venue_answered(std::uint32_t place, std::optional<Moment> deadline) override;
+    void venue_failed(const std::string &cause) override;
+
+    const Config &config_;
+    Metrics &metrics_;
+    Status &status_;
+    std::shared_ptr<spdlog::logger> events_;
+    DayClock clock_;
+    std::unique_ptr<Database> database_;
+    std::map<std::string, FirmState> states_; // as the log had them at the start
+    std::map<std::string, Firm> firms_;
+    Digest first_hash_{};
+
+    std::mutex speaking_mutex_; // of the next one, and of what the venue gave until then
+    bool speaks_ = false;
+    std::atomic<bool> has_term_{false};
+
+    std::mutex reader_mutex_;
+    std::unique_ptr<LogReader> reader_; // for what sessions send again
+
+    Entry last_; // the last entry of the log, as far as it was read
+    std::unique_ptr<Committed> committed_;
+    Comparison comparison_;
+    Ahead ahead_;
+    Answers answers_;
+    std::unique_ptr<Log> log_;
+    std::unique_ptr<Venue> venue_;
+    std::unique_ptr<Sweeper> sweeper_;
+};
+
+} // namespace gateway
+
+#endif
