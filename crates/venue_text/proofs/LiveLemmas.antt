@@ -7,9 +7,10 @@ use Rattle.std.proofs.lemmas.Bool.{cases_Bool}
 use Rattle.std.specs.Prelude.{IfOk}
 use Rattle.std.proofs.lemmas.List.{append-nil, append_assoc, take_more}
 use Rattle.std.proofs.lemmas.List.Concat.{flat_map-append}
+use Rattle.market_terms.specs.declared.rooms.RoomRef.{RoomRef}
 use Rattle.venue_config.specs.Rows.{ConfigValues, Configuration, values_of}
 use Rattle.step_replay.specs.LiveDays.{Sent, live_messages}
-use Rattle.step_replay.specs.LiveStanding.{Answers, IsAt}
+use Rattle.step_replay.specs.LiveStanding.{Answers, AnswersSweeps, IsAt}
 use Rattle.step_replay.specs.declared.live.LiveVenue.{LiveVenue}
 use Rattle.step_replay.specs.declared.steps.Step.{Step}
 use Rattle.venue_text.specs.DueText.{Lines}
@@ -19,12 +20,13 @@ use Rattle.venue_text.specs.LiveInput.{as_part, lines_text, numbered_from, numbe
 use Rattle.venue_text.specs.LiveLines.{Taken, done_mark, fault_mark, gained_messages, line_text, live_steps_of}
 use Rattle.venue_text.specs.LiveLines.{live_text, nothing_taken, read_text, sent_line, sent_text}
 use Rattle.venue_text.specs.LiveLines.{with_any_line, with_line, with_read}
-use Rattle.venue_text.specs.StepLines.{Heard, Read}
+use Rattle.venue_text.specs.StepLines.{Heard, Read, sweeps_at, venue_rooms}
 use Rattle.venue_text.specs.VenueParts.{part_behind}
 use Rattle.venue_text.specs.declared.faults.ProgramFault.{ProgramFault}
 use Rattle.venue_text.specs.declared.live_form.LiveForm.{LiveForm}
 use Rattle.venue_text.specs.declared.live_lines.LiveDay.{LiveDay}
 use Rattle.venue_text.proofs.LiveGrowth.{messages_grow, no_text}
+use Rattle.venue_text.proofs.RoomLemmas.{rooms_are}
 
 pub answered_none : (with_frames : Bool) (config : Configuration) (taken : List Step)
     (venue : LiveVenue) → IsAt config taken venue → IsAnswered with_frames config taken [] venue []
@@ -51,6 +53,21 @@ answered_more with_frames config taken more next before after text told had answ
           ∙ append_assoc (live_text with_frames config taken) text
           (sent_text with_frames config told);
     }
+
+-- a sweep of every room, where its messages are printed
+pub answered_sweeps : (with_frames : Bool) (config : Configuration) (taken : List Step)
+    (moment : ℕ) (after : LiveVenue) (text : List ℕ) (told : List Sent)
+    → AnswersSweeps config taken moment after told → text ≡ sent_text with_frames config told
+    → IsAnswered with_frames config taken (sweeps_at moment (venue_rooms (values_of config))) after
+    text
+answered_sweeps with_frames config taken moment after text told answers text_is =
+    let same = ap (λ (rooms : List RoomRef). sweeps_at moment rooms) (sym (rooms_are config)) in
+    subst (λ (l : List Step). IsAnswered with_frames config taken l after text) same (record {
+      stands = answers.stands;
+      printed = ap (sent_text with_frames config) answers.told_is
+          ∙ flat_map-append (sent_line with_frames config) (live_messages config taken) told
+          ∙ ap (λ (l : List ℕ). live_text with_frames config taken ++ l) (sym text_is);
+    })
 
 pub one_more : (steps : List Step) (at : ℕ) (s : Step) → at < length steps → s ≡ get_or steps at s
     → take (at + 1) steps ≡ take at steps ++ s ∷ []

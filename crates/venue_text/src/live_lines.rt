@@ -7,6 +7,8 @@ ghost use Rattle.venue_config.specs.Rows.{Configuration, values_of};
 ghost use Rattle.venue_text.specs.LiveAnswers as spec;
 ghost use Rattle.venue_text.specs.LiveLines as lines;
 ghost use Rattle.venue_text.specs.LiveLines.{Taken};
+ghost use Rattle.venue_text.specs.StepLines.{sweeps_at, venue_rooms};
+ghost use Rattle.venue_text.specs.StepReading.{steps_in};
 ghost use Rattle.venue_text.specs.VenueParts.{venue_of};
 
 use crate::faults::ProgramFault;
@@ -17,10 +19,10 @@ use crate::live_marks::{fault_mark, push_done_mark};
 use crate::message_lines::push_sent_line;
 use crate::parts::{cut_part, same_text};
 use crate::printed_replay::firm_name;
-use crate::spelled::push_spelled;
+use crate::spelled::{Spelled, count_line, push_steps};
 use crate::step_lines::read_line;
 use crate::venue_parts::read_venue;
-use fix_fields::Memory;
+use fix_fields::{Memory, Moment};
 use std::alloc::{AllocError, Global};
 use step_replay::{LiveVenue, SentTo, Step};
 use venue_config::VenueConfig;
@@ -81,18 +83,12 @@ impl LiveDay {
             let answer = self.marked(Vec::new(alloc), line)?;
             return Ok(answer);
         }
-        let steps = match read_live_line(alloc, &self.config, &mut self.heard, line, text) {
-            Ok(steps) => steps,
+        let spelled = match read_live_line(alloc, &self.config, &mut self.heard, line, text) {
+            Ok(spelled) => spelled,
             Err(fault) => return refused(alloc, self.form, line, fault),
         };
         let frames = self.form.frames;
-        let messages = answered(
-            alloc,
-            frames,
-            &self.config,
-            &mut self.venue,
-            steps.as_slice(),
-        )?;
+        let messages = done(alloc, frames, &self.config, &mut self.venue, spelled)?;
         let answer = self.marked(messages, line)?;
         Ok(answer)
     }
@@ -131,16 +127,16 @@ fn refused(
     })
 }
 
-/// The steps of a line. Turns are none of a day that goes on: they follow of themselves.
+/// What a line spells. Turns are none of a day that goes on: they follow of themselves.
 fn read_live_line(
     alloc: Global,
     config: &VenueConfig,
     heard: &mut Heard,
     line: usize,
     text: &[u8],
-) -> Result<Vec<Step>, ProgramFault>
-    ensures ok { IfOk result (λ steps. lines.live_steps_of (values_of config.now) heard.old line
-        text.now ≡ Ok (steps.items, heard.new)) }
+) -> Result<Spelled, ProgramFault>
+    ensures ok { IfOk result (λ spelled. lines.live_steps_of (values_of config.now) heard.old line
+        text.now ≡ Ok (steps_in (values_of config.now) spelled, heard.new)) }
     ensures err { IfErr result (λ fault. fault ≢ ProgramFault.Memory
         → lines.live_steps_of (values_of config.now) heard.old line text.now ≡ Err fault) }
     ensures unheard { IfErr result (λ fault. fault ≢ ProgramFault.Memory
@@ -152,9 +148,69 @@ fn read_live_line(
         return Err(ProgramFault::Form { line });
     }
     let spelled = read_line(alloc, config, heard, line, text)?;
+    count_line(heard, &spelled)?;
+    Ok(spelled)
+}
+
+/// What a line spells is done, and the messages that are sent for it are printed. Its steps name
+/// what the venue has. A sweep of every room looks at those alone that are due.
+fn done(
+    alloc: Global,
+    with_frames: bool,
+    config: &VenueConfig,
+    venue: &mut LiveVenue,
+    spelled: Spelled,
+) -> Result<Vec<u8>, Memory>
+    ensures { IfOk result (λ text. (taken : List Step) → IsAt config.now taken venue.old
+        → spec.IsAnswered with_frames config.now taken (steps_in (values_of config.now) spelled)
+        venue.new text.items) }
+{
+    match spelled {
+        Spelled::Sweeps(moment) => {
+            let text = swept(alloc, with_frames, config, venue, moment)?;
+            Ok(text)
+        }
+        other => {
+            let text = stepped(alloc, with_frames, config, venue, other)?;
+            Ok(text)
+        }
+    }
+}
+
+/// A sweep of every room is done, and the messages that are sent for it are printed.
+fn swept(
+    alloc: Global,
+    with_frames: bool,
+    config: &VenueConfig,
+    venue: &mut LiveVenue,
+    moment: Moment,
+) -> Result<Vec<u8>, Memory>
+    ensures { IfOk result (λ text. (taken : List Step) → IsAt config.now taken venue.old
+        → spec.IsAnswered with_frames config.now taken
+        (sweeps_at moment (venue_rooms (values_of config.now))) venue.new text.items) }
+{
+    let told = venue.sweep(alloc, moment)?;
+    let mut text = Vec::new(alloc);
+    push_sent(&mut text, with_frames, config, told.as_slice())?;
+    Ok(text)
+}
+
+/// The steps of a line are done, one behind the other.
+fn stepped(
+    alloc: Global,
+    with_frames: bool,
+    config: &VenueConfig,
+    venue: &mut LiveVenue,
+    spelled: Spelled,
+) -> Result<Vec<u8>, Memory>
+    ensures { IfOk result (λ text. (taken : List Step) → IsAt config.now taken venue.old
+        → spec.IsAnswered with_frames config.now taken (steps_in (values_of config.now) spelled)
+        venue.new text.items) }
+{
     let mut steps = Vec::new(alloc);
-    push_spelled(config, &mut steps, heard, spelled)?;
-    Ok(steps)
+    push_steps(config, &mut steps, spelled)?;
+    let text = answered(alloc, with_frames, config, venue, steps.as_slice())?;
+    Ok(text)
 }
 
 /// Steps are done, each with all duties that it leaves, and the messages that are sent for them are

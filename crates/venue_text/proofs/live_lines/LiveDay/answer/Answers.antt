@@ -1,7 +1,7 @@
-use Rattle.std.proofs.Common.{◌≡◌, ◌≢◌, ◌++◌, ◌∙◌, List, ℕ, Some, ap, refl, subst, sym}
-use Rattle.step_replay.specs.declared.steps.Step.{Step}
-use Rattle.venue_text.specs.LiveAnswers.{IsAnswered}
+use Rattle.std.proofs.Common.{◌≡◌, ◌≢◌, ◌++◌, ◌∙◌, List, ℕ, Some, ap, refl, sym}
+use Rattle.venue_config.specs.Rows.{values_of}
 use Rattle.venue_text.specs.LiveLines.{done_mark, fault_mark}
+use Rattle.venue_text.specs.StepReading.{steps_in}
 use Rattle.venue_text.specs.declared.faults.ProgramFault.TheVariants.{Memory}
 use Rattle.venue_text.proofs.LiveLemmas.{all_ok, line_done, line_refused, line_skipped}
 use Rattle.venue_text.proofs.live_lines.LiveDay.answer.Goals as goal
@@ -30,8 +30,6 @@ pub returns : goal.returns
 returns c form config taken goes =
     let day = c.args.self.now in
     line_done form config taken c.args.line c.args.text.now day _ c.in_ok-messages.messages.items _ _
-    c.in-Ok.steps.items goes (sym c.if-is_skipped.ensures) c.in-Ok.ensures.ok
-    (λ steps at. subst (λ (l : List Step). IsAnswered day.form.frames day.config steps l
-    c.answered.new.venue c.in_ok-messages.messages.items) c.as_slice.ensures.value
-    (c.in_ok-messages.ensures steps at))
+    (steps_in (values_of day.config) c.in-Ok.spelled) goes (sym c.if-is_skipped.ensures)
+    c.in-Ok.ensures.ok c.in_ok-messages.ensures
     c.in_ok-answer-2.ensures.none c.in_ok-answer-2.ensures.text refl refl
