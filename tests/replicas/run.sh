@@ -15,7 +15,7 @@ venue=${VENUE:-$root/crates/rfq_venue/out/rfq_venue}
 days="--days 3 --messages 2000 --faults 30"
 if [ "${1:-}" = short ]; then
     shift
-    days="--days 1 --messages 300 --faults 8"
+    days="--days 1 --messages 300 --faults 9"
 fi
 
 program=${venue%% *}
