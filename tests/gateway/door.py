@@ -10,7 +10,7 @@ from datetime import datetime, timezone
 from pathlib import Path
 
 from firm import Identity
-from ledger import Ledger, read_ledger
+from ledger import Ledger, PostgresLog, read_ledger
 from wait import until, within
 
 
@@ -63,6 +63,7 @@ class Door:
     tls: dict[str, str] = field(default_factory=dict)
     environment: dict[str, str] = field(default_factory=dict)
     cancelled: dict[str, str] = field(default_factory=dict)  # of a dealer: the trader that cancels when it is gone
+    postgres: PostgresLog | None = None  # the log, in the place of a file of SQLite
     process: subprocess.Popen | None = None
     _hashes: dict[str, str] = field(default_factory=dict)
 
@@ -79,7 +80,8 @@ class Door:
         """The gateway's configuration, the firms' credentials, and the venue's own configuration if there is none."""
         command = quoted((*self.programs.venue, "live", "--frames", "--marks"))
         text = '[venue]\ncommand = %s\nconfiguration = "venue.toml"\n' % command
-        text += '[log]\nsqlite = "day.db"\n[fix]\nlisten = "127.0.0.1"\nport = %d\ncredentials = "credentials.toml"\n' % self.port
+        text += "[log]\n" + self.log_text()
+        text += '[fix]\nlisten = "127.0.0.1"\nport = %d\ncredentials = "credentials.toml"\n' % self.port
         if self.tls:
             text += "[tls]\n" + "".join("%s = %s\n" % item for item in self.tls.items())
         text += "[limits]\n" + "".join("%s = %d\n" % item for item in self.limits.items())
@@ -89,6 +91,11 @@ class Door:
         if not venue.exists():
             venue.write_text(venue_text(self.dealers, self.investors))
         self.write_credentials()
+
+    def log_text(self) -> str:
+        if self.postgres is None:
+            return 'sqlite = "day.db"\n'
+        return "postgres = %s\nschema = %s\n" % (json.dumps(self.postgres.connection), json.dumps(self.postgres.schema))
 
     def write_credentials(self) -> None:
         text = ""
@@ -171,7 +178,7 @@ class Door:
             within(5, lambda: not any(is_running(pid) for pid in venues))
 
     def ledger(self) -> Ledger:
-        return read_ledger(self.database)
+        return read_ledger(self.postgres or self.database)
 
 
 def is_running(pid: int) -> bool:

@@ -53,6 +53,20 @@ class Ledger:
         return configuration + b"%%\n" + b"".join(entry.line + b"\n" for entry in self.entries[1:])
 
 
+@dataclass(frozen=True)
+class PostgresLog:
+    """A log in a schema of PostgreSQL, read by psql."""
+
+    connection: str
+    schema: str
+
+    def rows(self, query: str) -> list[list[str]]:
+        words = ["psql", "-X", "-q", "-A", "-t", "-F", "|", "-P", "null=-", "-d", self.connection]
+        text = "SET search_path TO %s; %s" % (self.schema, query)
+        run = subprocess.run([*words, "-c", text], capture_output=True, check=True, text=True)
+        return [line.split("|") for line in run.stdout.splitlines()]
+
+
 def rows(database: Path, query: str) -> list[tuple]:
     connection = sqlite3.connect("file:%s?mode=ro" % database, uri=True, timeout=10)
     try:
@@ -61,7 +75,9 @@ def rows(database: Path, query: str) -> list[tuple]:
         connection.close()
 
 
-def read_ledger(database: Path) -> Ledger:
+def read_ledger(database: Path | PostgresLog) -> Ledger:
+    if isinstance(database, PostgresLog):
+        return read_postgres(database)
     entries = rows(database, "SELECT place, firm, number, line FROM entry ORDER BY place")
     sent: dict[str, list[tuple[int, bytes]]] = {}
     for firm, number, data in rows(database, "SELECT firm, number, bytes FROM sent ORDER BY firm, number"):
@@ -69,9 +85,19 @@ def read_ledger(database: Path) -> Ledger:
     return Ledger(tuple(Entry(place, firm, number, bytes(line)) for place, firm, number, line in entries), sent)
 
 
+def read_postgres(log: PostgresLog) -> Ledger:
+    entries = []
+    for place, firm, number, line in log.rows("SELECT place, firm, number, encode(line, 'hex') FROM entry ORDER BY place"):
+        entries.append(Entry(int(place), None if firm == "-" else firm, None if number == "-" else int(number), bytes.fromhex(line)))
+    sent: dict[str, list[tuple[int, bytes]]] = {}
+    for firm, number, data in log.rows("SELECT firm, number, encode(bytes, 'hex') FROM sent ORDER BY firm, number"):
+        sent.setdefault(firm, []).append((int(number), bytes.fromhex(data)))
+    return Ledger(tuple(entries), sent)
+
+
 def answers(program: list[str], day: bytes) -> dict[str, list[bytes]]:
-    """The frames that the venue's program gives each firm over a day of `live`, by `replay --live`."""
-    run = subprocess.run([*program, "replay", "--live", "--frames"], input=day, capture_output=True, check=True)
+    """The frames that a program of the venue gives each firm over a day, by `live`."""
+    run = subprocess.run([*program, "live", "--frames"], input=day, capture_output=True, check=True)
     found: dict[str, list[bytes]] = {}
     for line in run.stdout.splitlines():
         firm, _, text = line.partition(b" ")

@@ -1,14 +1,18 @@
 #!/usr/bin/env python3
 """Plays drawn days of stock initiators over TCP, and ends gateway, venue and initiators by SIGKILL on the way.
 
-usage: play.py GATEWAY PLAYER [--days N] [--messages N] [--ends N] [--seed N] [--keep FOLDER] -- VENUE WORDS ..
+usage: play.py GATEWAY PLAYER [--days N] [--messages N] [--ends N] [--seed N] [--keep FOLDER]
+               [--postgres CONNECTION] -- VENUE WORDS ..
+
+The log is a file of SQLite, or a schema of the PostgreSQL database that is named.
 
 At the end of each day every message that an initiator's engine had sent is in the log once, and each initiator
-has the messages of `VENUE WORDS replay --live` over the log: none is missing, none is different, and none came
-under two numbers of the session.
+has the messages that `VENUE WORDS live` gives for the log, and the second implementation of the venue too: none is
+missing, none is different, and none came under two numbers of the session.
 """
 
 import argparse
+import os
 import random
 import shutil
 import sys
@@ -24,6 +28,7 @@ sys.path.insert(0, str(ROOT / "tests" / "model"))
 from door import Door, Programs, programs_of
 from firm import Firm, Identity, Places
 from held import count_of
+from ledger import PostgresLog
 from market import Act, Market, play
 from settle import settled, wait_all_on
 from wait import TooLong, until, within
@@ -38,9 +43,10 @@ DICTIONARIES = (ROOT / "fix" / "FIXT11.xml", ROOT / "fix" / "MIRESEASON.xml")
 class Day:
     """One drawn day: the gateway, its firms, and where they are ended."""
 
-    def __init__(self, programs: Programs, player: Path, folder: Path, seed: int) -> None:
+    def __init__(self, programs: Programs, player: Path, folder: Path, seed: int, postgres: str) -> None:
         self.draw = random.Random("ends of %d" % seed)
-        self.door = Door(programs, folder, DEALERS, INVESTORS)
+        log = PostgresLog(postgres, "day_%d_%d" % (seed, os.getpid())) if postgres else None
+        self.door = Door(programs, folder, DEALERS, INVESTORS, postgres=log)
         places = Places(player, folder, DICTIONARIES, self.door.port)
         self.dealers = [Firm(places, who) for who in DEALERS]
         self.investors = [Firm(places, who) for who in INVESTORS]
@@ -111,15 +117,16 @@ class Day:
         self.door.close()
 
 
-def one_day(programs: Programs, player: Path, folder: Path, seed: int, messages: int, ends: int) -> list[str]:
-    day, began = Day(programs, player, folder, seed), time.monotonic()
+def one_day(words: argparse.Namespace, folder: Path, seed: int) -> list[str]:
+    programs, player = programs_of(words.gateway, words.venue), words.player.resolve()
+    day, began = Day(programs, player, folder, seed, words.postgres), time.monotonic()
     try:
         day.open()
-        day.play(messages, ends)
+        day.play(words.messages, words.ends)
         faults = settled(day.door, day.firms, SHORT_DEADLINE)
         count, again = sum(count_of(firm) for firm in day.firms), sum(len(firm.received) for firm in day.firms)
         print("day %d: %d messages of 6 firms, %d distinct ones to them, %d came again; ended %s; %.0f s" % (
-            seed, messages, count, again - count, ", ".join("%s %d" % item for item in day.ends.items()), time.monotonic() - began))
+            seed, words.messages, count, again - count, ", ".join("%s %d" % item for item in day.ends.items()), time.monotonic() - began))
         return faults
     except (TooLong, RuntimeError) as fault:
         return ["%s; the gateway's last words: %s" % (fault, day.door.last_words())]
@@ -134,17 +141,17 @@ def read_words() -> argparse.Namespace:
     for name, usual in (("--days", 3), ("--messages", 2000), ("--ends", 40), ("--seed", 1)):
         parser.add_argument(name, type=int, default=usual)
     parser.add_argument("--keep", type=Path, help="where the files of days with a fault are put")
+    parser.add_argument("--postgres", default="", help="a connection string of libpq")
     parser.add_argument("venue", nargs="+")
     return parser.parse_args()
 
 
 def main() -> None:
     words, failed = read_words(), 0
-    programs = programs_of(words.gateway, words.venue)
     for seed in range(words.seed, words.seed + words.days):
         with tempfile.TemporaryDirectory() as name:
             folder = Path(name)
-            faults = one_day(programs, words.player.resolve(), folder, seed, words.messages, words.ends)
+            faults = one_day(words, folder, seed)
             failed += bool(faults)
             for fault in faults[:20]:
                 print("day %d: %s" % (seed, fault))

@@ -1,28 +1,32 @@
 #!/bin/sh
-# Tries the gateway: days of stock QuickFIX initiators in which gateway, venue and initiators are ended again and again,
-# faults that are put in by hand, and a disk that is full or cut back. README.md says what is looked at.
+# Tries the gateway: days of stock QuickFIX initiators in which gateway, venue and initiators are ended
+# again and again, with the log in SQLite and in PostgreSQL; faults that are put in by hand; and a disk that
+# is full or cut back. README.md says what is looked at.
 #
-#     apt-get install -y cmake g++ libquickfix-dev libssl-dev libsqlite3-dev libpqxx-dev libtomlplusplus-dev \
-#         prometheus-cpp-dev libspdlog-dev openssl python3
+#     tests/packages.sh $(gateway/packages.sh) openssl postgresql
 #     tests/gateway/run.sh [short]
 #
-# VENUE has the words of the venue's program: crates/rfq_venue/out/rfq_venue if it is not set, which `rt run` there
-# builds, or tests/model/program.py, the second implementation. GATEWAY has a gateway that is built already.
-# KEEP has a folder for the files of what fails.
+# VENUE has the words of the venue's program: crates/rfq_venue/out/rfq_venue if it is not set, which
+# examples/first-run.sh builds, or tests/model/program.py, the second implementation. GATEWAY has a
+# gateway that is built already. SEED is that of the first day (1). KEEP has a folder for the files of what
+# fails.
 set -eu
 here=$(cd "$(dirname "$0")" && pwd)
 root=$(cd "$here/../.." && pwd)
 venue=${VENUE:-$root/crates/rfq_venue/out/rfq_venue}
 days="--days 3 --messages 2000 --ends 40"
+in_postgres="--days 1 --messages 2000 --ends 40"
 quick=
 if [ "${1:-}" = short ]; then
     days="--days 1 --messages 400 --ends 8"
+    in_postgres="--days 1 --messages 200 --ends 4"
     quick=--quick
 fi
+seed="--seed ${SEED:-1}"
 
 program=${venue%% *}
 if ! command -v "$program" >/dev/null; then
-    echo "there is no venue $program: run 'rt run' in crates/rfq_venue first, or name one in VENUE" >&2
+    echo "there is no venue $program: run examples/first-run.sh first, or name one in VENUE" >&2
     exit 2
 fi
 work=$(mktemp -d)
@@ -33,16 +37,26 @@ if [ -z "$gateway" ]; then
         cmake --build "$root/gateway/out" -j 2 >>"$work/built" 2>&1 || { tail -50 "$work/built" >&2; exit 1; }
     gateway=$root/gateway/out/mireseason-gateway
 fi
-g++ -std=c++14 -DHAVE_SSL=1 -O1 -Wall -Wextra -Werror -o "$work/player" "$here/player.cpp" -lquickfix -lpthread -lssl -lcrypto
+g++ -std=c++14 -DHAVE_SSL=1 -O1 -Wall -Wextra -Werror -o "$work/player" "$here/player.cpp" \
+    -lquickfix -lpthread -lssl -lcrypto
 g++ -std=c++20 -O1 -shared -fPIC -Wall -Wextra -Werror -o "$work/disk.so" "$here/disk.cpp" -ldl
 
 keep=${KEEP:+--keep $KEEP}
-# shellcheck disable=SC2086 # the words of $days, $keep, $quick and $venue
-{
-    python3 "$here/tried.py" "$gateway" "$work/player" "$work/disk.so" $keep $quick --jobs 3 -- $venue >"$work/tried" || true
-    python3 "$here/play.py" "$gateway" "$work/player" $days $keep -- $venue >"$work/played" || true
+# What each part says goes into a file of its own, and is told when the part is over. Each part ends with a line
+# `N passed, M failed`.
+part() {
+    name=$1
+    shift
+    "$@" >"$work/$name.part" 2>&1 || true
+    cat "$work/$name.part"
 }
-cat "$work/tried" "$work/played"
-tail -qn 1 "$work/tried" "$work/played" |
+# shellcheck disable=SC2086 # the words of $days, $keep, $quick, $seed and $venue
+{
+    part tried python3 "$here/tried.py" "$gateway" "$work/player" "$work/disk.so" $keep $quick --jobs 3 -- $venue
+    part sqlite python3 "$here/play.py" "$gateway" "$work/player" $days $seed $keep -- $venue
+    part postgres "$here/postgres.sh" python3 "$here/play.py" "$gateway" "$work/player" $in_postgres $seed $keep \
+        --postgres '{}' -- $venue
+}
+tail -qn 1 "$work"/*.part |
     awk '$2 == "passed," { passed += $1; failed += $3; ++parts }
-         END { if (parts < 2) ++failed; print passed + 0 " passed, " failed + 0 " failed"; exit failed > 0 }'
+         END { if (parts < 3) ++failed; print passed + 0 " passed, " failed + 0 " failed"; exit failed > 0 }'

@@ -1,7 +1,9 @@
 """Waits until a day is still, ends the gateway, and tells what is wrong with what its firms have."""
 
+import sys
 import time
 from collections.abc import Iterator
+from pathlib import Path
 
 from door import Door
 from firm import Firm
@@ -9,6 +11,7 @@ from held import clock_faults, count_of, differences, unkept, unlogged
 from ledger import Ledger, answers, marks
 from wait import until, within
 
+MODEL = [sys.executable, str(Path(__file__).resolve().parent.parent / "model" / "program.py")]
 LOOKS = 5  # how often a day is looked at until no deadline comes behind its last message
 
 
@@ -60,6 +63,8 @@ def faults(door: Door, firms: list[Firm], status: int, ledger: Ledger) -> Iterat
     wanted = answers(program, day)
     if status != 0:
         yield "the gateway ended with status %d" % status
+    if wanted != answers(MODEL, day):
+        yield "the second implementation of the venue gives something else for the log"
     for firm in firms:
         firm.look()
         yield from differences(firm, wanted.get(firm.name, []), ledger)

@@ -1,6 +1,7 @@
 """Messages of a session that stands: what is odd in them, and firms that are away."""
 
 import threading
+from datetime import datetime, timedelta, timezone
 
 from firm import Received
 from frames import read_frame
@@ -281,6 +282,28 @@ def poss_dup(stage: Stage) -> None:
     stage.whole()
 
 
+def wrong_clock(stage: Stage) -> None:
+    """A 52 of more than two minutes ago is rejected by the session, which is logged out; the next one goes on."""
+    stage.open(stage.other, stage.investor)
+    with on_a_wire(stage) as wire:
+        number = wire.number
+        wire.raw(wire.message(b"Z", b"DLR1", cancel(b"late"), sending=a_while_ago()))
+        reject = wire.read_kind(b"3")
+        check(reject is not None and reject.value(1181) is None, "no Reject of the session")
+        check((reject.value(45), reject.value(373)) == (b"%d" % number, b"10"), "it is %r" % reject.raw)
+        check(wire.read_kind(b"5") is not None, "no Logout")
+        number = wire.number
+    check(stage.entries_of(stage.dealer) == 0, "it is in the log")
+    with on_a_wire(stage, number) as wire:
+        wire.raw(wire.message(b"Z", b"DLR1", cancel(b"next")))
+        check(answered(wire, b"next").value(297) == b"9", "the next is not answered as ever")
+    stage.whole()
+
+
+def a_while_ago() -> bytes:
+    return (datetime.now(timezone.utc) - timedelta(seconds=150)).strftime("%Y%m%d-%H:%M:%S.000").encode()
+
+
 def no_frames(stage: Stage) -> None:
     """What can't be parsed never reaches the log; the session goes on with the number that was not used."""
     stage.open(stage.other, stage.investor)
@@ -380,7 +403,7 @@ def one_that_does_not_read(stage: Stage) -> None:
     stage.auction([stage.other])
 
 
-TRIED = [every_byte_in_text, another_firms_words, five_thousand_bytes, about_the_longest_frame, microseconds, poss_resend,
-         unknown_trader, reject_for_one_away, one_that_was_away, sent_while_away, gaps_on_both_sides,
+TRIED = [every_byte_in_text, another_firms_words, five_thousand_bytes, about_the_longest_frame, microseconds,
+         wrong_clock, poss_resend, unknown_trader, reject_for_one_away, one_that_was_away, sent_while_away, gaps_on_both_sides,
          deadline_passes, deadline_while_away, cancelled_for_one_gone, poss_dup, no_frames,
          no_numbers_of_the_venue, resent_as_it_was, faster_than_the_log, longer_than_the_limit, one_that_does_not_read]

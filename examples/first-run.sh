@@ -1,0 +1,45 @@
+#!/bin/sh
+# The first run: one auction over TCP. On a machine that has `rt` this installs what is missing from
+# Debian, proves and builds the venue (and tells how far it is; a build that stands is taken), builds
+# the gateway, starts it with a log in SQLite, lets two dealers and an investor trade by stock
+# QuickFIX initiators, prints what each was sent, and ends all that it started.
+#
+#     examples/first-run.sh               40 minutes on four processors the first time, then seconds
+#     examples/first-run.sh --unproved    what can be seen in two minutes without a proof: the same
+#                                         program by `rt try`, on an auction as a text, and then the
+#                                         auction over TCP with the second implementation of the
+#                                         venue, in Python, in its place
+set -eu
+root=$(cd "$(dirname "$0")/.." && pwd)
+case "${1:-}" in
+'') unproved= ;;
+--unproved) unproved=yes ;;
+*)
+    sed -n '/^#     ex/,/^set/s/^# \{0,1\}//p' "$0" >&2
+    exit 2
+    ;;
+esac
+command -v rt >/dev/null || { echo "the command rt is not on the PATH" >&2; exit 2; }
+
+say() { printf '\n== %s\n' "$*"; }
+
+say "Packages of Debian"
+# shellcheck disable=SC2046 # a word for each package
+"$root/tests/packages.sh" $("$root/gateway/packages.sh")
+
+if [ -n "$unproved" ]; then
+    say "The venue, unproved: what each firm is sent in examples/auction.venue"
+    (cd "$root/crates/rfq_venue" && rt try -- replay <"$root/examples/auction.venue")
+    venue="python3 $root/tests/model/program.py"
+else
+    say "The venue, proved"
+    python3 "$root/examples/prove_venue.py"
+    venue=$root/crates/rfq_venue/out/rfq_venue
+fi
+
+say "The gateway"
+cmake -S "$root/gateway" -B "$root/gateway/out" >/dev/null
+cmake --build "$root/gateway/out" -j 2
+
+say "An auction over TCP"
+VENUE=$venue "$root/examples/gateway/run.sh"

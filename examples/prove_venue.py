@@ -1,0 +1,183 @@
+#!/usr/bin/env python3
+"""Proves and builds the venue's program, crates/rfq_venue/out/rfq_venue, and tells how far it is.
+
+usage: prove_venue.py [--jobs N] [--program CRATE]
+
+The crates below the program are proved side by side, each as soon as those below it are; `rt run`
+alone proves them one behind the other. What an earlier run proved is taken, and so is a program
+that is newer than all its sources.
+"""
+
+import argparse
+import os
+import re
+import signal
+import subprocess
+import sys
+import tempfile
+import time
+from dataclasses import dataclass, field
+from pathlib import Path
+from typing import IO
+
+ROOT = Path(__file__).resolve().parent.parent
+MEMORY_OF_A_CRATE = 3 << 30  # bytes
+LOOK, TELL = 1.0, 30.0  # seconds
+
+
+def crates_of(text: str) -> dict[str, list[str]]:
+    """Each crate of crates.txt, and those of the repository that it names."""
+    named = {}
+    for line in text.splitlines():
+        head, colon, below = line.partition("#")[0].partition(":")
+        if colon:
+            named[head.split()[0]] = below.split()
+    return {name: [each for each in below if each in named] for name, below in named.items()}
+
+
+def below(crates: dict[str, list[str]], top: str) -> list[str]:
+    """All crates below one, each behind those below it."""
+    found: list[str] = []
+    for name in crates[top]:
+        found += [each for each in [*below(crates, name), name] if each not in found]
+    return found
+
+
+def depths(crates: dict[str, list[str]], names: list[str]) -> dict[str, int]:
+    """How many crates stand above each, on the longest way up: those with most are begun first."""
+    depth = dict.fromkeys(names, 0)
+    for name in reversed(names):
+        for each in crates[name]:
+            depth[each] = max(depth[each], depth[name] + 1)
+    return depth
+
+
+def is_newer(program: Path, names: list[str]) -> bool:
+    """Whether the program is newer than all that it is made from."""
+    if not program.is_file():
+        return False
+    made = program.stat().st_mtime
+    sources = [ROOT / "crates.txt"]
+    for name in names:
+        for part in ("src", "specs", "proofs"):
+            sources += (ROOT / "crates" / name / part).rglob("*")
+    return all(source.stat().st_mtime < made for source in sources)
+
+
+def jobs_here() -> int:
+    memory = os.sysconf("SC_PAGE_SIZE") * os.sysconf("SC_PHYS_PAGES")
+    return max(1, min(len(os.sched_getaffinity(0)), memory // MEMORY_OF_A_CRATE))
+
+
+def clock(seconds: float) -> str:
+    return "%d:%02d" % divmod(int(seconds), 60)
+
+
+@dataclass
+class Proof:
+    """A crate that is being proved."""
+
+    name: str
+    process: subprocess.Popen
+    output: IO[bytes]
+    began: float = field(default_factory=time.monotonic)
+
+    def text(self) -> str:
+        self.output.seek(0)
+        return self.output.read().decode(errors="replace")
+
+    def progress(self) -> str:
+        told = re.findall(r"so far: (\d+) of (\d+) functions", self.text())
+        return "%s %s of %s functions" % (self.name, *told[-1]) if told else self.name
+
+    def end(self) -> None:
+        if self.process.poll() is None:
+            os.killpg(self.process.pid, signal.SIGTERM)
+        self.process.wait()
+        self.output.close()
+
+
+def begin(name: str, jobs: int) -> Proof:
+    output = tempfile.TemporaryFile()
+    words = ["rt", "lib", "--jobs", str(jobs)]
+    process = subprocess.Popen(
+        words,
+        cwd=ROOT / "crates" / name,
+        stdin=subprocess.DEVNULL,
+        stdout=output,
+        stderr=subprocess.STDOUT,
+        start_new_session=True,
+    )
+    return Proof(name, process, output)
+
+
+class Prover:
+    def __init__(self, crates: dict[str, list[str]], names: list[str], jobs: int) -> None:
+        self.crates, self.jobs, self.count = crates, jobs, len(names)
+        depth = depths(crates, names)
+        self.waiting = sorted(names, key=lambda name: -depth[name])
+        self.running: list[Proof] = []
+        self.proved: set[str] = set()
+        self.began = self.told = time.monotonic()
+
+    def tell(self, words: str) -> None:
+        self.told = time.monotonic()
+        far = (clock(self.told - self.began), len(self.proved), self.count, words)
+        print("%6s  %d of %d crates proved; %s" % far, flush=True)
+
+    def begin_ready(self) -> None:
+        ready = [name for name in self.waiting if self.proved.issuperset(self.crates[name])]
+        chosen = ready[: self.jobs - len(self.running)]
+        for name in chosen:
+            self.waiting.remove(name)
+            share = self.jobs // (len(self.running) + len(chosen))
+            self.running.append(begin(name, max(1, share)))
+
+    def take_ended(self) -> None:
+        for proof in [each for each in self.running if each.process.poll() is not None]:
+            if proof.process.returncode != 0:
+                last = "\n".join(proof.text().splitlines()[-20:])
+                sys.exit("%s was not proved:\n%s" % (proof.name, last))
+            self.running.remove(proof)
+            self.proved.add(proof.name)
+            self.tell("%s in %s" % (proof.name, clock(time.monotonic() - proof.began)))
+            proof.end()
+
+    def run(self) -> None:
+        try:
+            while self.waiting or self.running:
+                self.begin_ready()
+                time.sleep(LOOK)
+                self.take_ended()
+                if self.running and time.monotonic() - self.told >= TELL:
+                    at_work = ", ".join(each.progress() for each in self.running)
+                    self.tell("at work: " + at_work)
+        finally:
+            for proof in self.running:
+                proof.end()
+
+
+def main() -> None:
+    parser = argparse.ArgumentParser()
+    parser.add_argument("--jobs", type=int, default=jobs_here())
+    parser.add_argument("--program", default="rfq_venue")
+    given = parser.parse_args()
+    signal.signal(signal.SIGTERM, lambda *_: sys.exit(143))
+    crates = crates_of((ROOT / "crates.txt").read_text())
+    names = below(crates, given.program)
+    program = ROOT / "crates" / given.program / "out" / given.program
+    if is_newer(program, [*names, given.program]):
+        print("%s stands, and is newer than its sources" % program)
+        return
+    print("Proving %d crates, %d at a time:" % (len(names), given.jobs), flush=True)
+    print("about 40 minutes on four processors, the first time.", flush=True)
+    Prover(crates, names, given.jobs).run()
+    folder = ROOT / "crates" / given.program
+    words = ["rt", "run", "--", "--version"]
+    if subprocess.run(words, cwd=folder, stdin=subprocess.DEVNULL).returncode != 0:
+        sys.exit("the program was not proved")
+    print("%s is proved and built" % program)
+
+
+if __name__ == "__main__":
+    main()
