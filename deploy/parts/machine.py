@@ -35,13 +35,17 @@ class Machine:
         self.gateways = [GatewayHost(host, self.network, self.folder, self.supervisor,
                                      self.programs, self.synchronous) for host in GATEWAYS]
 
-    def up(self, venue: str, credentials: str) -> None:
-        """Starts all, and waits until a gateway speaks and the other follows."""
+    def bring_up_databases(self) -> None:
+        """Makes the hosts, and starts the database ones."""
         self.network.up()
         self.folder.mkdir(parents=True, exist_ok=True)
         self.images.mkdir(parents=True, exist_ok=True)
         self.cluster.up()
         self.cluster.wait_ready()
+
+    def up(self, venue: str, credentials: str) -> None:
+        """Starts all, and waits until a gateway speaks."""
+        self.bring_up_databases()
         for gateway in self.gateways:
             gateway.make(DATABASES, venue, credentials)
             gateway.start()

@@ -15,7 +15,7 @@ venue=${VENUE:-$root/crates/rfq_venue/out/rfq_venue}
 days="--days 3 --messages 2000 --faults 30"
 if [ "${1:-}" = short ]; then
     shift
-    days="--days 1 --messages 300 --faults 8"
+    days="--days 1 --messages 300 --faults 9"
 fi
 
 program=${venue%% *}
@@ -36,6 +36,7 @@ g++ -std=c++14 -DHAVE_SSL=1 -O1 -Wall -Wextra -Werror -o "$work/player" "$root/t
 
 # shellcheck disable=SC2086 # the words of $days and $venue
 {
+    [ -n "${GATEWAY:-}" ] || python3 "$here/appends.py" "$root/gateway/out" --seconds 5
     python3 "$here/venues.py" "$gateway" "$work/player" -- $venue
     python3 "$here/replicas.py" "$gateway" "$work/player" $days "$@" -- $venue
 }
