@@ -1,15 +1,14 @@
-"""The order of the entries and their chain: one pass, which leaves the day behind as a file."""
+"""The order of the entries and their chain, and the day as a file that the venue reads."""
 
 import hashlib
-from collections.abc import Callable, Iterator
-from contextlib import ExitStack
+from collections.abc import Iterator
 from dataclasses import dataclass, field
 from pathlib import Path
-from typing import BinaryIO
 
 from .findings import Finding
 from .lines import firm_and_time
 from .log import Log
+from .progress import ROWS_AT_A_TIME, Step
 from .records import Day, Entry
 
 NO_HASH = bytes(32)
@@ -104,23 +103,27 @@ class ChainReader:
             self._numbers[entry.firm] = entry.number
 
 
-def read_chain(log: Log, day: Day, path: Path, step: Callable[[int], None]) -> Chained:
-    """Reads all entries, and writes the day into a file as the venue reads it."""
-    reader = ChainReader(log.has_chain)
-    with ExitStack() as stack:
-        file = stack.enter_context(path.open("wb", buffering=1 << 20))
-        write_head(file, day)
-        for entry in log.entries():
-            reader.take(entry)
-            if entry.place > 0:
-                file.write(entry.line)
-                file.write(b"\n")
-            step(1)
+def read_chain(log: Log, step: Step) -> Chained:
+    """One pass over all entries."""
+    reader, done = ChainReader(log.has_chain), 0
+    for done, entry in enumerate(log.entries(), 1):
+        reader.take(entry)
+        if done % ROWS_AT_A_TIME == 0:
+            step(ROWS_AT_A_TIME)
+    step(done % ROWS_AT_A_TIME)
     return reader.found
 
 
-def write_head(file: BinaryIO, day: Day) -> None:
-    file.write(day.head)
+def write_day(log: Log, day: Day, path: Path, step: Step) -> None:
+    """Writes the day into a file as the venue reads it."""
+    done = 0
+    with path.open("wb", buffering=1 << 20) as file:
+        file.write(day.head)
+        for done, line in enumerate(log.lines(), 1):
+            file.write(line + b"\n")
+            if done % ROWS_AT_A_TIME == 0:
+                step(ROWS_AT_A_TIME)
+    step(done % ROWS_AT_A_TIME)
 
 
 def lines_before(day: Day) -> int:

@@ -1,16 +1,14 @@
-"""The check of a day: its entries and their chain, and what firms were sent against what the venue
-gives.
+"""The check of a day: its entries and their chain, and what firms were sent against the venue.
 
-One pass over the entries writes the day into a file. Over that file the venue's program is run
-by each job of a list, in as many processes as there are processors; each holds what is printed
-against the log as it comes.
+The day is written into a file. Over that file the venue's program is run by each job of a list, in
+as many processes as there are processors; each holds what is printed against the log as it comes.
 """
 
 from dataclasses import dataclass, field
 
-from .chain import Chained, read_chain
+from .chain import Chained, read_chain, write_day
 from .findings import Finding
-from .jobs import AloneJob, Audited, Files, PlacesJob, ReplayJob, WireJob
+from .jobs import AloneJob, Audited, ChainJob, Files, PlacesJob, ReplayJob, WireJob
 from .log import Counts, Log, Source
 from .progress import Progress
 from .records import Day, Firm
@@ -69,57 +67,62 @@ class Checker:
     progress: Progress
 
     def check(self) -> Verdict:
-        """Reads the entries, and then does all jobs."""
-        with self.source.open() as log:
-            verdict = self._read(log)
-            strangers = log.firms() - {firm.name for firm in verdict.day.firms}
+        """Writes the day into a file, and then does all jobs."""
+        verdict = self.begun()
         audited = Audited(self.source, self.venue, self.files, verdict.day)
-        jobs = jobs_of(audited, verdict.has_chain)
-        self.progress.begin("messages", verdict.counts.sent * passes(verdict.day))
-        for findings in run_jobs(jobs, self.at_once, self.progress):
-            verdict.findings += findings
+        self.progress.begin("messages", rows_of(verdict))
+        for result in run_jobs(jobs_of(audited, verdict.has_chain), self.at_once, self.progress):
+            if isinstance(result, Chained):
+                verdict.chained = result
+                verdict.findings = result.findings + verdict.findings
+            else:
+                verdict.findings += result
         self.progress.end()
-        for name in sorted(strangers):
-            verdict.findings.append(Finding(name, "the configuration has no such firm"))
         verdict.findings = once_each(verdict.findings)
         return verdict
 
-    def read(self) -> Verdict:
-        """Reads the entries alone."""
+    def begun(self) -> Verdict:
+        """The day and its counts, and the file that the venue reads."""
         with self.source.open() as log:
-            return self._read(log)
-
-    def _read(self, log: Log) -> Verdict:
-        counts, day = log.counts(), log.day()
-        self.progress.begin("entries", counts.entries)
-        chained = read_chain(log, day, self.files.day, self.progress.step)
-        verdict = Verdict(
-            self.source.name,
-            day,
-            counts,
-            log.has_chain,
-            chained,
-            self.venue.version(),
-            {firm.name: log.count_of(firm.name) for firm in day.firms},
-            list(chained.findings),
-        )
-        if log.has_chain:
-            verdict.findings += target_findings(log)
+            counts, day = log.counts(), log.day()
+            self.progress.begin("entries", counts.entries)
+            write_day(log, day, self.files.day, self.progress.step)
+            self.progress.end()
+            messages = {firm.name: log.count_of(firm.name) for firm in day.firms}
+            version = self.venue.version()
+            name = self.source.name
+            verdict = Verdict(name, day, counts, log.has_chain, Chained(), version, messages)
+            for stranger in sorted(log.firms() - set(messages)):
+                text = "the configuration has no such firm"
+                verdict.findings.append(Finding(stranger, text))
+            if log.has_chain:
+                verdict.findings += target_findings(log)
         return verdict
 
+    def chain(self) -> Chained:
+        """The entries alone."""
+        with self.source.open() as log:
+            self.progress.begin("entries", log.counts().entries)
+            chained = read_chain(log, self.progress.step)
+            self.progress.end()
+        return chained
 
-def jobs_of(audited: Audited, has_chain: bool) -> list[Job[list[Finding]]]:
+
+def jobs_of(audited: Audited, has_chain: bool) -> list[Job[Chained | list[Finding]]]:
     """All jobs of a check, those that take longest in front."""
-    jobs: list[Job[list[Finding]]] = [ReplayJob(audited), PlacesJob(audited)]
-    jobs += [AloneJob(audited, dealer.name) for dealer in audited.day.dealers]
+    dealers = audited.day.dealers
+    jobs: list[Job[Chained | list[Finding]]] = [ReplayJob(audited), PlacesJob(audited)]
+    jobs += [AloneJob(audited, dealer.name) for dealer in dealers]
+    jobs.append(ChainJob(audited.source))
     if has_chain:
         jobs += [WireJob(audited, firm.name) for firm in audited.day.firms]
     return jobs
 
 
-def passes(day: Day) -> int:
-    """How often the jobs that tell their steps go over the messages of a day, or some more."""
-    return 3 if day.dealers else 2
+def rows_of(verdict: Verdict) -> int:
+    """How many rows the jobs that tell their steps go over."""
+    dealers = sum(verdict.messages[firm.name] for firm in verdict.day.dealers)
+    return verdict.counts.entries + 2 * verdict.counts.sent + dealers
 
 
 def target_findings(log: Log) -> list[Finding]:

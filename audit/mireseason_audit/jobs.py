@@ -7,11 +7,11 @@ from collections.abc import Iterable, Iterator
 from dataclasses import dataclass
 from pathlib import Path
 
-from .chain import lines_before, places_of
+from .chain import Chained, lines_before, places_of, read_chain
 from .findings import Finding
 from .lines import decoded
 from .log import Log, Source
-from .progress import Step
+from .progress import ROWS_AT_A_TIME, Step
 from .records import Day, Sent
 from .venue import LineFault, Venue, message_of
 from .wire import check_wire
@@ -20,7 +20,6 @@ NOT_GIVEN = "the log has a message that the venue does not give"
 NOT_SENT = "the log lacks a message that the venue gives"
 ANOTHER = "the log has another message than the venue gives"
 ALONE = "what was due to it alone gives another message than it was sent"
-ROWS_AT_A_TIME = 1024
 
 
 @dataclass(frozen=True)
@@ -45,6 +44,17 @@ class Audited:
     venue: Venue
     files: Files
     day: Day
+
+
+@dataclass(frozen=True)
+class ChainJob:
+    """The order of the entries and their chain."""
+
+    source: Source
+
+    def __call__(self, step: Step) -> Chained:
+        with self.source.open() as log:
+            return read_chain(log, step)
 
 
 @dataclass(frozen=True)

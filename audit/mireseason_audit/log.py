@@ -43,12 +43,16 @@ class Log(AbstractContextManager["Log"], ABC):
         """The messages of a firm's session, by its numbers."""
 
     @abstractmethod
+    def lines(self) -> Iterator[bytes]:
+        """The lines of the entries behind place 0, in their order."""
+
+    @abstractmethod
     def places(self) -> Iterator[int]:
         """The places of the entries, in their order."""
 
     @abstractmethod
-    def session_numbers(self) -> dict[int, int]:
-        """By place, the session's number of each message that a Reject answers."""
+    def session_numbers(self, firm: str) -> dict[int, int]:
+        """By place, the session's number of each message of a firm that a Reject answers."""
 
     @abstractmethod
     def targets(self) -> dict[str, int]:

@@ -143,7 +143,7 @@ def seal_words(verdict: Verdict, found: list[Finding]) -> str:
 def do_seal(work: Work) -> int:
     if not isinstance(work.source, (SqliteSource, PostgresSource)) or work.words.sent is not None:
         raise Unreadable("two files have no chain, so there is nothing to be sealed")
-    chained = work.checker().read().chained
+    chained = work.checker().chain()
     if chained.findings:
         print("\n".join(line for finding in chained.findings for line in finding.lines()))
         print("verdict: not sealed")

@@ -47,7 +47,7 @@ class PairCommand:
 
     def run(self) -> Told:
         told = Told()
-        day = self.checker.read().day
+        day = self.checker.begun().day
         venue, files = self.checker.venue, self.checker.files
         venue.to_file(["due", self.dealer, "--live"], files.day, files.due(self.dealer))
         self._prices(day, told)

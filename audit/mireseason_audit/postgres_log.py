@@ -14,7 +14,7 @@ from .records import Entry, Outgoing, Sent
 
 ROWS_AT_A_TIME = 1000
 REJECTED = """SELECT place, number FROM entry WHERE number IS NOT NULL AND place IN
-    (SELECT place FROM sent WHERE position('\\x0133353D3301'::bytea IN bytes) > 0)"""
+    (SELECT place FROM sent WHERE firm = %s AND position('\\x0133353D3301'::bytea IN bytes) > 0)"""
 
 
 @dataclass(frozen=True)
@@ -85,11 +85,15 @@ class PostgresLog(Log):
         for name, number, carried, data in self._rows(query, firm):
             yield Outgoing(name, number, carried, bytes(data))
 
+    def lines(self) -> Iterator[bytes]:
+        rows = self._rows("SELECT line FROM entry WHERE place > 0 ORDER BY place")
+        return (bytes(line) for line, in rows)
+
     def places(self) -> Iterator[int]:
         return (row[0] for row in self._rows("SELECT place FROM entry ORDER BY place"))
 
-    def session_numbers(self) -> dict[int, int]:
-        return {place: number for place, number in self._rows(REJECTED)}
+    def session_numbers(self, firm: str) -> dict[int, int]:
+        return {place: number for place, number in self._rows(REJECTED, firm)}
 
     def targets(self) -> dict[str, int]:
         return {firm: target for firm, target in self._rows("SELECT firm, target FROM session")}

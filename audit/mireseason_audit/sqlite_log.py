@@ -14,7 +14,7 @@ ENTRY = "SELECT place, term, moment, firm, number, line, before, hash FROM entry
 SENT = "SELECT firm, number, place, bytes FROM sent WHERE firm = ? ORDER BY number"
 OUTGOING = "SELECT firm, number, sent, bytes FROM outgoing WHERE firm = ? ORDER BY number"
 REJECTED = """SELECT place, number FROM entry WHERE number IS NOT NULL AND place IN
-    (SELECT place FROM sent WHERE instr(bytes, x'0133353D3301') > 0)"""
+    (SELECT place FROM sent WHERE firm = ? AND instr(bytes, x'0133353D3301') > 0)"""
 
 
 @dataclass(frozen=True)
@@ -85,11 +85,15 @@ class SqliteLog(Log):
             check_numbers("outgoing %s %s" % (firm, number), number, carried)
             yield Outgoing(name, number, carried, data)
 
+    def lines(self) -> Iterator[bytes]:
+        for line, in self._rows("SELECT line FROM entry WHERE place > 0 ORDER BY place"):
+            yield line if type(line) is bytes else as_bytes(line)
+
     def places(self) -> Iterator[int]:
         return (row[0] for row in self._rows("SELECT place FROM entry ORDER BY place"))
 
-    def session_numbers(self) -> dict[int, int]:
-        return {place: number for place, number in self._rows(REJECTED)}
+    def session_numbers(self, firm: str) -> dict[int, int]:
+        return {place: number for place, number in self._rows(REJECTED, firm)}
 
     def targets(self) -> dict[str, int]:
         rows = self._rows("SELECT firm, target FROM session")

@@ -55,7 +55,7 @@ def carried(frame: bytes, session_number: int | None) -> bytes | None:
 
 def check_wire(log: Log, firm: str) -> Iterator[Finding]:
     """Holds a firm's session against what the venue gave for it; the first fault is told."""
-    rejects = log.session_numbers()
+    rejects = log.session_numbers(firm)
     waiting = log.sent(firm)
     expected = next(waiting, None)
     number = 0
