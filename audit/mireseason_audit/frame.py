@@ -1,5 +1,6 @@
 """Frames of FIXT.1.1: bytes into fields, and fields into bytes."""
 
+import zlib
 from collections.abc import Iterable
 
 from .records import SOH
@@ -36,11 +37,23 @@ def text_of(fields: Fields, tag: int) -> str:
     return "" if value is None else value.decode("utf-8", "replace")
 
 
+def sum_of(data: bytes) -> int:
+    """The sum of all bytes modulo 256.
+
+    The lower half of an Adler-32 is one more than the sum, as long as that is below 65,521: so of up
+    to 256 bytes. It is many times faster than `sum`, and a day has a million messages.
+    """
+    total = 0
+    for at in range(0, len(data), 256):
+        total += (zlib.adler32(data[at : at + 256]) & 0xFFFF) - 1
+    return total % 256
+
+
 def framed(fields: Iterable[tuple[int, bytes]]) -> bytes:
     """The frame of the fields of a body, MsgType (35) first."""
     body = b"".join(b"%d=%s\x01" % field for field in fields)
     head = b"8=FIXT.1.1\x019=%d\x01" % len(body) + body
-    return head + b"10=%03d\x01" % (sum(head) % 256)
+    return head + b"10=%03d\x01" % sum_of(head)
 
 
 def fault_of(data: bytes) -> str | None:
@@ -51,7 +64,7 @@ def fault_of(data: bytes) -> str | None:
     if not soh or not length.isdigit() or int(length) != len(rest) - CHECKSUM_BYTES:
         return "its length is not the one that it says"
     end = data[-CHECKSUM_BYTES:]
-    if end != b"10=%03d\x01" % (sum(data[:-CHECKSUM_BYTES]) % 256):
+    if end != b"10=%03d\x01" % sum_of(data[:-CHECKSUM_BYTES]):
         return "its sum is not the one that it says"
     return None
 
