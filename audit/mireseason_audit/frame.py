@@ -5,35 +5,34 @@ from collections.abc import Iterable
 
 from .records import SOH
 
-Fields = list[tuple[int, bytes]]
 START = b"8=FIXT.1.1\x019="
-ENDS = (8, 9, 10)
 CHECKSUM_BYTES = 7  # 10=ccc and its SOH
+TAGS = {b"%d" % tag: tag for tag in range(1, 2000)}  # those that messages have, at hand
+
+
+class Fields(list[tuple[int, bytes]]):
+    """The fields of a message, in their order, and the first value of each tag."""
+
+    def __init__(self, fields: Iterable[tuple[int, bytes]] = ()) -> None:
+        super().__init__(fields)
+        self.firsts: dict[int, bytes] = dict(reversed(self))
 
 
 def fields_of(data: bytes) -> Fields:
-    """All fields, in their order; of what is no field (no digits, no equals sign) the tag is 0."""
-    fields: Fields = []
+    """All fields; of what is no field (no digits, no equals sign) the tag is 0."""
+    fields = []
     for part in data.removesuffix(SOH).split(SOH):
-        tag, equals, value = part.partition(b"=")
-        if equals and tag.isdigit():
-            fields.append((int(tag), value))
-        else:
-            fields.append((0, part))
-    return fields
-
-
-def value_of(fields: Fields, tag: int) -> bytes | None:
-    """The first value of a tag."""
-    for there, value in fields:
-        if there == tag:
-            return value
-    return None
+        text, equals, value = part.partition(b"=")
+        tag = TAGS.get(text)
+        if tag is None:
+            tag = int(text) if text.isdigit() else 0
+        fields.append((tag, value) if tag and equals else (0, part))
+    return Fields(fields)
 
 
 def text_of(fields: Fields, tag: int) -> str:
     """The first value of a tag as text; empty where there is none."""
-    value = value_of(fields, tag)
+    value = fields.firsts.get(tag)
     return "" if value is None else value.decode("utf-8", "replace")
 
 
