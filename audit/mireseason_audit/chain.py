@@ -79,6 +79,9 @@ class ChainReader:
         if before is not None and self._has_chain and entry.moment < before.moment:
             text = "its moment %s is before %s, that of entry %d"
             self.tell("moment", entry, text % (entry.moment, before.moment, before.place))
+        if before is not None and entry.term < before.term:
+            text = "its term %d is before %d, that of entry %d"
+            self.tell("term", entry, text % (entry.term, before.term, before.place))
 
     def _check_chain(self, entry: Entry) -> None:
         if entry.hash != hash_of(entry):

@@ -39,8 +39,8 @@ def text_of(fields: Fields, tag: int) -> str:
 def sum_of(data: bytes) -> int:
     """The sum of all bytes modulo 256.
 
-    The lower half of an Adler-32 is one more than the sum, as long as that is below 65,521: so of up
-    to 256 bytes. It is many times faster than `sum`, and a day has a million messages.
+    The lower half of an Adler-32 is one more than the sum, as long as that is below 65,521, and so
+    of up to 256 bytes. It is many times faster than `sum`, and a day has a million messages.
     """
     total = 0
     for at in range(0, len(data), 256):
