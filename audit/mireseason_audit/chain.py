@@ -79,6 +79,9 @@ class ChainReader:
         if before is not None and self._has_chain and entry.moment < before.moment:
             text = "its moment %s is before %s, that of entry %d"
             self.tell("moment", entry, text % (entry.moment, before.moment, before.place))
+        if before is not None and entry.term < before.term:
+            text = "its term %d is before %d, that of entry %d"
+            self.tell("term", entry, text % (entry.term, before.term, before.place))
 
     def _check_chain(self, entry: Entry) -> None:
         if entry.hash != hash_of(entry):
@@ -89,18 +92,25 @@ class ChainReader:
     def _check_line(self, entry: Entry) -> None:
         if not self._has_chain:
             return
-        firm, time = firm_and_time(entry.line)
-        if firm != entry.firm:
-            self.tell("firm", entry, "its line is of %s, and its row of %s" % (firm, entry.firm))
-        if time != entry.moment:
-            text = "its line is of %s, and its row of %s" % (time, entry.moment)
-            self.tell("time", entry, text)
+        if entry.firm is None or not entry.line.startswith(
+            b"hex %s %s " % (entry.firm.encode(), entry.moment.encode())
+        ):
+            self._check_words(entry)
         if entry.firm is not None and entry.number is not None:
             before = self._numbers.get(entry.firm, 0)
             if entry.number <= before:
                 text = "number %d of %s's session comes behind %d"
                 self.tell("number", entry, text % (entry.number, entry.firm, before))
             self._numbers[entry.firm] = entry.number
+
+    def _check_words(self, entry: Entry) -> None:
+        """The firm and the time of a line against those of its row."""
+        firm, time = firm_and_time(entry.line)
+        if firm != entry.firm:
+            self.tell("firm", entry, "its line is of %s, and its row of %s" % (firm, entry.firm))
+        if time != entry.moment:
+            text = "its line is of %s, and its row of %s" % (time, entry.moment)
+            self.tell("time", entry, text)
 
 
 def read_chain(log: Log, step: Step) -> Chained:

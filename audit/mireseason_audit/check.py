@@ -4,6 +4,7 @@ The day is written into a file. Over that file the venue's program is run by eac
 as many processes as there are processors; each holds what is printed against the log as it comes.
 """
 
+from collections.abc import Iterable
 from dataclasses import dataclass, field
 
 from .chain import Chained, read_chain, write_day
@@ -14,6 +15,8 @@ from .progress import Progress
 from .records import Day, Firm
 from .venue import Venue
 from .work import Job, run_jobs
+
+Result = Chained | list[Finding]  # of a job
 
 
 @dataclass
@@ -69,17 +72,21 @@ class Checker:
     def check(self) -> Verdict:
         """Writes the day into a file, and then does all jobs."""
         verdict = self.begun()
-        audited = Audited(self.source, self.venue, self.files, verdict.day)
+        jobs = self.jobs(verdict)
         self.progress.begin("messages", rows_of(verdict))
-        for result in run_jobs(jobs_of(audited, verdict.has_chain), self.at_once, self.progress):
-            if isinstance(result, Chained):
-                verdict.chained = result
-                verdict.findings = result.findings + verdict.findings
-            else:
-                verdict.findings += result
+        results = run_jobs(jobs, self.at_once, self.progress)
         self.progress.end()
-        verdict.findings = once_each(verdict.findings)
-        return verdict
+        return judged(verdict, results)
+
+    def jobs(self, verdict: Verdict) -> list[Job[Result]]:
+        """All jobs of a check, those that take longest in front."""
+        audited = Audited(self.source, self.venue, self.files, verdict.day)
+        jobs: list[Job[Result]] = [ReplayJob(audited), PlacesJob(audited)]
+        jobs += [AloneJob(audited, dealer.name) for dealer in verdict.day.dealers]
+        jobs.append(ChainJob(self.source))
+        if verdict.has_chain:
+            jobs += [WireJob(audited, firm.name) for firm in verdict.day.firms]
+        return jobs
 
     def begun(self) -> Verdict:
         """The day and its counts, and the file that the venue reads."""
@@ -108,15 +115,16 @@ class Checker:
         return chained
 
 
-def jobs_of(audited: Audited, has_chain: bool) -> list[Job[Chained | list[Finding]]]:
-    """All jobs of a check, those that take longest in front."""
-    dealers = audited.day.dealers
-    jobs: list[Job[Chained | list[Finding]]] = [ReplayJob(audited), PlacesJob(audited)]
-    jobs += [AloneJob(audited, dealer.name) for dealer in dealers]
-    jobs.append(ChainJob(audited.source))
-    if has_chain:
-        jobs += [WireJob(audited, firm.name) for firm in audited.day.firms]
-    return jobs
+def judged(verdict: Verdict, results: Iterable[Result]) -> Verdict:
+    """The verdict with what the jobs found."""
+    for result in results:
+        if isinstance(result, Chained):
+            verdict.chained = result
+            verdict.findings = result.findings + verdict.findings
+        else:
+            verdict.findings += result
+    verdict.findings = once_each(verdict.findings)
+    return verdict
 
 
 def rows_of(verdict: Verdict) -> int:

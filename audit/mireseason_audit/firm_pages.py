@@ -9,7 +9,7 @@ from pathlib import Path
 
 from .book import Book
 from .dictionary import read_dictionary
-from .frame import barred, fields_of, text_of
+from .frame import Fields, barred, fields_of, text_of
 from .lines import came_of
 from .log import Log, Source
 from .messages import MessageWriter, Shown
@@ -93,7 +93,7 @@ def shown(row: Entry | Sent, requests: tuple[int, ...]) -> Shown:
         text = barred(row.bytes)
         return Shown(anchor, False, moment, row.place, str(row.number), text, fields, requests)
     came = came_of(row.line)
-    fields = came.fields if came else []
+    fields = came.fields if came else Fields()
     text = came.text if came else barred(row.line)
     number = text_of(fields, 34)
     return Shown("e%d" % row.place, True, row.moment, row.place, number, text, fields, requests)

@@ -103,4 +103,4 @@ def is_hit(came: Came) -> bool:
 
 def changed(fields: Fields, tag: int, value: str) -> Fields:
     """The fields with another value of one tag."""
-    return [(there, value.encode() if there == tag else data) for there, data in fields]
+    return Fields((there, value.encode() if there == tag else data) for there, data in fields)

@@ -29,7 +29,7 @@ def came_of(line: bytes) -> Came | None:
         return Came(decoded(firm), decoded(time), fields_of(frame), barred(frame), frame)
     if verb == b"say" and rest.count(b" ") >= 4:
         firm, trader, time, kind, body = rest.split(b" ", 4)
-        fields = [(35, kind), (50, trader), *fields_of(body.replace(b"|", SOH))]
+        fields = Fields([(35, kind), (50, trader), *fields_of(body.replace(b"|", SOH))])
         return Came(decoded(firm), decoded(time), fields, barred(line), None)
     return None
 

@@ -20,7 +20,7 @@ from .pages import Pager
 from .pair_command import PairCommand
 from .postgres_log import PostgresSource
 from .progress import Progress
-from .seal import compared, read_seal, sealed, write_seal, write_sums
+from .seal import Sealed, compared, read_seal, sealed, write_seal, write_sums
 from .sqlite_log import SqliteSource
 from .venue import Venue
 from .work import processors
@@ -40,8 +40,8 @@ class Work:
     folder: Path
     venue: Venue
 
-    def checker(self, files: Files | None = None) -> Checker:
-        files = files or Files(self.folder)
+    def checker(self) -> Checker:
+        files = Files(self.folder)
         return Checker(self.source, self.venue, files, self.words.jobs, Progress())
 
 
@@ -118,12 +118,22 @@ def do_check(work: Work) -> int:
     return 0 if verdict.is_good else 1
 
 
-def checked(work: Work, files: Files | None = None) -> Verdict:
+def checked(work: Work) -> Verdict:
     """The verdict, that of the seal too where a key is given."""
-    words, seal = work.words, None
-    if words.key is not None:
-        seal = read_seal(seal_path(words, work.source, words.seal), words.key)
-    verdict = work.checker(files).check()
+    seal = seal_of(work)
+    return compared_with(work, seal, work.checker().check())
+
+
+def seal_of(work: Work) -> Sealed | None:
+    """The seal that the arguments name; it is read first, since it may be none of the key."""
+    words = work.words
+    if words.key is None:
+        return None
+    return read_seal(seal_path(words, work.source, words.seal), words.key)
+
+
+def compared_with(work: Work, seal: Sealed | None, verdict: Verdict) -> Verdict:
+    """The verdict with what the seal says."""
     if seal is not None:
         with work.source.open() as log:
             found = list(compared(seal, sealed(log, verdict.day, verdict.chained)))
@@ -158,13 +168,11 @@ def do_seal(work: Work) -> int:
 
 
 def do_page(work: Work) -> int:
-    words = work.words
-    verdict = checked(work)
+    words, seal = work.words, seal_of(work)
     key = None if words.request is None else words.request - 1
-    pager = Pager(
-        work.checker(), verdict, words.dictionary, words.folder, work.folder, key
-    )
-    summary = pager.write()
+    pager = Pager(work.checker(), words.dictionary, words.folder, work.folder, key)
+    verdict, summary = pager.check()
+    pager.write(compared_with(work, seal, verdict), summary)
     write_sums(words.folder, words.sign)
     print("\n".join(report(verdict)))
     print("%d requests: %s" % (len(summary.requests), words.folder / "index.html"))

@@ -8,14 +8,14 @@ from pathlib import Path
 
 from .book import Book, Fault
 from .certificates import CertificateJob, Second, seconds_for
-from .check import Checker, Verdict
+from .check import Checker, Result, Verdict, judged, rows_of
 from .dictionary import read_dictionary
 from .faults import Unreadable
 from .firm_pages import FirmJob, page_name
 from .jobs import Files
 from .reading import Reader
 from .request_pages import RequestJob, file_name
-from .summary import Summary, summarized
+from .summary import Summary, SummaryJob
 from .templates import HERE, Templates
 from .work import Job, run_jobs
 
@@ -29,35 +29,48 @@ class Pager:
     """What pages are written with."""
 
     checker: Checker
-    verdict: Verdict
     dictionary: Path
     folder: Path
     scratch: Path
     request: int | None  # the request of the certificates, by its key
 
-    def write(self) -> Summary:
-        """Writes all pages; answers the counts of the day."""
+    @property
+    def _book(self) -> Path:
+        return self.scratch / "acts.db"
+
+    def check(self) -> tuple[Verdict, Summary]:
+        """Checks the day, and reads its requests beside that."""
         make_folders(self.folder)
-        reader = Reader(read_dictionary(self.dictionary))
-        path, checker = self.scratch / "acts.db", self.checker
-        with closing(Book(path, write=True)) as book, checker.source.open() as log:
-            checker.progress.begin("requests", self.verdict.counts.entries)
-            day = self.verdict.day
-            summary = summarized(log, day, reader, book, checker.progress.step)
-        jobs = self._jobs(summary, reader, path)
+        checker = self.checker
+        verdict = checker.begun()
+        dictionary = read_dictionary(self.dictionary)
+        jobs: list[Job[Result | Summary]] = [
+            SummaryJob(checker.source, verdict.day, dictionary, self._book)
+        ]
+        jobs += checker.jobs(verdict)
+        checker.progress.begin("messages", rows_of(verdict))
+        results = run_jobs(jobs, checker.at_once, checker.progress)
+        checker.progress.end()
+        (summary,) = [result for result in results if isinstance(result, Summary)]
+        found = [result for result in results if not isinstance(result, Summary)]
+        return judged(verdict, found), summary
+
+    def write(self, verdict: Verdict, summary: Summary) -> None:
+        """Writes all pages."""
+        checker = self.checker
         rows = len(summary.requests) + summary.came + summary.sent
         checker.progress.begin("pages", rows)
-        run_jobs(jobs, checker.at_once, checker.progress)
-        with closing(Book(path)) as book:
-            self._write_day(summary, book)
+        run_jobs(self._jobs(verdict, summary), checker.at_once, checker.progress)
+        with closing(Book(self._book)) as book:
+            self._write_day(verdict, summary, book)
         shutil.copyfile(checker.files.day, self.folder / "day.live")
         shutil.copyfile(HERE / "style.css", self.folder / "style.css")
         checker.progress.end()
-        return summary
 
-    def _jobs(self, summary: Summary, reader: Reader, book: Path) -> list[Job[object]]:
+    def _jobs(self, verdict: Verdict, summary: Summary) -> list[Job[object]]:
         """The jobs that write pages, those that take longest in front."""
-        checker, day = self.checker, self.verdict.day
+        checker, day, book = self.checker, verdict.day, self._book
+        reader = Reader(read_dictionary(self.dictionary))
         source, files = checker.source, checker.files
         seconds = seconds_for(
             source, day, summary.requests, self.scratch, files.day, self.request
@@ -71,7 +84,7 @@ class Pager:
                 dealer,
                 reader,
                 second_for(seconds, dealer.name),
-                not self.verdict.of(dealer.name),
+                not verdict.of(dealer.name),
                 self.folder,
             )
             for dealer in day.dealers
@@ -88,8 +101,8 @@ class Pager:
         ]
         return jobs
 
-    def _write_day(self, summary: Summary, book: Book) -> None:
-        templates = Templates(self.verdict.day)
+    def _write_day(self, verdict: Verdict, summary: Summary, book: Book) -> None:
+        templates = Templates(verdict.day)
         pages = max(1, -(-len(summary.requests) // ROWS_A_PAGE))
         faults = book.faults()
         some = list(islice(faults, FAULTS_ON_THE_DAY))
@@ -98,7 +111,7 @@ class Pager:
             text = templates.page(
                 "day.html",
                 "",
-                verdict=self.verdict,
+                verdict=verdict,
                 summary=summary,
                 requests=summary.requests[page * ROWS_A_PAGE : (page + 1) * ROWS_A_PAGE],
                 page=page + 1,

@@ -63,7 +63,7 @@ def line_of(came: Came, fields: Fields) -> bytes:
 
 def body_of(fields: Fields) -> Fields:
     """The fields without 8, 9 and 10."""
-    return [pair for pair in fields if pair[0] not in (8, 9, 10)]
+    return Fields(pair for pair in fields if pair[0] not in (8, 9, 10))
 
 
 def moved_fields(fields: Fields, by: int) -> tuple[Fields, Price, Price] | None:
@@ -72,7 +72,7 @@ def moved_fields(fields: Fields, by: int) -> tuple[Fields, Price, Price] | None:
         price = Price(value.decode("ascii", "replace"))
         if tag in (BID, OFFER) and price.ticks is not None:
             after = Price(price.moved(by))
-            changed = [*fields[:at], (tag, after.text.encode()), *fields[at + 1 :]]
+            changed = Fields([*fields[:at], (tag, after.text.encode()), *fields[at + 1 :]])
             return body_of(changed), price, after
     return None
 

@@ -3,13 +3,16 @@ disk.
 """
 
 from collections import Counter
-from collections.abc import Callable
+from contextlib import closing
 from dataclasses import dataclass, field
+from pathlib import Path
 
 from .book import Book, Fault
+from .dictionary import Dictionary
 from .exchanges import Exchange, exchanges
 from .frame import text_of
-from .log import Log
+from .log import Source
+from .progress import Step
 from .reading import Reader
 from .records import Day
 from .requests import Request, Requests
@@ -104,13 +107,19 @@ class Summarizer:
         self._book.put_fault(fault)
 
 
-def summarized(
-    log: Log, day: Day, reader: Reader, book: Book, step: Callable[[int], None]
-) -> Summary:
-    """One pass over a day."""
-    summarizer = Summarizer(day, reader, book)
-    for exchange in exchanges(log, day):
-        summarizer.take(exchange)
-        step(1)
-    book.finish()
-    return summarizer.summary
+@dataclass(frozen=True)
+class SummaryJob:
+    """The pass over a day, in a process of its own."""
+
+    source: Source
+    day: Day
+    dictionary: Dictionary
+    book: Path
+
+    def __call__(self, step: Step) -> Summary:
+        with closing(Book(self.book, write=True)) as book, self.source.open() as log:
+            summarizer = Summarizer(self.day, Reader(self.dictionary), book)
+            for exchange in exchanges(log, self.day):
+                summarizer.take(exchange)
+            book.finish()
+        return summarizer.summary

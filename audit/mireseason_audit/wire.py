@@ -7,7 +7,7 @@ venue's, byte for byte.
 """
 
 from collections.abc import Iterator
-from dataclasses import dataclass
+from typing import NamedTuple
 
 from .findings import Finding
 from .frame import CHECKSUM_BYTES, fault_of
@@ -16,11 +16,11 @@ from .records import SOH, Outgoing, Sent
 
 IN_FRONT_OF = {b"S": b"\x01537=", b"AI": b"\x01297=", b"R": b"\x01453="}  # where 60 stands
 REJECT = b"3"
+REFERS = b"\x0145="
 CARRIED = b"\x011181="
 
 
-@dataclass(frozen=True)
-class Parts:
+class Parts(NamedTuple):
     """What the translation looks at in a frame of the venue."""
 
     kind: bytes
@@ -38,76 +38,90 @@ def parts_of(frame: bytes) -> Parts | None:
     return Parts(fields[2][3:], fields[5][3:], fields[6][3:], SOH + rest)
 
 
-def carried(frame: bytes, session_number: int | None) -> bytes | None:
+def carried(parts: Parts, session_number: int | None) -> bytes:
     """What stands from 1181 to the last field of the message that carries a frame of the venue."""
-    parts = parts_of(frame)
-    if parts is None:
-        return None
     body = parts.body
-    if parts.kind == REJECT and session_number is not None and body.startswith(b"\x0145="):
+    if parts.kind == REJECT and session_number is not None and body.startswith(REFERS):
         _, soh, rest = body[1:].partition(SOH)
-        body = b"\x0145=%d" % session_number + soh + rest
+        body = REFERS + b"%d" % session_number + soh + rest
     before = IN_FRONT_OF.get(parts.kind)
     at = body.find(before) if before else -1
-    at = len(body) if at < 0 else at
+    if at < 0:
+        at = len(body)
     return CARRIED + parts.number + body[:at] + b"\x0160=" + parts.moment + body[at:]
+
+
+class WireReader:
+    """Holds the messages of one session against what the venue gave for the firm."""
+
+    def __init__(self, firm: str, sent: Iterator[Sent], rejects: dict[int, int]) -> None:
+        self._rejects = rejects
+        self._waiting = sent
+        self._expected = next(sent, None)
+        self._number = 0
+        self._to = b"\x0156=" + firm.encode() + SOH
+
+    def take(self, row: Outgoing) -> Finding | None:
+        """What is wrong with the next message."""
+        self._number += 1
+        if row.number != self._number:
+            text = "its session has no message %d; %d comes"
+            return Finding(row.firm, text % (self._number, row.number))
+        head, mark, rest = row.bytes.partition(CARRIED)
+        finding = self._header_finding(row, head + SOH)
+        if finding is None and row.sent is not None:
+            finding = self._carried_finding(row, head, mark + rest[: -CHECKSUM_BYTES - 1])
+            self._expected = next(self._waiting, None)
+        return finding
+
+    def rest(self, firm: str) -> Finding | None:
+        """What no message carried."""
+        if self._expected is None:
+            return None
+        where = self._expected.place, self._expected.number
+        return Finding(firm, "no message of its session carries it", *where)
+
+    def _header_finding(self, row: Outgoing, head: bytes) -> Finding | None:
+        """What is wrong with a message, whatever it carries."""
+        fault = fault_of(row.bytes)
+        if fault is None and b"\x0134=%d\x01" % self._number not in head:
+            fault = "its 34 is another"
+        if fault is None and (b"\x0149=VENUE\x01" not in head or self._to not in head):
+            fault = "it is not of the venue for this firm"
+        if fault is None and row.sent is None and CARRIED in row.bytes:
+            fault = "it carries what the log does not say"
+        if fault is None:
+            return None
+        text = "message %d of its session: %s" % (row.number, fault)
+        return Finding(row.firm, text, found=row.bytes)
+
+    def _carried_finding(self, row: Outgoing, head: bytes, body: bytes) -> Finding | None:
+        """Holds a message that carries one of the venue's against that."""
+        expected = self._expected
+        text = "message %d of its session carries number %s" % (row.number, row.sent)
+        if expected is None:
+            return Finding(row.firm, text + ", which the venue did not give", found=row.bytes)
+        where = expected.place, expected.number
+        if row.sent != expected.number:
+            return Finding(row.firm, text + " where %d comes next" % expected.number, *where)
+        parts = parts_of(expected.bytes)
+        if parts is not None and body == carried(parts, self._rejects.get(expected.place)):
+            if b"\x0135=" + parts.kind + SOH in head:
+                return None
+        text = "message %d of its session carries another text" % row.number
+        return Finding(
+            row.firm, text, *where, expected.bytes, row.bytes, "`sent` has", "the session has"
+        )
 
 
 def check_wire(log: Log, firm: str) -> Iterator[Finding]:
     """Holds a firm's session against what the venue gave for it; the first fault is told."""
-    rejects = log.session_numbers(firm)
-    waiting = log.sent(firm)
-    expected = next(waiting, None)
-    number = 0
+    reader = WireReader(firm, log.sent(firm), log.session_numbers(firm))
     for row in log.outgoing(firm):
-        number += 1
-        finding = header_finding(row, number)
-        if finding is None and row.sent is not None:
-            finding = carried_finding(row, expected, rejects)
-            expected = next(waiting, None)
-        if finding:
+        finding = reader.take(row)
+        if finding is not None:
             yield finding
             return
-    if expected is not None:
-        text = "no message of its session carries it"
-        yield Finding(firm, text, expected.place, expected.number)
-
-
-def header_finding(row: Outgoing, number: int) -> Finding | None:
-    """What is wrong with a message of a session, whatever it carries."""
-    text = "message %d of its session: " % row.number
-    if row.number != number:
-        return Finding(row.firm, "its session has no message %d; %d comes" % (number, row.number))
-    fault = fault_of(row.bytes)
-    if fault:
-        return Finding(row.firm, text + fault, found=row.bytes)
-    head = row.bytes.split(SOH, 7)
-    if b"34=%d" % number not in head or b"49=VENUE" not in head:
-        return Finding(row.firm, text + "its 34 or its 49 is another", found=row.bytes)
-    if b"56=" + row.firm.encode() not in head:
-        return Finding(row.firm, text + "it is for another firm", found=row.bytes)
-    if row.sent is None and CARRIED in row.bytes:
-        return Finding(row.firm, text + "it carries what the log does not say", found=row.bytes)
-    return None
-
-
-def carried_finding(
-    row: Outgoing, expected: Sent | None, rejects: dict[int, int]
-) -> Finding | None:
-    """Holds a message that carries one of the venue's against that."""
-    text = "message %d of its session carries number %s" % (row.number, row.sent)
-    if expected is None:
-        return Finding(row.firm, text + ", which the venue did not give", found=row.bytes)
-    where = expected.place, expected.number
-    if row.sent != expected.number:
-        return Finding(row.firm, text + " where %d comes next" % expected.number, *where)
-    body = carried(expected.bytes, rejects.get(expected.place))
-    head, mark, rest = row.bytes.partition(CARRIED)
-    given = parts_of(expected.bytes)
-    kind = None if given is None else b"35=" + given.kind
-    if kind in head.split(SOH, 3)[:3] and mark + rest[: -CHECKSUM_BYTES - 1] == body:
-        return None
-    text = "message %d of its session carries another text" % row.number
-    return Finding(
-        row.firm, text, *where, expected.bytes, row.bytes, "`sent` has", "the session has"
-    )
+    left = reader.rest(firm)
+    if left is not None:
+        yield left

@@ -164,9 +164,14 @@ class Market:
     def play(self, count: int) -> None:
         for firm in self.firms.all:
             self.ledger.log_on(firm, OPENING)
+        last = OPENING
         for at in range(count):
             span = (CLOSING - OPENING - 1_200_000) // count
-            self.later(OPENING + 60_000 + at * span + self.draw.randrange(span), self.ask)
+            when = OPENING + 60_000 + at * span + self.draw.randrange(span)
+            if at % 5 == 4:  # beside the one before
+                when = last + 15_000
+            self.later(when, self.ask)
+            last = when
         while self.coming or self.deadline is not None:
             moment = self.coming[0][0] if self.coming else CLOSING
             if self.deadline is not None and self.deadline <= moment:
@@ -268,8 +273,8 @@ class Market:
             self.later(again, lambda now: self.quote(request, dealer))
         if draw.random() < 0.12:
             self.later(when + draw.randrange(20_000, 90_000), lambda now: self.cancel(request, dealer))
-        if draw.random() < 0.03:
-            self.later(when + draw.randrange(20_000, 60_000), lambda now: self.cancel_all(dealer))
+        if draw.random() < 0.05:
+            self.later(when + draw.randrange(4_000, 40_000), lambda now: self.cancel_all(dealer))
         for _ in range(self.noise):
             self.later(when + draw.randrange(90_000), lambda now: self.quote(request, dealer, True))
 

@@ -36,6 +36,16 @@ class Commands(unittest.TestCase):
         with closing(sqlite3.connect(self.log, isolation_level=None)) as connection:
             connection.execute(query, values)
 
+    def change_answer(self, before: str, after: str) -> int:
+        """Changes the bytes of the first acceptance of a quote of ALPHA; answers its number."""
+        number = next(
+            row.number for row in Witness(DAY).sent
+            if row.firm == "ALPHA" and row.message["35"] == "AI" and row.message.get("297") == "0"
+        )
+        query = "UPDATE sent SET bytes = CAST(replace(bytes, %s, %s) AS BLOB) WHERE firm = 'ALPHA' AND number = ?"
+        self.change(query % (before, after), number)
+        return number
+
     # ------------------------------------------------------------ check
 
     def test_a_line_for_each_firm_and_one_verdict(self) -> None:
@@ -49,19 +59,22 @@ class Commands(unittest.TestCase):
         self.assertEqual(len(re.findall(r"(?m)^verdict: ", ran.out)), 1)
 
     def test_a_difference_has_firm_number_texts_and_place(self) -> None:
-        self.change("UPDATE sent SET bytes = CAST(replace(bytes, '297=0', '297=9') AS BLOB) WHERE firm = 'ALPHA' AND number = 2")
+        number = self.change_answer("'297=0'", "'297=9'")
         ran = audit("check", self.log)
         self.assertEqual(ran.status, 1)
-        place = next(row.place for row in Witness(DAY).sent if (row.firm, row.number) == ("ALPHA", 2))
-        self.assertIn("ALPHA: entry %d, number 2: the log has another message" % place, ran.out)
+        place = next(row.place for row in Witness(DAY).sent if (row.firm, row.number) == ("ALPHA", number))
+        text = "ALPHA: entry %d, number %d: the log has another message" % (place, number)
+        self.assertIn(text, ran.out)
         self.assertRegex(ran.out, r"the venue gives +8=FIXT\.1\.1\|.*297=0\|10=")
         self.assertRegex(ran.out, r"the log has +8=FIXT\.1\.1\|.*297=9\|10=")
         self.assertRegex(ran.out, r"(?m)^ALPHA .* NOT AS THEY SHOULD BE$")
         self.assertRegex(ran.out, r"(?m)^BRAVO .* as replayed")
 
     def test_a_bar_where_an_soh_should_stand(self) -> None:
-        self.change("UPDATE sent SET bytes = CAST(replace(bytes, char(1) || '297', '|297') AS BLOB) WHERE firm = 'ALPHA' AND number = 2")
-        self.assertEqual(audit("check", self.log).status, 1)
+        number = self.change_answer("char(1) || '297'", "'|297'")
+        ran = audit("check", self.log)
+        self.assertEqual(ran.status, 1)
+        self.assertRegex(ran.out, r"number %d: the log has another message than the venue gives" % number)
 
     def test_what_cannot_be_read(self) -> None:
         empty, text = self.place / "empty.db", self.place / "text.db"
@@ -133,9 +146,13 @@ class Commands(unittest.TestCase):
         self.assertEqual(audit("seal", day, "--sent", sent, "--key", sent).status, 2)
 
     def test_two_files_are_paged(self) -> None:
+        """One line more has bytes that are no message: the venue drops them without an answer."""
         day, sent = self.two_files()
+        day.write_bytes(day.read_bytes() + b"in ALPHA 17:00:00.000 no message\n")
         ran = audit("page", day, self.place / "pages", "--sent", sent)
         self.assertEqual(ran.status, 0, ran.text)
+        refused = sorted((self.place / "pages").glob("refused-*.html"))[-1].read_text()
+        self.assertEqual(refused.count("no answer"), 1)
         pages = len(list((self.place / "pages" / "requests").iterdir()))
         self.assertEqual(pages, len(Witness(self.log).requests))
 
@@ -193,7 +210,7 @@ class Commands(unittest.TestCase):
         self.assertEqual(audit("page", self.log, pages).status, 2)  # the folder is not empty
 
     def test_a_page_of_a_day_with_a_fault(self) -> None:
-        self.change("UPDATE sent SET bytes = CAST(replace(bytes, '297=0', '297=9') AS BLOB) WHERE firm = 'ALPHA' AND number = 2")
+        self.change_answer("'297=0'", "'297=9'")
         ran = audit("page", self.log, self.place / "pages")
         self.assertEqual(ran.status, 1, ran.text)
         text = (self.place / "pages" / "index.html").read_text()

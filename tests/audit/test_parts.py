@@ -12,7 +12,7 @@ from common import ROOT, folder
 from mireseason_audit.chain import ChainReader, hash_of
 from mireseason_audit.dictionary import read_dictionary
 from mireseason_audit.faults import Unreadable, Wrong
-from mireseason_audit.frame import barred, fault_of, fields_of, framed
+from mireseason_audit.frame import barred, fault_of, fields_of, framed, sum_of
 from mireseason_audit.jobs import held
 from mireseason_audit.lines import came_of, firm_and_time
 from mireseason_audit.pair import Compared, Differences, difference_words, differences
@@ -21,7 +21,7 @@ from mireseason_audit.reading import Reader
 from mireseason_audit.records import Entry, Sent, day_of
 from mireseason_audit.second_day import moved_fields
 from mireseason_audit.timeline import broken, gap_text
-from mireseason_audit.wire import carried
+from mireseason_audit.wire import carried, parts_of
 
 # Frames of docs/MESSAGES.md and docs/CONNECTING.md, with a bar for each SOH.
 ACCEPTED = "8=FIXT.1.1|9=73|35=AI|49=VENUE|56=DLR1|34=2|52=20250314-09:00:10.000|131=R1|117=a1|297=0|10=207|"
@@ -56,6 +56,11 @@ class Frames(unittest.TestCase):
                 if other != data[at]:
                     changed = data[:at] + bytes([other]) + data[at + 1 :]
                     self.assertIsNotNone(fault_of(changed), at)
+
+    def test_sums(self) -> None:
+        for length in (0, 1, 255, 256, 257, 4096):
+            for data in (b"\xff" * length, bytes(at * 7 % 256 for at in range(length))):
+                self.assertEqual(sum_of(data), sum(data) % 256)
 
     def test_bytes_that_are_no_text(self) -> None:
         self.assertEqual(barred(b"8=\xff\x01\x00|"), "8=\\xff|\\x00|")
@@ -133,6 +138,9 @@ class Chains(unittest.TestCase):
         self.assertIn("entry 0 is missing", self.found(second))
         earlier = entry(2, "09:00:00.500", b"clock 09:00:00.500", second.hash)
         self.assertEqual(len(self.found(first, second, earlier)), 1)
+        later = entry(1, "09:00:01.000", b"clock 09:00:01.000", first.hash, term=2)
+        older = entry(2, "09:00:02.000", b"clock 09:00:02.000", later.hash, term=1)
+        self.assertEqual(self.found(first, later, older), ["its term 1 is before 2, that of entry 1"])
         other = entry(2, "09:00:02.000", b"clock 09:00:03.000", second.hash)
         self.assertEqual(len(self.found(first, second, other)), 1)
         stranger = entry(2, "09:00:02.000", b"hex DLR1 09:00:02.000 00", second.hash, firm="DLR2", number=3)
@@ -163,8 +171,10 @@ class Wires(unittest.TestCase):
             (OFFERED, "|1181=3|131=A|117=Q2|55=[N/A]|48=BONDA0000001|22=4|54=1|133=99.515625|135=2000000"
                       "|62=20250314-09:04:00.000|60=20250314-09:00:20.000|537=1|453=1|448=DLR2|447=D|452=35"),
         ):
-            self.assertEqual(carried(soh(text), 9), soh(expected))
-        self.assertIsNone(carried(b"8=FIXT.1.1\x01", 9))
+            parts = parts_of(soh(text))
+            assert parts is not None
+            self.assertEqual(carried(parts, 9), soh(expected))
+        self.assertIsNone(parts_of(b"8=FIXT.1.1\x01"))
 
 
 class Holding(unittest.TestCase):
