@@ -25,7 +25,8 @@ Log::Log(Database &database, Committed &committed, DayClock &clock, Metrics &met
          std::function<void(const std::string &)> failed)
     : committed_entries_(committed), clock_(clock), metrics_(metrics), failed_(std::move(failed)),
       writer_(database.writer()), limit_(start.waiting), sessions_(std::move(start.sessions)),
-      next_place_(start.last.place + 1), term_(start.term), before_(start.last.hash), thread_([this](const std::stop_token &stop) { write(stop); }) {}
+      next_place_(start.last.place + 1), term_(start.term), before_(start.last.hash),
+      thread_([this](const std::stop_token &stop) { write(stop); }) {}
 
 Log::~Log() = default;
 
@@ -166,8 +167,7 @@ bool Log::write_batch(const std::stop_token &stop) {
     std::unique_lock lock(mutex_);
     wait_for_rows(lock, stop);
     if (!urgent_ && !stop.stop_requested()) {
-        changed_.wait_for(lock, stop, patience,
-                          [&] { return urgent_ || filling_.size >= many; });
+        changed_.wait_for(lock, stop, patience, [&] { return urgent_ || filling_.size >= many; });
     }
     if (filling_.rows.empty() && stop.stop_requested()) {
         return false;

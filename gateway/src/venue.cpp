@@ -29,8 +29,8 @@ std::string_view take_word(std::string_view &text) {
 
 Venue::Venue(Settings settings, Database &database, Committed &committed, const Digest &first_hash,
              VenueListener &listener, Metrics &metrics, std::shared_ptr<spdlog::logger> events)
-    : settings_(std::move(settings)), database_(database), committed_(committed), first_hash_(first_hash),
-      listener_(listener), metrics_(metrics), events_(std::move(events)),
+    : settings_(std::move(settings)), database_(database), committed_(committed),
+      first_hash_(first_hash), listener_(listener), metrics_(metrics), events_(std::move(events)),
       // The configuration, `%%`, and the line `#` whose mark says that the configuration was read.
       lines_before_(static_cast<std::size_t>(std::count(settings_.configuration.begin(),
                                                         settings_.configuration.end(), '\n')) +

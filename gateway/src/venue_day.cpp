@@ -28,8 +28,7 @@ std::unique_ptr<Database> open_database(const Config &config) {
     if (!config.sqlite.empty()) {
         return open_sqlite(config.sqlite.string());
     }
-    return open_postgres(
-        {config.postgres, config.schema, config.name, config.synchronous_commit});
+    return open_postgres({config.postgres, config.schema, config.name, config.synchronous_commit});
 }
 
 } // namespace
@@ -63,9 +62,7 @@ void VenueDay::follow(const std::function<bool()> &may) {
     const std::stop_token stop = status_.stopping();
     // A day begins with the gateway that speaks first. Where there is a log, only one whose venue
     // has answered it takes over: another may be ready at once.
-    const auto ready = [&] {
-        return may() && (!committed_ || answers_.wait(found_, 0ms, stop));
-    };
+    const auto ready = [&] { return may() && (!committed_ || answers_.wait(found_, 0ms, stop)); };
     Follower follower(*database_, events_, ready);
     if (!follower.follow(stop, [](LogReader &log) { return log.last_entry().has_value(); })) {
         return;

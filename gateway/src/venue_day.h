@@ -117,7 +117,7 @@ class VenueDay final : private SessionHost, private VenueListener {
     std::mutex reader_mutex_;
     std::unique_ptr<LogReader> reader_; // for what sessions send again
 
-    Entry last_; // the last entry of the log, as far as it was read
+    Entry last_;              // the last entry of the log, as far as it was read
     std::uint32_t found_ = 0; // the one when the venue was started
     std::unique_ptr<Committed> committed_;
     Comparison comparison_;
