@@ -60,6 +60,9 @@ class LogWriter {
     // Puts all rows there and returns when they are safe on disk. Throws as the reader does; the
     // rows may then be there or not, and nothing more is written.
     virtual void commit(const Batch &batch) = 0;
+
+    // Nothing waits: time for what need not be done at a commit.
+    virtual void rest() {}
 };
 
 // A database with the tables, held by this process alone until it is destroyed.

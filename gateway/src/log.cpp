@@ -3,6 +3,7 @@
 #include "frame.h"
 
 #include <stdexcept>
+#include <utility>
 
 #include <fmt/format.h>
 
@@ -15,6 +16,10 @@ using namespace std::chrono_literals;
 // How long rows wait that nobody waits for, and how many of them are no longer let wait.
 constexpr auto patience = 20ms;
 constexpr std::size_t many = 512;
+
+// After so many times without anything the database is given time for what need not be done at a
+// commit.
+constexpr int looks_to_rest = 5;
 
 // Committed entries that are kept for the venue: one that is slower reads them from the database.
 constexpr std::size_t kept = 8192;
@@ -39,7 +44,7 @@ Log::Ticket Log::append_message(const std::string &firm, std::optional<std::uint
     const std::string rest = fmt::format(" {}", hexadecimal(frame));
     const auto received = std::chrono::steady_clock::now();
     std::unique_lock lock(mutex_);
-    changed_.wait(lock, [&] { return (!held_ && has_room()) || !failure_.empty(); });
+    room_.wait(lock, [&] { return (!held_ && has_room()) || !failure_.empty(); });
     throw_if_failed();
     return append_here(std::move(entry), verb, rest, received);
 }
@@ -63,7 +68,7 @@ Log::Hold::Hold(Log &log) : log_(log) {
 Log::Hold::~Hold() {
     const std::lock_guard lock(log_.mutex_);
     log_.held_ = false;
-    log_.changed_.notify_all();
+    log_.room_.notify_all();
 }
 
 Log::Ticket Log::append_here(Entry entry, std::string_view verb, std::string_view rest,
@@ -76,22 +81,19 @@ Log::Ticket Log::append_here(Entry entry, std::string_view verb, std::string_vie
     filling_.rows.entries.push_back(std::move(entry));
     filling_.received.push_back(received);
     ++filling_.size;
-    urgent_ = true;
-    changed_.notify_all();
+    work_.notify_one();
     return filling_ticket_;
 }
 
 Log::Ticket Log::put(Outgoing outgoing, std::optional<Sent> carried) {
     std::unique_lock lock(mutex_);
     wait_for_room(lock);
-    const bool first = filling_.size == 0;
     if (carried) {
         filling_.rows.sent.push_back(std::move(*carried));
     }
     filling_.rows.outgoing.push_back(std::move(outgoing));
-    ++filling_.size;
-    if (first || filling_.size == many) {
-        changed_.notify_all();
+    if (++filling_.size == many) {
+        work_.notify_one();
     }
     return filling_ticket_;
 }
@@ -116,24 +118,27 @@ void Log::wait(Ticket ticket) {
     std::unique_lock lock(mutex_);
     if (ticket == filling_ticket_) {
         urgent_ = true;
-        changed_.notify_all();
+        work_.notify_one();
     }
-    changed_.wait(lock, [&] { return committed_ >= ticket || !failure_.empty(); });
+    done_.wait(lock, [&] { return committed_ >= ticket || !failure_.empty(); });
     throw_if_failed();
 }
 
 void Log::flush() {
-    Ticket ticket = 0;
-    {
-        const std::lock_guard lock(mutex_);
-        ticket = filling_.rows.empty() ? filling_ticket_ - 1 : filling_ticket_;
-    }
+    std::unique_lock lock(mutex_);
+    const Ticket ticket = filling_.rows.empty() ? filling_ticket_ - 1 : filling_ticket_;
+    const std::uint32_t place = next_place_ - 1;
+    lock.unlock();
     wait(ticket);
+    lock.lock();
+    // Entries may be taken without the rest of their batch.
+    done_.wait(lock, [&] { return committed_place_ >= place || !failure_.empty(); });
+    throw_if_failed();
 }
 
 std::optional<std::vector<LoggedEntry>> Log::committed(std::uint32_t from, std::stop_token stop) {
     std::unique_lock lock(mutex_);
-    changed_.wait(lock, stop, [&] { return committed_place_ >= from || !failure_.empty(); });
+    done_.wait(lock, stop, [&] { return committed_place_ >= from || !failure_.empty(); });
     if (stop.stop_requested() || committed_place_ < from) {
         return std::vector<LoggedEntry>{};
     }
@@ -156,7 +161,7 @@ std::string Log::failure() {
 }
 
 void Log::wait_for_room(std::unique_lock<std::mutex> &lock) {
-    changed_.wait(lock, [&] { return has_room() || !failure_.empty(); });
+    room_.wait(lock, [&] { return has_room() || !failure_.empty(); });
     throw_if_failed();
 }
 
@@ -168,20 +173,9 @@ void Log::throw_if_failed() const {
 
 void Log::write(std::stop_token stop) {
     std::unique_lock lock(mutex_);
-    for (;;) {
-        changed_.wait(lock, stop, [&] { return urgent_ || filling_.size > 0; });
-        if (!urgent_ && !stop.stop_requested()) {
-            changed_.wait_for(lock, stop, patience,
-                              [&] { return urgent_ || filling_.size >= many; });
-        }
-        if (filling_.rows.empty() && stop.stop_requested()) {
-            return;
-        }
-        Filling filling = std::move(filling_);
-        filling_ = Filling{};
-        urgent_ = false;
-        ++filling_ticket_;
-        changed_.notify_all();
+    while (wait_for_work(lock, stop)) {
+        Filling filling = take(stop.stop_requested());
+        room_.notify_all();
         lock.unlock();
         try {
             commit(filling);
@@ -192,6 +186,42 @@ void Log::write(std::stop_token stop) {
         lock.lock();
         publish(filling);
     }
+}
+
+bool Log::is_pressing() const {
+    return urgent_ || !filling_.rows.entries.empty() || filling_.size >= many;
+}
+
+bool Log::wait_for_work(std::unique_lock<std::mutex> &lock, const std::stop_token &stop) {
+    for (int looks = 1; !stop.stop_requested(); ++looks) {
+        // Rows that nobody waits for wake nobody: they are found when it looks again.
+        if (work_.wait_for(lock, stop, patience, [&] { return is_pressing(); }) ||
+            !filling_.rows.empty()) {
+            return true;
+        }
+        if (looks == looks_to_rest) {
+            lock.unlock();
+            writer_->rest();
+            lock.lock();
+        }
+    }
+    return !filling_.rows.empty();
+}
+
+Log::Filling Log::take(bool all) {
+    const auto now = std::chrono::steady_clock::now();
+    if (all || urgent_ || now - whole_at_ >= patience || filling_.size >= many) {
+        urgent_ = false;
+        whole_at_ = now;
+        ++filling_ticket_;
+        return std::exchange(filling_, Filling{});
+    }
+    Filling entries;
+    entries.is_whole = false;
+    entries.rows.entries.swap(filling_.rows.entries);
+    entries.received.swap(filling_.received);
+    filling_.size -= entries.rows.entries.size();
+    return entries;
 }
 
 void Log::commit(Filling &filling) {
@@ -222,15 +252,16 @@ void Log::publish(Filling &filling) {
     if (!recent_.empty()) {
         committed_place_ = recent_.back().entry.place;
     }
-    ++committed_;
-    changed_.notify_all();
+    committed_ += filling.is_whole ? 1 : 0;
+    done_.notify_all();
 }
 
 void Log::fail(const std::string &cause) {
     {
         const std::lock_guard lock(mutex_);
         failure_ = fmt::format("the log could not be written: {}", cause);
-        changed_.notify_all();
+        done_.notify_all();
+        room_.notify_all();
     }
     failed_(failure_);
 }
