@@ -4,7 +4,8 @@
 //     DISK_COPIES=FOLDER  behind each sync of a file *.db or *.db-wal: a copy of the file,
 //                         FOLDER/N.db or FOLDER/N.wal, and a line `N KIND BEGAN ENDED` in
 //                         FOLDER/syncs, the nanoseconds of the monotonic clock at which the sync
-//                         began and ended. N counts the syncs from 1
+//                         began and ended. N counts the syncs from 1, and goes on where a process
+//                         before this one has ended
 //     DISK_SLOW=MS        each sync of such a file takes so much longer
 //     DISK_FULL=N         from the end of the Nth sync on, each write to such a file fails: ENOSPC
 #include <dlfcn.h>
@@ -13,11 +14,13 @@
 #include <time.h>
 #include <unistd.h>
 
+#include <algorithm>
 #include <atomic>
 #include <cerrno>
 #include <cstdlib>
 #include <filesystem>
 #include <fstream>
+#include <iterator>
 #include <mutex>
 #include <string>
 #include <system_error>
@@ -58,11 +61,19 @@ long long nanoseconds() {
 std::atomic<long> syncs{0};
 std::mutex one_sync;
 
+long lines_in(const std::string &file) {
+    std::ifstream lines(file);
+    return std::count(std::istreambuf_iterator<char>(lines), std::istreambuf_iterator<char>(),
+                      '\n');
+}
+
 void keep(int file, const std::string &kind, long number, long long began) {
     const char *folder = std::getenv("DISK_COPIES");
     if (!folder)
         return;
     const std::string base = std::string(folder) + "/";
+    static const long kept_before = lines_in(base + "syncs");
+    number += kept_before;
     std::filesystem::copy_file(path_of(file), base + std::to_string(number) + "." + kind,
                                std::filesystem::copy_options::overwrite_existing);
     std::ofstream(base + "syncs", std::ios::app)
