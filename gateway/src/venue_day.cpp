@@ -80,6 +80,7 @@ void VenueDay::follow(const std::function<bool()> &may) {
         return;
     }
     has_term_ = true;
+    metrics_.speaks();
     if (catch_up()) {
         open_log(*follower.term());
         open_firms();
