@@ -144,7 +144,7 @@ void Venue::feed(Process &process, std::stop_token stop) {
             process.close_input();
             return;
         }
-        std::unique_ptr<LogReader> reader;
+        PatientReader reader(database_, stop);
         std::uint32_t next = 1;
         Digest before = first_hash_;
         for (bool going = true; going;) {
@@ -164,16 +164,13 @@ void Venue::feed(Process &process, std::stop_token stop) {
 }
 
 // None where the stop was asked for.
-std::vector<LoggedEntry> Venue::next_entries(std::uint32_t next, std::unique_ptr<LogReader> &reader,
+std::vector<LoggedEntry> Venue::next_entries(std::uint32_t next, PatientReader &reader,
                                              const std::stop_token &stop) {
     if (auto recent = committed_.wait(next, stop)) {
         return std::move(*recent);
     }
-    if (!reader) {
-        reader = database_.reader();
-    }
     std::vector<LoggedEntry> old;
-    for (Entry &entry : reader->entries(next, chunk)) {
+    for (Entry &entry : reader.ask([&](LogReader &log) { return log.entries(next, chunk); })) {
         old.push_back({std::move(entry), std::chrono::steady_clock::now()});
     }
     if (old.empty()) {

@@ -36,8 +36,8 @@ std::unique_ptr<Database> open_database(const Config &config) {
 VenueDay::VenueDay(const Config &config, Metrics &metrics, Status &status,
                    std::shared_ptr<spdlog::logger> events)
     : config_(config), metrics_(metrics), status_(status), events_(std::move(events)),
-      clock_(config_.firms.date), database_(open_database(config_)), comparison_(*database_),
-      ahead_(config_.waiting_messages) {
+      clock_(config_.firms.date), database_(open_database(config_)),
+      comparison_(*database_, status_.stopping()), ahead_(config_.waiting_messages) {
     if (!clock_.is_today()) {
         throw std::runtime_error(fmt::format(
             "the venue's configuration is of {}, and today is {} in UTC", clock_.date(), today()));
@@ -74,6 +74,7 @@ void VenueDay::follow(const std::function<bool()> &may) {
         }
         read_on(log);
         ahead_.settle(log);
+        tell_if_ready();
         return false;
     };
     if (!follower.term() && !follower.follow(stop, read)) {
@@ -101,6 +102,14 @@ void VenueDay::begin_venue(std::optional<std::uint32_t> term) {
     venue_->start();
     if (!term) {
         events_->info("follows{} entries={}", of_venue(), last_.place);
+    }
+}
+
+// Once: from now on a take-over costs no replay.
+void VenueDay::tell_if_ready() {
+    if (!ready_ && answers_.wait(found_, 0ms, status_.stopping())) {
+        ready_ = true;
+        events_->info("stands by{} entries={}", of_venue(), last_.place);
     }
 }
 

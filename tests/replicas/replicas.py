@@ -136,8 +136,8 @@ class Day:
             damage.what, time.monotonic() - damage.began), flush=True)
 
     def hosts_are_well(self) -> bool:
-        return (self.machine.speaking() is not None and self.machine.cluster.is_ready()
-                and all(gateway.service.is_running() for gateway in self.machine.gateways))
+        following = self.machine.following()
+        return following is not None and following.stands_by() and self.machine.cluster.is_ready()
 
     # ------------------------------------------------------------ its end
 
