@@ -76,9 +76,17 @@ class GatewayHost:
         return self.supervisor.services[self.name]
 
     def told(self) -> list[str]:
-        """The lines that it told since its last start."""
-        lines = self.log.read_text(errors="replace").splitlines() if self.log.exists() else []
-        return lines[-200:]
+        """What it told, of all its starts."""
+        return self.log.read_text(errors="replace").splitlines() if self.log.exists() else []
+
+    def stands_by(self) -> bool:
+        """Whether it follows with a venue that has answered all."""
+        for line in reversed(self.told()):
+            if " info stands by " in line:
+                return self.service.is_running()
+            if " info follows " in line:
+                return False
+        return False
 
     def last_words(self) -> str:
         return "\n".join(self.told()[-6:])

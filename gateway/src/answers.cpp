@@ -7,25 +7,30 @@ void Answers::begin(std::uint32_t last_place) {
     heeded_from_ = last_place;
     answered_.reset();
     deadline_.reset();
-    changed_.notify_all();
+    deadlines_.notify_all();
 }
 
 void Answers::put(std::uint32_t place, std::optional<Moment> deadline) {
     const std::lock_guard lock(mutex_);
+    const auto before = deadline_here();
     answered_ = place;
     deadline_ = deadline;
-    changed_.notify_all();
+    answers_.notify_all();
+    const auto now = deadline_here();
+    if (now && (!before || before->moment != now->moment)) {
+        deadlines_.notify_all();
+    }
 }
 
 bool Answers::wait(std::uint32_t place, const std::stop_token &stop) {
     std::unique_lock lock(mutex_);
-    return changed_.wait(lock, stop, [&] { return has_answered(place); });
+    return answers_.wait(lock, stop, [&] { return has_answered(place); });
 }
 
 bool Answers::wait(std::uint32_t place, std::chrono::milliseconds longest,
                    const std::stop_token &stop) {
     std::unique_lock lock(mutex_);
-    return changed_.wait_for(lock, stop, longest, [&] { return has_answered(place); });
+    return answers_.wait_for(lock, stop, longest, [&] { return has_answered(place); });
 }
 
 std::optional<Answers::Deadline> Answers::deadline_here() const {
@@ -42,14 +47,17 @@ std::optional<Answers::Deadline> Answers::deadline() {
 
 std::optional<Answers::Deadline> Answers::wait_for_deadline(const std::stop_token &stop) {
     std::unique_lock lock(mutex_);
-    changed_.wait(lock, stop, [&] { return deadline_here().has_value(); });
+    deadlines_.wait(lock, stop, [&] { return deadline_here().has_value(); });
     return stop.stop_requested() ? std::nullopt : deadline_here();
 }
 
-void Answers::wait_for_news(const Deadline &known, std::chrono::milliseconds longest,
-                            const std::stop_token &stop) {
+void Answers::wait_for_other(Moment known, std::chrono::milliseconds longest,
+                             const std::stop_token &stop) {
     std::unique_lock lock(mutex_);
-    changed_.wait_for(lock, stop, longest, [&] { return deadline_here() != known; });
+    deadlines_.wait_for(lock, stop, longest, [&] {
+        const auto now = deadline_here();
+        return now && now->moment != known;
+    });
 }
 
 } // namespace gateway

@@ -20,8 +20,6 @@ class Answers {
     struct Deadline {
         Moment moment;
         std::uint32_t place = 0; // the last one that was answered when it was told
-
-        bool operator==(const Deadline &) const = default;
     };
 
     // A process begins. Its deadlines are old ones until it has answered this place.
@@ -36,9 +34,9 @@ class Answers {
     std::optional<Deadline> deadline();
     // Waits for one; nothing where the stop was asked for.
     std::optional<Deadline> wait_for_deadline(const std::stop_token &stop);
-    // Waits until the deadline of now is another one, the place included, or so long.
-    void wait_for_news(const Deadline &known, std::chrono::milliseconds longest,
-                       const std::stop_token &stop);
+    // Waits until the deadline of now is another moment, or so long.
+    void wait_for_other(Moment known, std::chrono::milliseconds longest,
+                        const std::stop_token &stop);
 
   private:
     // The lock is held.
@@ -46,7 +44,8 @@ class Answers {
     std::optional<Deadline> deadline_here() const;
 
     std::mutex mutex_;
-    std::condition_variable_any changed_;
+    std::condition_variable_any answers_;   // for whoever waits for a place
+    std::condition_variable_any deadlines_; // for whoever waits for another deadline
     std::uint32_t heeded_from_ = 0;
     std::optional<std::uint32_t> answered_; // 0 where it has read its configuration
     std::optional<Moment> deadline_;

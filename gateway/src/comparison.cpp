@@ -14,8 +14,7 @@ constexpr std::uint32_t chunk = 512;
 } // namespace
 
 void Comparison::begin() {
-    reader_ = database_.reader();
-    const auto states = reader_->states();
+    const auto states = reader_.ask([](LogReader &log) { return log.states(); });
     const std::lock_guard lock(mutex_);
     firms_.clear();
     for (const auto &[firm, state] : states) {
@@ -41,7 +40,8 @@ bool Comparison::is_new(const std::string &firm, std::uint32_t number, const std
 void Comparison::compare(const std::string &firm, Messages &messages, const std::string &frame) {
     const std::uint32_t number = messages.given;
     if (messages.recorded.empty()) {
-        for (Sent &row : reader_->sent(firm, number, chunk)) {
+        for (Sent &row :
+             reader_.ask([&](LogReader &log) { return log.sent(firm, number, chunk); })) {
             messages.recorded.push_back(std::move(row));
         }
     }

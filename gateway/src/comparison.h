@@ -3,6 +3,7 @@
 #define GATEWAY_COMPARISON_H
 
 #include "database.h"
+#include "patient_reader.h"
 
 #include <deque>
 #include <map>
@@ -15,7 +16,8 @@ namespace gateway {
 // Used by the thread that reads the venue; check_sent() by any.
 class Comparison {
   public:
-    explicit Comparison(Database &database) : database_(database) {}
+    // Reads until the stop is asked for.
+    Comparison(Database &database, std::stop_token stop) : reader_(database, std::move(stop)) {}
 
     // A process of the venue begins. What the log has of its messages now is held against them.
     void begin();
@@ -35,8 +37,7 @@ class Comparison {
 
     void compare(const std::string &firm, Messages &messages, const std::string &frame);
 
-    Database &database_;
-    std::unique_ptr<LogReader> reader_;
+    PatientReader reader_;
     std::mutex mutex_;
     std::map<std::string, Messages> firms_;
 };

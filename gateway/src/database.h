@@ -64,6 +64,9 @@ class LogWriter {
     virtual void commit(const Batch &batch) = 0;
     // Says that this gateway is there. To be called each second; a commit says it too.
     virtual void be_seen() = 0;
+
+    // Nothing waits: time for what need not be done at a commit.
+    virtual void rest() {}
 };
 
 // The database is away, or another is the one that is written to: what was asked may be asked again

@@ -3,6 +3,7 @@
 #include "frame.h"
 
 #include <stdexcept>
+#include <utility>
 
 #include <fmt/format.h>
 
@@ -16,8 +17,12 @@ using namespace std::chrono_literals;
 constexpr auto patience = 20ms;
 constexpr std::size_t many = 512;
 
-// How often a gateway that has nothing to commit says that it is there.
-constexpr auto sign_of_life = 1s;
+// After so many times without anything the database is given time for what need not be done at a
+// commit.
+constexpr int looks_to_rest = 5;
+
+// After so many a gateway that has nothing to commit says that it is there: each second.
+constexpr int looks_to_be_seen = 50;
 
 } // namespace
 
@@ -25,7 +30,8 @@ Log::Log(Database &database, Committed &committed, DayClock &clock, Metrics &met
          std::function<void(const std::string &)> failed)
     : committed_entries_(committed), clock_(clock), metrics_(metrics), failed_(std::move(failed)),
       writer_(database.writer()), limit_(start.waiting), sessions_(std::move(start.sessions)),
-      next_place_(start.last.place + 1), term_(start.term), before_(start.last.hash), thread_([this](const std::stop_token &stop) { write(stop); }) {}
+      next_place_(start.last.place + 1), committed_place_(start.last.place), term_(start.term),
+      before_(start.last.hash), thread_([this](const std::stop_token &stop) { write(stop); }) {}
 
 Log::~Log() = default;
 
@@ -38,7 +44,7 @@ Log::Ticket Log::append_message(const std::string &firm, std::optional<std::uint
     const std::string rest = fmt::format(" {}", hexadecimal(frame));
     const auto received = std::chrono::steady_clock::now();
     std::unique_lock lock(mutex_);
-    changed_.wait(lock, [&] { return (!held_ && has_room()) || !failure_.empty(); });
+    room_.wait(lock, [&] { return (!held_ && has_room()) || !failure_.empty(); });
     throw_if_failed();
     return append_here(std::move(entry), verb, rest, received);
 }
@@ -62,7 +68,7 @@ Log::Hold::Hold(Log &log) : log_(log) {
 Log::Hold::~Hold() {
     const std::lock_guard lock(log_.mutex_);
     log_.held_ = false;
-    log_.changed_.notify_all();
+    log_.room_.notify_all();
 }
 
 Log::Ticket Log::append_here(Entry entry, std::string_view verb, std::string_view rest,
@@ -76,22 +82,19 @@ Log::Ticket Log::append_here(Entry entry, std::string_view verb, std::string_vie
     filling_.rows.entries.push_back(std::move(entry));
     filling_.received.push_back(received);
     ++filling_.size;
-    urgent_ = true;
-    changed_.notify_all();
+    work_.notify_one();
     return filling_ticket_;
 }
 
 Log::Ticket Log::put(Outgoing outgoing, std::optional<Sent> carried) {
     std::unique_lock lock(mutex_);
     wait_for_room(lock);
-    const bool first = filling_.size == 0;
     if (carried) {
         filling_.rows.sent.push_back(std::move(*carried));
     }
     filling_.rows.outgoing.push_back(std::move(outgoing));
-    ++filling_.size;
-    if (first || filling_.size == many) {
-        changed_.notify_all();
+    if (++filling_.size == many) {
+        work_.notify_one();
     }
     return filling_ticket_;
 }
@@ -116,19 +119,22 @@ void Log::wait(Ticket ticket) {
     std::unique_lock lock(mutex_);
     if (ticket == filling_ticket_) {
         urgent_ = true;
-        changed_.notify_all();
+        work_.notify_one();
     }
-    changed_.wait(lock, [&] { return committed_ >= ticket || !failure_.empty(); });
+    done_.wait(lock, [&] { return committed_ >= ticket || !failure_.empty(); });
     throw_if_failed();
 }
 
 void Log::flush() {
-    Ticket ticket = 0;
-    {
-        const std::lock_guard lock(mutex_);
-        ticket = filling_.rows.empty() ? filling_ticket_ - 1 : filling_ticket_;
-    }
+    std::unique_lock lock(mutex_);
+    const Ticket ticket = filling_.rows.empty() ? filling_ticket_ - 1 : filling_ticket_;
+    const std::uint32_t place = next_place_ - 1;
+    lock.unlock();
     wait(ticket);
+    lock.lock();
+    // Entries may be taken without the rest of their batch.
+    done_.wait(lock, [&] { return committed_place_ >= place || !failure_.empty(); });
+    throw_if_failed();
 }
 
 std::uint32_t Log::last_place() {
@@ -142,7 +148,7 @@ std::string Log::failure() {
 }
 
 void Log::wait_for_room(std::unique_lock<std::mutex> &lock) {
-    changed_.wait(lock, [&] { return has_room() || !failure_.empty(); });
+    room_.wait(lock, [&] { return has_room() || !failure_.empty(); });
     throw_if_failed();
 }
 
@@ -154,44 +160,61 @@ void Log::throw_if_failed() const {
 
 void Log::write(const std::stop_token &stop) {
     try {
-        while (write_batch(stop)) {
-        }
+        write_all(stop);
     } catch (const std::exception &fault) {
         fail(fault.what());
     }
 }
 
-// False at the end.
-bool Log::write_batch(const std::stop_token &stop) {
+void Log::write_all(const std::stop_token &stop) {
     std::unique_lock lock(mutex_);
-    wait_for_rows(lock, stop);
-    if (!urgent_ && !stop.stop_requested()) {
-        changed_.wait_for(lock, stop, patience,
-                          [&] { return urgent_ || filling_.size >= many; });
+    while (wait_for_work(lock, stop)) {
+        Filling filling = take(stop.stop_requested());
+        room_.notify_all();
+        lock.unlock();
+        commit(filling);
+        lock.lock();
+        publish(filling);
     }
-    if (filling_.rows.empty() && stop.stop_requested()) {
-        return false;
-    }
-    Filling filling = std::move(filling_);
-    filling_ = Filling{};
-    urgent_ = false;
-    ++filling_ticket_;
-    changed_.notify_all();
-    lock.unlock();
-    commit(filling);
-    lock.lock();
-    publish(filling);
-    return true;
 }
 
-// Until there are some or the stop was asked for. The lock is held before and behind.
-void Log::wait_for_rows(std::unique_lock<std::mutex> &lock, const std::stop_token &stop) {
-    const auto has_rows = [&] { return urgent_ || filling_.size > 0; };
-    while (!changed_.wait_for(lock, stop, sign_of_life, has_rows) && !stop.stop_requested()) {
+bool Log::is_pressing() const {
+    return urgent_ || !filling_.rows.entries.empty() || filling_.size >= many;
+}
+
+bool Log::wait_for_work(std::unique_lock<std::mutex> &lock, const std::stop_token &stop) {
+    for (int looks = 1; !stop.stop_requested(); ++looks) {
+        // Rows that nobody waits for wake nobody: they are found when it looks again.
+        if (work_.wait_for(lock, stop, patience, [&] { return is_pressing(); }) ||
+            !filling_.rows.empty()) {
+            return true;
+        }
         lock.unlock();
-        writer_->be_seen();
+        if (looks == looks_to_rest) {
+            writer_->rest();
+        }
+        if (looks % looks_to_be_seen == 0) {
+            writer_->be_seen();
+        }
         lock.lock();
     }
+    return !filling_.rows.empty();
+}
+
+Log::Filling Log::take(bool all) {
+    const auto now = std::chrono::steady_clock::now();
+    if (all || urgent_ || now - whole_at_ >= patience || filling_.size >= many) {
+        urgent_ = false;
+        whole_at_ = now;
+        ++filling_ticket_;
+        return std::exchange(filling_, Filling{});
+    }
+    Filling entries;
+    entries.is_whole = false;
+    entries.rows.entries.swap(filling_.rows.entries);
+    entries.received.swap(filling_.received);
+    filling_.size -= entries.rows.entries.size();
+    return entries;
 }
 
 void Log::commit(Filling &filling) {
@@ -215,18 +238,20 @@ void Log::publish(Filling &filling) {
     std::vector<LoggedEntry> entries;
     for (std::size_t at = 0; at < filling.rows.entries.size(); ++at) {
         metrics_.logged(now - filling.received[at]);
+        committed_place_ = filling.rows.entries[at].place;
         entries.push_back({std::move(filling.rows.entries[at]), filling.received[at]});
     }
     committed_entries_.put(std::move(entries));
-    ++committed_;
-    changed_.notify_all();
+    committed_ += filling.is_whole ? 1 : 0;
+    done_.notify_all();
 }
 
 void Log::fail(const std::string &cause) {
     {
         const std::lock_guard lock(mutex_);
         failure_ = fmt::format("the log could not be written: {}", cause);
-        changed_.notify_all();
+        done_.notify_all();
+        room_.notify_all();
     }
     committed_entries_.close();
     failed_(failure_);

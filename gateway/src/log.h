@@ -17,9 +17,9 @@
 namespace gateway {
 
 // Rows are put into the batch that is being filled; one thread commits it as soon as the one before
-// is committed, and at once where it has an entry or somebody waits for it. Rows that nobody waits
-// for ride along, for a few milliseconds at most. Any thread may put rows, and waits where too many
-// are there.
+// is committed and there is an entry, or somebody waits for it. Rows that nobody waits for stay in
+// it for a few milliseconds, so that an entry is not kept waiting for them. Any thread may put
+// rows, and waits where too many are there.
 //
 // Where a commit fails nothing is written any more: every call that needs the log throws, with the
 // cause, and `failed` is called once.
@@ -83,6 +83,7 @@ class Log {
         Batch rows;
         std::vector<std::chrono::steady_clock::time_point> received;
         std::size_t size = 0;
+        bool is_whole = true; // not its entries alone
     };
 
     // The lock is held.
@@ -93,8 +94,13 @@ class Log {
     void wait_for_room(std::unique_lock<std::mutex> &lock);
     void throw_if_failed() const;
     void write(const std::stop_token &stop);
-    bool write_batch(const std::stop_token &stop);
-    void wait_for_rows(std::unique_lock<std::mutex> &lock, const std::stop_token &stop);
+    void write_all(const std::stop_token &stop);
+    // False at the end, where nothing is left. The lock is held before and behind.
+    bool wait_for_work(std::unique_lock<std::mutex> &lock, const std::stop_token &stop);
+    // Whether there is what a commit does not wait for. The lock is held.
+    bool is_pressing() const;
+    // What is to be committed now. The lock is held.
+    Filling take(bool all);
     void commit(Filling &filling);
     void publish(Filling &filling);
     void fail(const std::string &cause);
@@ -107,15 +113,19 @@ class Log {
     const std::size_t limit_;
 
     std::mutex mutex_;
-    std::condition_variable_any changed_;
+    std::condition_variable_any work_; // for the writing thread
+    std::condition_variable_any done_; // for whoever waits for a commit
+    std::condition_variable_any room_; // for whoever has rows
     Filling filling_;
     bool urgent_ = false;
+    std::chrono::steady_clock::time_point whole_at_; // when a whole batch was taken last
     bool held_ = false;
     Ticket filling_ticket_ = 1;
     Ticket committed_ = 0;
     std::string failure_;
     std::map<std::string, SessionRow> sessions_;
     std::uint32_t next_place_;
+    std::uint32_t committed_place_;
     const std::uint32_t term_;
 
     Digest before_; // of the writing thread alone

@@ -131,7 +131,8 @@ class WritingConnection {
     void begin(const PostgresPlace &place) {
         const std::string &schema = place.schema;
         pqxx::nontransaction work(*connection_);
-        work.exec(fmt::format("SET synchronous_commit TO {}", work.quote(place.synchronous_commit)));
+        work.exec(
+            fmt::format("SET synchronous_commit TO {}", work.quote(place.synchronous_commit)));
         work.exec("SET client_min_messages TO warning");
         make_tables(work, schema);
         work.exec(fmt::format("SET search_path TO {}", work.quote_name(schema)));
@@ -151,8 +152,8 @@ class WritingConnection {
 
     // Two gateways that begin at once make them one behind the other.
     static void make_tables(pqxx::nontransaction &work, const std::string &schema) {
-        const std::string tables = fmt::format("SELECT FROM pg_tables WHERE schemaname = {}",
-                                               work.quote(schema));
+        const std::string tables =
+            fmt::format("SELECT FROM pg_tables WHERE schemaname = {}", work.quote(schema));
         if (!work.exec(tables).empty()) {
             return;
         }
@@ -161,8 +162,8 @@ class WritingConnection {
         work.exec(fmt::format("SELECT pg_advisory_xact_lock(hashtext({}))",
                               work.quote(fmt::format("mireseason {}", schema))));
         if (work.exec(tables).empty()) {
-            work.exec(fmt::format("CREATE SCHEMA IF NOT EXISTS {0}; SET LOCAL search_path TO {0}",
-                                  name));
+            work.exec(
+                fmt::format("CREATE SCHEMA IF NOT EXISTS {0}; SET LOCAL search_path TO {0}", name));
             work.exec(schema_text());
             work.exec(terms_text());
         }

@@ -1,143 +1,26 @@
 // The log in a file of SQLite: write-ahead logging, and every commit synchronised.
 #include "database.h"
 
+#include "descriptor.h"
+#include "sqlite_statement.h"
+
 #include <stdexcept>
 
 #include <fcntl.h>
 #include <fmt/format.h>
 #include <sqlite3.h>
 #include <sys/file.h>
+#include <sys/stat.h>
 #include <unistd.h>
 
 namespace gateway {
 
 namespace {
 
-struct CloseConnection {
-    void operator()(sqlite3 *connection) const { sqlite3_close_v2(connection); }
-};
-using ConnectionPointer = std::unique_ptr<sqlite3, CloseConnection>;
-
-struct FinalizeStatement {
-    void operator()(sqlite3_stmt *statement) const { sqlite3_finalize(statement); }
-};
-
-[[noreturn]] void fail(sqlite3 *connection, std::string_view what) {
-    throw std::runtime_error(fmt::format("SQLite, {}: {}", what, sqlite3_errmsg(connection)));
-}
-
-// A prepared statement: parameters are bound in order, columns read by place.
-class Statement {
-  public:
-    Statement(sqlite3 *connection, std::string_view text) : connection_(connection), text_(text) {
-        sqlite3_stmt *statement = nullptr;
-        if (sqlite3_prepare_v3(connection, text.data(), static_cast<int>(text.size()),
-                               SQLITE_PREPARE_PERSISTENT, &statement, nullptr) != SQLITE_OK) {
-            fail(connection, text);
-        }
-        statement_.reset(statement);
-    }
-
-    Statement &bind(std::int64_t value) {
-        return bound(sqlite3_bind_int64(statement_.get(), ++parameters_, value));
-    }
-    Statement &bind(const std::optional<std::uint32_t> &value) {
-        return value ? bind(std::int64_t{*value}) : bind_null();
-    }
-    Statement &bind(const std::string &text) {
-        return bound(sqlite3_bind_text64(statement_.get(), ++parameters_, text.data(), text.size(),
-                                         SQLITE_STATIC, SQLITE_UTF8));
-    }
-    Statement &bind(const std::optional<std::string> &text) {
-        return text ? bind(*text) : bind_null();
-    }
-    Statement &bind_bytes(std::string_view bytes) {
-        return bound(sqlite3_bind_blob64(statement_.get(), ++parameters_, bytes.data(),
-                                         bytes.size(), SQLITE_STATIC));
-    }
-    Statement &bind_bytes(const Digest &digest) {
-        return bound(sqlite3_bind_blob64(statement_.get(), ++parameters_, digest.data(),
-                                         digest.size(), SQLITE_STATIC));
-    }
-
-    // Whether there is a row.
-    bool step() {
-        const int result = sqlite3_step(statement_.get());
-        if (result == SQLITE_ROW) {
-            return true;
-        }
-        if (result != SQLITE_DONE) {
-            fail(connection_, text_);
-        }
-        reset();
-        return false;
-    }
-
-    // The end of a statement of which no row, or no further one, is wanted.
-    void run() {
-        while (step()) {
-        }
-    }
-    void reset() {
-        sqlite3_reset(statement_.get());
-        parameters_ = 0;
-    }
-
-    bool is_null(int column) const {
-        return sqlite3_column_type(statement_.get(), column) == SQLITE_NULL;
-    }
-    std::uint32_t number(int column) const {
-        return static_cast<std::uint32_t>(sqlite3_column_int64(statement_.get(), column));
-    }
-    std::string bytes(int column) const {
-        const void *data = sqlite3_column_blob(statement_.get(), column);
-        const int size = sqlite3_column_bytes(statement_.get(), column);
-        return data == nullptr
-                   ? std::string()
-                   : std::string(static_cast<const char *>(data), static_cast<std::size_t>(size));
-    }
-    Digest digest(int column) const {
-        const std::string text = bytes(column);
-        Digest digest{};
-        if (text.size() == digest.size()) {
-            std::copy(text.begin(), text.end(), digest.begin());
-        }
-        return digest;
-    }
-
-  private:
-    Statement &bind_null() { return bound(sqlite3_bind_null(statement_.get(), ++parameters_)); }
-    Statement &bound(int result) {
-        if (result != SQLITE_OK) {
-            fail(connection_, text_);
-        }
-        return *this;
-    }
-
-    sqlite3 *connection_;
-    std::string text_;
-    std::unique_ptr<sqlite3_stmt, FinalizeStatement> statement_;
-    int parameters_ = 0;
-};
-
-ConnectionPointer connect(const std::string &path, int flags) {
-    sqlite3 *raw = nullptr;
-    const int result = sqlite3_open_v2(path.c_str(), &raw, flags | SQLITE_OPEN_NOMUTEX, nullptr);
-    ConnectionPointer connection(raw);
-    if (result != SQLITE_OK) {
-        throw std::runtime_error(fmt::format("SQLite, {}: {}", path,
-                                             raw == nullptr ? "no memory" : sqlite3_errmsg(raw)));
-    }
-    sqlite3_extended_result_codes(raw, 1);
-    sqlite3_busy_timeout(raw, 10000);
-    return connection;
-}
-
-void execute(sqlite3 *connection, const char *text) {
-    if (sqlite3_exec(connection, text, nullptr, nullptr, nullptr) != SQLITE_OK) {
-        fail(connection, text);
-    }
-}
+using sqlite::connect;
+using sqlite::ConnectionPointer;
+using sqlite::execute;
+using sqlite::Statement;
 
 Entry read_entry(const Statement &row) {
     Entry entry;
@@ -248,6 +131,30 @@ class SqliteReader final : public LogReader {
     Statement went_;
 };
 
+// A write-ahead log that has its length beforehand is synchronised in half the time of one that
+// grows. SQLite reads it up to the first frame that is none, and begins it anew behind each
+// checkpoint.
+constexpr std::size_t usual_length = 8 << 20;
+
+// Where there is no room it grows as it would have.
+void lengthen(const std::string &log) {
+    const Descriptor file(::open(log.c_str(), O_WRONLY | O_CLOEXEC));
+    struct stat found {};
+    if (file.number() < 0 || ::fstat(file.number(), &found) != 0) {
+        return;
+    }
+    const std::string zeros(1 << 20, '\0');
+    off_t at = found.st_size;
+    while (at < static_cast<off_t>(usual_length)) {
+        const ssize_t count = ::pwrite(file.number(), zeros.data(), zeros.size(), at);
+        if (count <= 0) {
+            return;
+        }
+        at += count;
+    }
+    ::fsync(file.number());
+}
+
 class SqliteWriter final : public LogWriter {
   public:
     explicit SqliteWriter(const std::string &path)
@@ -285,6 +192,17 @@ class SqliteWriter final : public LogWriter {
             session_.bind(std::int64_t{row.logged_on}).run();
         }
         commit_.run();
+        ++commits_;
+    }
+
+    // Pages go from the write-ahead log into the file at such a time, so that no commit waits for
+    // it. One that fails fails nothing: they stand in the write-ahead log.
+    void rest() override {
+        if (commits_ >= commits_of_a_checkpoint) {
+            sqlite3_wal_checkpoint_v2(connection_.get(), nullptr, SQLITE_CHECKPOINT_PASSIVE,
+                                      nullptr, nullptr);
+            commits_ = 0;
+        }
     }
 
     // The file is locked: nobody looks.
@@ -294,10 +212,16 @@ class SqliteWriter final : public LogWriter {
     static ConnectionPointer connect_synchronised(const std::string &path) {
         ConnectionPointer connection = connect(path, SQLITE_OPEN_READWRITE);
         execute(connection.get(), "PRAGMA synchronous = FULL");
+        // Where there never is a rest a commit does it, at the usual length.
+        execute(connection.get(), "PRAGMA wal_autocheckpoint = 2000");
+        lengthen(path + "-wal");
         return connection;
     }
 
+    static constexpr unsigned commits_of_a_checkpoint = 100;
+
     ConnectionPointer connection_;
+    unsigned commits_ = 0; // since the last checkpoint
     Statement begin_;
     Statement commit_;
     Statement entry_;

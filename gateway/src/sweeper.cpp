@@ -25,7 +25,7 @@ void Sweeper::run(const std::stop_token &stop) {
         while (const auto next = answers_.wait_for_deadline(stop)) {
             const auto left = clock_.until(next->moment);
             if (left > 0ms) {
-                answers_.wait_for_news(*next, left, stop);
+                answers_.wait_for_other(next->moment, left, stop);
             } else {
                 sweep(*next, stop);
             }
@@ -39,7 +39,7 @@ void Sweeper::sweep(Answers::Deadline due, const std::stop_token &stop) {
     const Moment moment = due.moment;
     const auto latest = std::chrono::steady_clock::now() + patience;
     while (!sweep_behind(due.place, stop)) {
-        answers_.wait_for_news(due, look, stop);
+        answers_.wait_for_other(moment, look, stop);
         const auto now_due = answers_.deadline();
         if (stop.stop_requested() || !now_due || now_due->moment != moment) {
             return;

@@ -6,6 +6,7 @@
 #include "database.h"
 #include "metrics.h"
 #include "moment.h"
+#include "patient_reader.h"
 #include "process.h"
 
 #include <atomic>
@@ -76,7 +77,7 @@ class Venue {
     void set_running(Process *process);
     void feed(Process &process, std::stop_token stop);
     bool feed_entries(Process &process, const std::vector<LoggedEntry> &entries);
-    std::vector<LoggedEntry> next_entries(std::uint32_t next, std::unique_ptr<LogReader> &reader,
+    std::vector<LoggedEntry> next_entries(std::uint32_t next, PatientReader &reader,
                                           const std::stop_token &stop);
     void read(Process &process);
     void take_line(std::string_view line);

@@ -28,8 +28,7 @@ std::unique_ptr<Database> open_database(const Config &config) {
     if (!config.sqlite.empty()) {
         return open_sqlite(config.sqlite.string());
     }
-    return open_postgres(
-        {config.postgres, config.schema, config.name, config.synchronous_commit});
+    return open_postgres({config.postgres, config.schema, config.name, config.synchronous_commit});
 }
 
 } // namespace
@@ -37,8 +36,8 @@ std::unique_ptr<Database> open_database(const Config &config) {
 VenueDay::VenueDay(const Config &config, Metrics &metrics, Status &status,
                    std::shared_ptr<spdlog::logger> events)
     : config_(config), metrics_(metrics), status_(status), events_(std::move(events)),
-      clock_(config_.firms.date), database_(open_database(config_)), comparison_(*database_),
-      ahead_(config_.waiting_messages) {
+      clock_(config_.firms.date), database_(open_database(config_)),
+      comparison_(*database_, status_.stopping()), ahead_(config_.waiting_messages) {
     if (!clock_.is_today()) {
         throw std::runtime_error(fmt::format(
             "the venue's configuration is of {}, and today is {} in UTC", clock_.date(), today()));
@@ -63,9 +62,7 @@ void VenueDay::follow(const std::function<bool()> &may) {
     const std::stop_token stop = status_.stopping();
     // A day begins with the gateway that speaks first. Where there is a log, only one whose venue
     // has answered it takes over: another may be ready at once.
-    const auto ready = [&] {
-        return may() && (!committed_ || answers_.wait(found_, 0ms, stop));
-    };
+    const auto ready = [&] { return may() && (!committed_ || answers_.wait(found_, 0ms, stop)); };
     Follower follower(*database_, events_, ready);
     if (!follower.follow(stop, [](LogReader &log) { return log.last_entry().has_value(); })) {
         return;
@@ -77,12 +74,14 @@ void VenueDay::follow(const std::function<bool()> &may) {
         }
         read_on(log);
         ahead_.settle(log);
+        tell_if_ready();
         return false;
     };
     if (!follower.term() && !follower.follow(stop, read)) {
         return;
     }
     has_term_ = true;
+    metrics_.speaks();
     if (catch_up()) {
         open_log(*follower.term());
         open_firms();
@@ -103,6 +102,14 @@ void VenueDay::begin_venue(std::optional<std::uint32_t> term) {
     venue_->start();
     if (!term) {
         events_->info("follows{} entries={}", of_venue(), last_.place);
+    }
+}
+
+// Once: from now on a take-over costs no replay.
+void VenueDay::tell_if_ready() {
+    if (!ready_ && answers_.wait(found_, 0ms, status_.stopping())) {
+        ready_ = true;
+        events_->info("stands by{} entries={}", of_venue(), last_.place);
     }
 }
 

@@ -69,6 +69,7 @@ class VenueDay final : private SessionHost, private VenueListener {
     };
 
     void begin_venue(std::optional<std::uint32_t> term);
+    void tell_if_ready();
     bool read_on(LogReader &log);
     bool catch_up();
     void open_log(std::uint32_t term);
@@ -117,8 +118,9 @@ class VenueDay final : private SessionHost, private VenueListener {
     std::mutex reader_mutex_;
     std::unique_ptr<LogReader> reader_; // for what sessions send again
 
-    Entry last_; // the last entry of the log, as far as it was read
+    Entry last_;              // the last entry of the log, as far as it was read
     std::uint32_t found_ = 0; // the one when the venue was started
+    bool ready_ = false;      // it was answered
     std::unique_ptr<Committed> committed_;
     Comparison comparison_;
     Ahead ahead_;

@@ -2,9 +2,9 @@
 //
 // usage: log_bench CONNECTION LOGS THREADS SECONDS
 //
-// LOGS logs, each a schema that is dropped behind it; in each of them THREADS threads that append a message of 200 bytes
-// and wait until it is committed, again and again. Prints the messages a second of all logs together, and how long one
-// waited.
+// LOGS logs, each a schema that is dropped behind it; in each of them THREADS threads that append a
+// message of 200 bytes and wait until it is committed, again and again. Prints the messages a
+// second of all logs together, and how long one waited.
 #include "log.h"
 
 #include <algorithm>
@@ -85,8 +85,7 @@ void run(const std::string &connection, unsigned logs, unsigned threads, unsigne
     const auto end = Clock::now() + std::chrono::seconds(seconds);
     std::vector<std::jthread> running;
     for (unsigned at = 0; at < waits.size(); ++at) {
-        running.emplace_back(
-            [&, at] { waits[at] = all[at / threads]->append(at % threads, end); });
+        running.emplace_back([&, at] { waits[at] = all[at / threads]->append(at % threads, end); });
     }
     running.clear();
     Waits together;
@@ -95,7 +94,8 @@ void run(const std::string &connection, unsigned logs, unsigned threads, unsigne
     }
     std::ranges::sort(together);
     const auto part = [&](double share) {
-        return together.at(static_cast<std::size_t>(share * static_cast<double>(together.size() - 1)));
+        return together.at(
+            static_cast<std::size_t>(share * static_cast<double>(together.size() - 1)));
     };
     std::cout << fmt::format("{} logs, {} threads each: {} messages a second; waited {:.2f} ms in "
                              "the median, {:.2f} ms at the 99th percentile\n",

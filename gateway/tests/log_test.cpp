@@ -201,8 +201,8 @@ void changed_entries() {
 void run(const std::vector<std::string> &arguments) {
     const std::filesystem::path folder = arguments.at(0);
     if (arguments.size() > 1) {
-        const auto database = open_postgres(
-            {arguments[1], fmt::format("log_test_{}", ::getpid()), "log_test"});
+        const auto database =
+            open_postgres({arguments[1], fmt::format("log_test_{}", ::getpid()), "log_test"});
         many_threads(*database);
         a_held_log(*database);
     } else {

@@ -7,6 +7,7 @@ Runs terms_test and log_test of OUT on the primary, and log_bench with one, two 
 """
 
 import argparse
+import signal
 import subprocess
 import sys
 import tempfile
@@ -36,6 +37,8 @@ def main() -> None:
     parser.add_argument("--images", type=Path, default=Path("/dev/shm/mireseason"))
     words = parser.parse_args()
     failed = 0
+    # Hosts are taken away also where it is interrupted.
+    signal.signal(signal.SIGTERM, lambda *_: sys.exit(143))
     with tempfile.TemporaryDirectory(prefix="mrt") as name:
         folder = Path(name)
         folder.chmod(0o755)

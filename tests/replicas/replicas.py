@@ -11,6 +11,7 @@ sent is in the log once. A gateway that was cut off from the database has ended 
 
 import argparse
 import shutil
+import signal
 import sys
 import tempfile
 import time
@@ -135,8 +136,8 @@ class Day:
             damage.what, time.monotonic() - damage.began), flush=True)
 
     def hosts_are_well(self) -> bool:
-        return (self.machine.speaking() is not None and self.machine.cluster.is_ready()
-                and all(gateway.service.is_running() for gateway in self.machine.gateways))
+        following = self.machine.following()
+        return following is not None and following.stands_by() and self.machine.cluster.is_ready()
 
     # ------------------------------------------------------------ its end
 
@@ -235,6 +236,8 @@ def read_words() -> argparse.Namespace:
 
 def main() -> None:
     words, failed = read_words(), 0
+    # Hosts are taken away also where it is interrupted.
+    signal.signal(signal.SIGTERM, lambda *_: sys.exit(143))
     for seed in range(words.seed, words.seed + words.days):
         with tempfile.TemporaryDirectory(prefix="mrt") as name:
             folder = Path(name)
