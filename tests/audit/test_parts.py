@@ -257,6 +257,8 @@ class Pairs(unittest.TestCase):
         self.assertTrue(other.only_cover and other.are_declared)
         ended = self.held(shown + own + cover, shown + own + "closed 1 3 09:05:00.000\n")
         self.assertTrue(ended.are_declared and not ended.only_cover)
+        later = self.held(shown + own + away, shown + own + "closed 1 5 09:01:00.001\n")
+        self.assertEqual((later.moved_notices, later.only_cover), (1, False))
         lifted = self.held(shown + own + "lifted 1\n", shown + own)
         self.assertEqual((lifted.lifted, lifted.only_cover), ((1, 0), False))
         lost = self.held(shown + own, shown)
