@@ -20,6 +20,8 @@ from .templates import Templates
 from .venue import Venue, message_of
 
 SHOWN_LINES = 40
+MOVED_BY = 32  # 32nds: a point
+MOST_RANKED = 500  # requests among which one is chosen
 
 
 @dataclass(frozen=True)
@@ -153,31 +155,45 @@ class Sums:
 def seconds_for(
     source: Source, day: Day, requests: list[Request], folder: Path, day_file: Path, key: int | None
 ) -> list[Second]:
-    """Second days: one dealer's prices on a request moved, and for its certificate another's."""
-    request = chosen(requests, key)
-    if request is None:
-        return []
+    """Second days for all certificates: on each of some requests the prices of one dealer moved."""
     found = []
-    for mover in movers(request):
-        changed = MovedDay()
-        path, both = folder / ("second-%s.live" % mover), folder / ("both-%s.live" % mover)
-        by = -32 if request.buys else 32
-        with source.open() as log:
-            changed.write(log, day, on_request(request, mover, by), path)
-        append(day_file, path, both)
-        found.append(Second(request, mover, tuple(changed.moved), path, both))
+    for request in chosen(requests, [firm.name for firm in day.dealers], key):
+        for mover in movers(request):
+            name = "%d-%s" % (request.key, mover)
+            path, both = folder / ("second-%s.live" % name), folder / ("both-%s.live" % name)
+            changed, by = MovedDay(), -MOVED_BY if request.buys else MOVED_BY
+            with source.open() as log:
+                changed.write(log, day, on_request(request, mover, by), path)
+            if changed.moved:
+                append(day_file, path, both)
+                found.append(Second(request, mover, tuple(changed.moved), path, both))
     return found
 
 
-def chosen(requests: list[Request], key: int | None) -> Request | None:
-    """The request that is named, or else the first that was awarded with a cover, or the first."""
+def chosen(requests: list[Request], dealers: list[str], key: int | None) -> list[Request]:
+    """The request that is named, or as few as have asked all dealers, those with a cover first."""
     if key is not None:
-        return next((one for one in requests if one.key == key), None)
-    awarded = [one for one in requests if one.winner and one.cover]
-    return next(iter(awarded or requests), None)
+        return [one for one in requests if one.key == key]
+    ranked = sorted(requests, key=lambda one: (not one.cover, not one.winner, one.key))
+    waiting, found = set(dealers), []
+    while waiting and ranked:
+        best = max(ranked[:MOST_RANKED], key=lambda one: len(waiting & set(one.dealers)))
+        ranked.remove(best)
+        if not waiting & set(best.dealers):
+            break
+        waiting -= set(best.dealers)
+        found.append(best)
+    return found
 
 
 def movers(request: Request) -> list[str]:
     """The dealer whose prices are moved, and another one for that dealer's own certificate."""
     listed = [request.winner, request.cover, *request.dealers]
     return list(dict.fromkeys(name for name in listed if name))[:2]
+
+
+def second_for(seconds: list[Second], dealer: str) -> Second | None:
+    """A second day on a request that the dealer was asked, with another dealer's prices moved."""
+    others = [one for one in seconds if one.mover != dealer]
+    asked = [one for one in others if dealer in one.request.dealers]
+    return next(iter(asked or others), None)

@@ -1,11 +1,12 @@
 """Frames of FIXT.1.1: bytes into fields, and fields into bytes."""
 
+import re
 import zlib
 from collections.abc import Iterable
 
 from .records import SOH
 
-START = b"8=FIXT.1.1\x019="
+START = re.compile(rb"8=FIXT\.1\.1\x019=([0-9]{1,6})\x01")
 CHECKSUM_BYTES = 7  # 10=ccc and its SOH
 TAGS = {b"%d" % tag: tag for tag in range(1, 2000)}  # those that messages have, at hand
 
@@ -57,13 +58,12 @@ def framed(fields: Iterable[tuple[int, bytes]]) -> bytes:
 
 def fault_of(data: bytes) -> str | None:
     """What is wrong with a frame's length or sum; None where nothing is."""
-    if not data.startswith(START) or len(data) < len(START) + CHECKSUM_BYTES:
+    found = START.match(data)
+    if found is None:
         return "it does not begin as a frame of FIXT.1.1"
-    length, soh, rest = data[len(START) :].partition(SOH)
-    if not soh or not length.isdigit() or int(length) != len(rest) - CHECKSUM_BYTES:
+    if len(data) - found.end() - CHECKSUM_BYTES != int(found[1]):
         return "its length is not the one that it says"
-    end = data[-CHECKSUM_BYTES:]
-    if end != b"10=%03d\x01" % sum_of(data[:-CHECKSUM_BYTES]):
+    if data[-CHECKSUM_BYTES:] != b"10=%03d\x01" % sum_of(data[:-CHECKSUM_BYTES]):
         return "its sum is not the one that it says"
     return None
 

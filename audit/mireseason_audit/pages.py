@@ -7,7 +7,7 @@ from itertools import islice
 from pathlib import Path
 
 from .book import Book, Fault
-from .certificates import CertificateJob, Second, seconds_for
+from .certificates import CertificateJob, second_for, seconds_for
 from .check import Checker, Result, Verdict, judged, rows_of
 from .dictionary import read_dictionary
 from .faults import Unreadable
@@ -151,11 +151,6 @@ def day_page(page: int) -> str:
 
 def fault_link(fault: Fault) -> str:
     return "%s#e%d" % (page_name(fault.firm, fault.place), fault.place)
-
-
-def second_for(seconds: list[Second], dealer: str) -> Second | None:
-    """The first second day in which another one than this dealer moves its prices."""
-    return next((one for one in seconds if one.mover != dealer), None)
 
 
 def make_folders(folder: Path) -> None:

@@ -144,13 +144,13 @@ def difference_words(found: Differences) -> list[str]:
         is_cover = set(pair) == {"cover", "done away"}
         words.append("%s %s" % (text, COVER if is_cover else END))
     if found.moved_notices:
-        words.append("%d notices come at another moment. %s" % (found.moved_notices, END))
+        words.append("Notices at another moment: %d. %s" % (found.moved_notices, END))
     if any(found.lifted):
-        text = "%d of its quotes are lifted no longer, and %d others are. %s"
+        text = "Quotes of its own that are lifted no longer: %d, and others that are: %d. %s"
         words.append(text % (*found.lifted, LIFTED))
     reasons = {"shown": ("requests shown", SHOWN), "drop": ("drops", DROP)}
     for kind, count in sorted(found.others.items()):
         if count:
             name, reason = reasons.get(kind, ("own messages", OWN))
-            words.append("%d %s are not in both lists. %s" % (count, name, reason))
+            words.append("%s in one list alone: %d. %s" % (name.capitalize(), count, reason))
     return words

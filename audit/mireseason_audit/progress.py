@@ -15,7 +15,7 @@ class Progress:
     def __init__(self, stream: TextIO = sys.stderr) -> None:
         self._stream = stream
         self._shown = stream.isatty()
-        self._words, self._total, self._done, self._last = "", 0, 0, ""
+        self._words, self._total, self._done, self._last = "", 1, 0, ""
 
     def begin(self, words: str, total: int) -> None:
         """A new part of the work, of so many rows."""

@@ -6,6 +6,7 @@ its moment in TransactTime (60), whose place depends on the type; the rest of it
 venue's, byte for byte.
 """
 
+import re
 from collections.abc import Iterator
 from typing import NamedTuple
 
@@ -29,13 +30,17 @@ class Parts(NamedTuple):
     body: bytes  # all fields behind 52, with an SOH before each and none behind the last
 
 
+FRAME = re.compile(
+    rb"8=FIXT\.1\.1\x019=\d+\x0135=([^\x01]*)\x0149=[^\x01]*\x0156=[^\x01]*"
+    rb"\x0134=([^\x01]*)\x0152=([^\x01]*)(.*)\x0110=\d{3}\x01\Z",
+    re.DOTALL,
+)
+
+
 def parts_of(frame: bytes) -> Parts | None:
     """A frame that begins with 8, 9, 35, 49, 56, 34 and 52."""
-    fields = frame.split(SOH, 7)
-    if len(fields) < 8 or fields[2][:3] != b"35=" or fields[5][:3] != b"34=":
-        return None
-    rest = fields[7][:-CHECKSUM_BYTES].removesuffix(SOH)
-    return Parts(fields[2][3:], fields[5][3:], fields[6][3:], SOH + rest)
+    found = FRAME.match(frame)
+    return Parts(*found.groups()) if found else None
 
 
 def carried(parts: Parts, session_number: int | None) -> bytes:

@@ -246,6 +246,11 @@ class Commands(unittest.TestCase):
         self.assertEqual(ran.status, 0, ran.text)
         self.assertEqual(len(re.findall(r"compare ALPHA --live: row equal", ran.out)), 2)
         self.assertRegex(ran.out, r"quotes of 4 dealers moved by up to 64 32nds")
+        prices, without = ran.out.split("Others' messages")
+        self.assertNotRegex(prices, r"expired|won|lifted")
+        # Its quotes that were hit are hit without the others, too, by the names that they have then.
+        self.assertRegex(without, r"[1-9][0-9]* hits of its quotes name them")
+        self.assertNotRegex(without, r"lifted no longer: [1-9]")
         self.assertEqual(audit("pair", self.log, "FJORD").status, 2)
         self.assertEqual(audit("pair", self.log, "NOBODY").status, 2)
 

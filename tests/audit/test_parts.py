@@ -3,6 +3,8 @@ entries and names.
 """
 
 import hashlib
+import io
+import os
 import unittest
 from collections import Counter
 from pathlib import Path
@@ -17,11 +19,13 @@ from mireseason_audit.jobs import held
 from mireseason_audit.lines import came_of, firm_and_time
 from mireseason_audit.pair import Compared, Differences, difference_words, differences
 from mireseason_audit.prices import Price
+from mireseason_audit.progress import Progress
 from mireseason_audit.reading import Reader
 from mireseason_audit.records import Entry, Sent, day_of
 from mireseason_audit.second_day import moved_fields
 from mireseason_audit.timeline import broken, gap_text
 from mireseason_audit.wire import carried, parts_of
+from mireseason_audit.work import run_jobs
 
 # Frames of docs/MESSAGES.md and docs/CONNECTING.md, with a bar for each SOH.
 ACCEPTED = "8=FIXT.1.1|9=73|35=AI|49=VENUE|56=DLR1|34=2|52=20250314-09:00:10.000|131=R1|117=a1|297=0|10=207|"
@@ -237,6 +241,37 @@ class Words(unittest.TestCase):
         self.assertEqual([gap_text(gap) for gap in (0.04, 59.9, 61, 3600)], ["+0.040 s", "+59.900 s", "+1 min 01 s", "+60 min 00 s"])
 
 
+class Terminal(io.StringIO):
+    def isatty(self) -> bool:
+        return True
+
+
+class Bars(unittest.TestCase):
+    def test_a_bar_on_a_terminal_and_nothing_elsewhere(self) -> None:
+        for stream, shown in ((Terminal(), True), (io.StringIO(), False)):
+            progress = Progress(stream)
+            progress.begin("entries", 4000)
+            for _ in range(4):
+                progress.step(1000)
+            progress.end()
+            bars = [text.partition("]")[0] for text in stream.getvalue().split("\r") if "[" in text and "%" in text]
+            self.assertEqual([bar.count("#") for bar in bars], [0, 10, 20, 30, 40] if shown else [])
+            self.assertEqual(stream.getvalue().endswith("\r\x1b[K"), shown)
+
+    def test_jobs_in_processes(self) -> None:
+        """Results come in the order of the jobs; a fault of a process is raised here."""
+        progress = Progress(io.StringIO())
+        jobs = [lambda step, at=at: at * at for at in range(9)]
+        self.assertEqual(run_jobs(jobs, 3, progress), [at * at for at in range(9)])
+        self.assertEqual(run_jobs([], 3, progress), [])
+
+        def fails(step: object) -> int:
+            raise Unreadable("this")
+
+        self.assertRaisesRegex(Unreadable, "this", run_jobs, [*jobs, fails], 2, progress)
+        self.assertRaisesRegex(Unreadable, "status 3", run_jobs, [lambda step: os._exit(3)], 1, progress)
+
+
 class Pairs(unittest.TestCase):
     def held(self, first: str, second: str) -> Differences:
         head = "date 20250314\ndealer DLR1 4 10000000 T1\n"
@@ -257,6 +292,8 @@ class Pairs(unittest.TestCase):
         self.assertTrue(other.only_cover and other.are_declared)
         ended = self.held(shown + own + cover, shown + own + "closed 1 3 09:05:00.000\n")
         self.assertTrue(ended.are_declared and not ended.only_cover)
+        later = self.held(shown + own + away, shown + own + "closed 1 5 09:01:00.001\n")
+        self.assertEqual((later.moved_notices, later.only_cover), (1, False))
         lifted = self.held(shown + own + "lifted 1\n", shown + own)
         self.assertEqual((lifted.lifted, lifted.only_cover), ((1, 0), False))
         lost = self.held(shown + own, shown)
