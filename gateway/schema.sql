@@ -27,7 +27,7 @@ INSERT INTO form (number) VALUES (1);
 -- and 32 zero bytes at place 0.
 CREATE TABLE entry (
     place  INTEGER PRIMARY KEY,
-    term   INTEGER NOT NULL,    -- of the gateway that wrote it; 0 where only one may write
+    term   INTEGER NOT NULL,    -- of the gateway that wrote it (terms.sql); 0 in SQLite, where only one may
     moment TEXT    NOT NULL,    -- of receipt, HH:MM:SS.sss in UTC, never falling
     firm   TEXT,                -- whose message it is; NULL at place 0 and in a clock line
     number INTEGER,             -- MsgSeqNum (34) of the session; NULL where no message came: at place 0, in

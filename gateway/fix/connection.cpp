@@ -234,7 +234,10 @@ bool Connection::find_session(const std::string &logon) {
         shut("the first message is no Logon to VENUE");
         return false;
     }
-    const auto found = sessions_.find(firm);
+    auto found = sessions_.find(session_name(value_in(logon, "57"), firm));
+    if (found == sessions_.end()) {
+        found = sessions_.find(firm);
+    }
     if (found == sessions_.end()) {
         events_.refused("unknown firm", peer_ + ": " + firm.substr(0, 40));
         shut("an unknown firm");

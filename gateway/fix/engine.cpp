@@ -56,6 +56,10 @@ Descriptor listen_at(const std::string &address, std::uint16_t port) {
 
 } // namespace
 
+std::string session_name(const std::string &venue, const std::string &firm) {
+    return venue.empty() ? firm : venue + "/" + firm;
+}
+
 class Engine::Parts {
   public:
     Parts(const EngineSettings &settings, const std::vector<SessionStart> &starts,
@@ -70,7 +74,8 @@ class Engine::Parts {
                                             settings_.authorities, settings_.client_certificates);
         }
         for (const SessionStart &start : starts) {
-            sessions_[start.firm] = std::make_unique<FirmSession>(start, settings_, events_);
+            sessions_[session_name(start.venue, start.firm)] =
+                std::make_unique<FirmSession>(start, settings_, events_);
         }
     }
     ~Parts() { stop(""); }
@@ -80,10 +85,10 @@ class Engine::Parts {
         thread_ = std::thread([this] { run(); });
     }
 
-    FirmSession &session(const std::string &firm) const {
-        const auto found = sessions_.find(firm);
+    FirmSession &session(const std::string &name) const {
+        const auto found = sessions_.find(name);
         if (found == sessions_.end()) {
-            throw std::runtime_error("no session of " + firm);
+            throw std::runtime_error("no session " + name);
         }
         return *found->second;
     }
@@ -180,15 +185,15 @@ void Engine::listen() {
 }
 
 void Engine::deliver(const Delivery &delivery) {
-    parts_->session(delivery.firm).deliver(delivery);
+    parts_->session(delivery.session).deliver(delivery);
 }
 
-bool Engine::is_settling(const std::string &firm) const {
-    return parts_->session(firm).is_settling();
+bool Engine::is_settling(const std::string &session) const {
+    return parts_->session(session).is_settling();
 }
 
-void Engine::disconnect(const std::string &firm) {
-    parts_->session(firm).shut();
+void Engine::disconnect(const std::string &session) {
+    parts_->session(session).shut();
 }
 
 void Engine::stop(const std::string &reason) {

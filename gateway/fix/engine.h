@@ -13,6 +13,7 @@ namespace gateway {
 
 // A message of the venue on its way to a firm.
 struct Delivery {
+    std::string session; // its name
     std::string firm;
     std::uint32_t number = 0; // the venue's
     std::uint32_t place = 0;  // of the entry that it answers
@@ -65,6 +66,7 @@ class SessionHost {
 // Where a session is when the gateway starts.
 struct SessionStart {
     std::string firm;
+    std::string venue; // that its Logon names as TargetSubID (57); empty where it need not
     SessionHost *host = nullptr; // outlives the engine
     std::uint32_t sender = 1;    // the next number to the firm
     std::uint32_t target = 1;    // the next number that is expected of it
@@ -100,7 +102,10 @@ struct EngineSettings {
     std::size_t waiting_bytes = 4194304;
 };
 
-// One session a firm, VENUE to it. Each connection has a thread of its own.
+// The name of a firm's session with a venue. A venue that is the only one has no name.
+std::string session_name(const std::string &venue, const std::string &firm);
+
+// One session a firm and venue, VENUE to it. Each connection has a thread of its own.
 class Engine {
   public:
     // Throws std::runtime_error where a certificate or a key can't be used.
@@ -113,14 +118,14 @@ class Engine {
     // Takes connections from now on. Throws std::runtime_error where the address can't be had.
     void listen();
 
-    // Gives a message to the firm's session: it is stored under the session's next number, and sent
+    // Gives a message to its session: it is stored under the session's next number, and sent
     // if the firm is there. One thread at a time for one firm. Throws what the host throws.
     void deliver(const Delivery &delivery);
     // Whether the firm's session is between its Logon and the answer to the TestRequest behind it.
     // Then the firm may be filling a gap, and messages had better wait.
-    bool is_settling(const std::string &firm) const;
+    bool is_settling(const std::string &session) const;
     // Ends the firm's connection, if there is one. Does not wait for anything.
-    void disconnect(const std::string &firm);
+    void disconnect(const std::string &session);
 
     // No new connections, and all sessions are logged out, for this reason; where it is empty the
     // connections end at once. Returns when all connections have ended.

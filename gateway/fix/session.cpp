@@ -76,9 +76,9 @@ FirmSession::FirmSession(const SessionStart &start, const EngineSettings &settin
     // From midnight to midnight is always.
     const FIX::TimeRange always(FIX::UtcTimeOnly(0, 0, 0), FIX::UtcTimeOnly(0, 0, 0));
     FIX::Application &application = *this;
-    session_ = std::make_unique<FIX::Session>(application, stores_,
-                                              FIX::SessionID("FIXT.1.1", "VENUE", firm_),
-                                              FIX::DataDictionaryProvider(), always, 0, &logs_);
+    session_ = std::make_unique<FIX::Session>(
+        application, stores_, FIX::SessionID("FIXT.1.1", "VENUE", firm_, start.venue),
+        FIX::DataDictionaryProvider(), always, 0, &logs_);
     session_->setSenderDefaultApplVerID(FIX::ApplVerID_FIX50SP2);
     session_->setTimestampPrecision(3);
     // A frame's length and sum are looked at before the session has it.

@@ -1,6 +1,5 @@
 #include "comparison.h"
 
-#include <algorithm>
 #include <stdexcept>
 
 #include <fmt/format.h>
@@ -14,24 +13,17 @@ constexpr std::uint32_t chunk = 512;
 
 } // namespace
 
-Comparison::Comparison(std::unique_ptr<LogReader> reader,
-                       const std::map<std::string, FirmState> &states)
-    : reader_(std::move(reader)) {
+void Comparison::begin() {
+    const auto states = reader_.ask([](LogReader &log) { return log.states(); });
+    const std::lock_guard lock(mutex_);
+    firms_.clear();
     for (const auto &[firm, state] : states) {
         firms_[firm].known = state.sent;
     }
 }
 
-void Comparison::begin() {
-    for (auto &[firm, messages] : firms_) {
-        // At the first start this is what the log had; later, all that was handed over.
-        messages.known = std::max(messages.known, messages.given);
-        messages.given = 0;
-        messages.recorded.clear();
-    }
-}
-
 bool Comparison::is_new(const std::string &firm, std::uint32_t number, const std::string &frame) {
+    const std::lock_guard lock(mutex_);
     Messages &messages = firms_[firm];
     ++messages.given;
     if (number != messages.given) {
@@ -48,7 +40,8 @@ bool Comparison::is_new(const std::string &firm, std::uint32_t number, const std
 void Comparison::compare(const std::string &firm, Messages &messages, const std::string &frame) {
     const std::uint32_t number = messages.given;
     if (messages.recorded.empty()) {
-        for (Sent &row : reader_->sent(firm, number, chunk)) {
+        for (Sent &row :
+             reader_.ask([&](LogReader &log) { return log.sent(firm, number, chunk); })) {
             messages.recorded.push_back(std::move(row));
         }
     }
@@ -63,12 +56,14 @@ void Comparison::compare(const std::string &firm, Messages &messages, const std:
     messages.recorded.pop_front();
 }
 
-void Comparison::check_complete() const {
-    for (const auto &[firm, messages] : firms_) {
-        if (messages.given < messages.known) {
+void Comparison::check_sent(const std::map<std::string, FirmState> &states) {
+    const std::lock_guard lock(mutex_);
+    for (const auto &[firm, state] : states) {
+        const std::uint32_t given = firms_[firm].given;
+        if (given < state.sent) {
             throw std::runtime_error(
                 fmt::format("{} was sent message {}, and the venue gives {} for the log", firm,
-                            messages.known, messages.given));
+                            state.sent, given));
         }
     }
 }

@@ -3,27 +3,30 @@
 #define GATEWAY_COMPARISON_H
 
 #include "database.h"
+#include "patient_reader.h"
 
 #include <deque>
 #include <map>
 #include <memory>
+#include <mutex>
 #include <string>
 
 namespace gateway {
 
-// One thread at a time: the one that reads the venue.
+// Used by the thread that reads the venue; check_sent() by any.
 class Comparison {
   public:
-    Comparison(std::unique_ptr<LogReader> reader, const std::map<std::string, FirmState> &states);
+    // Reads until the stop is asked for.
+    Comparison(Database &database, std::stop_token stop) : reader_(database, std::move(stop)) {}
 
-    // A process of the venue begins. All that was given so far is in the log.
+    // A process of the venue begins. What the log has of its messages now is held against them.
     void begin();
-    // Whether the venue's next message to a firm is one that the log has not. Throws
+    // Whether the venue's next message to a firm is one that the log had not then. Throws
     // std::runtime_error that names the firm and the number where it is another than the log has,
     // or not the next one.
     bool is_new(const std::string &firm, std::uint32_t number, const std::string &frame);
     // Throws where the log has a message that the venue did not give.
-    void check_complete() const;
+    void check_sent(const std::map<std::string, FirmState> &states);
 
   private:
     struct Messages {
@@ -34,7 +37,8 @@ class Comparison {
 
     void compare(const std::string &firm, Messages &messages, const std::string &frame);
 
-    std::unique_ptr<LogReader> reader_;
+    PatientReader reader_;
+    std::mutex mutex_;
     std::map<std::string, Messages> firms_;
 };
 

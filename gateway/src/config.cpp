@@ -9,6 +9,7 @@
 
 #include <fmt/format.h>
 #include <toml++/toml.h>
+#include <unistd.h>
 
 namespace gateway {
 
@@ -27,6 +28,11 @@ std::string read_file(const fs::path &path) {
         fail(path, "can't be read");
     }
     return text.str();
+}
+
+std::string host_name() {
+    std::array<char, 256> name{};
+    return ::gethostname(name.data(), name.size() - 1) == 0 ? std::string(name.data()) : "";
 }
 
 toml::table parse(const fs::path &path, const std::string &text) {
@@ -134,7 +140,23 @@ class ConfigReader {
     explicit ConfigReader(const fs::path &path)
         : path_(fs::absolute(path)), table_(parse(path_, read_file(path_))) {}
 
-    Config read() {
+    // The venues' names: the parts [venue.NAME], or no name for a part [venue] with a command.
+    std::vector<std::string> venues() const {
+        std::vector<std::string> names;
+        const toml::table *venue = table_["venue"].as_table();
+        if (venue != nullptr && !venue->contains("command")) {
+            for (const auto &[key, node] : *venue) {
+                if (node.is_table()) {
+                    names.emplace_back(key.str());
+                }
+            }
+        }
+        return names.empty() ? std::vector<std::string>{""} : names;
+    }
+
+    Config read(const std::string &venue_name) {
+        config_ = Config{};
+        config_.venue = venue_name;
         for (const auto &[key, node] : table_) {
             if (std::find(sections.begin(), sections.end(), key.str()) == sections.end()) {
                 fail(path_, fmt::format("there is no part [{}]", key.str()));
@@ -146,19 +168,39 @@ class ConfigReader {
         read_tls();
         read_limits();
         read_rest();
-        return std::move(config_);
+        return config_;
+    }
+
+    // A firm that may log on and that none of the venues has is a fault.
+    void check_firms(const std::vector<Config> &configs) const {
+        const fs::path file = section("fix").beside(section("fix").text("credentials"));
+        for (const auto &[key, node] : parse(file, read_file(file))) {
+            const std::string firm(key.str());
+            if (std::none_of(configs.begin(), configs.end(), [&](const Config &config) {
+                    return config.credentials.contains(firm);
+                })) {
+                fail(file, fmt::format("the venue has no firm {}", firm));
+            }
+        }
     }
 
   private:
     static constexpr std::array<std::string_view, 7> sections = {
         "venue", "log", "fix", "tls", "limits", "metrics", "events"};
 
-    Section section(std::string_view name) {
+    Section section(std::string_view name) const {
         return {path_, std::string(name), table_[name].as_table()};
     }
 
+    Section venue_section() const {
+        if (config_.venue.empty()) {
+            return section("venue");
+        }
+        return {path_, "venue." + config_.venue, table_["venue"][config_.venue].as_table()};
+    }
+
     void read_venue() {
-        Section venue = section("venue");
+        Section venue = venue_section();
         config_.command = venue.words("command");
         // A word with a slash is a path, and others are looked up in PATH.
         for (std::string &word : config_.command) {
@@ -199,22 +241,36 @@ class ConfigReader {
         }
     }
 
-    std::string with_date(std::string text) const {
+    // With the day's date and the venue's name: each venue has a log of its own.
+    std::string filled(std::string text) const {
         const std::size_t at = text.find("{date}");
-        return at == std::string::npos ? text : text.replace(at, 6, config_.firms.date);
+        if (at != std::string::npos) {
+            text.replace(at, 6, config_.firms.date);
+        }
+        const std::size_t venue = text.find("{venue}");
+        if (venue != std::string::npos) {
+            text.replace(venue, 7, config_.venue);
+        } else if (!config_.venue.empty()) {
+            fail(path_, "[log] has no {venue}, and there are several");
+        }
+        return text;
     }
 
     void read_log() {
         Section log = section("log");
         const std::string file = log.text("sqlite");
         config_.postgres = log.text("postgres");
-        config_.schema = with_date(log.text("schema", "day_{date}"));
+        const std::string schema = log.text("schema", "day_{date}");
+        config_.name = log.text("gateway", host_name());
+        config_.synchronous_commit = log.text("synchronous_commit", "on");
         log.end();
         if (file.empty() == config_.postgres.empty()) {
             fail(path_, "[log] names neither sqlite nor postgres, or both");
         }
         if (!file.empty()) {
-            config_.sqlite = log.beside(with_date(file));
+            config_.sqlite = log.beside(filled(file));
+        } else {
+            config_.schema = filled(schema);
         }
     }
 
@@ -234,7 +290,7 @@ class ConfigReader {
             const std::string firm(key.str());
             const auto &names = config_.firms.names;
             if (std::find(names.begin(), names.end(), firm) == names.end()) {
-                fail(file, fmt::format("the venue has no firm {}", firm));
+                continue;
             }
             Section row(file, firm, node.as_table());
             Credentials &own = config_.credentials[firm];
@@ -321,8 +377,14 @@ class ConfigReader {
 
 } // namespace
 
-Config read_config(const fs::path &path) {
-    return ConfigReader(path).read();
+std::vector<Config> read_configs(const fs::path &path) {
+    ConfigReader reader(path);
+    std::vector<Config> configs;
+    for (const std::string &venue : reader.venues()) {
+        configs.push_back(reader.read(venue));
+    }
+    reader.check_firms(configs);
+    return configs;
 }
 
 } // namespace gateway

@@ -25,6 +25,7 @@ struct VenueFirms {
 };
 
 struct Config {
+    std::string venue; // its name, empty where it is the only one
     std::vector<std::string> command;
     std::filesystem::path program;
     std::string configuration; // the venue's, byte for byte, with a line feed at its end
@@ -33,6 +34,8 @@ struct Config {
     std::filesystem::path sqlite; // empty where the next two name the log
     std::string postgres;
     std::string schema;
+    std::string name;               // of this gateway, for those who look who speaks
+    std::string synchronous_commit; // of PostgreSQL: `on` waits for a standby, if there is one
 
     EngineSettings engine;
     std::map<std::string, Credentials> credentials;
@@ -45,9 +48,9 @@ struct Config {
     std::string event_level = "info";
 };
 
-// Reads the file and those that it names. Throws std::runtime_error that names the file and the
-// key.
-Config read_config(const std::filesystem::path &path);
+// Reads the file and those that it names: one configuration for each venue, and what is not a
+// venue's own is the same in all. Throws std::runtime_error that names the file and the key.
+std::vector<Config> read_configs(const std::filesystem::path &path);
 
 } // namespace gateway
 

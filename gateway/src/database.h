@@ -7,6 +7,7 @@
 #include <map>
 #include <memory>
 #include <span>
+#include <stdexcept>
 
 namespace gateway {
 
@@ -58,30 +59,54 @@ class LogWriter {
     virtual ~LogWriter() = default;
 
     // Puts all rows there and returns when they are safe on disk. Throws as the reader does; the
-    // rows may then be there or not, and nothing more is written.
+    // rows may then be there or not, and nothing more is written. Throws too where the term of this
+    // gateway is over: then none of them is there.
     virtual void commit(const Batch &batch) = 0;
+    // Says that this gateway is there. To be called each second; a commit says it too.
+    virtual void be_seen() = 0;
 
     // Nothing waits: time for what need not be done at a commit.
     virtual void rest() {}
 };
 
-// A database with the tables, held by this process alone until it is destroyed.
+// The database is away, or another is the one that is written to: what was asked may be asked again
+// of a new connection.
+class DatabaseAway : public std::runtime_error {
+  public:
+    using std::runtime_error::runtime_error;
+};
+
+// A database with the tables.
 class Database {
   public:
     virtual ~Database() = default;
 
     virtual std::unique_ptr<LogReader> reader() = 0;
+
+    // The term in which this process may write from now on; nothing while another gateway does.
+    // From then on until this is destroyed, or another gateway takes over, nobody else writes.
+    virtual std::optional<std::uint32_t> take_over() = 0;
+    // Once it may write.
     virtual std::unique_ptr<LogWriter> writer() = 0;
 };
 
 // Opens the file, or makes it. Throws where another gateway has it.
 std::unique_ptr<Database> open_sqlite(const std::string &path);
 
-// Opens a schema of a PostgreSQL database, or makes it. Throws where another gateway has it.
-std::unique_ptr<Database> open_postgres(const std::string &connection, const std::string &schema);
+// Where a log is in PostgreSQL, and as whom it is written.
+struct PostgresPlace {
+    std::string connection;
+    std::string schema;
+    std::string gateway;
+    std::string synchronous_commit = "on";
+};
 
-// The text of schema.sql.
+// A schema of a PostgreSQL database, which is made where there is none.
+std::unique_ptr<Database> open_postgres(PostgresPlace place);
+
+// The texts of schema.sql and of terms.sql.
 const char *schema_text();
+const char *terms_text();
 
 } // namespace gateway
 

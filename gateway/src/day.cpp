@@ -66,8 +66,13 @@ Day day_now(const Config &config) {
     return day;
 }
 
-Entry begin_log(const Day &day, Database &database, DayClock &clock) {
+Entry begin_log(const Day &day, Database &database, std::optional<std::uint32_t> term,
+                DayClock &clock) {
+    if (!term) {
+        throw std::runtime_error("the log has no begin");
+    }
     Entry first;
+    first.term = *term;
     first.moment = text_of(clock.now());
     first.line = line_of(day);
     first.hash = hash_of(first);
@@ -79,13 +84,13 @@ Entry begin_log(const Day &day, Database &database, DayClock &clock) {
 
 } // namespace
 
-OpenedDay open_day(const Config &config, Database &database, DayClock &clock,
-                   const std::shared_ptr<spdlog::logger> &events) {
+OpenedDay open_day(const Config &config, Database &database, std::optional<std::uint32_t> term,
+                   DayClock &clock, const std::shared_ptr<spdlog::logger> &events) {
     const Day now = day_now(config);
     const auto reader = database.reader();
     const std::vector<Entry> found = reader->entries(0, 1);
     if (found.empty()) {
-        const Entry first = begin_log(now, database, clock);
+        const Entry first = begin_log(now, database, term, clock);
         events->info("log begun date={} program=\"{}\"", clock.date(), now.version);
         return {first, first};
     }

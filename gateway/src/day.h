@@ -18,10 +18,11 @@ struct OpenedDay {
     Entry last;
 };
 
-// Begins the log with the day of the configuration, or holds the day that it began with against it.
-// Throws std::runtime_error where they differ.
-OpenedDay open_day(const Config &config, Database &database, DayClock &clock,
-                   const std::shared_ptr<spdlog::logger> &events);
+// Holds the day of the configuration against the one that the log began with. A log that has none
+// is begun with it, in this term. Throws std::runtime_error where they differ, and where there is
+// no term in which to begin it.
+OpenedDay open_day(const Config &config, Database &database, std::optional<std::uint32_t> term,
+                   DayClock &clock, const std::shared_ptr<spdlog::logger> &events);
 
 } // namespace gateway
 

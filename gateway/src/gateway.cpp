@@ -1,41 +1,79 @@
 #include "gateway.h"
 
+#include <algorithm>
+#include <iterator>
+#include <thread>
+
 namespace gateway {
 
 using namespace std::chrono_literals;
 
-Gateway::Gateway(Config config, std::shared_ptr<spdlog::logger> events)
-    : config_(std::move(config)), events_(std::move(events)), metrics_(config_.metrics_port),
-      status_(events_), engine_events_(metrics_, events_),
-      day_(std::make_unique<VenueDay>(config_, metrics_, status_, events_)),
-      engine_(std::make_unique<Engine>(config_.engine, day_->session_starts(), engine_events_)) {}
+Gateway::Gateway(std::vector<Config> configs, std::shared_ptr<spdlog::logger> events)
+    : configs_(std::move(configs)), events_(std::move(events)),
+      metrics_(configs_.front().metrics_port), status_(events_), engine_events_(metrics_, events_) {
+    for (const Config &config : configs_) {
+        days_.push_back(std::make_unique<VenueDay>(config, metrics_, status_, events_));
+    }
+}
 
 Gateway::~Gateway() {
     status_.end();
-    // Nothing new comes; the day's threads hand what they have to the engine, and then it may go.
-    engine_->stop("");
-    day_->close();
+    // Nothing new comes; the days' threads hand what they have to the engine, and then it may go.
+    if (engine_) {
+        engine_->stop("");
+    }
+    for (const auto &day : days_) {
+        day->close();
+    }
     engine_.reset();
-    day_.reset();
+    days_.clear();
 }
 
 void Gateway::start() {
-    day_->start(*engine_);
+    follow();
     if (status_.stopping().stop_requested()) {
         return;
     }
+    std::vector<SessionStart> starts;
+    for (const auto &day : days_) {
+        std::ranges::move(day->session_starts(), std::back_inserter(starts));
+    }
+    const EngineSettings &settings = configs_.front().engine;
+    engine_ = std::make_unique<Engine>(settings, starts, engine_events_);
+    for (const auto &day : days_) {
+        day->start(*engine_);
+    }
     engine_->listen();
-    events_->info("ready address={}:{} tls={} firms={}", config_.engine.address,
-                  config_.engine.port, !config_.engine.certificate.empty(), day_->firms());
+    events_->info("ready address={}:{} tls={} firms={}", settings.address, settings.port,
+                  !settings.certificate.empty(), starts.size());
+}
+
+// Each venue's log on a thread of its own. The logs are taken over one behind the other, so that
+// of two gateways that begin at once one speaks for all.
+void Gateway::follow() {
+    std::vector<std::jthread> threads;
+    for (std::size_t at = 0; at < days_.size(); ++at) {
+        threads.emplace_back([this, at] {
+            try {
+                days_[at]->follow([this, at] { return at == 0 || days_[at - 1]->has_term(); });
+            } catch (const std::exception &fault) {
+                status_.fail(fault.what());
+            }
+        });
+    }
 }
 
 void Gateway::ask_to_stop(const std::string &why) {
     status_.ask_to_stop(why);
 }
 
+bool Gateway::is_today() const {
+    return std::ranges::all_of(days_, [](const auto &day) { return day->is_today(); });
+}
+
 std::optional<std::string> Gateway::run() {
     while (!status_.wait(1s)) {
-        if (!day_->is_today()) {
+        if (!is_today()) {
             status_.ask_to_stop("the day is over");
         }
     }
@@ -43,8 +81,12 @@ std::optional<std::string> Gateway::run() {
         return failure;
     }
     events_->info("stop cause=\"{}\"", status_.why());
-    engine_->stop(status_.why());
-    day_->finish();
+    if (engine_) {
+        engine_->stop(status_.why());
+        for (const auto &day : days_) {
+            day->finish();
+        }
+    }
     return status_.failure();
 }
 

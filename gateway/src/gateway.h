@@ -12,6 +12,7 @@
 #include <memory>
 #include <optional>
 #include <string>
+#include <vector>
 
 #include <spdlog/logger.h>
 
@@ -19,14 +20,15 @@ namespace gateway {
 
 class Gateway final {
   public:
-    // Opens the log. Throws std::runtime_error where it can't be served.
-    Gateway(Config config, std::shared_ptr<spdlog::logger> events);
+    // One configuration for each venue. Throws std::runtime_error where a log can't be served.
+    Gateway(std::vector<Config> configs, std::shared_ptr<spdlog::logger> events);
     // Ends everything at once.
     ~Gateway();
     Gateway(const Gateway &) = delete;
     Gateway &operator=(const Gateway &) = delete;
 
-    // Feeds the log to the venue, and takes connections when all of it is answered.
+    // Feeds the log to the venue, while another gateway speaks too; takes connections when this
+    // one does and all of it is answered.
     void start();
 
     // Asks run() to end; of any thread.
@@ -37,12 +39,15 @@ class Gateway final {
     std::optional<std::string> run();
 
   private:
-    const Config config_;
+    void follow();
+    bool is_today() const;
+
+    const std::vector<Config> configs_;
     std::shared_ptr<spdlog::logger> events_;
     Metrics metrics_;
     Status status_;
     OperatorEvents engine_events_;
-    std::unique_ptr<VenueDay> day_;
+    std::vector<std::unique_ptr<VenueDay>> days_;
     std::unique_ptr<Engine> engine_;
 };
 

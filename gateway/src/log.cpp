@@ -21,17 +21,17 @@ constexpr std::size_t many = 512;
 // commit.
 constexpr int looks_to_rest = 5;
 
-// Committed entries that are kept for the venue: one that is slower reads them from the database.
-constexpr std::size_t kept = 8192;
+// After so many a gateway that has nothing to commit says that it is there: each second.
+constexpr int looks_to_be_seen = 50;
 
 } // namespace
 
-Log::Log(Database &database, DayClock &clock, Metrics &metrics, Start start,
+Log::Log(Database &database, Committed &committed, DayClock &clock, Metrics &metrics, Start start,
          std::function<void(const std::string &)> failed)
-    : clock_(clock), metrics_(metrics), failed_(std::move(failed)), writer_(database.writer()),
-      limit_(start.waiting), sessions_(std::move(start.sessions)),
-      next_place_(start.last.place + 1), committed_place_(start.last.place),
-      before_(start.last.hash), thread_([this](std::stop_token stop) { write(std::move(stop)); }) {}
+    : committed_entries_(committed), clock_(clock), metrics_(metrics), failed_(std::move(failed)),
+      writer_(database.writer()), limit_(start.waiting), sessions_(std::move(start.sessions)),
+      next_place_(start.last.place + 1), committed_place_(start.last.place), term_(start.term),
+      before_(start.last.hash), thread_([this](const std::stop_token &stop) { write(stop); }) {}
 
 Log::~Log() = default;
 
@@ -74,6 +74,7 @@ Log::Hold::~Hold() {
 Log::Ticket Log::append_here(Entry entry, std::string_view verb, std::string_view rest,
                              std::chrono::steady_clock::time_point received) {
     entry.place = next_place_++;
+    entry.term = term_;
     // Under the lock, so that places and moments rise together.
     entry.moment = text_of(clock_.now());
     entry.line.reserve(verb.size() + entry.moment.size() + rest.size());
@@ -136,20 +137,6 @@ void Log::flush() {
     throw_if_failed();
 }
 
-std::optional<std::vector<LoggedEntry>> Log::committed(std::uint32_t from, std::stop_token stop) {
-    std::unique_lock lock(mutex_);
-    done_.wait(lock, stop, [&] { return committed_place_ >= from || !failure_.empty(); });
-    if (stop.stop_requested() || committed_place_ < from) {
-        return std::vector<LoggedEntry>{};
-    }
-    if (recent_.empty() || recent_.front().entry.place > from) {
-        return std::nullopt;
-    }
-    const auto first =
-        recent_.begin() + static_cast<std::ptrdiff_t>(from - recent_.front().entry.place);
-    return std::vector<LoggedEntry>(first, recent_.end());
-}
-
 std::uint32_t Log::last_place() {
     const std::lock_guard lock(mutex_);
     return next_place_ - 1;
@@ -171,18 +158,21 @@ void Log::throw_if_failed() const {
     }
 }
 
-void Log::write(std::stop_token stop) {
+void Log::write(const std::stop_token &stop) {
+    try {
+        write_all(stop);
+    } catch (const std::exception &fault) {
+        fail(fault.what());
+    }
+}
+
+void Log::write_all(const std::stop_token &stop) {
     std::unique_lock lock(mutex_);
     while (wait_for_work(lock, stop)) {
         Filling filling = take(stop.stop_requested());
         room_.notify_all();
         lock.unlock();
-        try {
-            commit(filling);
-        } catch (const std::exception &fault) {
-            fail(fault.what());
-            return;
-        }
+        commit(filling);
         lock.lock();
         publish(filling);
     }
@@ -199,11 +189,14 @@ bool Log::wait_for_work(std::unique_lock<std::mutex> &lock, const std::stop_toke
             !filling_.rows.empty()) {
             return true;
         }
+        lock.unlock();
         if (looks == looks_to_rest) {
-            lock.unlock();
             writer_->rest();
-            lock.lock();
         }
+        if (looks % looks_to_be_seen == 0) {
+            writer_->be_seen();
+        }
+        lock.lock();
     }
     return !filling_.rows.empty();
 }
@@ -242,16 +235,13 @@ void Log::commit(Filling &filling) {
 // The lock is held.
 void Log::publish(Filling &filling) {
     const auto now = std::chrono::steady_clock::now();
+    std::vector<LoggedEntry> entries;
     for (std::size_t at = 0; at < filling.rows.entries.size(); ++at) {
         metrics_.logged(now - filling.received[at]);
-        recent_.push_back({std::move(filling.rows.entries[at]), filling.received[at]});
+        committed_place_ = filling.rows.entries[at].place;
+        entries.push_back({std::move(filling.rows.entries[at]), filling.received[at]});
     }
-    while (recent_.size() > kept) {
-        recent_.pop_front();
-    }
-    if (!recent_.empty()) {
-        committed_place_ = recent_.back().entry.place;
-    }
+    committed_entries_.put(std::move(entries));
     committed_ += filling.is_whole ? 1 : 0;
     done_.notify_all();
 }
@@ -263,6 +253,7 @@ void Log::fail(const std::string &cause) {
         done_.notify_all();
         room_.notify_all();
     }
+    committed_entries_.close();
     failed_(failure_);
 }
 

@@ -2,25 +2,19 @@
 #ifndef GATEWAY_LOG_H
 #define GATEWAY_LOG_H
 
+#include "committed.h"
 #include "database.h"
 #include "metrics.h"
 #include "moment.h"
 
 #include <chrono>
 #include <condition_variable>
-#include <deque>
 #include <functional>
 #include <mutex>
 #include <stop_token>
 #include <thread>
 
 namespace gateway {
-
-// An entry that is in the log, and when its message came.
-struct LoggedEntry {
-    Entry entry;
-    std::chrono::steady_clock::time_point received;
-};
 
 // Rows are put into the batch that is being filled; one thread commits it as soon as the one before
 // is committed and there is an entry, or somebody waits for it. Rows that nobody waits for stay in
@@ -35,12 +29,14 @@ class Log {
     using Ticket = std::uint64_t;
 
     struct Start {
-        Entry last; // the last entry of the log
+        Entry last;             // the last entry of the log
+        std::uint32_t term = 0; // in which this gateway writes
         std::map<std::string, SessionRow> sessions;
         std::size_t waiting = 4096; // rows that may wait
     };
 
-    Log(Database &database, DayClock &clock, Metrics &metrics, Start start,
+    // What is committed is put into `committed`.
+    Log(Database &database, Committed &committed, DayClock &clock, Metrics &metrics, Start start,
         std::function<void(const std::string &)> failed);
     // Commits what waits.
     ~Log();
@@ -77,10 +73,6 @@ class Log {
     // Returns when all that was put so far is on disk.
     void flush();
 
-    // The entries from a place on that are committed, at least one: waits for it. Nothing where
-    // they are no longer kept here, but in the database alone; none where the stop was asked for.
-    std::optional<std::vector<LoggedEntry>> committed(std::uint32_t from, std::stop_token stop);
-
     std::uint32_t last_place();
 
     // Why nothing is written any more; empty where it is.
@@ -101,7 +93,8 @@ class Log {
     // Waits for room; the lock is held before and behind.
     void wait_for_room(std::unique_lock<std::mutex> &lock);
     void throw_if_failed() const;
-    void write(std::stop_token stop);
+    void write(const std::stop_token &stop);
+    void write_all(const std::stop_token &stop);
     // False at the end, where nothing is left. The lock is held before and behind.
     bool wait_for_work(std::unique_lock<std::mutex> &lock, const std::stop_token &stop);
     // Whether there is what a commit does not wait for. The lock is held.
@@ -112,6 +105,7 @@ class Log {
     void publish(Filling &filling);
     void fail(const std::string &cause);
 
+    Committed &committed_entries_;
     DayClock &clock_;
     Metrics &metrics_;
     std::function<void(const std::string &)> failed_;
@@ -132,7 +126,7 @@ class Log {
     std::map<std::string, SessionRow> sessions_;
     std::uint32_t next_place_;
     std::uint32_t committed_place_;
-    std::deque<LoggedEntry> recent_;
+    const std::uint32_t term_;
 
     Digest before_; // of the writing thread alone
     std::jthread thread_;

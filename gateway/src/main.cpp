@@ -68,14 +68,17 @@ class Signals {
 };
 
 int serve(const std::string &path, bool only_check) {
-    gateway::Config config = gateway::read_config(path);
+    std::vector<gateway::Config> configs = gateway::read_configs(path);
     if (only_check) {
-        std::cout << path << " is a configuration of " << config.firms.names.size() << " firms\n";
+        for (const gateway::Config &config : configs) {
+            std::cout << path << " is a configuration of " << config.firms.names.size()
+                      << " firms\n";
+        }
         return 0;
     }
-    const auto events = make_events(config.event_level);
+    const auto events = make_events(configs.front().event_level);
     Signals signals;
-    gateway::Gateway gateway(std::move(config), events);
+    gateway::Gateway gateway(std::move(configs), events);
     signals.watch(gateway);
     gateway.start();
     const auto failure = gateway.run();

@@ -62,6 +62,7 @@ struct Metrics::Parts {
                                    .Register(*registry);
     Gauge &open = gauge(*registry, "mireseason_connections", "connections that are open");
     Gauge &sessions = gauge(*registry, "mireseason_sessions", "sessions that are logged on");
+    Gauge &speaking = gauge(*registry, "mireseason_speaks", "logs that this gateway writes");
     Histogram &commit = seconds(*registry, "mireseason_commit_seconds", "a transaction of the log");
     Histogram &logged =
         seconds(*registry, "mireseason_logged_seconds", "a message's receipt to its commit");
@@ -120,6 +121,10 @@ void Metrics::logged_on() {
 
 void Metrics::logged_off() {
     parts_->sessions.Decrement();
+}
+
+void Metrics::speaks() {
+    parts_->speaking.Increment();
 }
 
 void Metrics::refused(const std::string &reason) {

@@ -36,6 +36,8 @@ class Metrics {
     void refused(const std::string &reason);
     void dropped(const std::string &reason);
     void venue_started();
+    // This gateway writes a log from now on.
+    void speaks();
 
   private:
     struct Parts;

@@ -205,6 +205,9 @@ class SqliteWriter final : public LogWriter {
         }
     }
 
+    // The file is locked: nobody looks.
+    void be_seen() override {}
+
   private:
     static ConnectionPointer connect_synchronised(const std::string &path) {
         ConnectionPointer connection = connect(path, SQLITE_OPEN_READWRITE);
@@ -271,6 +274,7 @@ class Sqlite final : public Database {
     }
 
     std::unique_ptr<LogReader> reader() override { return std::make_unique<SqliteReader>(path_); }
+    std::optional<std::uint32_t> take_over() override { return 0; }
     std::unique_ptr<LogWriter> writer() override { return std::make_unique<SqliteWriter>(path_); }
 
   private:

@@ -27,10 +27,10 @@ std::string_view take_word(std::string_view &text) {
 
 } // namespace
 
-Venue::Venue(Settings settings, Database &database, Log &log, const Digest &first_hash,
+Venue::Venue(Settings settings, Database &database, Committed &committed, const Digest &first_hash,
              VenueListener &listener, Metrics &metrics, std::shared_ptr<spdlog::logger> events)
-    : settings_(std::move(settings)), database_(database), log_(log), first_hash_(first_hash),
-      listener_(listener), metrics_(metrics), events_(std::move(events)),
+    : settings_(std::move(settings)), database_(database), committed_(committed),
+      first_hash_(first_hash), listener_(listener), metrics_(metrics), events_(std::move(events)),
       // The configuration, `%%`, and the line `#` whose mark says that the configuration was read.
       lines_before_(static_cast<std::size_t>(std::count(settings_.configuration.begin(),
                                                         settings_.configuration.end(), '\n')) +
@@ -144,7 +144,7 @@ void Venue::feed(Process &process, std::stop_token stop) {
             process.close_input();
             return;
         }
-        std::unique_ptr<LogReader> reader;
+        PatientReader reader(database_, stop);
         std::uint32_t next = 1;
         Digest before = first_hash_;
         for (bool going = true; going;) {
@@ -164,16 +164,13 @@ void Venue::feed(Process &process, std::stop_token stop) {
 }
 
 // None where the stop was asked for.
-std::vector<LoggedEntry> Venue::next_entries(std::uint32_t next, std::unique_ptr<LogReader> &reader,
+std::vector<LoggedEntry> Venue::next_entries(std::uint32_t next, PatientReader &reader,
                                              const std::stop_token &stop) {
-    if (auto recent = log_.committed(next, stop)) {
+    if (auto recent = committed_.wait(next, stop)) {
         return std::move(*recent);
     }
-    if (!reader) {
-        reader = database_.reader();
-    }
     std::vector<LoggedEntry> old;
-    for (Entry &entry : reader->entries(next, chunk)) {
+    for (Entry &entry : reader.ask([&](LogReader &log) { return log.entries(next, chunk); })) {
         old.push_back({std::move(entry), std::chrono::steady_clock::now()});
     }
     if (old.empty()) {

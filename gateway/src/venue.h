@@ -2,8 +2,11 @@
 #ifndef GATEWAY_VENUE_H
 #define GATEWAY_VENUE_H
 
-#include "log.h"
+#include "committed.h"
+#include "database.h"
+#include "metrics.h"
 #include "moment.h"
+#include "patient_reader.h"
 #include "process.h"
 
 #include <atomic>
@@ -47,7 +50,7 @@ class Venue {
         unsigned starts = 3;       // within a minute
     };
 
-    Venue(Settings settings, Database &database, Log &log, const Digest &first_hash,
+    Venue(Settings settings, Database &database, Committed &committed, const Digest &first_hash,
           VenueListener &listener, Metrics &metrics, std::shared_ptr<spdlog::logger> events);
     // Ends the process.
     ~Venue();
@@ -74,7 +77,7 @@ class Venue {
     void set_running(Process *process);
     void feed(Process &process, std::stop_token stop);
     bool feed_entries(Process &process, const std::vector<LoggedEntry> &entries);
-    std::vector<LoggedEntry> next_entries(std::uint32_t next, std::unique_ptr<LogReader> &reader,
+    std::vector<LoggedEntry> next_entries(std::uint32_t next, PatientReader &reader,
                                           const std::stop_token &stop);
     void read(Process &process);
     void take_line(std::string_view line);
@@ -86,7 +89,7 @@ class Venue {
 
     Settings settings_;
     Database &database_;
-    Log &log_;
+    Committed &committed_;
     const Digest first_hash_;
     VenueListener &listener_;
     Metrics &metrics_;

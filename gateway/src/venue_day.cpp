@@ -1,6 +1,7 @@
 #include "venue_day.h"
 
 #include "day.h"
+#include "follower.h"
 #include "translation.h"
 
 #include <algorithm>
@@ -17,9 +18,17 @@ using namespace std::chrono_literals;
 // How long the venue has to answer what came, at the end.
 constexpr auto longest_end = 10s;
 
+// Entries that are read from the database at once.
+constexpr std::uint32_t chunk = 1024;
+
+// How often a gateway that speaks and does not write yet says that it is there.
+constexpr auto sign_of_life = 500ms;
+
 std::unique_ptr<Database> open_database(const Config &config) {
-    return config.sqlite.empty() ? open_postgres(config.postgres, config.schema)
-                                 : open_sqlite(config.sqlite.string());
+    if (!config.sqlite.empty()) {
+        return open_sqlite(config.sqlite.string());
+    }
+    return open_postgres({config.postgres, config.schema, config.name, config.synchronous_commit});
 }
 
 } // namespace
@@ -27,33 +36,12 @@ std::unique_ptr<Database> open_database(const Config &config) {
 VenueDay::VenueDay(const Config &config, Metrics &metrics, Status &status,
                    std::shared_ptr<spdlog::logger> events)
     : config_(config), metrics_(metrics), status_(status), events_(std::move(events)),
-      clock_(config_.firms.date) {
+      clock_(config_.firms.date), database_(open_database(config_)),
+      comparison_(*database_, status_.stopping()), ahead_(config_.waiting_messages) {
     if (!clock_.is_today()) {
         throw std::runtime_error(fmt::format(
             "the venue's configuration is of {}, and today is {} in UTC", clock_.date(), today()));
     }
-    database_ = open_database(config_);
-    const OpenedDay day = open_day(config_, *database_, clock_, events_);
-    first_hash_ = day.first.hash;
-    reader_ = database_->reader();
-    states_ = reader_->states();
-    comparison_ = std::make_unique<Comparison>(database_->reader(), states_);
-    open_log(day.last);
-    open_firms();
-}
-
-void VenueDay::open_log(const Entry &last) {
-    Log::Start start;
-    start.waiting = config_.waiting_entries;
-    start.last = last;
-    for (const auto &[name, state] : states_) {
-        start.sessions[name] = state.session;
-    }
-    if (const auto latest = moment_of(last.moment)) {
-        clock_.not_before(*latest);
-    }
-    log_ = std::make_unique<Log>(*database_, clock_, metrics_, std::move(start),
-                                 [this](const std::string &cause) { status_.fail(cause); });
 }
 
 VenueDay::~VenueDay() {
@@ -62,11 +50,119 @@ VenueDay::~VenueDay() {
 
 void VenueDay::close() {
     sweeper_.reset();
+    ahead_.close();
     // The venue ends, what it gave is handed over, and the log commits it.
     venue_.reset();
     for (auto &[name, firm] : firms_) {
         firm.mailbox.reset();
     }
+}
+
+void VenueDay::follow(const std::function<bool()> &may) {
+    const std::stop_token stop = status_.stopping();
+    // A day begins with the gateway that speaks first. Where there is a log, only one whose venue
+    // has answered it takes over: another may be ready at once.
+    const auto ready = [&] { return may() && (!committed_ || answers_.wait(found_, 0ms, stop)); };
+    Follower follower(*database_, events_, ready);
+    if (!follower.follow(stop, [](LogReader &log) { return log.last_entry().has_value(); })) {
+        return;
+    }
+    begin_venue(follower.term());
+    const auto read = [this](LogReader &log) {
+        if (!is_today()) {
+            status_.ask_to_stop("the day is over");
+        }
+        read_on(log);
+        ahead_.settle(log);
+        tell_if_ready();
+        return false;
+    };
+    if (!follower.term() && !follower.follow(stop, read)) {
+        return;
+    }
+    has_term_ = true;
+    metrics_.speaks();
+    if (catch_up()) {
+        open_log(*follower.term());
+        open_firms();
+        events_->info("speaks{} term={} entries={}", of_venue(), *follower.term(), last_.place);
+    }
+}
+
+void VenueDay::begin_venue(std::optional<std::uint32_t> term) {
+    const OpenedDay day = open_day(config_, *database_, term, clock_, events_);
+    first_hash_ = day.first.hash;
+    last_ = day.last;
+    found_ = last_.place;
+    committed_ = std::make_unique<Committed>(last_.place);
+    Venue::Settings settings{config_.command, config_.configuration, config_.venue_starts};
+    VenueListener &listener = *this;
+    venue_ = std::make_unique<Venue>(std::move(settings), *database_, *committed_, first_hash_,
+                                     listener, metrics_, events_);
+    venue_->start();
+    if (!term) {
+        events_->info("follows{} entries={}", of_venue(), last_.place);
+    }
+}
+
+// Once: from now on a take-over costs no replay.
+void VenueDay::tell_if_ready() {
+    if (!ready_ && answers_.wait(found_, 0ms, status_.stopping())) {
+        ready_ = true;
+        events_->info("stands by{} entries={}", of_venue(), last_.place);
+    }
+}
+
+// Whether there was something.
+bool VenueDay::read_on(LogReader &log) {
+    std::vector<LoggedEntry> entries;
+    for (Entry &entry : log.entries(last_.place + 1, chunk)) {
+        check_link(entry, last_.place + 1, last_.hash);
+        last_ = entry;
+        entries.push_back({std::move(entry), std::chrono::steady_clock::now()});
+    }
+    const bool some = !entries.empty();
+    committed_->put(std::move(entries));
+    return some;
+}
+
+// Nobody else writes any more. False where the gateway is to stop.
+bool VenueDay::catch_up() {
+    reader_ = database_->reader();
+    const std::vector<Entry> same = reader_->entries(last_.place, 1);
+    if (same.empty() || same.front().hash != last_.hash) {
+        throw std::runtime_error(
+            fmt::format("entry {} was in the log, and is not any more", last_.place));
+    }
+    while (read_on(*reader_)) {
+    }
+    ahead_.lift_limit();
+    const auto writer = database_->writer();
+    while (!answers_.wait(last_.place, sign_of_life, status_.stopping())) {
+        if (status_.stopping().stop_requested()) {
+            return false;
+        }
+        writer->be_seen();
+    }
+    ahead_.settle(*reader_);
+    states_ = reader_->states();
+    comparison_.check_sent(states_);
+    return true;
+}
+
+void VenueDay::open_log(std::uint32_t term) {
+    Log::Start start;
+    start.waiting = config_.waiting_entries;
+    start.last = last_;
+    start.term = term;
+    for (const auto &[name, state] : states_) {
+        start.sessions[name] = state.session;
+    }
+    if (const auto latest = moment_of(last_.moment)) {
+        clock_.not_before(*latest);
+    }
+    log_ = std::make_unique<Log>(*database_, *committed_, clock_, metrics_, std::move(start),
+                                 [this](const std::string &cause) { status_.fail(cause); });
 }
 
 void VenueDay::open_firms() {
@@ -95,6 +191,7 @@ std::vector<SessionStart> VenueDay::session_starts() {
     for (const auto &[name, firm] : firms_) {
         SessionStart start;
         start.firm = name;
+        start.venue = config_.venue;
         start.host = this;
         const auto found = states_.find(name);
         if (found != states_.end()) {
@@ -114,30 +211,27 @@ void VenueDay::open_mailboxes(Engine &engine) {
         status_.fail(log.empty() ? cause : log);
     };
     for (auto &[name, firm] : firms_) {
-        firm.mailbox = std::make_unique<Mailbox>(name, engine, config_.waiting_messages, failed);
+        firm.mailbox = std::make_unique<Mailbox>(session_name(config_.venue, name), engine,
+                                                 config_.waiting_messages, failed);
     }
 }
 
 void VenueDay::start(Engine &engine) {
-    open_mailboxes(engine);
-    Venue::Settings settings{config_.command, config_.configuration, config_.venue_starts};
-    VenueListener &listener = *this;
-    venue_ = std::make_unique<Venue>(std::move(settings), *database_, *log_, first_hash_, listener,
-                                     metrics_, events_);
-    venue_->start();
-    if (!answers_.wait(log_->last_place(), status_.stopping())) {
-        return;
-    }
-    finish_replay();
+    begin_to_speak(engine);
     withdraw_for_lost_sessions();
     sweeper_ = std::make_unique<Sweeper>(answers_, *log_, clock_);
 }
 
-// All entries are answered: the log can have no message that the venue did not give.
-void VenueDay::finish_replay() {
+void VenueDay::begin_to_speak(Engine &engine) {
+    const std::lock_guard lock(speaking_mutex_);
+    open_mailboxes(engine);
+    ahead_.hand_over([this](Delivery delivery) {
+        Firm &firm = firm_of(delivery.firm);
+        firm.mailbox->put(std::move(delivery));
+    });
     wait_until_handed_over();
-    comparison_->check_complete();
     log_->flush();
+    speaks_ = true;
 }
 
 void VenueDay::wait_until_handed_over() {
@@ -154,7 +248,7 @@ void VenueDay::finish() {
     status_.end();
     venue_->stop();
     log_->flush();
-    events_->info("ended entries={}", last);
+    events_->info("ended{} entries={}", of_venue(), last);
 }
 
 // Sessions that were there when the gateway ended, and ended with it.
@@ -181,6 +275,11 @@ void VenueDay::cancel_all_of(const std::string &name, Firm &firm) {
     events_->info("cancel of all firm={} trader={}", name, firm.credentials.cancel_on_disconnect);
 }
 
+// For events: which venue it is, where there are several.
+std::string VenueDay::of_venue() const {
+    return config_.venue.empty() ? "" : fmt::format(" venue={}", config_.venue);
+}
+
 VenueDay::Firm &VenueDay::firm_of(const std::string &name) {
     const auto found = firms_.find(name);
     if (found == firms_.end()) {
@@ -192,27 +291,31 @@ VenueDay::Firm &VenueDay::firm_of(const std::string &name) {
 // What the venue says.
 
 void VenueDay::venue_starts() {
-    wait_until_handed_over();
-    comparison_->begin();
-    log_->flush();
-    answers_.begin(log_->last_place());
+    const std::lock_guard lock(speaking_mutex_);
+    if (speaks_) {
+        wait_until_handed_over();
+        log_->flush();
+    }
+    ahead_.clear();
+    comparison_.begin();
+    answers_.begin(committed_->last_place());
 }
 
 void VenueDay::venue_gave(std::uint32_t place, std::uint32_t number, std::string name,
                           std::string frame) {
-    Firm &firm = firm_of(name);
     ForWire message = for_wire(frame, number);
-    if (!comparison_->is_new(name, message.number, frame)) {
+    if (!comparison_.is_new(name, message.number, frame)) {
         return;
     }
     Delivery delivery;
+    delivery.session = session_name(config_.venue, name);
     delivery.firm = std::move(name);
     delivery.number = message.number;
     delivery.place = place;
     delivery.frame = std::move(frame);
     delivery.type = std::move(message.type);
     delivery.body = std::move(message.body);
-    firm.mailbox->put(std::move(delivery));
+    ahead_.put(std::move(delivery));
 }
 
 void VenueDay::venue_answered(std::uint32_t place, std::optional<Moment> deadline) {

@@ -2,7 +2,9 @@
 #ifndef GATEWAY_VENUE_DAY_H
 #define GATEWAY_VENUE_DAY_H
 
+#include "ahead.h"
 #include "answers.h"
+#include "committed.h"
 #include "comparison.h"
 #include "config.h"
 #include "database.h"
@@ -15,6 +17,8 @@
 #include "sweeper.h"
 #include "venue.h"
 
+#include <atomic>
+#include <functional>
 #include <map>
 #include <memory>
 #include <mutex>
@@ -27,17 +31,22 @@ namespace gateway {
 // one that reads it.
 class VenueDay final : private SessionHost, private VenueListener {
   public:
-    // Opens the log. Throws std::runtime_error where it can't be served.
+    // Throws std::runtime_error where the log can't be served.
     VenueDay(const Config &config, Metrics &metrics, Status &status,
              std::shared_ptr<spdlog::logger> events);
     // Commits what waits. The engine has to be gone.
     ~VenueDay() override;
 
-    // Where the firms' sessions begin.
+    // Feeds the log to the venue, also while another gateway writes it. Returns when this one
+    // speaks and all of the log is answered and agrees, or when the gateway is to stop; throws
+    // std::runtime_error where it does not agree.
+    // It takes over where `may` says so.
+    void follow(const std::function<bool()> &may);
+    // Whether it has, or is about to: nobody else writes the log.
+    bool has_term() const { return has_term_; }
+    // Where the firms' sessions begin, behind follow().
     std::vector<SessionStart> session_starts();
-    // Feeds the log to the venue and has what the log lacks handed to the engine. Returns when all
-    // of it is answered and agrees, or when the gateway is to stop; throws std::runtime_error where
-    // it does not agree.
+    // Has what the log lacks handed to the engine.
     void start(Engine &engine);
     // Lets the venue answer what came, hands that over, and commits.
     void finish();
@@ -59,13 +68,18 @@ class VenueDay final : private SessionHost, private VenueListener {
         std::uint32_t last_number = 0; // the session's, of the last message in the log
     };
 
-    void open_log(const Entry &last);
+    void begin_venue(std::optional<std::uint32_t> term);
+    void tell_if_ready();
+    bool read_on(LogReader &log);
+    bool catch_up();
+    void open_log(std::uint32_t term);
     void open_firms();
     void open_mailboxes(Engine &engine);
-    void finish_replay();
+    void begin_to_speak(Engine &engine);
     void wait_until_handed_over();
     void withdraw_for_lost_sessions();
     void cancel_all_of(const std::string &name, Firm &firm);
+    std::string of_venue() const;
     Firm &firm_of(const std::string &name);
 
     // SessionHost
@@ -97,10 +111,19 @@ class VenueDay final : private SessionHost, private VenueListener {
     std::map<std::string, Firm> firms_;
     Digest first_hash_{};
 
+    std::mutex speaking_mutex_; // of the next one, and of what the venue gave until then
+    bool speaks_ = false;
+    std::atomic<bool> has_term_{false};
+
     std::mutex reader_mutex_;
     std::unique_ptr<LogReader> reader_; // for what sessions send again
 
-    std::unique_ptr<Comparison> comparison_;
+    Entry last_;              // the last entry of the log, as far as it was read
+    std::uint32_t found_ = 0; // the one when the venue was started
+    bool ready_ = false;      // it was answered
+    std::unique_ptr<Committed> committed_;
+    Comparison comparison_;
+    Ahead ahead_;
     Answers answers_;
     std::unique_ptr<Log> log_;
     std::unique_ptr<Venue> venue_;

@@ -19,6 +19,7 @@ class FailingDatabase final : public Database {
   public:
     explicit FailingDatabase(int commits) : commits_(commits) {}
     std::unique_ptr<LogReader> reader() override { return nullptr; }
+    std::optional<std::uint32_t> take_over() override { return 0; }
     std::unique_ptr<LogWriter> writer() override { return std::make_unique<Writer>(commits_); }
 
   private:
@@ -30,6 +31,7 @@ class FailingDatabase final : public Database {
                 throw std::runtime_error("no room");
             }
         }
+        void be_seen() override {}
 
       private:
         int commits_;
@@ -52,6 +54,7 @@ void check_chain(LogReader &reader, std::uint32_t count) {
 
 Entry begin_day(Database &database) {
     Entry first;
+    first.term = database.take_over().value();
     first.moment = "00:00:00.000";
     first.line = line_of({"program 1", Digest{}, "version = 1\n"});
     first.hash = hash_of(first);
@@ -93,9 +96,11 @@ void many_threads(Database &database) {
     Metrics metrics(0);
     Log::Start start;
     start.last = begin_day(database);
+    start.term = start.last.term;
     start.waiting = 16;
     {
-        Log log(database, clock, metrics, std::move(start),
+        Committed committed(0);
+        Log log(database, committed, clock, metrics, std::move(start),
                 [](const std::string &cause) { std::cerr << cause << '\n'; });
         std::vector<std::jthread> writers;
         for (std::uint32_t thread = 0; thread < threads; ++thread) {
@@ -116,8 +121,10 @@ void a_held_log(Database &database) {
     Metrics metrics(0);
     Log::Start start;
     start.last = database.reader()->last_entry().value();
+    start.term = start.last.term;
     const std::uint32_t last = start.last.place;
-    Log log(database, clock, metrics, std::move(start),
+    Committed committed(last);
+    Log log(database, committed, clock, metrics, std::move(start),
             [](const std::string &cause) { std::cerr << cause << '\n'; });
     std::jthread writer;
     {
@@ -139,7 +146,8 @@ void a_commit_that_fails() {
     Metrics metrics(0);
     std::string told;
     {
-        Log log(database, clock, metrics, Log::Start{},
+        Committed committed(0);
+        Log log(database, committed, clock, metrics, Log::Start{},
                 [&told](const std::string &cause) { told = cause; });
         log.wait(log.append_message("F", 1, "x"));
         const auto ticket = log.append_message("F", 2, "x");
@@ -193,7 +201,8 @@ void changed_entries() {
 void run(const std::vector<std::string> &arguments) {
     const std::filesystem::path folder = arguments.at(0);
     if (arguments.size() > 1) {
-        const auto database = open_postgres(arguments[1], fmt::format("log_test_{}", ::getpid()));
+        const auto database =
+            open_postgres({arguments[1], fmt::format("log_test_{}", ::getpid()), "log_test"});
         many_threads(*database);
         a_held_log(*database);
     } else {

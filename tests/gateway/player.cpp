@@ -12,6 +12,7 @@
 //           refused NAME WHY the engine does not send it
 //           got              the file has one message more
 //           admin HEX        a Reject of the engine itself or a Logout came
+// PLAYER_VENUE  in the environment: the venue (57) that its Logons name
 // RECEIVED  a line for each message of the venue: the nanoseconds of the monotonic clock and,
 //           behind one space, its bytes as they came, in hexadecimal digits
 //
@@ -42,6 +43,7 @@ namespace {
 const int USERNAME = 553;
 const int PASSWORD = 554;
 const int VENUE_NUMBER = 1181;
+const int TARGET_SUB = 57;
 
 std::string field(const FIX::FieldMap &map, int tag) {
     return map.isSetField(tag) ? map.getField(tag) : std::string();
@@ -151,6 +153,8 @@ class Player : public FIX::Application {
     void toAdmin(FIX::Message &message, const FIX::SessionID &) override {
         if (field(message.getHeader(), 35) != "A")
             return;
+        if (const char *venue = std::getenv("PLAYER_VENUE"))
+            message.getHeader().setField(TARGET_SUB, venue);
         message.setField(USERNAME, m_username);
         message.setField(PASSWORD, m_password);
     }

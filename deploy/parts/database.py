@@ -1,0 +1,164 @@
+"""A database host: etcd, Patroni, and the PostgreSQL that Patroni starts."""
+
+import os
+import pwd
+import signal
+from dataclasses import dataclass
+from pathlib import Path
+
+from parts.disk import Disk
+from parts.network import NETWORK, Host, Network
+from parts.run import Fault, fill_in, run, until
+from parts.service import Service, Supervisor
+
+DISK_MEGABYTES = 900
+CONFIG = Path(__file__).resolve().parent.parent / "config"
+PASSWORDS = {word + "_PASSWORD": "%s-secret" % word.lower()
+             for word in ("GATEWAY", "READER", "REPLICATION", "REWIND")}
+
+
+def as_user(user: str) -> list[str]:
+    """In front of a command that this user runs; it stays the same process."""
+    return ["setpriv", "--reuid", user, "--regid", user, "--init-groups"]
+
+
+@dataclass
+class DatabaseHost:
+    host: Host
+    network: Network
+    folder: Path  # of the whole installation
+    images: Path
+    supervisor: Supervisor
+
+    def __post_init__(self) -> None:
+        self.disk = Disk(self.images / (self.name + ".img"), self.folder / self.name / "disk",
+                         DISK_MEGABYTES)
+
+    @property
+    def name(self) -> str:
+        return self.host.name
+
+    @property
+    def own(self) -> Path:
+        """Configurations and sockets, which are on no disk that is cut."""
+        return self.folder / self.name
+
+    def make(self, databases: list[Host]) -> None:
+        self.own.mkdir(parents=True, exist_ok=True)
+        self.disk.make({"etcd": "etcd", "postgres": "postgres"})
+        owner = pwd.getpwnam("postgres")
+        os.chown(self.own, owner.pw_uid, owner.pw_gid)
+        words = {"NAME": self.name, "ADDRESS": self.host.address, "DATA": str(self.disk.mount),
+                 "RUN": str(self.own), "CONFIG": str(self.own), "NETWORK": NETWORK, **PASSWORDS}
+        words |= {host.name.upper(): host.address for host in databases}
+        for name in ("etcd.yml", "patroni.yml", "make_database.sh"):
+            fill_in(CONFIG / name, self.own / name, words)
+        (self.own / "make_database.sh").chmod(0o755)
+
+    def start(self) -> None:
+        logs = self.folder / "log"
+        logs.mkdir(exist_ok=True)
+        inside = self.network.words(self.name)
+        self.supervisor.add(Service(
+            self.name + ".etcd",
+            inside + as_user("etcd") + ["etcd", "--config-file", str(self.own / "etcd.yml")],
+            logs / (self.name + ".etcd")))
+        self.supervisor.add(Service(
+            self.name + ".patroni",
+            inside + as_user("postgres") + ["/usr/bin/patroni", str(self.own / "patroni.yml")],
+            logs / (self.name + ".patroni"),
+            {"PATRONI_LOG_LEVEL": "INFO", "HOME": str(self.own), "PYTHONDONTWRITEBYTECODE": "1"}))
+
+    def services(self) -> list[Service]:
+        return [self.supervisor.services[self.name + end] for end in (".etcd", ".patroni")]
+
+    # ------------------------------------------------------------ what is known of it
+
+    def postmaster(self) -> int:
+        """The process of PostgreSQL, 0 where there is none."""
+        try:
+            pid = int((self.disk.mount / "postgres" / "data" / "postmaster.pid").read_text().split("\n")[0])
+            os.kill(pid, 0)
+            return pid
+        except (OSError, ValueError):
+            return 0
+
+    def asked(self, query: str, limit: float = 5) -> str | None:
+        """The answer of this host's PostgreSQL to its superuser, nothing where it gives none."""
+        try:
+            return run(*as_user("postgres"), "psql", "--no-psqlrc", "-AtX", "-h", str(self.own),
+                       "-U", "postgres", "-v", "ON_ERROR_STOP=1", "-c", query,
+                       self.database, limit=limit).strip()
+        except Fault:
+            return None
+
+    database = "mireseason"
+
+    def is_primary(self) -> bool:
+        return self.asked("SELECT NOT pg_is_in_recovery()") == "t"
+
+    def standbys(self) -> dict[str, str]:
+        """Of a primary: the standbys that stream, and what each is: sync, async, ..."""
+        text = self.asked("SELECT application_name, sync_state FROM pg_stat_replication "
+                          "WHERE state = 'streaming'")
+        rows = [line.split("|") for line in (text or "").splitlines()]
+        return {row[0]: row[1] for row in rows}
+
+    def leads_etcd(self) -> bool:
+        try:
+            text = run(*self.network.words(self.name), "etcdctl", "--endpoints",
+                       "http://%s:2379" % self.host.address, "--command-timeout=2s",
+                       "endpoint", "status", "-w", "simple", limit=5)
+        except Fault:
+            return False
+        return text.split(", ")[4] == "true"
+
+    # ------------------------------------------------------------ what is done to it
+
+    def kill_database(self) -> None:
+        """PostgreSQL ends by SIGKILL; Patroni sees it and goes on."""
+        pid = self.postmaster()
+        if pid:
+            os.kill(pid, signal.SIGKILL)
+
+    def kill_etcd(self) -> None:
+        self.services()[0].kill()
+
+    def cut_power(self) -> None:
+        """All processes are gone, and of the files there is what was synchronised."""
+        self.supervisor.locked(self._cut_power)
+
+    def _cut_power(self) -> None:
+        services = self.services()
+        for service in services:
+            service.wanted = False
+        self.disk.cut_power()
+        self.end_all()
+        for service in services:
+            service.process.wait()
+
+    def power_up(self) -> None:
+        self.disk.attach_again()
+
+        def start() -> None:
+            for service in self.services():
+                service.start()
+
+        self.supervisor.locked(start)
+
+    def end_all(self) -> None:
+        """Kills what runs in the host's namespace."""
+        def none_left() -> bool:
+            left = self.network.processes(self.name)
+            for pid in left:
+                try:
+                    os.kill(pid, signal.SIGKILL)
+                except ProcessLookupError:
+                    continue
+            return not left
+
+        until("all processes of %s end" % self.name, 20, none_left)
+
+    def remove(self) -> None:
+        self.end_all()
+        self.disk.remove()

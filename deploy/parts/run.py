@@ -1,0 +1,47 @@
+"""Commands, and waits on a condition."""
+
+import subprocess
+import time
+from collections.abc import Callable
+from pathlib import Path
+
+STEP = 0.05
+
+
+class Fault(Exception):
+    """Something that the installation needs can't be had; the text says what and why."""
+
+
+def run(*words: str, text: str | None = None, limit: float = 60) -> str:
+    """What a command prints; Fault with its last words where it fails."""
+    try:
+        done = subprocess.run(words, input=text, capture_output=True, text=True, timeout=limit,
+                              check=False)
+    except subprocess.TimeoutExpired as fault:
+        raise Fault("%s: no end within %g s" % (" ".join(words), limit)) from fault
+    if done.returncode != 0:
+        raise Fault("%s: %s" % (" ".join(words), done.stderr.strip() or "status %d" % done.returncode))
+    return done.stdout
+
+
+def tried(*words: str) -> bool:
+    """Whether a command ends well."""
+    return subprocess.run(words, capture_output=True, check=False).returncode == 0
+
+
+def until(what: str, limit: float, holds: Callable[[], bool]) -> None:
+    """Waits until the condition holds; Fault with what was waited for."""
+    end = time.monotonic() + limit
+    while not holds():
+        if time.monotonic() > end:
+            raise Fault("%s: not within %g s" % (what, limit))
+        time.sleep(STEP)
+
+
+def fill_in(template: Path, target: Path, words: dict[str, str]) -> None:
+    """Writes a configuration with each @WORD@ of it replaced."""
+    text = template.read_text()
+    for word, value in words.items():
+        text = text.replace("@%s@" % word, value)
+    target.write_text(text)
+    target.chmod(0o644)

@@ -1,0 +1,146 @@
+// Reads the log in a schema of PostgreSQL.
+#include "postgres_parts.h"
+
+namespace gateway {
+
+namespace {
+
+std::string bytes_of(const pqxx::field &field) {
+    return pqxx::binarystring(field).str();
+}
+
+Digest digest_of(const pqxx::field &field) {
+    const std::string text = bytes_of(field);
+    Digest digest{};
+    if (text.size() == digest.size()) {
+        std::copy(text.begin(), text.end(), digest.begin());
+    }
+    return digest;
+}
+
+Entry read_entry(const pqxx::row &row) {
+    Entry entry;
+    entry.place = number_of(row[0]);
+    entry.term = number_of(row[1]);
+    entry.moment = row[2].as<std::string>();
+    if (!row[3].is_null()) {
+        entry.firm = row[3].as<std::string>();
+    }
+    if (!row[4].is_null()) {
+        entry.number = number_of(row[4]);
+    }
+    entry.line = bytes_of(row[5]);
+    entry.before = digest_of(row[6]);
+    entry.hash = digest_of(row[7]);
+    return entry;
+}
+
+class PostgresReader final : public LogReader {
+  public:
+    PostgresReader(const std::string &connection, const std::string &schema)
+        : connection_(connect(connection, schema)) {
+        connection_->prepare("entries",
+                             "SELECT place, term, moment, firm, number, line, before, "
+                             "hash FROM entry WHERE place >= $1 ORDER BY place LIMIT $2");
+        connection_->prepare("last", "SELECT place, term, moment, firm, number, line, before, hash "
+                                     "FROM entry ORDER BY place DESC LIMIT 1");
+        connection_->prepare("sent", "SELECT number, place, bytes FROM sent "
+                                     "WHERE firm = $1 AND number >= $2 ORDER BY number LIMIT $3");
+        connection_->prepare("outgoing",
+                             "SELECT number, sent, bytes FROM outgoing "
+                             "WHERE firm = $1 AND number BETWEEN $2 AND $3 ORDER BY number");
+    }
+
+    std::vector<Entry> entries(std::uint32_t from, std::uint32_t limit) override {
+        return told("entries", [&] {
+            pqxx::nontransaction work(*connection_);
+            std::vector<Entry> all;
+            for (const pqxx::row &row : work.exec_prepared("entries", from, limit)) {
+                all.push_back(read_entry(row));
+            }
+            return all;
+        });
+    }
+
+    std::optional<Entry> last_entry() override {
+        return told("the last entry", [&]() -> std::optional<Entry> {
+            pqxx::nontransaction work(*connection_);
+            const pqxx::result rows = work.exec_prepared("last");
+            return rows.empty() ? std::nullopt : std::optional(read_entry(rows[0]));
+        });
+    }
+
+    std::vector<Sent> sent(const std::string &firm, std::uint32_t from,
+                           std::uint32_t limit) override {
+        return told("sent", [&] {
+            pqxx::nontransaction work(*connection_);
+            std::vector<Sent> all;
+            for (const pqxx::row &row : work.exec_prepared("sent", firm, from, limit)) {
+                all.push_back({firm, number_of(row[0]), number_of(row[1]), bytes_of(row[2])});
+            }
+            return all;
+        });
+    }
+
+    std::vector<Outgoing> outgoing(const std::string &firm, std::uint32_t first,
+                                   std::uint32_t last) override {
+        return told("outgoing", [&] {
+            pqxx::nontransaction work(*connection_);
+            std::vector<Outgoing> all;
+            for (const pqxx::row &row : work.exec_prepared("outgoing", firm, first, last)) {
+                Outgoing message{firm, number_of(row[0]), {}, bytes_of(row[2])};
+                if (!row[1].is_null()) {
+                    message.sent = number_of(row[1]);
+                }
+                all.push_back(std::move(message));
+            }
+            return all;
+        });
+    }
+
+    std::map<std::string, FirmState> states() override {
+        return told("the state of firms", [&] {
+            pqxx::nontransaction work(*connection_);
+            std::map<std::string, FirmState> all;
+            for (const pqxx::row &row : work.exec("SELECT firm, target, logged_on FROM session")) {
+                const auto firm = row[0].as<std::string>();
+                all[firm].session = {firm, number_of(row[1]), number_of(row[2]) != 0};
+            }
+            for (const pqxx::row &row :
+                 work.exec("SELECT firm, count(*), coalesce(max(number), 0) FROM entry "
+                           "WHERE firm IS NOT NULL GROUP BY firm")) {
+                FirmState &state = all[row[0].as<std::string>()];
+                state.entries = number_of(row[1]);
+                state.last_number = number_of(row[2]);
+            }
+            for (const pqxx::row &row :
+                 work.exec("SELECT firm, max(number) FROM sent GROUP BY firm")) {
+                all[row[0].as<std::string>()].sent = number_of(row[1]);
+            }
+            for (const pqxx::row &row :
+                 work.exec("SELECT firm, max(number) FROM outgoing GROUP BY firm")) {
+                all[row[0].as<std::string>()].outgoing = number_of(row[1]);
+            }
+            return all;
+        });
+    }
+
+  private:
+    std::unique_ptr<pqxx::connection> connection_;
+};
+
+} // namespace
+
+std::unique_ptr<pqxx::connection> connect(const std::string &connection,
+                                          const std::string &schema) {
+    auto made = std::make_unique<pqxx::connection>(connection);
+    pqxx::nontransaction work(*made);
+    work.exec(fmt::format("SET search_path TO {}", work.quote_name(schema)));
+    return made;
+}
+
+std::unique_ptr<LogReader> read_postgres(const std::string &connection, const std::string &schema) {
+    return told("a reader", [&] { return std::make_unique<PostgresReader>(connection, schema); });
+}
+
+} // namespace gateway

@@ -1,0 +1,123 @@
+// How fast a log in PostgreSQL takes messages, and how many logs one database takes at once.
+//
+// usage: log_bench CONNECTION LOGS THREADS SECONDS
+//
+// LOGS logs, each a schema that is dropped behind it; in each of them THREADS threads that append a
+// message of 200 bytes and wait until it is committed, again and again. Prints the messages a
+// second of all logs together, and how long one waited.
+#include "log.h"
+
+#include <algorithm>
+#include <iostream>
+#include <stdexcept>
+
+#include <fmt/format.h>
+#include <pqxx/pqxx>
+#include <unistd.h>
+
+namespace gateway::tests {
+
+namespace {
+
+using Clock = std::chrono::steady_clock;
+using Waits = std::vector<double>; // milliseconds
+
+class BenchLog {
+  public:
+    BenchLog(const std::string &connection, unsigned number)
+        : schema_(fmt::format("log_bench_{}_{}", ::getpid(), number)), connection_(connection),
+          clock_(today()), metrics_(0), committed_(0),
+          database_(open_postgres({connection, schema_, "log_bench"})) {
+        Log::Start start;
+        start.term = database_->take_over().value();
+        start.last = begin(start.term);
+        log_ = std::make_unique<Log>(*database_, committed_, clock_, metrics_, std::move(start),
+                                     [](const std::string &cause) { std::cerr << cause << '\n'; });
+    }
+    ~BenchLog() {
+        log_.reset();
+        database_.reset();
+        pqxx::connection connection(connection_);
+        pqxx::nontransaction(connection).exec("DROP SCHEMA " + schema_ + " CASCADE");
+    }
+
+    // Appends until then.
+    Waits append(unsigned thread, Clock::time_point end) {
+        const std::string firm = fmt::format("F{}", thread);
+        const std::string frame(200, 'x');
+        Waits waits;
+        for (std::uint32_t number = 1; Clock::now() < end; ++number) {
+            const auto begin = Clock::now();
+            log_->wait(log_->append_message(firm, number, frame));
+            waits.push_back(
+                std::chrono::duration<double, std::milli>(Clock::now() - begin).count());
+        }
+        return waits;
+    }
+
+  private:
+    Entry begin(std::uint32_t term) {
+        Entry first;
+        first.term = term;
+        first.moment = "00:00:00.000";
+        first.hash = hash_of(first);
+        Batch batch;
+        batch.entries.push_back(first);
+        database_->writer()->commit(batch);
+        return first;
+    }
+
+    std::string schema_;
+    std::string connection_;
+    DayClock clock_;
+    Metrics metrics_;
+    Committed committed_;
+    std::unique_ptr<Database> database_;
+    std::unique_ptr<Log> log_;
+};
+
+void run(const std::string &connection, unsigned logs, unsigned threads, unsigned seconds) {
+    std::vector<std::unique_ptr<BenchLog>> all;
+    for (unsigned number = 0; number < logs; ++number) {
+        all.push_back(std::make_unique<BenchLog>(connection, number));
+    }
+    std::vector<Waits> waits(logs * threads);
+    const auto end = Clock::now() + std::chrono::seconds(seconds);
+    std::vector<std::jthread> running;
+    for (unsigned at = 0; at < waits.size(); ++at) {
+        running.emplace_back([&, at] { waits[at] = all[at / threads]->append(at % threads, end); });
+    }
+    running.clear();
+    Waits together;
+    for (const Waits &each : waits) {
+        together.insert(together.end(), each.begin(), each.end());
+    }
+    std::ranges::sort(together);
+    const auto part = [&](double share) {
+        return together.at(
+            static_cast<std::size_t>(share * static_cast<double>(together.size() - 1)));
+    };
+    std::cout << fmt::format("{} logs, {} threads each: {} messages a second; waited {:.2f} ms in "
+                             "the median, {:.2f} ms at the 99th percentile\n",
+                             logs, threads, together.size() / seconds, part(0.5), part(0.99));
+}
+
+} // namespace
+
+} // namespace gateway::tests
+
+int main(int count, char **words) {
+    if (count != 5) {
+        std::cerr << "usage: log_bench CONNECTION LOGS THREADS SECONDS\n";
+        return 2;
+    }
+    try {
+        gateway::tests::run(words[1], static_cast<unsigned>(std::stoul(words[2])),
+                            static_cast<unsigned>(std::stoul(words[3])),
+                            static_cast<unsigned>(std::stoul(words[4])));
+        return 0;
+    } catch (const std::exception &fault) {
+        std::cerr << fault.what() << '\n';
+        return 1;
+    }
+}

@@ -1,0 +1,121 @@
+// Two gateways on one log in PostgreSQL: which may write, and that the other can't.
+//
+// usage: terms_test CONNECTION    a PostgreSQL database, in which it makes a schema and drops it
+#include "check.h"
+#include "database.h"
+
+#include <iostream>
+
+#include <fmt/format.h>
+#include <pqxx/pqxx>
+#include <unistd.h>
+
+namespace gateway::tests {
+
+namespace {
+
+// The schema of a test, and what is done to it behind the gateways' backs.
+class Schema {
+  public:
+    explicit Schema(const std::string &connection)
+        : text_(connection), name_(fmt::format("terms_test_{}", ::getpid())),
+          connection_(connection) {}
+    ~Schema() {
+        pqxx::nontransaction work(connection_);
+        work.exec("DROP SCHEMA " + name_ + " CASCADE");
+    }
+
+    std::unique_ptr<Database> open(const std::string &gateway) const {
+        return open_postgres({text_, name_, gateway});
+    }
+    void run(const std::string &statement) {
+        pqxx::nontransaction work(connection_);
+        work.exec("SET search_path TO " + name_ + "; " + statement);
+    }
+
+  private:
+    std::string text_;
+    std::string name_;
+    pqxx::connection connection_;
+};
+
+Batch batch_of(std::uint32_t place, std::uint32_t term) {
+    Entry entry;
+    entry.place = place;
+    entry.term = term;
+    entry.moment = "09:00:00.000";
+    entry.line = "clock 09:00:00.000";
+    entry.hash = hash_of(entry);
+    Batch batch;
+    batch.entries.push_back(entry);
+    return batch;
+}
+
+template <typename Work> std::string thrown_by(Work work) {
+    try {
+        work();
+    } catch (const std::runtime_error &fault) {
+        return fault.what();
+    }
+    return "";
+}
+
+void one_speaks(Schema &schema) {
+    const auto first = schema.open("first");
+    const auto second = schema.open("second");
+    same(1U, first->take_over().value_or(0), "the first term");
+    check(!second->take_over(), "two gateways speak");
+    const auto writer = first->writer();
+    writer->commit(batch_of(0, 1));
+    writer->be_seen();
+    check(!second->take_over(), "two gateways speak behind a commit");
+    same<std::size_t>(1, second->reader()->entries(0, 9).size(), "entries that the second reads");
+    const std::string other = thrown_by([&] { writer->commit(batch_of(1, 2)); });
+    check(other.find("term 2 is over") != std::string::npos, "an entry of another term: " + other);
+}
+
+// The connection of a gateway that has gone is closed, and that of one that hangs is not.
+void terms_rise(Schema &schema) {
+    auto second = schema.open("second");
+    same(2U, second->take_over().value_or(0), "the term behind a gateway that has gone");
+    second->writer()->commit(batch_of(1, 2));
+    schema.run("UPDATE speaker SET seen = seen - interval '4 seconds'");
+    const auto third = schema.open("third");
+    check(!third->take_over(), "a gateway takes over from one that is there");
+    schema.run("UPDATE speaker SET seen = seen - interval '2 seconds'");
+    same(3U, third->take_over().value_or(0), "the term behind a gateway that hangs");
+    third->writer()->commit(batch_of(2, 3));
+    check(!thrown_by([&] { second->writer()->commit(batch_of(3, 2)); }).empty(),
+          "a gateway whose term is over writes");
+    same<std::size_t>(3, third->reader()->entries(0, 9).size(), "entries");
+}
+
+void tables_refuse(Schema &schema) {
+    const std::string row = "INSERT INTO entry VALUES (9, {}, '', NULL, NULL, '', '', '')";
+    const std::string old = thrown_by([&] { schema.run(fmt::format(fmt::runtime(row), 2)); });
+    check(old.find("term 2 is over: third speaks in term 3") != std::string::npos,
+          "an old entry: " + old);
+    same<std::string>("", thrown_by([&] { schema.run(fmt::format(fmt::runtime(row), 3)); }),
+                      "an entry of the term of now");
+}
+
+} // namespace
+
+} // namespace gateway::tests
+
+int main(int count, char **words) {
+    if (count != 2) {
+        std::cerr << "usage: terms_test CONNECTION\n";
+        return 2;
+    }
+    try {
+        gateway::tests::Schema schema(words[1]);
+        gateway::tests::one_speaks(schema);
+        gateway::tests::terms_rise(schema);
+        gateway::tests::tables_refuse(schema);
+        return 0;
+    } catch (const std::exception &fault) {
+        std::cerr << fault.what() << '\n';
+        return 1;
+    }
+}

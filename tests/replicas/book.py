@@ -1,0 +1,49 @@
+"""The day's log as PostgreSQL has it, in the form of the gateway's own tests."""
+
+from ledger import Entry, Ledger
+from parts.database import DatabaseHost
+from parts.machine import Machine
+from parts.run import Fault, until
+
+PATIENCE = 60.0
+
+
+def rows(database: DatabaseHost, query: str) -> list[list[str]]:
+    text = database.asked(query, limit=60)
+    if text is None:
+        raise Fault("%s does not answer: %s" % (database.name, query))
+    return [line.split("|") for line in text.splitlines()]
+
+
+def primary(machine: Machine) -> DatabaseHost:
+    """The primary, which may still have to come."""
+    found: list[DatabaseHost] = []
+
+    def is_there() -> bool:
+        found[:] = [each for each in [machine.cluster.primary()] if each]
+        return bool(found)
+
+    until("there is a primary", PATIENCE, is_there)
+    return found[0]
+
+
+def read_ledger(machine: Machine, schema: str) -> Ledger:
+    database = primary(machine)
+    entries = tuple(
+        Entry(int(place), firm or None, int(number) if number else None, bytes.fromhex(line))
+        for place, firm, number, line in rows(
+            database, "SELECT place, firm, number, encode(line, 'hex') FROM %s.entry ORDER BY place"
+            % schema))
+    sent: dict[str, list[tuple[int, bytes]]] = {}
+    for firm, number, data in rows(database, "SELECT firm, number, encode(bytes, 'hex') "
+                                             "FROM %s.sent ORDER BY firm, number" % schema):
+        sent.setdefault(firm, []).append((int(number), bytes.fromhex(data)))
+    return Ledger(entries, sent)
+
+
+def last_place(machine: Machine, schema: str) -> int:
+    return int(rows(primary(machine), "SELECT max(place) FROM %s.entry" % schema)[0][0])
+
+
+def terms(machine: Machine, schema: str) -> int:
+    return int(rows(primary(machine), "SELECT term FROM %s.speaker" % schema)[0][0])
