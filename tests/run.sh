@@ -67,7 +67,7 @@ beside() {
     fi
     form engines 120 "g++ libquickfix-dev" '$s/.*/1/p' tests/engines/run.sh "$program"
     form model 45 python3 's/^\([0-9]*\) inputs, .*: no difference$/\1/p' \
-        python3 tests/model/compare.py "$program" 1000 "$seed" "$jobs"
+        python3 tests/model/compare.py --without-live "$program" 1000 "$seed" "$jobs"
     form isolation 45 python3 's/^seeds .*: \([0-9]*\) pairs with equal due lists.*/\1/p' \
         python3 tests/isolation/pairs.py "$program" 1000 "$seed" "$jobs"
     form hostile 45 python3 's/^\([0-9]*\) inputs from seed .*/\1/p' \

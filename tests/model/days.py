@@ -165,8 +165,8 @@ class Day:
         self.lines, self.moment, self.bits = [], OPENING, {}
         self.say_counts = Framer(self.configuration.date)
         self.faulty = draw.choice([0, 0, 0.02, 0.02, 0.05, 0.05, 0.3, 0.6])  # how often a message is spoilt
-        later = [] if draw.old else [("hex",), ("hex", "say"), ("say", "in", "piece", "hex")]
-        self.kinds = draw.choice([("say",), ("say",), ("say", "say", "in"), ("in",), ("piece",), ("say", "in", "piece")] + later)
+        self.kinds = draw.choice([("say",), ("say",), ("say", "say", "in"), ("in",), ("piece",), ("say", "in", "piece"),
+                                  ("hex",), ("hex", "say"), ("say", "in", "piece", "hex")])
         self.until = draw.choice([0, 0.2, 0.8])  # how often a quote has an end of its own
         self.spread = draw.choice([0, 1, 3])  # how far prices lie apart
         self.busy = draw.choice([0.3, 0.8, 1, 1, 1])  # how often duties are done behind a message
@@ -511,7 +511,7 @@ class Day:
         return self.message(firm, "AJ", [(693, "p"), (694, 6), (131, name)] + self.draw.of([], [], [], [(117, "Q1")]))
 
     def sweep(self):
-        if not self.draw.old and self.draw.chance(0.3):
+        if self.draw.chance(0.3):
             return self.put(b"clock " + moment_word(self.draw, self.clock_moment()).encode())
         able = [firm for firm in self.investors() if self.venue.desks[firm].requests]
         if not able:
@@ -542,7 +542,7 @@ class Day:
             return None
         firm = self.draw.choice(self.firms)
         data = self.draw.of(b"x", b"8=FIXT.1.1|9=5|35=R|10=000|", b" ", b"8=FIX.4.4|9=5|35=S|10=000|", b"\xff\xfe", b"|", b"%%")
-        if not self.draw.old and self.draw.chance(0.5):
+        if self.draw.chance(0.5):
             return self.deliver("hex", firm, data + self.draw.of(b"", b"\n", b"\r", b"|", b"\n%%\n", b"x" * 5000, b"\x00"))
         if self.draw.chance(0.5):
             return self.put(b"in %s %s %s" % (self.configuration.firms[firm].name, time_text(self.moment), data))

@@ -148,7 +148,7 @@ class MadeUp:
         self.put("drop %d %s" % (self.draw.randint(0, len(self.desk.quotes) + 1), self.time()))
 
     def odd(self):
-        if not self.draw.old and self.draw.chance(0.5):
+        if self.draw.chance(0.5):
             return self.put("hex %s %s" % (self.time(), self.draw.of("7c", "0a", "0D", "380a7C", "41" * 4097, "00ff", "7")))
         return self.put(self.draw.of("own %s 8=FIXT.1.1|9=5|35=R|10=000|", "own %s  x", "closed 99 1 %s", "closed 000000001 4 %s", "drop 999999999 %s", "drop 0 %s",
                               "own %s |", "closed 0 6 %s") % self.time())
@@ -212,7 +212,7 @@ def spoilt_input(draw, data):
         elif what == 2:
             lines.insert(draw.randint(0, len(lines)), lines.pop(place))
         elif what == 3:
-            lines.insert(place, draw.choice(ODD_LINES if draw.old else ODD_LINES + LATER_ODD_LINES * 2))
+            lines.insert(place, draw.choice(ODD_LINES + LATER_ODD_LINES * 2))
         elif what == 4:
             words = lines[place].split(b" ")
             lines[place] = spoilt_words(draw, words)

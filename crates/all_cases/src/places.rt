@@ -1,8 +1,7 @@
 //! The places that the libraries of drivers drive.
 use case_lines::{CaseFault, Report, run_file};
 use day_cases::{Inboxes, Records, Replays, Texts, Views};
-use desk_cases::{DealerPlace, InvestorPlace};
-use room_cases::{RoomPlace, RowPlace};
+use place_cases::{BoardPlace, DealerPlace, InvestorPlace, RoomPlace, RowPlace, StepPlace};
 use std::alloc::Global;
 use text_cases::{
     BlotterCases, ConfigCases, FrameCases, MomentCases, PriceCases, ReceivedCases, StreamCases,
@@ -32,6 +31,8 @@ pub(crate) fn run_place(
         "investor_desk" => run_file::<InvestorPlace>(alloc, text, report),
         "request_room" => run_file::<RoomPlace>(alloc, text, report),
         "plain_words" => run_file::<RowPlace>(alloc, text, report),
+        "board" => run_file::<BoardPlace>(alloc, text, report),
+        "venue_steps" => run_file::<StepPlace>(alloc, text, report),
         place => run_day_place(alloc, place, text, report),
     }
 }

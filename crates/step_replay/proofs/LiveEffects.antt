@@ -38,7 +38,7 @@ use Rattle.step_replay.specs.InvestorTrail as investor_trail
 use Rattle.step_replay.specs.InvestorTrail.{InvestorEntry}
 use Rattle.step_replay.specs.LiveDays.{Sent, actor_of, is_dealer}
 use Rattle.step_replay.specs.LiveDays.{messages_in, sent_by_facts, sent_in}
-use Rattle.step_replay.specs.LiveStanding.{desk_of_duty, desk_of_step, first_in}
+use Rattle.step_replay.specs.LiveStanding.{desk_of_duty, desk_of_step, first_in, room_of_step}
 use Rattle.step_replay.specs.StepFaults.{firms_of}
 use Rattle.step_replay.specs.VenueFacts.{Fact, AtDealer, InRoom, AtInvestor, of_dealer, of_investor}
 use Rattle.step_replay.specs.declared.steps.Actor.{Actor}
@@ -47,6 +47,8 @@ use Rattle.step_replay.specs.declared.steps.Step.{Step}
 use Rattle.step_replay.specs.declared.steps.Step.TheVariants as step
 use Rattle.step_replay.proofs.InvestorPlaceLemmas.{behind_dealers, numbered_at}
 use Rattle.step_replay.proofs.PlaceLemmas.{get_within, nothing_of, own_trail, own_investor}
+use Rattle.step_replay.proofs.RoomEffects.{AreOf, duty_there, message_there, nothing_there}
+use Rattle.step_replay.proofs.RoomEffects.{sweep_there}
 
 -- a message and its firm
 abbrev pub to : ℕ → List ℕ → Sent
@@ -336,6 +338,7 @@ module _ (config : Configuration) where
     pub more : List Fact
     pub grown : (after_step config trail next).facts ≡ trail.facts ++ more
     pub sent : SendAt (desk_of_step next (first_in (pending (actor_of next) trail))) more
+    pub inside : AreOf (room_of_step next (first_in (pending (actor_of next) trail))) more
 
   turn_adds : (by : Actor) (trail : AuditTrail) (duties : List Duty) → pending by trail ≡ duties
       → Adds trail (step.Turn by)
@@ -345,6 +348,7 @@ module _ (config : Configuration) where
     grown = ap (λ (d : List Duty). (after_turn config by trail d).facts) is
         ∙ sym (append-nil trail.facts);
     sent = nothing_at _;
+    inside = nothing_there _;
   }
   turn_adds by trail (first ∷ later) is = record {
     more = (duty_effect config trail.facts by first).facts;
@@ -352,6 +356,9 @@ module _ (config : Configuration) where
     sent = subst (λ (d : List Duty). SendAt (desk_of_step (step.Turn by) (first_in d))
         (duty_effect config trail.facts by first).facts) (sym is)
         (duty_at trail.facts by first);
+    inside = subst (λ (d : List Duty). AreOf (room_of_step (step.Turn by) (first_in d))
+        (duty_effect config trail.facts by first).facts) (sym is)
+        (duty_there config trail.facts by first);
   }
 
   pub step_adds : (trail : AuditTrail) (next : Step) → Adds trail next
@@ -360,10 +367,12 @@ module _ (config : Configuration) where
     more = (message_effect config trail.facts firm moment message).facts;
     grown = refl;
     sent = message_at trail.facts firm moment message;
+    inside = message_there config trail.facts firm moment message;
   }
   step_adds trail (step.Turn by) = turn_adds by trail (pending by trail) refl
   step_adds trail (step.Expire room moment) = record {
     more = (sweep_effect config trail.facts room moment).facts;
     grown = refl;
     sent = sweep_at trail.facts room moment;
+    inside = sweep_there config trail.facts room moment;
   }

@@ -26,7 +26,7 @@ use Rattle.step_replay.specs.InvestorTrail as investor_trail
 use Rattle.step_replay.specs.LiveDays.{Sent, actor_of, is_dealer, live_steps}
 use Rattle.step_replay.specs.LiveDays.{live_trail, message_for, messages_for, messages_in}
 use Rattle.step_replay.specs.LiveDays.{sent_by_facts, sent_in, with_turns}
-use Rattle.step_replay.specs.LiveStanding.{Answers, TellsAllOf, TellsOf, after_turns, count_at}
+use Rattle.step_replay.specs.LiveStanding.{TellsAllOf, TellsOf, VenueTells, after_turns, count_at}
 use Rattle.step_replay.specs.LiveStanding.{desk_of_step, first_in, next_duty, sent_behind}
 use Rattle.step_replay.specs.LiveStanding.{sent_on_day, sent_on_floor}
 use Rattle.step_replay.specs.Queues.{is_known, queue_of}
@@ -521,20 +521,20 @@ first_none (duty ∷ later) is = cc
 
 -- All duties are done.
 pub tells_all : (config : Configuration) (by : Actor) (trail : AuditTrail) (count : ℕ)
-    (replay : Replay) (told : List Sent) → count ≤ MOST_TURNS_BEHIND → is_known config by ≡ true
-    → TellsOf config (after_turns config by count trail) replay told
-    → next_duty replay by ≡ None → TellsAllOf config by trail replay told
-tells_all config by trail count replay told within known tells none =
+    (live : LiveVenue) (told : List Sent) → count ≤ MOST_TURNS_BEHIND → is_known config by ≡ true
+    → VenueTells config (after_turns config by count trail) live told
+    → next_duty live.replay by ≡ None → TellsAllOf config by trail live told
+tells_all config by trail count live told within known tells none =
     let left : pending by (after_turns config by count trail) ≡ [] =
-    first_none _ (sym (next_is config by (after_turns config by count trail) replay known
-    tells.stands) ∙ none) in
+    first_none _ (sym (next_is config by (after_turns config by count trail) live.replay known
+    tells.stands.replay_stands) ∙ none) in
     let split : MOST_TURNS_BEHIND ≡ count + (MOST_TURNS_BEHIND - count) = omega arith in
     let same : after_turns config by MOST_TURNS_BEHIND trail ≡ after_turns config by count trail =
     ap (λ (k : ℕ). after_turns config by k trail) split
     ∙ turns_both config by count (MOST_TURNS_BEHIND - count) trail
     ∙ idle_turns config by (MOST_TURNS_BEHIND - count) (after_turns config by count trail) left in
     record {
-      tells = subst (λ (t : AuditTrail). TellsOf config t replay told) (sym same) tells;
+      tells = subst (λ (t : AuditTrail). VenueTells config t live told) (sym same) tells;
       none_left = subst (λ (t : AuditTrail). pending by t ≡ []) (sym same) left;
     }
 
@@ -558,18 +558,3 @@ live_more config steps next =
     ap (fold (after_step config) no_steps) (flat_map-append with_turns steps (next ∷ []))
     ∙ fold-append (after_step config) no_steps (live_steps steps) (with_turns next ++ [])
     ∙ ap (fold (after_step config) (live_trail config steps)) (append-nil (with_turns next))
-
-pub answered : (config : Configuration) (steps : List Step) (next : Step) (after : LiveVenue)
-    (told : List Sent)
-    → TellsAllOf config (actor_of next) (after_step config (live_trail config steps) next)
-    after.replay (messages_in config (live_trail config steps).facts ++ told)
-    → Answers config steps next after told
-answered config steps next after told all =
-    let more = live_more config steps next in
-    record {
-      stands = subst (λ (t : AuditTrail). ReplayStands config t after.replay) (sym more)
-          all.tells.stands;
-      told_is = ap (λ (t : AuditTrail). messages_in config t.facts) more ∙ all.tells.told_is;
-      none_left = subst (λ (t : AuditTrail). pending (actor_of next) t ≡ []) (sym more)
-          all.none_left;
-    }

@@ -8,13 +8,13 @@ pub mod DealerView
 pub mod DueList
 pub mod FirmDays
 pub mod FloorDays
-pub mod FloorDeadlines
 pub mod Following
 pub mod InvestorTrail
 pub mod Liftings
 pub mod LiveDays
 pub mod LiveStanding
 pub mod Notices
+pub mod OpenRooms
 pub mod Openings
 pub mod PriceAlike
 pub mod Queues

@@ -1,18 +1,22 @@
--- Where a venue stands that answers as steps come. `IsAt` and `Answers` are for callers, who need
--- not know what they are made of; the rest are words of private functions alone.
+-- Where a venue stands that answers as steps come. `IsAt`, `Answers` and `AnswersSweeps` are
+-- for callers, who need not know what a venue that `IsAt` is made of; the rest are words of private
+-- functions alone.
 use Rattle.std.specs.Prelude.{◌≡◌, ℕ, List, [], ◌∷◌, ◌++◌, length, drop, map, Option, Some, None}
 use Rattle.std.specs.Prelude.{slice_get, fold, replicate, true}
 use Rattle.std.specs.Option.{option_and_then}
 use Rattle.market_terms.specs.declared.duties.Duty.{Duty}
 use Rattle.market_terms.specs.declared.duties.Duty.TheVariants as duty
+use Rattle.market_terms.specs.declared.rooms.RoomRef.{RoomRef}
 use Rattle.venue_config.specs.Rows.{Configuration}
 use Rattle.step_replay.specs.AuditTrail.{AuditTrail, after_step, pending}
 use Rattle.step_replay.specs.FirmDays.{FirmDay}
 use Rattle.step_replay.specs.FloorDays.{days_of_floor}
 use Rattle.step_replay.specs.Following.{ReplayStands, duties_in, index_in}
 use Rattle.step_replay.specs.LiveDays.{Sent, actor_of, live_messages, live_trail, messages_in}
+use Rattle.step_replay.specs.OpenRooms.{RoomsStand}
 use Rattle.step_replay.specs.Queues.{is_known}
 use Rattle.step_replay.specs.StepFaults.{fault_of}
+use Rattle.step_replay.specs.VenueRooms.{sweeps_at, rooms_of}
 use Rattle.step_replay.specs.declared.floor.Floor.{Floor}
 use Rattle.step_replay.specs.declared.live.LiveVenue.{LiveVenue}
 use Rattle.step_replay.specs.declared.replay.Replay.{Replay}
@@ -22,9 +26,16 @@ use Rattle.step_replay.specs.declared.steps.Step.{Step}
 use Rattle.step_replay.specs.declared.steps.Step.TheVariants as step
 use Rattle.step_replay.specs.declared.steps.TheConstants.{MOST_TURNS_BEHIND}
 
+-- a venue stands where a day has come: its replay, and the rooms that are opening or open
+pub record VenueStands (config : Configuration) (trail : AuditTrail)
+    (live : LiveVenue) : Type 0 where
+  pub replay_stands : ReplayStands config trail live.replay
+  pub rooms_stand : RoomsStand config trail.facts live.open_rooms
+
 -- a venue stands where these steps, which came one by one, have brought it
-abbrev pub IsAt : Configuration → List Step → LiveVenue → Type 0
-IsAt config steps live = ReplayStands config (live_trail config steps) live.replay
+pub record IsAt (config : Configuration) (steps : List Step) (live : LiveVenue) : Type 0 where
+  pub stands : VenueStands config (live_trail config steps) live
+  pub clock_idle : pending actor.Clock (live_trail config steps) ≡ []
 
 -- what one step more brings: the venue stands behind it, its actor has no duty left, and what was
 -- told are the messages that were sent with it
@@ -33,6 +44,20 @@ pub record Answers (config : Configuration) (steps : List Step) (next : Step) (a
   pub stands : IsAt config (steps ++ next ∷ []) after
   pub told_is : live_messages config (steps ++ next ∷ []) ≡ live_messages config steps ++ told
   pub none_left : pending (actor_of next) (live_trail config (steps ++ next ∷ [])) ≡ []
+
+-- what sweeps more of these rooms bring: the venue stands behind them, the clock has no duty left,
+-- and what was told are the messages that were sent with them
+pub record AnswersSweepsOf (config : Configuration) (steps : List Step) (moment : ℕ)
+    (rooms : List RoomRef) (after : LiveVenue) (told : List Sent) : Type 0 where
+  pub stands : IsAt config (steps ++ sweeps_at moment rooms) after
+  pub told_is : live_messages config (steps ++ sweeps_at moment rooms)
+      ≡ live_messages config steps ++ told
+  pub none_left : pending actor.Clock (live_trail config (steps ++ sweeps_at moment rooms)) ≡ []
+
+-- what a sweep of every room of the venue brings
+abbrev pub AnswersSweeps : Configuration → List Step → ℕ → LiveVenue → List Sent → Type 0
+AnswersSweeps config steps moment after told =
+    AnswersSweepsOf config steps moment (rooms_of config) after told
 
 -- The desk at which a step may send messages: there is one at most.
 
@@ -75,6 +100,32 @@ desk_of_step (step.In firm moment message) next = Some firm
 desk_of_step (step.Turn by) next = option_and_then (desk_of_duty by) next
 desk_of_step (step.Expire room moment) next = None
 
+-- The room in which a step takes place: there is one at most.
+
+-- that in which a duty is done
+abbrev pub room_of_duty : Duty → Option RoomRef
+room_of_duty (duty.Open room ask dealers moment) = Some room
+room_of_duty (duty.Show dealer room ask moment) = None
+room_of_duty (duty.Ready room moment) = Some room
+room_of_duty (duty.Post room quote price valid_until moment) = Some room
+room_of_duty (duty.Relay room offer moment) = None
+room_of_duty (duty.Unpost room quote moment) = Some room
+room_of_duty (duty.Gone room word moment) = None
+room_of_duty (duty.Decline room moment) = Some room
+room_of_duty (duty.Declined room moment) = None
+room_of_duty (duty.Hit room response word moment) = Some room
+room_of_duty (duty.Pass room response moment) = Some room
+room_of_duty (duty.Answer room response reply moment) = None
+room_of_duty (duty.Close room moment) = None
+room_of_duty (duty.Tell dealer room close moment) = None
+room_of_duty (duty.Drop last moment) = None
+
+-- that of a step, where its actor has these duties to do
+abbrev pub room_of_step : Step → Option Duty → Option RoomRef
+room_of_step (step.In firm moment message) next = None
+room_of_step (step.Turn by) next = option_and_then room_of_duty next
+room_of_step (step.Expire room moment) next = Some room
+
 -- what the code keeps of the messages of a firm
 abbrev pub sent_on_day : Option FirmDay → List (List ℕ)
 sent_on_day None = []
@@ -106,25 +157,37 @@ Tells may next before after old new = (config : Configuration) (trail : AuditTra
     → messages_in config trail.facts ≡ start ++ old
     → TellsOf config (next config trail) after (start ++ new)
 
+-- the same, and the venue stands with the rooms that are opening or open
+pub record VenueTells (config : Configuration) (trail : AuditTrail) (after : LiveVenue)
+    (told : List Sent) : Type 0 where
+  pub stands : VenueStands config trail after
+  pub told_is : messages_in config trail.facts ≡ told
+
+abbrev pub TellsStep : Step → LiveVenue → LiveVenue → List Sent → List Sent → Type 0
+TellsStep next before after old new = (config : Configuration) (trail : AuditTrail)
+    (start : List Sent) → fault_of config 0 next ≡ None → VenueStands config trail before
+    → messages_in config trail.facts ≡ start ++ old
+    → VenueTells config (after_step config trail next) after (start ++ new)
+
 -- the day after so many turns of an actor
 unfoldable pub after_turns : Configuration → Actor → ℕ → AuditTrail → AuditTrail
 after_turns config by count trail = fold (after_step config) trail (replicate count (step.Turn by))
 
 -- all duties of an actor are done: as many turns as stand behind a step leave it none
-pub record TellsAllOf (config : Configuration) (by : Actor) (trail : AuditTrail) (after : Replay)
-    (told : List Sent) : Type 0 where
-  pub tells : TellsOf config (after_turns config by MOST_TURNS_BEHIND trail) after told
+pub record TellsAllOf (config : Configuration) (by : Actor) (trail : AuditTrail)
+    (after : LiveVenue) (told : List Sent) : Type 0 where
+  pub tells : VenueTells config (after_turns config by MOST_TURNS_BEHIND trail) after told
   pub none_left : pending by (after_turns config by MOST_TURNS_BEHIND trail) ≡ []
 
-abbrev pub TellsDuties : Actor → Replay → Replay → List Sent → List Sent → Type 0
+abbrev pub TellsDuties : Actor → LiveVenue → LiveVenue → List Sent → List Sent → Type 0
 TellsDuties by before after old new = (config : Configuration) (trail : AuditTrail)
-    (start : List Sent) → is_known config by ≡ true → ReplayStands config trail before
+    (start : List Sent) → is_known config by ≡ true → VenueStands config trail before
     → messages_in config trail.facts ≡ start ++ old
     → TellsAllOf config by trail after (start ++ new)
 
 -- a step, and the duties of its actor behind it
-abbrev pub TellsAll : Step → Replay → Replay → List Sent → Type 0
-TellsAll next before after told = (config : Configuration) (trail : AuditTrail)
-    → fault_of config 0 next ≡ None → ReplayStands config trail before
-    → TellsAllOf config (actor_of next) (after_step config trail next) after
-    (messages_in config trail.facts ++ told)
+abbrev pub TellsAll : Step → LiveVenue → LiveVenue → List Sent → List Sent → Type 0
+TellsAll next before after old new = (config : Configuration) (trail : AuditTrail)
+    (start : List Sent) → fault_of config 0 next ≡ None → VenueStands config trail before
+    → messages_in config trail.facts ≡ start ++ old
+    → TellsAllOf config (actor_of next) (after_step config trail next) after (start ++ new)

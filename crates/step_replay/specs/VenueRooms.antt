@@ -3,6 +3,8 @@ use Rattle.std.specs.Prelude.{ℕ, ◌+◌, zero, suc, List, [], ◌∷◌, ◌+
 use Rattle.market_terms.specs.declared.rooms.RoomRef.{RoomRef}
 use Rattle.venue_config.specs.Rows.{Configuration}
 use Rattle.venue_config.specs.declared.investor_rows.InvestorRow.{InvestorRow}
+use Rattle.step_replay.specs.declared.steps.Step.{Step}
+use Rattle.step_replay.specs.declared.steps.Step.TheVariants as step
 
 -- the rooms of an investor's next requests, so many, behind its first ones
 abbrev pub rooms_behind : ℕ → ℕ → ℕ → List RoomRef
@@ -24,3 +26,7 @@ requests_of rows = map (λ (row : InvestorRow). row.requests) rows
 -- every room of the venue
 abbrev pub rooms_of : Configuration → List RoomRef
 rooms_of config = rooms_from (length config.dealers) (requests_of config.investors)
+
+-- a sweep of each of these rooms at a moment, one behind the other
+abbrev pub sweeps_at : ℕ → List RoomRef → List Step
+sweeps_at moment rooms = map (λ room. step.Expire room moment) rooms

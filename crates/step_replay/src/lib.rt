@@ -45,7 +45,8 @@
 //!
 //! - [`LiveVenue`]: a venue that answers step by step. After each step it stands as the audit trail
 //!   of the steps so far, each followed by turns of its actor that leave it none, and what it tells
-//!   are the messages that these added, in their order.
+//!   are the messages that these added, in their order. [`LiveVenue::sweep`] is a sweep of every
+//!   room, one behind the other, at the cost of those that end.
 //!
 //! What follows from the definition stands as laws:
 //!
@@ -65,6 +66,8 @@
 //!   notice comes after its request was shown, and at most once; where no duty is left and a room
 //!   has ended, each dealer that its request names was told once, as the end says for it.
 //! - [`a_hit_notice_names_the_lifted_quote`]: a notice of a hit names the quote that was lifted.
+//! - [`sweeps_of_rooms_that_are_not_due_do_nothing`]: a sweep of a room that is not open, or whose
+//!   deadline has not come, changes nothing.
 //! - [`steps_meet_their_tests`]: a duty's test never fails. The duty that stands first in a queue
 //!   meets the test of its action, and a dealer's message asks a word that the venue has.
 #![tactic(auto)]
@@ -83,6 +86,7 @@ mod investor_actions;
 mod laws;
 mod live;
 mod notice_laws;
+mod open_rooms;
 mod opening;
 mod prices;
 mod queues;
@@ -90,6 +94,7 @@ mod replay;
 mod room_actions;
 mod sent_to;
 mod steps;
+mod sweep_laws;
 mod world;
 
 pub use condition_laws::steps_meet_their_tests;
@@ -108,4 +113,5 @@ pub use notice_laws::{
 pub use prices::price_law;
 pub use sent_to::SentTo;
 pub use steps::{Actor, MOST_TURNS_BEHIND, Step};
+pub use sweep_laws::sweeps_of_rooms_that_are_not_due_do_nothing;
 pub use world::{World, due, run};

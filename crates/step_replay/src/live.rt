@@ -8,19 +8,21 @@ ghost use Rattle.step_replay.specs.FirmDays.{FirmDay};
 ghost use Rattle.step_replay.specs.FloorDays.{days_of_floor};
 ghost use Rattle.step_replay.specs.LiveDays as live;
 ghost use Rattle.step_replay.specs.LiveStanding as spec;
-ghost use Rattle.step_replay.specs.LiveStanding.{Answers, IsAt, Tells, TellsAll, TellsDuties};
+ghost use Rattle.step_replay.specs.LiveStanding.{Answers, AnswersSweeps, IsAt, Tells, TellsAll};
+ghost use Rattle.step_replay.specs.LiveStanding.{TellsDuties, TellsStep};
 ghost use Rattle.step_replay.specs.StepFaults as faults;
 ghost use Rattle.step_replay.specs.declared.steps.Step.{Step};
 ghost use Rattle.venue_config.specs.Rows.{Configuration};
 
-use crate::deadlines::earliest_deadline;
+use crate::deadlines::deadline_at;
 use crate::faults::{ReplayFault, fault_of};
 use crate::floor::Floor;
+use crate::open_rooms::OpenRooms;
 use crate::replay::Replay;
 use crate::sent_to::SentTo;
 use crate::steps::{Actor, MOST_TURNS_BEHIND, Step};
 use fix_fields::{Memory, Moment};
-use market_terms::Duty;
+use market_terms::{Duty, RoomRef};
 use quote_messages::SentMessage;
 use std::alloc::{AllocError, Global};
 use venue_config::VenueConfig;
@@ -30,6 +32,8 @@ use venue_config::VenueConfig;
 #[derive(Drop)]
 pub struct LiveVenue {
     pub(crate) replay: Replay,
+    /// The rooms that are opening or open, by their deadlines.
+    pub(crate) open_rooms: OpenRooms,
 }
 
 impl LiveVenue {
@@ -38,7 +42,8 @@ impl LiveVenue {
         ensures { IfOk result (IsAt config.now []) }
     {
         let replay = Replay::new(alloc, config)?;
-        Ok(LiveVenue { replay })
+        let open_rooms = OpenRooms::none(alloc);
+        Ok(LiveVenue { replay, open_rooms })
     }
 
     /// Takes a step, does it and then the duties of its actor, the oldest first, until it has none,
@@ -60,7 +65,26 @@ impl LiveVenue {
         if let Some(fault) = fault_of(config, 1, step) {
             return Err(fault);
         }
-        let told = answer(alloc, &mut self.replay, step)?;
+        let mut told = Vec::new(alloc);
+        answer(alloc, self, step, &mut told)?;
+        Ok(told)
+    }
+
+    /// Takes a sweep of every room of the venue at this moment, in the order of the investors and
+    /// of their requests, as one step behind the other, each answered before the next. It looks at
+    /// no room but those that end: what it costs is theirs, and the logarithm of the rooms that are
+    /// opening or open.
+    pub fn sweep(&mut self, alloc: Global, moment: Moment) -> Result<Vec<SentTo>, Memory>
+        ensures { IfOk result (λ told. (config : Configuration) (steps : List Step)
+            → IsAt config steps self.old
+            → AnswersSweeps config steps moment self.new told.items) }
+    {
+        let due = self.open_rooms.due(alloc, moment)?;
+        let mut told = Vec::new(alloc);
+        for room in &due {
+            let step = Step::Expire(*room, moment);
+            answer(alloc, self, &step, &mut told)?;
+        }
         Ok(told)
     }
 
@@ -70,18 +94,23 @@ impl LiveVenue {
         ensures { (config : Configuration) (steps : List Step) → IsAt config steps self.now
             → result ≡ next_deadline config (live.live_trail config steps).facts }
     {
-        earliest_deadline(self.replay.floor.investors.as_slice())
+        self.open_rooms.earliest()
     }
 }
 
 /// A step and the duties behind it are done, and what is sent with them is told.
-fn answer(alloc: Global, replay: &mut Replay, step: &Step) -> Result<Vec<SentTo>, Memory>
-    ensures { IfOk result (λ told. TellsAll step.now replay.old replay.new told.items) }
+fn answer(
+    alloc: Global,
+    venue: &mut LiveVenue,
+    step: &Step,
+    told: &mut Vec<SentTo>,
+) -> Result<(), Memory>
+    ensures { OnOk result
+        (TellsAll step.now venue.old venue.new told.old.items told.new.items) }
 {
-    let mut told = Vec::new(alloc);
-    tell_step(alloc, replay, step, &mut told)?;
-    tell_duties(alloc, replay, actor_of(step), &mut told)?;
-    Ok(told)
+    do_step(alloc, venue, step, told)?;
+    tell_duties(alloc, venue, actor_of(step), told)?;
+    Ok(())
 }
 
 /// The actor whose duties are done behind a step.
@@ -99,20 +128,80 @@ fn actor_of(step: &Step) -> Actor
 /// have as many as are refused here.
 fn tell_duties(
     alloc: Global,
-    replay: &mut Replay,
+    venue: &mut LiveVenue,
     by: Actor,
     told: &mut Vec<SentTo>,
 ) -> Result<(), Memory>
-    ensures { OnOk result (TellsDuties by replay.old replay.new told.old.items told.new.items) }
+    ensures { OnOk result (TellsDuties by venue.old venue.new told.old.items told.new.items) }
 {
     for _ in 0..MOST_TURNS_BEHIND {
-        let Some(_) = next_duty(replay, by) else {
+        let Some(_) = next_duty(&venue.replay, by) else {
             return Ok(());
         };
         let turn = Step::Turn(by);
-        tell_step(alloc, replay, &turn, told)?;
+        do_step(alloc, venue, &turn, told)?;
     }
     Err(AllocError)
+}
+
+/// A step is done, what is sent with it is told, and where the deadline of its room is another
+/// now, that is noted.
+fn do_step(
+    alloc: Global,
+    venue: &mut LiveVenue,
+    step: &Step,
+    told: &mut Vec<SentTo>,
+) -> Result<(), Memory>
+    ensures { OnOk result
+        (TellsStep step.now venue.old venue.new told.old.items told.new.items) }
+{
+    let Some(room) = room_of(&venue.replay, step) else {
+        tell_step(alloc, &mut venue.replay, step, told)?;
+        return Ok(());
+    };
+    let before = deadline_at(&venue.replay.floor, room);
+    tell_step(alloc, &mut venue.replay, step, told)?;
+    let after = deadline_at(&venue.replay.floor, room);
+    venue.open_rooms.note(room, before, after)?;
+    Ok(())
+}
+
+/// The room in which a step takes place, if it does in one.
+fn room_of(replay: &Replay, step: &Step) -> Option<RoomRef>
+    ensures { result ≡ spec.room_of_step step.now
+        (spec.next_duty replay.now (live.actor_of step.now)) }
+{
+    match step {
+        Step::In(_, _, _) => None,
+        Step::Turn(by) => {
+            let duty = next_duty(replay, *by)?;
+            room_of_duty(duty)
+        }
+        Step::Expire(room, _) => Some(*room),
+    }
+}
+
+/// The room in which a duty is done.
+fn room_of_duty(duty: &Duty) -> Option<RoomRef>
+    ensures { result ≡ spec.room_of_duty duty.now }
+{
+    match duty {
+        Duty::Open { room, .. } => Some(*room),
+        Duty::Ready { room, .. } => Some(*room),
+        Duty::Post { room, .. } => Some(*room),
+        Duty::Unpost { room, .. } => Some(*room),
+        Duty::Decline { room, .. } => Some(*room),
+        Duty::Hit { room, .. } => Some(*room),
+        Duty::Pass { room, .. } => Some(*room),
+        Duty::Show { .. } => None,
+        Duty::Tell { .. } => None,
+        Duty::Relay { .. } => None,
+        Duty::Gone { .. } => None,
+        Duty::Declined { .. } => None,
+        Duty::Answer { .. } => None,
+        Duty::Close { .. } => None,
+        Duty::Drop { .. } => None,
+    }
 }
 
 /// A step is done, and what is sent with it told.

@@ -11,6 +11,7 @@ use Rattle.clap.specs.Words.{HasKind, IsAmong, Kinds, Text, kind_of}
 use Rattle.std.specs.Option.{IfSome}
 use Rattle.venue_text.specs.Lines.{lines_of}
 use Rattle.venue_text.specs.declared.faults.ProgramFault.TheVariants.{Memory}
+use Rattle.venue_text.specs.declared.live_form.LiveForm.{LiveForm}
 use Rattle.venue_commands.specs.Arguments.{Command, arguments_fault, command_of, is_help, is_mistake}
 use Rattle.venue_commands.specs.Arguments.{live_form, may_be_help, may_be_mistake}
 use Rattle.venue_commands.specs.LiveRuns.{EndsInLive, EndsOver}
@@ -53,10 +54,10 @@ memory_alone status streams (inr (inl help)) = absurd (false≢true help.0)
 memory_alone status streams (inr (inr mistake)) = absurd (false≢true mistake.0)
 
 -- no line was answered then
-before_lines : (with_frames : Bool) (known : Option (List ℕ)) (status : ℕ) (streams : Streams) → EndsInMemory status streams.out streams.err
-    → IfSome known (λ all. EndsOver with_frames all status streams)
-before_lines with_frames None status streams memory = tt
-before_lines with_frames (Some all) status streams memory = inr (
+before_lines : (form : LiveForm) (known : Option (List ℕ)) (status : ℕ) (streams : Streams) → EndsInMemory status streams.out streams.err
+    → IfSome known (λ all. EndsOver form all status streams)
+before_lines form None status streams memory = tt
+before_lines form (Some all) status streams memory = inr (
   memory.0,
   record {
     fault = Memory;
@@ -72,11 +73,11 @@ before_lines with_frames (Some all) status streams memory = inr (
   },
 )
 
-of_memory : (form : Option Bool) (command : Command) (status : ℕ) (streams : Streams) → EndsInMemory status streams.out streams.err
+of_memory : (form : Option LiveForm) (command : Command) (status : ℕ) (streams : Streams) → EndsInMemory status streams.out streams.err
     → EndsOf form command status streams
 of_memory None command status streams memory = inr (memory.0, record { fault = Memory; left = memory.1; told = memory.2 })
-of_memory (Some with_frames) command status streams memory =
-    (inr memory.0, before_lines with_frames streams.input status streams memory)
+of_memory (Some form) command status streams memory =
+    (inr memory.0, before_lines form streams.input status streams memory)
 
 ends_by : (asked : Option Command) (kinds : Kinds) (status : ℕ) (streams : Streams) → (is_some asked ≡ true → kinds ≡ [])
     → EndsTold kinds status streams.out streams.err → EndsBy asked kinds status streams
@@ -107,10 +108,10 @@ some_arguments [] e = absurd (false≢true e)
 some_arguments (argument ∷ arguments) e = omega arith
 
 -- a run of a command that prints one text, and a run of `live`, by the form of the command
-pub in_text : (form : Option Bool) (command : Command) (status : ℕ) (streams : Streams) → None ≡ form
+pub in_text : (form : Option LiveForm) (command : Command) (status : ℕ) (streams : Streams) → None ≡ form
     → EndsInCommand command status streams → EndsOf form command status streams
-in_text form command status streams none ends = subst (λ (f : Option Bool). EndsOf f command status streams) none ends
+in_text form command status streams none ends = subst (λ (f : Option LiveForm). EndsOf f command status streams) none ends
 
-pub in_live : (with_frames : Bool) (form : Option Bool) (command : Command) (status : ℕ) (streams : Streams) → Some with_frames ≡ form
-    → EndsInLive with_frames status streams → EndsOf form command status streams
-in_live with_frames form command status streams some ends = subst (λ (f : Option Bool). EndsOf f command status streams) some ends
+pub in_live : (live_in : LiveForm) (form : Option LiveForm) (command : Command) (status : ℕ) (streams : Streams) → Some live_in ≡ form
+    → EndsInLive live_in status streams → EndsOf form command status streams
+in_live live_in form command status streams some ends = subst (λ (f : Option LiveForm). EndsOf f command status streams) some ends

@@ -325,12 +325,18 @@ same_flag text false found reads is = elim (reads.1 refl) [
 pub record AreFound (flags : Flags) (rows : List Row) : Type 0 where
   pub frames : FlagIs (one_of (codes "frames") rows) flags.frames
   pub woven : FlagIs (one_of (codes "woven") rows) flags.woven
+  pub marks : FlagIs (one_of (codes "marks") rows) flags.marks
+
+abbrev these_flags : Bool → Bool → Bool → Flags
+these_flags frames woven marks = record { frames = frames; woven = woven; marks = marks }
 
 same_flags : (words given_flags : List Text) (rows : List Row) (flags : Flags) → AreRead words given_flags rows → AreFound flags rows → flags ≡ given given_flags
 same_flags words given_flags rows flags read found =
-    ap₂ (λ f w. record { frames = f; woven = w })
-    (same_flag _ _ flags.frames (read.flag (codes "frames") refl) found.frames)
-    (same_flag _ _ flags.woven (read.flag (codes "woven") refl) found.woven)
+    let frames = same_flag _ _ flags.frames (read.flag (codes "frames") refl) found.frames in
+    let woven = same_flag _ _ flags.woven (read.flag (codes "woven") refl) found.woven in
+    let marks = same_flag _ _ flags.marks (read.flag (codes "marks") refl) found.marks in
+    ap₂ (λ f w. these_flags f w flags.marks) frames woven
+    ∙ ap (these_flags (given given_flags).frames (given given_flags).woven) marks
 
 -- each command of a table asks for what its name does
 abbrev AskByName : List Line → Type 0

@@ -8,11 +8,13 @@ use Rattle.std.proofs.lemmas.List.{length-append, append-nil}
 use Rattle.std.proofs.lemmas.Grind.{flat_map-append, fold-append}
 use Rattle.std.proofs.lemmas.List.Folds.{list_any-append}
 use Rattle.std.proofs.lemmas.List.Sums.{sum_by_push}
-use Rattle.venue_config.specs.Rows.{Configuration, values_of}
+use Rattle.venue_config.specs.Rows.{ConfigValues, Configuration, values_of}
 use Rattle.venue_text.specs.DueText.{Lines}
 use Rattle.venue_text.specs.Lines.{is_skipped, lines_of, spoken_from}
-use Rattle.venue_text.specs.LiveInput.{are_divided, configuration_in, nothing_taken, steps_in, taken_in, taken_of, with_line}
-use Rattle.venue_text.specs.VenueParts.{is_divider, text_of_lines}
+use Rattle.venue_text.specs.LiveInput.{are_divided, as_part, configuration_in, lines_text, numbered_from, numbered_in, steps_in, taken_in, taken_of, text_in}
+use Rattle.venue_text.specs.LiveLines.{Taken, line_text, nothing_taken, with_any_line, with_line}
+use Rattle.venue_text.specs.VenueParts.{is_divider, part_behind, text_of_lines}
+use Rattle.venue_text.specs.declared.live_form.LiveForm.{LiveForm}
 
 -- The first element of a list that passes a test.
 
@@ -104,6 +106,11 @@ module _ (lines : List (List ℕ)) (line : List ℕ) (undivided : are_divided li
         ap (λ l. fold (with_line (values_of config)) (nothing_taken (values_of config)) (spoken_from (1 + length (before_first is_divider (lines ++ line ∷ [])) + 1) l))
         (after_more is_divider lines (line ∷ []) undivided ∙ after_here is_divider line [] here)
 
+    pub nothing_printed : (form : LiveForm) (config : Configuration) → text_in form config (lines ++ line ∷ []) ≡ []
+    nothing_printed form config =
+        ap (λ l. lines_text form config (nothing_taken (values_of config)) (numbered_from (1 + length (before_first is_divider (lines ++ line ∷ [])) + 1) l))
+        (after_more is_divider lines (line ∷ []) undivided ∙ after_here is_divider line [] here)
+
 pub configuration_stays : (lines more : List (List ℕ)) → are_divided lines ≡ true → configuration_in (lines ++ more) ≡ configuration_in lines
 configuration_stays lines more divided = ap text_of_lines (parts_stay is_divider lines more divided).before
 
@@ -150,12 +157,84 @@ module _ (config : Configuration) (lines : List (List ℕ)) (line : List ℕ) (d
       ap (fold (with_line (values_of config)) (nothing_taken (values_of config))) steps_more
       ∙ fold-append (with_line (values_of config)) (nothing_taken (values_of config)) (steps_in lines) (spoken_from (length lines + 1) (line ∷ []))
 
-  pub taken_skipped : is_skipped line ≡ true → taken_in config (lines ++ line ∷ []) ≡ taken_in config lines
-  taken_skipped skipped = taken_more ∙ rw skipped refl
+  pub taken_any : taken_in config (lines ++ line ∷ [])
+      ≡ with_any_line (values_of config) (taken_in config lines) (length lines + 1, line)
+  taken_any =
+      elim (cases_Bool (is_skipped line)) [
+        | inl skipped ↦ taken_more ∙ rw skipped refl
+        | inr spoken ↦ taken_more ∙ rw spoken refl
+      ]
 
-  pub taken_line : is_skipped line ≡ false
-      → taken_in config (lines ++ line ∷ []) ≡ with_line (values_of config) (taken_in config lines) (length lines + 1, line)
-  taken_line spoken = taken_more ∙ rw spoken refl
+-- lines that are skipped bring nothing
+any_lines : (config : ConfigValues) (taken : Taken) (k : ℕ) (lines : List (List ℕ))
+    → fold (with_any_line config) taken (numbered_from k lines)
+    ≡ fold (with_line config) taken (spoken_from k lines)
+any_lines config taken k [] = refl
+any_lines config taken k (line ∷ lines) =
+    go (is_skipped line) refl (λ then. any_lines config then (k + 1) lines)
+  where
+    go : (b : Bool) → is_skipped line ≡ b
+        → ((then : Taken) → fold (with_any_line config) then (numbered_from (k + 1) lines)
+        ≡ fold (with_line config) then (spoken_from (k + 1) lines))
+        → fold (with_any_line config) taken (numbered_from k (line ∷ lines))
+        ≡ fold (with_line config) taken (spoken_from k (line ∷ lines))
+    go true skipped later =
+        let one : with_any_line config taken (k, line) ≡ taken = rw skipped refl in
+        let none : spoken_from k (line ∷ lines) ≡ spoken_from (k + 1) lines = rw skipped refl in
+        ap (λ (t : Taken). fold (with_any_line config) t (numbered_from (k + 1) lines)) one
+        ∙ later taken
+        ∙ ap (λ (l : Lines). fold (with_line config) taken l) (sym none)
+    go false spoken later =
+        let then = with_line config taken (k, line) in
+        let one : with_any_line config taken (k, line) ≡ then = rw spoken refl in
+        let some : spoken_from k (line ∷ lines) ≡ (k, line) ∷ spoken_from (k + 1) lines =
+        rw spoken refl in
+        ap (λ (t : Taken). fold (with_any_line config) t (numbered_from (k + 1) lines)) one
+        ∙ later then
+        ∙ ap (λ (l : Lines). fold (with_line config) taken l) (sym some)
+
+numbered_more : (k : ℕ) (lines : List (List ℕ)) (line : List ℕ)
+    → numbered_from k (lines ++ line ∷ []) ≡ numbered_from k lines ++ (k + length lines, line) ∷ []
+numbered_more k [] line = ap (λ (n : ℕ). (n, line) ∷ []) (omega arith)
+numbered_more k (first ∷ lines) line =
+    let place : k + 1 + length lines ≡ k + length (first ∷ lines) = omega arith in
+    ap (λ (l : Lines). (k, first) ∷ l)
+    (numbered_more (k + 1) lines line ∙ ap (λ n. numbered_from (k + 1) lines ++ (n, line) ∷ []) place)
+
+-- the text of a line stands behind those of the lines before
+texts_more : (form : LiveForm) (config : Configuration) (taken : Taken) (lines : Lines) (line : ℕ × List ℕ)
+    → lines_text form config taken (lines ++ line ∷ [])
+    ≡ lines_text form config taken lines
+    ++ line_text form config (fold (with_any_line (values_of config)) taken lines) line.0 line.1
+texts_more form config taken [] line = append-nil (line_text form config taken line.0 line.1)
+texts_more form config taken (first ∷ lines) line =
+    let here = line_text form config taken first.0 first.1 in
+    let then = with_any_line (values_of config) taken first in
+    ap (λ (l : List ℕ). here ++ l) (texts_more form config then lines line)
+    ∙ sym (append_assoc here (lines_text form config then lines)
+    (line_text form config (fold (with_any_line (values_of config)) then lines) line.0 line.1))
+
+module _ (form : LiveForm) (config : Configuration) (lines : List (List ℕ)) (line : List ℕ) (divided : are_divided lines ≡ true) where
+  all_more : numbered_in (part_behind (as_part (lines ++ line ∷ [])))
+      ≡ numbered_in (part_behind (as_part lines)) ++ (length lines + 1, line) ∷ []
+  all_more =
+      let stay = parts_stay is_divider lines (line ∷ []) divided in
+      let first = 1 + length (before_first is_divider lines) + 1 in
+      let place : first + length (after_first is_divider lines) ≡ length lines + 1 = omega (arith, stay.count) in
+      ap₂ (λ (b a : List (List ℕ)). numbered_from (1 + length b + 1) a) stay.before stay.after
+      ∙ numbered_more first (after_first is_divider lines) line
+      ∙ ap (λ n. numbered_from first (after_first is_divider lines) ++ (n, line) ∷ []) place
+
+  pub text_more : text_in form config (lines ++ line ∷ [])
+      ≡ text_in form config lines ++ line_text form config (taken_in config lines) (length lines + 1) line
+  unfolding taken_of
+  text_more =
+      let first = nothing_taken (values_of config) in
+      let part = part_behind (as_part lines) in
+      ap (lines_text form config first) all_more
+      ∙ texts_more form config first (numbered_in part) (length lines + 1, line)
+      ∙ ap (λ (t : Taken). text_in form config lines ++ line_text form config t (length lines + 1) line)
+      (any_lines (values_of config) first part.first part.lines)
 
 -- Bytes.
 

@@ -3,7 +3,7 @@ use Rattle.std.proofs.Common.{◌≡◌, ◌⊎◌, ℕ, ◌+◌, ◌<◌, ◌�
 use Rattle.std.proofs.Common.{Result, Ok, Err, refl, sym, ap, subst, ◌∙◌, arith, inl, inr, append_assoc, nat_lt, take, drop}
 use Rattle.std.specs.Io.KnownBytes.{Appends, Consumes, IsAtEnd, Keeps}
 use Rattle.std.specs.List.{list_any}
-use Rattle.std.specs.Option.{IfSome}
+use Rattle.std.specs.Option.{IfSome, option_to_list}
 use Rattle.std.specs.Prelude.{if◌then◌else◌, IfErr, IsErrAnd, OnErr, OnOk, Vec}
 use Rattle.std.specs.declared.alloc.Global.{Global}
 use Rattle.std.specs.Str.{is_utf8}
@@ -16,21 +16,19 @@ use Rattle.venue_config.specs.Config.{config_of}
 use Rattle.venue_config.specs.Rows.{ConfigValues, Configuration, values_of}
 use Rattle.venue_config.specs.declared.faults.ConfigFault.{ConfigFault}
 use Rattle.venue_config.specs.declared.faults.ConfigFault.TheVariants.{Toml}
-use Rattle.step_replay.specs.AuditTrail as trail
-use Rattle.step_replay.specs.LiveDays.{messages_in}
-use Rattle.step_replay.specs.declared.steps.Step.{Step}
 use Rattle.venue_text.specs.Faults.{told_line}
-use Rattle.venue_text.specs.Lines.{is_skipped, lines_of}
-use Rattle.venue_text.specs.LiveInput.{Taken, are_divided, taken_in, text_in, with_read}
-use Rattle.venue_text.specs.LiveLines.{Goes, LineIsAnswered, LineIsRefused, Opens, live_text, live_steps_of}
-use Rattle.venue_text.specs.StepLines.{Heard}
+use Rattle.venue_text.specs.Lines.{lines_of}
+use Rattle.venue_text.specs.LiveAnswers.{Gives, Goes, Opens}
+use Rattle.venue_text.specs.LiveInput.{are_divided, configuration_in, taken_in, text_in}
+use Rattle.venue_text.specs.LiveLines.{Taken}
 use Rattle.venue_text.specs.VenueParts.{is_divider, or_config_fault, venue_of}
 use Rattle.venue_text.specs.declared.faults.ProgramFault.{ProgramFault}
 use Rattle.venue_text.specs.declared.faults.ProgramFault.TheVariants.{Input, Config, Day, Firm, Form, Memory, Parts, Read as NotRead}
 use Rattle.venue_text.specs.declared.faults.ProgramFault.TheVariants.{Stream, UnknownFirm, UnknownRoom, Weave, Write}
 use Rattle.venue_text.specs.declared.lines.TheConstants.{MOST_INPUT}
+use Rattle.venue_text.specs.declared.live_form.LiveForm.{LiveForm}
 use Rattle.venue_text.specs.declared.live_lines.LiveDay.{LiveDay}
-use Rattle.venue_commands.specs.LiveRuns.{AnswersDay, EndsWith, EndsDay, EndsInAnswers, EndsInLive, GainsFaults, HasAnswered}
+use Rattle.venue_commands.specs.LiveRuns.{EndsWith, EndsDay, EndsInAnswers, EndsInLive, GainsFaults, HasAnswered}
 use Rattle.venue_commands.specs.LiveRuns.{ended_lines}
 use Rattle.venue_commands.specs.LiveStages.{AwaitsDay, DayGoes, IsBad, IsConfiguration, IsCut, IsDay, StageIs, StandsAt, Start}
 use Rattle.venue_commands.specs.LiveStages.{OfConfig, OfLength, OfMemory, err_new, err_old, out_new, out_old}
@@ -42,7 +40,7 @@ use Rattle.venue_commands.specs.declared.live.Stage.{Stage}
 use Rattle.venue_commands.specs.declared.live.Stage.TheVariants as stage
 use Rattle.venue_commands.specs.declared.live.TheConstants.{MOST_LINES}
 use Rattle.venue_commands.proofs.LineLemmas.{configuration_grows, configuration_is, configuration_stays, line_closed, line_goes_on, line_last}
-use Rattle.venue_commands.proofs.LineLemmas.{feeds_end, feeds_stay, nothing_behind, now_divided, parts_stay, still_undivided, taken_line, taken_skipped, text_grows}
+use Rattle.venue_commands.proofs.LineLemmas.{feeds_end, feeds_stay, nothing_behind, nothing_printed, now_divided, parts_stay, still_undivided, taken_any, text_grows, text_more}
 use Rattle.venue_commands.proofs.StreamLemmas.{appends_both, keeps_same, more_part}
 
 -- Results.
@@ -87,13 +85,19 @@ gains_nothing None new kept = tt
 gains_nothing (Some xs) None kept = absurd kept
 gains_nothing (Some xs) (Some ys) kept = kept ∙ sym (append-nil xs)
 
--- a fault more is told
-faults_more : (faults : List ProgramFault) (fault : ProgramFault) (old mid new : Option (List ℕ))
-    → GainsFaults faults (record { before = old; after = mid }) → GainsPart (told_line [] fault) (record { before = mid; after = new })
-    → GainsFaults (faults ++ fault ∷ []) (record { before = old; after = new })
-faults_more [] fault old mid new told part =
-    (new, record { taken = part.taken; gained = kept_first old mid new _ told part.gained }, keeps_same new)
-faults_more (first ∷ faults) fault old mid new told part = (told.0, told.1, faults_more faults fault told.0 mid new told.2 part)
+-- faults behind what stays as it is
+faults_behind : (faults : List ProgramFault) (old mid new : Option (List ℕ)) → Keeps old mid
+    → GainsFaults faults (record { before = mid; after = new }) → GainsFaults faults (record { before = old; after = new })
+faults_behind [] old mid new kept told = keeps_both old mid new kept told
+faults_behind (fault ∷ faults) old mid new kept told =
+    (told.0, record { taken = told.1.taken; gained = kept_first old mid told.0 _ kept told.1.gained }, told.2)
+
+-- faults more are told
+faults_more : (faults more : List ProgramFault) (old mid new : Option (List ℕ))
+    → GainsFaults faults (record { before = old; after = mid }) → GainsFaults more (record { before = mid; after = new })
+    → GainsFaults (faults ++ more) (record { before = old; after = new })
+faults_more [] more old mid new told later = faults_behind more old mid new told later
+faults_more (first ∷ faults) more old mid new told later = (told.0, told.1, faults_more faults more told.0 mid new told.2 later)
 
 faults_kept : (faults : List ProgramFault) (old mid new : Option (List ℕ)) → GainsFaults faults (record { before = old; after = mid }) → Keeps mid new
     → GainsFaults faults (record { before = old; after = new })
@@ -103,131 +107,94 @@ faults_kept (first ∷ faults) old mid new told kept = (told.0, told.1, faults_k
 -- A line of steps.
 
 -- what is known behind a line that was answered
-pub record AfterLine (with_frames : Bool) (config : Configuration) (lines : List (List ℕ)) (line : List ℕ) (day : LiveDay)
-    (answer : List ℕ) : Type 0 where
-  pub goes : Goes with_frames config (taken_in config (lines ++ line ∷ [])).steps (taken_in config (lines ++ line ∷ [])).heard day
-  pub printed : text_in with_frames config (lines ++ line ∷ []) ≡ text_in with_frames config lines ++ answer
-  pub faults : (taken_in config (lines ++ line ∷ [])).faults ≡ (taken_in config lines).faults
+pub record AfterLine (form : LiveForm) (config : Configuration) (lines : List (List ℕ)) (line : List ℕ) (day : LiveDay)
+    (answer : List ℕ) (fault : Option ProgramFault) : Type 0 where
+  pub goes : Goes form config (taken_in config (lines ++ line ∷ [])) day
+  pub printed : text_in form config (lines ++ line ∷ []) ≡ text_in form config lines ++ answer
+  pub faults : (taken_in config (lines ++ line ∷ [])).faults ≡ (taken_in config lines).faults ++ option_to_list fault
 
-module _ (with_frames : Bool) (config : Configuration) (lines : List (List ℕ)) (line : List ℕ) (divided : are_divided lines ≡ true) where
-  after_skipped : (day : LiveDay) → is_skipped line ≡ true → Goes with_frames config (taken_in config lines).steps (taken_in config lines).heard day
-      → AfterLine with_frames config lines line day []
-  after_skipped day skipped goes =
-      let same = taken_skipped config lines line divided skipped in
-      record {
-        goes = subst (λ (t : Taken). Goes with_frames config t.steps t.heard day) (sym same) goes;
-        printed = ap (λ (t : Taken). live_text with_frames config t.steps) same ∙ sym (append-nil (text_in with_frames config lines));
-        faults = ap (λ (t : Taken). t.faults) same;
-      }
+-- what a line gives, wherever the day stood
+abbrev pub GivesAnywhere : ℕ → List ℕ → LiveDay → LiveDay → List ℕ → Option ProgramFault → Type 0
+GivesAnywhere number line before after answer fault = (form : LiveForm) (config : Configuration) (taken : Taken)
+    → Goes form config taken before → Gives form config taken number line after answer fault
 
-  after_lawful : (day : LiveDay) (answer : List ℕ) → is_skipped line ≡ false
-      → LineIsAnswered with_frames config (taken_in config lines).steps (taken_in config lines).heard (length lines + 1) line day answer
-      → AfterLine with_frames config lines line day answer
-  after_lawful day answer spoken is =
-      let same = taken_line config lines line divided spoken ∙ ap (with_read (taken_in config lines)) is.spelled in
-      record {
-        goes = subst (λ (t : Taken). Goes with_frames config t.steps t.heard day) (sym same) is.goes;
-        printed = ap (λ (t : Taken). live_text with_frames config t.steps) same ∙ is.printed;
-        faults = ap (λ (t : Taken). t.faults) same;
-      }
-
--- the line was answered, whether it says something or not
-pub after_answer : (number : ℕ) (line answer : List ℕ) (before after : LiveDay)
-    → (is_skipped line ≡ true → (answer ≡ []) × (after ≡ before))
-    → (is_skipped line ≡ false → (with_frames : Bool) (config : Configuration) (taken : List Step) (heard : Heard)
-    → Goes with_frames config taken heard before → LineIsAnswered with_frames config taken heard number line after answer)
-    → (with_frames : Bool) (config : Configuration) (lines : List (List ℕ)) → number ≡ length lines + 1 → are_divided lines ≡ true
-    → Goes with_frames config (taken_in config lines).steps (taken_in config lines).heard before
-    → AfterLine with_frames config lines line after answer
-after_answer number line answer before after skips answers with_frames config lines at divided goes =
-    elim (cases_Bool (is_skipped line)) [
-      | inl skipped ↦
-          (let is = skips skipped in
-          subst (λ (a : List ℕ). AfterLine with_frames config lines line after a) (sym is.0)
-          (subst (λ (d : LiveDay). AfterLine with_frames config lines line d []) (sym is.1)
-          (after_skipped with_frames config lines line divided before skipped goes)))
-      | inr spoken ↦
-          after_lawful with_frames config lines line divided after answer spoken
-          (subst (λ (n : ℕ). LineIsAnswered with_frames config (taken_in config lines).steps (taken_in config lines).heard n line after answer) at
-          (answers spoken with_frames config (taken_in config lines).steps (taken_in config lines).heard goes))
-    ]
-
--- and its answer printed, or a part of it
-pub day_answered : (with_frames : Bool) (lines : List (List ℕ)) (line answer : List ℕ) (after : LiveDay) (config : Configuration)
-    (start old new err : Option (List ℕ)) (told : Option (List ℕ))
-    → AnswersDay with_frames config lines (record { before = start; after = old }) (record { before = told; after = err })
-    → AfterLine with_frames config lines line after answer → Appends old new answer
-    → DayGoes with_frames (lines ++ line ∷ []) after (record { before = start; after = new }) (record { before = told; after = err })
-day_answered with_frames lines line answer after config start old new err told had next gained = record {
-  config = config;
-  answers = record {
-    divided = (parts_stay is_divider lines (line ∷ []) had.divided).any;
-    spelled = ap venue_of (configuration_stays lines (line ∷ []) had.divided) ∙ had.spelled;
-    printed = subst (λ (t : List ℕ). Appends start new t) (sym next.printed) (appends_both start old new _ answer had.printed gained);
-    told = subst (λ (f : List ProgramFault). GainsFaults f (record { before = told; after = err })) (sym next.faults) had.told;
-  };
-  goes = next.goes;
-}
-
-pub day_unprinted : (with_frames : Bool) (lines : List (List ℕ)) (line answer : List ℕ) (after : LiveDay) (config : Configuration)
-    (start old new err : Option (List ℕ)) (told : Option (List ℕ)) (more : List (List ℕ)) (fault : ProgramFault) (shown : List ℕ)
-    → fault ≡ Write → shown ≡ answer
-    → AnswersDay with_frames config lines (record { before = start; after = old }) (record { before = told; after = err })
-    → AfterLine with_frames config lines line after answer → GainsPart shown (record { before = old; after = new })
-    → EndsDay with_frames fault ((lines ++ line ∷ []) ++ more) (record { before = start; after = new }) (record { before = told; after = err })
-day_unprinted with_frames lines line answer after config start old new err told more fault shown is same had next part =
-    subst (λ (f : ProgramFault). EndsDay with_frames f ((lines ++ line ∷ []) ++ more) (record { before = start; after = new })
-    (record { before = told; after = err })) (sym is)
-    (record {
-      is_fault = tt;
-      lines = lines ++ line ∷ [];
-      rest = more;
-      split = refl;
-      left = (
-        config,
-        record {
-          divided = (parts_stay is_divider lines (line ∷ []) had.divided).any;
-          spelled = ap venue_of (configuration_stays lines (line ∷ []) had.divided) ∙ had.spelled;
-          printed = subst (λ (t : List ℕ). GainsPart t (record { before = start; after = new })) (sym next.printed)
-              (more_part start old new _ answer had.printed
-              (subst (λ (t : List ℕ). GainsPart t (record { before = old; after = new })) same part));
-          told = subst (λ (f : List ProgramFault). GainsFaults f (record { before = told; after = err })) (sym next.faults) had.told;
-        },
-      );
-    })
-
--- the line was at fault
-pub day_refused : (number : ℕ) (line : List ℕ) (before after : LiveDay) (fault : ProgramFault) → is_skipped line ≡ false
-    → ((with_frames : Bool) (config : Configuration) (taken : List Step) (heard : Heard) → Goes with_frames config taken heard before
-    → LineIsRefused with_frames config taken heard number line fault after)
-    → (with_frames : Bool) (lines : List (List ℕ)) (out : Written) (told old new : Option (List ℕ)) → number ≡ length lines + 1
-    → DayGoes with_frames lines before out (record { before = told; after = old }) → GainsPart (told_line [] fault) (record { before = old; after = new })
-    → DayGoes with_frames (lines ++ line ∷ []) after out (record { before = told; after = new })
-day_refused number line before after fault spoken refuses with_frames lines out told old new at day part =
-    let config = day.config in
-    let had = day.answers in
+after_line : (number : ℕ) (line answer : List ℕ) (fault : Option ProgramFault) (before after : LiveDay)
+    → GivesAnywhere number line before after answer fault
+    → (form : LiveForm) (config : Configuration) (lines : List (List ℕ)) → number ≡ length lines + 1 → are_divided lines ≡ true
+    → Goes form config (taken_in config lines) before → AfterLine form config lines line after answer fault
+after_line number line answer fault before after gives form config lines at divided goes =
     let taken = taken_in config lines in
-    let is = refuses with_frames config taken.steps taken.heard day.goes in
-    let same = taken_line config lines line had.divided spoken
-    ∙ ap (with_read taken) (ap (λ n. live_steps_of (values_of config) taken.heard n line) (sym at) ∙ is.told) in
+    let is = subst (λ (n : ℕ). Gives form config taken n line after answer fault) at (gives form config taken goes) in
+    let same = taken_any config lines line divided in
     record {
-      config = config;
-      answers = record {
-        divided = (parts_stay is_divider lines (line ∷ []) had.divided).any;
-        spelled = ap venue_of (configuration_stays lines (line ∷ []) had.divided) ∙ had.spelled;
-        printed = subst (λ (t : Taken). Gains (live_text with_frames config t.steps) out) (sym same) had.printed;
-        told = subst (λ (t : Taken). GainsFaults t.faults (record { before = told; after = new })) (sym same)
-            (faults_more taken.faults fault told old new had.told part);
-      };
-      goes = subst (λ (t : Taken). Goes with_frames config t.steps t.heard after) (sym same) is.goes;
+      goes = subst (λ (t : Taken). Goes form config t after) (sym same) is.goes;
+      printed = text_more form config lines line divided ∙ ap (λ (l : List ℕ). text_in form config lines ++ l) (sym is.printed_is);
+      faults = ap (λ (t : Taken). t.faults) same ∙ is.told;
     }
 
+module _ (form : LiveForm) (lines : List (List ℕ)) (number : ℕ) (line answer : List ℕ) (fault : Option ProgramFault)
+    (before after : LiveDay) (gives : GivesAnywhere number line before after answer fault) (at : number ≡ length lines + 1)
+    (start old new told err err' : Option (List ℕ))
+    (had : DayGoes form lines before (record { before = start; after = old }) (record { before = told; after = err }))
+    (tells : GainsFaults (option_to_list fault) (record { before = err; after = err' })) where
+  abbrev next : AfterLine form had.config lines line after answer fault
+  next = after_line number line answer fault before after gives form had.config lines at had.answers.divided had.goes
+
+  divided_still : are_divided (lines ++ line ∷ []) ≡ true
+  divided_still = (parts_stay is_divider lines (line ∷ []) had.answers.divided).any
+
+  spelled_still : venue_of (configuration_in (lines ++ line ∷ [])) ≡ Ok (values_of had.config)
+  spelled_still = ap venue_of (configuration_stays lines (line ∷ []) had.answers.divided) ∙ had.answers.spelled
+
+  told_more : GainsFaults (taken_in had.config (lines ++ line ∷ [])).faults (record { before = told; after = err' })
+  told_more =
+      subst (λ (f : List ProgramFault). GainsFaults f (record { before = told; after = err' })) (sym next.faults)
+      (faults_more (taken_in had.config lines).faults (option_to_list fault) told err err' had.answers.told tells)
+
+  -- its text was printed
+  pub day_answered : Appends old new answer
+      → DayGoes form (lines ++ line ∷ []) after (record { before = start; after = new }) (record { before = told; after = err' })
+  day_answered gained = record {
+    config = had.config;
+    answers = record {
+      divided = divided_still;
+      spelled = spelled_still;
+      printed = subst (λ (t : List ℕ). Appends start new t) (sym next.printed) (appends_both start old new _ answer had.answers.printed gained);
+      told = told_more;
+    };
+    goes = next.goes;
+  }
+
+  -- or a part of it
+  pub day_unprinted : (more : List (List ℕ)) (write : ProgramFault) → write ≡ Write
+      → GainsPart answer (record { before = old; after = new })
+      → EndsDay form write ((lines ++ line ∷ []) ++ more) (record { before = start; after = new }) (record { before = told; after = err' })
+  day_unprinted more write is part =
+      subst (λ (f : ProgramFault). EndsDay form f ((lines ++ line ∷ []) ++ more) (record { before = start; after = new })
+      (record { before = told; after = err' })) (sym is)
+      (record {
+        is_fault = tt;
+        lines = lines ++ line ∷ [];
+        rest = more;
+        split = refl;
+        left = (
+          had.config,
+          record {
+            divided = divided_still;
+            spelled = spelled_still;
+            printed = subst (λ (t : List ℕ). GainsPart t (record { before = start; after = new })) (sym next.printed)
+                (more_part start old new _ answer had.answers.printed part);
+            told = told_more;
+          },
+        );
+      })
+
 -- memory was refused
-pub day_out_of_memory : (with_frames : Bool) (lines : List (List ℕ)) (line : List ℕ) (day : LiveDay) (out : Written) (told old new : Option (List ℕ))
-    (more : List (List ℕ)) (fault : ProgramFault) → fault ≡ Memory → DayGoes with_frames lines day out (record { before = told; after = old })
-    → Keeps old new → EndsDay with_frames fault ((lines ++ line ∷ []) ++ more) out (record { before = told; after = new })
-day_out_of_memory with_frames lines line day out told old new more fault is goes kept =
-    subst (λ (f : ProgramFault). EndsDay with_frames f ((lines ++ line ∷ []) ++ more) out (record { before = told; after = new })) (sym is)
+pub day_out_of_memory : (form : LiveForm) (lines : List (List ℕ)) (line : List ℕ) (day : LiveDay) (out : Written) (told old new : Option (List ℕ))
+    (more : List (List ℕ)) (fault : ProgramFault) → fault ≡ Memory → DayGoes form lines day out (record { before = told; after = old })
+    → Keeps old new → EndsDay form fault ((lines ++ line ∷ []) ++ more) out (record { before = told; after = new })
+day_out_of_memory form lines line day out told old new more fault is goes kept =
+    subst (λ (f : ProgramFault). EndsDay form f ((lines ++ line ∷ []) ++ more) out (record { before = told; after = new })) (sym is)
     (record {
       is_fault = tt;
       lines = lines;
@@ -257,14 +224,9 @@ config_goes_on lines line text after out err had other is = record {
   text_is = is ∙ ap (λ (t : List ℕ). t ++ line ++ 10 ∷ []) had.text_is ∙ sym (text_grows lines line);
 }
 
--- before the first step there is no message
-no_text : (with_frames : Bool) (config : Configuration) → live_text with_frames config [] ≡ []
-unfolding messages_in trail.audit_trail
-no_text with_frames config = refl
-
-pub config_opens : (with_frames : Bool) (lines : List (List ℕ)) (line text : List ℕ) (day : LiveDay) (out err : Written) → AwaitsDay lines text out err
-    → is_divider line ≡ true → Opens with_frames text day → DayGoes with_frames (lines ++ line ∷ []) day out err
-config_opens with_frames lines line text day out err had here opens =
+pub config_opens : (form : LiveForm) (lines : List (List ℕ)) (line text : List ℕ) (day : LiveDay) (out err : Written) → AwaitsDay lines text out err
+    → is_divider line ≡ true → Opens form text day → DayGoes form (lines ++ line ∷ []) day out err
+config_opens form lines line text day out err had here opens =
     let undivided = had.nothing.undivided in
     let config = opens.config in
     let same = nothing_behind lines line undivided here config in
@@ -273,11 +235,11 @@ config_opens with_frames lines line text day out err had here opens =
       answers = record {
         divided = now_divided lines line undivided here;
         spelled = ap venue_of (configuration_is lines line undivided here ∙ sym had.text_is) ∙ opens.spelled;
-        printed = subst (λ (t : List ℕ). Gains t out) (sym (ap (λ (t : Taken). live_text with_frames config t.steps) same ∙ no_text with_frames config))
+        printed = subst (λ (t : List ℕ). Gains t out) (sym (nothing_printed lines line undivided here form config))
             (gains_nothing out.before out.after had.nothing.left);
         told = subst (λ (t : Taken). GainsFaults t.faults err) (sym same) had.nothing.untold;
       };
-      goes = subst (λ (t : Taken). Goes with_frames config t.steps t.heard day) (sym same) opens.goes;
+      goes = subst (λ (t : Taken). Goes form config t day) (sym same) opens.goes;
     }
 
 -- a fault of what a configuration spells is one of its own
@@ -290,10 +252,10 @@ config_fault text fault is = by_text (is_utf8 text) (config_of text) is
     by_text true (Err f) e = (f, cc)
     by_text false read e = (Toml, cc)
 
-module _ (with_frames : Bool) (lines : List (List ℕ)) (line text : List ℕ) (out err : Written) (had : AwaitsDay lines text out err)
+module _ (form : LiveForm) (lines : List (List ℕ)) (line text : List ℕ) (out err : Written) (had : AwaitsDay lines text out err)
     (more : List (List ℕ)) where
   abbrev Fails : ProgramFault → Type 0
-  Fails fault = EndsDay with_frames fault ((lines ++ line ∷ []) ++ more) out err
+  Fails fault = EndsDay form fault ((lines ++ line ∷ []) ++ more) out err
 
   config_lawless : (fault : ProgramFault) → is_divider line ≡ true → venue_of text ≡ Err fault → Fails fault
   config_lawless fault here is =
@@ -341,65 +303,65 @@ module _ (with_frames : Bool) (lines : List (List ℕ)) (line text : List ℕ) (
 abbrev pub still : Option (List ℕ) → Written
 still known = record { before = known; after = known }
 
-module _ (with_frames : Bool) (number : ℕ) (line : List ℕ) (before : Stage) where
+module _ (form : LiveForm) (number : ℕ) (line : List ℕ) (before : Stage) where
   pub stage_waits : (after : Stage) (t u : Vec ℕ Global) (o e : Option (List ℕ)) → before ≡ stage.Configuration t → after ≡ stage.Configuration u
-      → IsNext with_frames line t.items u.items None → StageTakes with_frames number line before after (still o) (still e)
+      → IsNext form line t.items u.items None → StageTakes form number line before after (still o) (still e)
   stage_waits after t u o e was is next lines start at had =
-      subst (λ (s : Stage). StageIs with_frames (lines ++ line ∷ []) s (out_new start (still o)) (err_new start (still e))) (sym is)
+      subst (λ (s : Stage). StageIs form (lines ++ line ∷ []) s (out_new start (still o)) (err_new start (still e))) (sym is)
       (config_goes_on lines line t.items u.items _ _
-      (subst (λ (s : Stage). StageIs with_frames lines s (out_old start (still o)) (err_old start (still e))) was had) next.0 next.1)
+      (subst (λ (s : Stage). StageIs form lines s (out_old start (still o)) (err_old start (still e))) was had) next.0 next.1)
 
   pub stage_opens : (after : Stage) (t : Vec ℕ Global) (now : List ℕ) (day : LiveDay) (o e : Option (List ℕ)) → before ≡ stage.Configuration t
-      → after ≡ stage.Day day → IsNext with_frames line t.items now (Some day) → StageTakes with_frames number line before after (still o) (still e)
+      → after ≡ stage.Day day → IsNext form line t.items now (Some day) → StageTakes form number line before after (still o) (still e)
   stage_opens after t now day o e was is next lines start at had =
-      subst (λ (s : Stage). StageIs with_frames (lines ++ line ∷ []) s (out_new start (still o)) (err_new start (still e))) (sym is)
-      (config_opens with_frames lines line t.items day _ _
-      (subst (λ (s : Stage). StageIs with_frames lines s (out_old start (still o)) (err_old start (still e))) was had) next.0 next.1)
+      subst (λ (s : Stage). StageIs form (lines ++ line ∷ []) s (out_new start (still o)) (err_new start (still e))) (sym is)
+      (config_opens form lines line t.items day _ _
+      (subst (λ (s : Stage). StageIs form lines s (out_old start (still o)) (err_old start (still e))) was had) next.0 next.1)
 
   pub stage_goes : (after : Stage) (d d' : LiveDay) (out err : Written) → before ≡ stage.Day d → after ≡ stage.Day d'
-      → DayTakes number line d d' out err → StageTakes with_frames number line before after out err
+      → DayTakes number line d d' out err → StageTakes form number line before after out err
   stage_goes after d d' out err was is takes lines start at had =
-      subst (λ (s : Stage). StageIs with_frames (lines ++ line ∷ []) s (out_new start out) (err_new start err)) (sym is)
-      (takes with_frames lines start at (subst (λ (s : Stage). StageIs with_frames lines s (out_old start out) (err_old start err)) was had))
+      subst (λ (s : Stage). StageIs form (lines ++ line ∷ []) s (out_new start out) (err_new start err)) (sym is)
+      (takes form lines start at (subst (λ (s : Stage). StageIs form lines s (out_old start out) (err_old start err)) was had))
 
   pub stage_bad : (t : Vec ℕ Global) (fault : ProgramFault) (o e : Option (List ℕ)) → before ≡ stage.Configuration t → IsBad line t.items fault
-      → StageFails with_frames number line before fault (still o) (still e)
+      → StageFails form number line before fault (still o) (still e)
   stage_bad t fault o e was bad lines start at had more =
-      config_bad with_frames lines line t.items _ _
-      (subst (λ (s : Stage). StageIs with_frames lines s (out_old start (still o)) (err_old start (still e))) was had) more fault bad
+      config_bad form lines line t.items _ _
+      (subst (λ (s : Stage). StageIs form lines s (out_old start (still o)) (err_old start (still e))) was had) more fault bad
 
   pub stage_fails : (d : LiveDay) (fault : ProgramFault) (out err : Written) → before ≡ stage.Day d → DayFails number line d fault out err
-      → StageFails with_frames number line before fault out err
+      → StageFails form number line before fault out err
   stage_fails d fault out err was fails lines start at had more =
-      fails with_frames lines start at (subst (λ (s : Stage). StageIs with_frames lines s (out_old start out) (err_old start err)) was had) more
+      fails form lines start at (subst (λ (s : Stage). StageIs form lines s (out_old start out) (err_old start err)) was had) more
 
 -- The line that has begun is whole.
 
-answered_by : (with_frames : Bool) (lines : List (List ℕ)) (s : Stage) (out err : Written) → StageIs with_frames lines s out err
-    → HasAnswered with_frames lines out err
-answered_by with_frames lines (stage.Configuration t) out err is = inl is.nothing
-answered_by with_frames lines (stage.Day d) out err is = inr (is.config, is.answers)
+answered_by : (form : LiveForm) (lines : List (List ℕ)) (s : Stage) (out err : Written) → StageIs form lines s out err
+    → HasAnswered form lines out err
+answered_by form lines (stage.Configuration t) out err is = inl is.nothing
+answered_by form lines (stage.Day d) out err is = inr (is.config, is.answers)
 
 pub line_takes : (before after : LiveRun) (out err : Written)
-    → StageTakes before.with_frames before.number before.line.items before.stage after.stage out err
-    → after.number ≡ before.number + 1 → after.with_frames ≡ before.with_frames → LineTakes before after out err
-line_takes before after out err takes number form with_frames lines start come = record {
+    → StageTakes before.form before.number before.line.items before.stage after.stage out err
+    → after.number ≡ before.number + 1 → after.form ≡ before.form → LineTakes before after out err
+line_takes before after out err takes number form_same form lines start come = record {
   number_is = number ∙ ap (λ n. n + 1) (come.number_is ∙ sym (length-append lines (before.line.items ∷ [])));
-  form_is = form ∙ come.form_is;
-  stage_is = subst (λ (f : Bool). StageIs f (lines ++ before.line.items ∷ []) after.stage (out_new start out) (err_new start err)) come.form_is
+  form_is = form_same ∙ come.form_is;
+  stage_is = subst (λ (f : LiveForm). StageIs f (lines ++ before.line.items ∷ []) after.stage (out_new start out) (err_new start err)) come.form_is
       (takes lines start come.number_is
-      (subst (λ (f : Bool). StageIs f lines before.stage (out_old start out) (err_old start err)) (sym come.form_is) come.stage_is));
+      (subst (λ (f : LiveForm). StageIs f lines before.stage (out_old start out) (err_old start err)) (sym come.form_is) come.stage_is));
 }
 
 pub line_fails : (before : LiveRun) (fault : ProgramFault) (out err : Written)
-    → StageFails before.with_frames before.number before.line.items before.stage fault out err → LineFails before fault out err
-line_fails before fault out err fails with_frames lines start come more =
-    subst (λ (f : Bool). EndsDay f fault ((lines ++ before.line.items ∷ []) ++ more) (out_new start out) (err_new start err)) come.form_is
+    → StageFails before.form before.number before.line.items before.stage fault out err → LineFails before fault out err
+line_fails before fault out err fails form lines start come more =
+    subst (λ (f : LiveForm). EndsDay f fault ((lines ++ before.line.items ∷ []) ++ more) (out_new start out) (err_new start err)) come.form_is
     (fails lines start come.number_is
-    (subst (λ (f : Bool). StageIs f lines before.stage (out_old start out) (err_old start err)) (sym come.form_is) come.stage_is) more)
+    (subst (λ (f : LiveForm). StageIs f lines before.stage (out_old start out) (err_old start err)) (sym come.form_is) come.stage_is) more)
 
 pub line_past : (before : LiveRun) (o e : Option (List ℕ)) → MOST_LINES < before.number → LineFails before Input (still o) (still e)
-line_past before o e past with_frames lines start come more =
+line_past before o e past form lines start come more =
     let line = before.line.items in
     let first = length-append (lines ++ line ∷ []) more in
     let second = length-append lines (line ∷ []) in
@@ -409,7 +371,7 @@ line_past before o e past with_frames lines start come more =
       lines = lines;
       rest = line ∷ more;
       split = append_assoc lines (line ∷ []) more;
-      left = answered_by with_frames lines before.stage (out_old start (still o)) (err_old start (still e)) come.stage_is;
+      left = answered_by form lines before.stage (out_old start (still o)) (err_old start (still e)) come.stage_is;
     }
 
 -- A byte comes.
@@ -433,32 +395,32 @@ cut_more read lines begun c goes cut = record {
 
 pub take_end : (before after : LiveRun) (c : ℕ) (out err : Written) → c ≡ 10 → LineTakes before after out err → after.line.items ≡ []
     → Feeds (c ∷ []) before after out err
-take_end before after c out err is takes empty with_frames read start stands =
-    subst (λ (b : ℕ). StandsAt with_frames (read ++ b ∷ []) after (out_new start out) (err_new start err)) (sym is)
+take_end before after c out err is takes empty form read start stands =
+    subst (λ (b : ℕ). StandsAt form (read ++ b ∷ []) after (out_new start out) (err_new start err)) (sym is)
     (record {
       lines = stands.lines ++ before.line.items ∷ [];
       cut = subst (IsCut (read ++ 10 ∷ []) (stands.lines ++ before.line.items ∷ [])) (sym empty)
           (cut_end read stands.lines before.line.items stands.cut);
-      come = takes with_frames stands.lines start stands.come;
+      come = takes form stands.lines start stands.come;
     })
 
 pub take_fails : (before : LiveRun) (c : ℕ) (fault : ProgramFault) (out err : Written) → c ≡ 10 → LineFails before fault out err
     → FeedFails (c ∷ []) before fault out err
-take_fails before c fault out err is fails with_frames read start stands tail =
-    subst (λ (b : ℕ). EndsDay with_frames fault (lines_of ((read ++ b ∷ []) ++ tail)) (out_new start out) (err_new start err)) (sym is)
-    (subst (λ (l : List (List ℕ)). EndsDay with_frames fault l (out_new start out) (err_new start err))
-    (sym ((cut_end read stands.lines before.line.items stands.cut).closed tail)) (fails with_frames stands.lines start stands.come (lines_of tail)))
+take_fails before c fault out err is fails form read start stands tail =
+    subst (λ (b : ℕ). EndsDay form fault (lines_of ((read ++ b ∷ []) ++ tail)) (out_new start out) (err_new start err)) (sym is)
+    (subst (λ (l : List (List ℕ)). EndsDay form fault l (out_new start out) (err_new start err))
+    (sym ((cut_end read stands.lines before.line.items stands.cut).closed tail)) (fails form stands.lines start stands.come (lines_of tail)))
 
 pub take_more : (before after : LiveRun) (c : ℕ) (o e : Option (List ℕ)) → (c == 10) ≡ false → after.number ≡ before.number
-    → after.with_frames ≡ before.with_frames → after.stage ≡ before.stage → after.line.items ≡ before.line.items ++ c ∷ []
+    → after.form ≡ before.form → after.stage ≡ before.stage → after.line.items ≡ before.line.items ++ c ∷ []
     → Feeds (c ∷ []) before after (still o) (still e)
-take_more before after c o e goes number form same line with_frames read start stands = record {
+take_more before after c o e goes number form_same same line form read start stands = record {
   lines = stands.lines;
   cut = subst (IsCut (read ++ c ∷ []) stands.lines) (sym line) (cut_more read stands.lines before.line.items c goes stands.cut);
   come = record {
     number_is = number ∙ stands.come.number_is;
-    form_is = form ∙ stands.come.form_is;
-    stage_is = subst (λ (s : Stage). StageIs with_frames stands.lines s (out_new start (still o)) (err_new start (still e))) (sym same)
+    form_is = form_same ∙ stands.come.form_is;
+    stage_is = subst (λ (s : Stage). StageIs form stands.lines s (out_new start (still o)) (err_new start (still e))) (sym same)
         stands.come.stage_is;
   };
 }
@@ -474,52 +436,52 @@ long_line (first ∷ lines) line behind long =
 
 pub put_fails : (before : LiveRun) (c : ℕ) (fault : ProgramFault) (o e : Option (List ℕ)) → (c == 10) ≡ false
     → (fault ≡ Memory) ⊎ ((fault ≡ Input) × MOST_INPUT ≤ length before.line.items) → FeedFails (c ∷ []) before fault (still o) (still e)
-put_fails before c fault o e goes (inl is) with_frames read start stands tail =
-    subst (λ (f : ProgramFault). EndsDay with_frames f (lines_of ((read ++ c ∷ []) ++ tail)) (out_new start (still o)) (err_new start (still e))) (sym is)
+put_fails before c fault o e goes (inl is) form read start stands tail =
+    subst (λ (f : ProgramFault). EndsDay form f (lines_of ((read ++ c ∷ []) ++ tail)) (out_new start (still o)) (err_new start (still e))) (sym is)
     (record {
       is_fault = tt;
       lines = stands.lines;
       rest = lines_of ((before.line.items ++ c ∷ []) ++ tail);
       split = (cut_more read stands.lines before.line.items c goes stands.cut).closed tail;
-      left = answered_by with_frames stands.lines before.stage _ _ stands.come.stage_is;
+      left = answered_by form stands.lines before.stage _ _ stands.come.stage_is;
     })
-put_fails before c fault o e goes (inr is) with_frames read start stands tail =
+put_fails before c fault o e goes (inr is) form read start stands tail =
     let begun = before.line.items in
     let closed = ap lines_of (append_assoc read (c ∷ []) tail) ∙ stands.cut.closed (c ∷ tail) in
     let on = line_goes_on begun c tail stands.cut.goes_on goes in
     let whole = closed ∙ ap (λ (l : List (List ℕ)). stands.lines ++ l) on.is in
-    subst (λ (f : ProgramFault). EndsDay with_frames f (lines_of ((read ++ c ∷ []) ++ tail)) (out_new start (still o)) (err_new start (still e))) (sym is.0)
+    subst (λ (f : ProgramFault). EndsDay form f (lines_of ((read ++ c ∷ []) ++ tail)) (out_new start (still o)) (err_new start (still e))) (sym is.0)
     (record {
       is_fault = inl (ap (list_any (λ l. nat_lt MOST_INPUT (length l))) whole
           ∙ long_line stands.lines on.line on.behind (let long = on.long in let full = is.1 in omega (arith, long, full)));
       lines = stands.lines;
       rest = lines_of (begun ++ c ∷ tail);
       split = closed;
-      left = answered_by with_frames stands.lines before.stage _ _ stands.come.stage_is;
+      left = answered_by form stands.lines before.stage _ _ stands.come.stage_is;
     })
 
 -- Bytes come.
 
 pub feeds_none : (run : LiveRun) (o e : Option (List ℕ)) → Feeds [] run run (still o) (still e)
-feeds_none run o e with_frames read start stands =
-    subst (λ (r : List ℕ). StandsAt with_frames r run (out_new start (still o)) (err_new start (still e))) (sym (append-nil read)) stands
+feeds_none run o e form read start stands =
+    subst (λ (r : List ℕ). StandsAt form r run (out_new start (still o)) (err_new start (still e))) (sym (append-nil read)) stands
 
 pub feeds_both : (first mid last : LiveRun) (a b : List ℕ) (o o' o'' e e' e'' : Option (List ℕ))
     → Feeds a first mid (record { before = o; after = o' }) (record { before = e; after = e' })
     → Feeds b mid last (record { before = o'; after = o'' }) (record { before = e'; after = e'' })
     → Feeds (a ++ b) first last (record { before = o; after = o'' }) (record { before = e; after = e'' })
-feeds_both first mid last a b o o' o'' e e' e'' one two with_frames read start stands =
-    subst (λ (r : List ℕ). StandsAt with_frames r last (record { before = start.out; after = o'' }) (record { before = start.err; after = e'' }))
-    (append_assoc read a b) (two with_frames (read ++ a) start (one with_frames read start stands))
+feeds_both first mid last a b o o' o'' e e' e'' one two form read start stands =
+    subst (λ (r : List ℕ). StandsAt form r last (record { before = start.out; after = o'' }) (record { before = start.err; after = e'' }))
+    (append_assoc read a b) (two form (read ++ a) start (one form read start stands))
 
 pub feeds_fail : (first mid : LiveRun) (fault : ProgramFault) (a b rest : List ℕ) (o o' o'' e e' e'' : Option (List ℕ))
     → Feeds a first mid (record { before = o; after = o' }) (record { before = e; after = e' })
     → FeedFails b mid fault (record { before = o'; after = o'' }) (record { before = e'; after = e'' })
     → FeedFails (a ++ b ++ rest) first fault (record { before = o; after = o'' }) (record { before = e; after = e'' })
-feeds_fail first mid fault a b rest o o' o'' e e' e'' one two with_frames read start stands tail =
+feeds_fail first mid fault a b rest o o' o'' e e' e'' one two form read start stands tail =
     let same : ((read ++ a) ++ b) ++ (rest ++ tail) ≡ (read ++ (a ++ b ++ rest)) ++ tail = simp (append_assoc) in
-    subst (λ (t : List ℕ). EndsDay with_frames fault (lines_of t) (record { before = start.out; after = o'' }) (record { before = start.err; after = e'' }))
-    same (two with_frames (read ++ a) start (one with_frames read start stands) (rest ++ tail))
+    subst (λ (t : List ℕ). EndsDay form fault (lines_of t) (record { before = start.out; after = o'' }) (record { before = start.err; after = e'' }))
+    same (two form (read ++ a) start (one form read start stands) (rest ++ tail))
 
 -- a byte of them ended the day
 pub feeds_fail_at : (first mid : LiveRun) (fault : ProgramFault) (bytes : List ℕ) (at : ℕ) {b : ℕ} (o o' o'' e e' e'' : Option (List ℕ))
@@ -545,56 +507,56 @@ last_line read lines (c ∷ begun) cut some =
     ap lines_of (sym (append-nil read)) ∙ cut.closed [] ∙ ap (λ (t : List ℕ). lines ++ lines_of t) (append-nil (c ∷ begun))
     ∙ ap (λ (l : List (List ℕ)). lines ++ l) (line_last c begun cut.goes_on)
 
-in_answers : (with_frames : Bool) (lines : List (List ℕ)) (s : Stage) (out err : Written) → StageIs with_frames lines s out err → IsDay s
-    → EndsInAnswers with_frames lines out err
-in_answers with_frames lines (stage.Configuration t) out err is day = absurd day
-in_answers with_frames lines (stage.Day d) out err is day = (is.config, is.answers)
+in_answers : (form : LiveForm) (lines : List (List ℕ)) (s : Stage) (out err : Written) → StageIs form lines s out err → IsDay s
+    → EndsInAnswers form lines out err
+in_answers form lines (stage.Configuration t) out err is day = absurd day
+in_answers form lines (stage.Day d) out err is day = (is.config, is.answers)
 
-in_parts : (with_frames : Bool) (lines : List (List ℕ)) (s : Stage) (out err : Written) → StageIs with_frames lines s out err → IsConfiguration s
-    → EndsDay with_frames Parts lines out err
-in_parts with_frames lines (stage.Configuration t) out err is none = record {
+in_parts : (form : LiveForm) (lines : List (List ℕ)) (s : Stage) (out err : Written) → StageIs form lines s out err → IsConfiguration s
+    → EndsDay form Parts lines out err
+in_parts form lines (stage.Configuration t) out err is none = record {
   is_fault = is.nothing.undivided;
   lines = lines;
   rest = [];
   split = sym (append-nil lines);
   left = (is.nothing.left, is.nothing.untold);
 }
-in_parts with_frames lines (stage.Day d) out err is none = absurd none
+in_parts form lines (stage.Day d) out err is none = absurd none
 
 module _ (before : LiveRun) (o e : Option (List ℕ)) (empty : before.line.items ≡ []) where
   pub end_here : IsDay before.stage → Ends before (still o) (still e)
-  end_here day with_frames read start stands =
-      subst (λ (l : List (List ℕ)). EndsInAnswers with_frames l (out_new start (still o)) (err_new start (still e)))
+  end_here day form read start stands =
+      subst (λ (l : List (List ℕ)). EndsInAnswers form l (out_new start (still o)) (err_new start (still e)))
       (sym (whole_lines read stands.lines before.line.items stands.cut empty))
-      (in_answers with_frames stands.lines before.stage _ _ stands.come.stage_is day)
+      (in_answers form stands.lines before.stage _ _ stands.come.stage_is day)
 
   pub end_bare : (fault : ProgramFault) → (fault ≡ Parts) × IsConfiguration before.stage → EndFails before fault (still o) (still e)
-  end_bare fault is with_frames read start stands =
-      subst (λ (l : List (List ℕ)). EndsDay with_frames fault l (out_new start (still o)) (err_new start (still e)))
+  end_bare fault is form read start stands =
+      subst (λ (l : List (List ℕ)). EndsDay form fault l (out_new start (still o)) (err_new start (still e)))
       (sym (whole_lines read stands.lines before.line.items stands.cut empty))
-      (subst (λ (f : ProgramFault). EndsDay with_frames f stands.lines (out_new start (still o)) (err_new start (still e))) (sym is.0)
-      (in_parts with_frames stands.lines before.stage _ _ stands.come.stage_is is.1))
+      (subst (λ (f : ProgramFault). EndsDay form f stands.lines (out_new start (still o)) (err_new start (still e))) (sym is.0)
+      (in_parts form stands.lines before.stage _ _ stands.come.stage_is is.1))
 
 module _ (before : LiveRun) (out err : Written) (some : (length before.line.items == 0) ≡ false) where
   pub end_last : (after : LiveRun) → LineTakes before after out err → IsDay after.stage → Ends before out err
-  end_last after takes day with_frames read start stands =
-      subst (λ (l : List (List ℕ)). EndsInAnswers with_frames l (out_new start out) (err_new start err))
+  end_last after takes day form read start stands =
+      subst (λ (l : List (List ℕ)). EndsInAnswers form l (out_new start out) (err_new start err))
       (sym (last_line read stands.lines before.line.items stands.cut some))
-      (in_answers with_frames (stands.lines ++ before.line.items ∷ []) after.stage _ _ (takes with_frames stands.lines start stands.come).stage_is day)
+      (in_answers form (stands.lines ++ before.line.items ∷ []) after.stage _ _ (takes form stands.lines start stands.come).stage_is day)
 
   pub end_last_bare : (after : LiveRun) (fault : ProgramFault) → LineTakes before after out err → (fault ≡ Parts) × IsConfiguration after.stage
       → EndFails before fault out err
-  end_last_bare after fault takes is with_frames read start stands =
-      subst (λ (l : List (List ℕ)). EndsDay with_frames fault l (out_new start out) (err_new start err))
+  end_last_bare after fault takes is form read start stands =
+      subst (λ (l : List (List ℕ)). EndsDay form fault l (out_new start out) (err_new start err))
       (sym (last_line read stands.lines before.line.items stands.cut some))
-      (subst (λ (f : ProgramFault). EndsDay with_frames f (stands.lines ++ before.line.items ∷ []) (out_new start out) (err_new start err)) (sym is.0)
-      (in_parts with_frames (stands.lines ++ before.line.items ∷ []) after.stage _ _ (takes with_frames stands.lines start stands.come).stage_is is.1))
+      (subst (λ (f : ProgramFault). EndsDay form f (stands.lines ++ before.line.items ∷ []) (out_new start out) (err_new start err)) (sym is.0)
+      (in_parts form (stands.lines ++ before.line.items ∷ []) after.stage _ _ (takes form stands.lines start stands.come).stage_is is.1))
 
   pub end_fails : (fault : ProgramFault) → LineFails before fault out err → EndFails before fault out err
-  end_fails fault fails with_frames read start stands =
-      subst (λ (l : List (List ℕ)). EndsDay with_frames fault l (out_new start out) (err_new start err))
+  end_fails fault fails form read start stands =
+      subst (λ (l : List (List ℕ)). EndsDay form fault l (out_new start out) (err_new start err))
       (append-nil (stands.lines ++ before.line.items ∷ []) ∙ sym (last_line read stands.lines before.line.items stands.cut some))
-      (fails with_frames stands.lines start stands.come [])
+      (fails form stands.lines start stands.come [])
 
 -- the lines that came whole are those that have their line feed
 ended_is : (read : List ℕ) (lines : List (List ℕ)) (begun : List ℕ) → IsCut read lines begun → ended_lines read ≡ lines
@@ -606,21 +568,21 @@ ended_is read lines begun cut =
 -- All of the input.
 
 -- a fault of lines
-ends_with : (fault : ProgramFault) (with_frames : Bool) (input : List ℕ) (left : Option (List ℕ)) (out err : Written)
-    → EndsDay with_frames fault (lines_of input) out err → EndsWith with_frames fault input left out err
-ends_with NotRead with_frames input left out err ends = absurd ends.is_fault
-ends_with Input with_frames input left out err ends = ends
-ends_with Parts with_frames input left out err ends = ends
-ends_with (Config fault) with_frames input left out err ends = ends
-ends_with Firm with_frames input left out err ends = ends
-ends_with (Form line) with_frames input left out err ends = ends
-ends_with (UnknownFirm line) with_frames input left out err ends = ends
-ends_with (UnknownRoom line) with_frames input left out err ends = ends
-ends_with (Stream line) with_frames input left out err ends = ends
-ends_with (Day what) with_frames input left out err ends = ends
-ends_with (Weave why) with_frames input left out err ends = ends
-ends_with Memory with_frames input left out err ends = ends
-ends_with Write with_frames input left out err ends = ends
+ends_with : (fault : ProgramFault) (form : LiveForm) (input : List ℕ) (left : Option (List ℕ)) (out err : Written)
+    → EndsDay form fault (lines_of input) out err → EndsWith form fault input left out err
+ends_with NotRead form input left out err ends = absurd ends.is_fault
+ends_with Input form input left out err ends = ends
+ends_with Parts form input left out err ends = ends
+ends_with (Config fault) form input left out err ends = ends
+ends_with Firm form input left out err ends = ends
+ends_with (Form line) form input left out err ends = ends
+ends_with (UnknownFirm line) form input left out err ends = ends
+ends_with (UnknownRoom line) form input left out err ends = ends
+ends_with (Stream line) form input left out err ends = ends
+ends_with (Day what) form input left out err ends = ends
+ends_with (Weave why) form input left out err ends = ends
+ends_with Memory form input left out err ends = ends
+ends_with Write form input left out err ends = ends
 
 module _ (first mid : LiveRun) (bytes : List ℕ) (o o' o'' e e' e'' : Option (List ℕ))
     (fed : Feeds bytes first mid (record { before = o; after = o' }) (record { before = e; after = e' })) where
@@ -629,34 +591,34 @@ module _ (first mid : LiveRun) (bytes : List ℕ) (o o' o'' e e' e'' : Option (L
       → IfSome known (λ all. AnswersAll all first (record { before = o; after = o'' }) (record { before = e; after = e'' }))
   all_answered None now read end ends = tt
   all_answered (Some all) None read end ends = absurd read
-  all_answered (Some all) (Some ys) read end ends = λ with_frames past start stands.
+  all_answered (Some all) (Some ys) read end ends = λ form past start stands.
       let same : past ++ bytes ≡ past ++ all = ap (λ (l : List ℕ). past ++ l) (sym (append-nil bytes) ∙ ap (λ (l : List ℕ). bytes ++ l) (sym end) ∙ sym read) in
-      subst (λ (t : List ℕ). EndsInAnswers with_frames (lines_of t) (record { before = start.out; after = o'' }) (record { before = start.err; after = e'' }))
-      same (ends with_frames (past ++ bytes) start (fed with_frames past start stands))
+      subst (λ (t : List ℕ). EndsInAnswers form (lines_of t) (record { before = start.out; after = o'' }) (record { before = start.err; after = e'' }))
+      same (ends form (past ++ bytes) start (fed form past start stands))
 
   pub all_ended : (fault : ProgramFault) (known now : Option (List ℕ)) → Consumes known now bytes → IsAtEnd now
       → EndFails mid fault (record { before = o'; after = o'' }) (record { before = e'; after = e'' })
       → IfSome known (λ all. FailsIn all now fault first (record { before = o; after = o'' }) (record { before = e; after = e'' }))
   all_ended fault None now read end ends = tt
   all_ended fault (Some all) None read end ends = absurd read
-  all_ended fault (Some all) (Some ys) read end ends = λ with_frames past start stands.
+  all_ended fault (Some all) (Some ys) read end ends = λ form past start stands.
       let same : past ++ bytes ≡ past ++ all = ap (λ (l : List ℕ). past ++ l) (sym (append-nil bytes) ∙ ap (λ (l : List ℕ). bytes ++ l) (sym end) ∙ sym read) in
-      ends_with fault with_frames (past ++ all) (Some ys) (record { before = start.out; after = o'' }) (record { before = start.err; after = e'' })
-      (subst (λ (t : List ℕ). EndsDay with_frames fault (lines_of t) (record { before = start.out; after = o'' }) (record { before = start.err; after = e'' }))
-      same (ends with_frames (past ++ bytes) start (fed with_frames past start stands)))
+      ends_with fault form (past ++ all) (Some ys) (record { before = start.out; after = o'' }) (record { before = start.err; after = e'' })
+      (subst (λ (t : List ℕ). EndsDay form fault (lines_of t) (record { before = start.out; after = o'' }) (record { before = start.err; after = e'' }))
+      same (ends form (past ++ bytes) start (fed form past start stands)))
 
   pub all_failed : (fault : ProgramFault) (more : List ℕ) (known now : Option (List ℕ)) → Consumes known now (bytes ++ more)
       → FeedFails more mid fault (record { before = o'; after = o'' }) (record { before = e'; after = e'' })
       → IfSome known (λ all. FailsIn all now fault first (record { before = o; after = o'' }) (record { before = e; after = e'' }))
   all_failed fault more None now read fails = tt
   all_failed fault more (Some all) None read fails = absurd read
-  all_failed fault more (Some all) (Some ys) read fails = λ with_frames past start stands.
+  all_failed fault more (Some all) (Some ys) read fails = λ form past start stands.
       let same : ((past ++ bytes) ++ more) ++ ys ≡ past ++ all =
       append_assoc (past ++ bytes) more ys ∙ append_assoc past bytes (more ++ ys)
       ∙ ap (λ (l : List ℕ). past ++ l) (sym (append_assoc bytes more ys) ∙ sym read) in
-      ends_with fault with_frames (past ++ all) (Some ys) (record { before = start.out; after = o'' }) (record { before = start.err; after = e'' })
-      (subst (λ (t : List ℕ). EndsDay with_frames fault (lines_of t) (record { before = start.out; after = o'' }) (record { before = start.err; after = e'' }))
-      same (fails with_frames (past ++ bytes) start (fed with_frames past start stands) ys))
+      ends_with fault form (past ++ all) (Some ys) (record { before = start.out; after = o'' }) (record { before = start.err; after = e'' })
+      (subst (λ (t : List ℕ). EndsDay form fault (lines_of t) (record { before = start.out; after = o'' }) (record { before = start.err; after = e'' }))
+      same (fails form (past ++ bytes) start (fed form past start stands) ys))
 
 -- the reader failed: all lines that it gave were answered
 pub all_unread : (first mid : LiveRun) (bytes : List ℕ) (o o' e e' known now later : Option (List ℕ))
@@ -665,16 +627,16 @@ pub all_unread : (first mid : LiveRun) (bytes : List ℕ) (o o' e e' known now l
 all_unread first mid bytes o o' e e' None now later fed read kept = tt
 all_unread first mid bytes o o' e e' (Some all) None later fed read kept = absurd read
 all_unread first mid bytes o o' e e' (Some all) (Some ys) None fed read kept = absurd kept
-all_unread first mid bytes o o' e e' (Some all) (Some ys) (Some zs) fed read kept = λ with_frames past start stands.
-    let come = fed with_frames past start stands in
+all_unread first mid bytes o o' e e' (Some all) (Some ys) (Some zs) fed read kept = λ form past start stands.
+    let come = fed form past start stands in
     record {
       got = past ++ bytes;
       rest = zs;
       split = ap (λ (l : List ℕ). past ++ l) (read ∙ ap (λ (l : List ℕ). bytes ++ l) (sym kept)) ∙ sym (append_assoc past bytes zs);
       is_left = refl;
-      answered = subst (λ (l : List (List ℕ)). HasAnswered with_frames l (record { before = start.out; after = o' }) (record { before = start.err; after = e' }))
+      answered = subst (λ (l : List (List ℕ)). HasAnswered form l (record { before = start.out; after = o' }) (record { before = start.err; after = e' }))
           (sym (ended_is (past ++ bytes) come.lines mid.line.items come.cut))
-          (answered_by with_frames come.lines mid.stage _ _ come.come.stage_is);
+          (answered_by form come.lines mid.stage _ _ come.come.stage_is);
     }
 
 consumes_both : (known mid now : Option (List ℕ)) (a b : List ℕ) → Consumes known mid a → Consumes mid now b → Consumes known now (a ++ b)
@@ -698,15 +660,15 @@ consumes_end known mid now bytes more count one two none =
 
 -- How the run ends.
 
-pub first_stands : (with_frames : Bool) (run : LiveRun) → run.number ≡ 1 → run.with_frames ≡ with_frames → run.line.items ≡ [] → (t : Vec ℕ Global)
-    → run.stage ≡ stage.Configuration t → t.items ≡ [] → StandsFirst with_frames run
-first_stands with_frames run number form line t at empty start = record {
+pub first_stands : (form : LiveForm) (run : LiveRun) → run.number ≡ 1 → run.form ≡ form → run.line.items ≡ [] → (t : Vec ℕ Global)
+    → run.stage ≡ stage.Configuration t → t.items ≡ [] → StandsFirst form run
+first_stands form run number form_same line t at empty start = record {
   lines = [];
   cut = record { count = refl; closed = λ tail. ap (λ (l : List ℕ). lines_of (l ++ tail)) (sym line); goes_on = ap (list_any (λ (c : ℕ). c == 10)) line };
   come = record {
     number_is = number;
-    form_is = form;
-    stage_is = subst (λ (s : Stage). StageIs with_frames [] s (still start.out) (still start.err)) (sym at)
+    form_is = form_same;
+    stage_is = subst (λ (s : Stage). StageIs form [] s (still start.out) (still start.err)) (sym at)
         (record {
           nothing = record { undivided = refl; left = keeps_same start.out; untold = keeps_same start.err };
           text_is = empty;
@@ -714,25 +676,25 @@ first_stands with_frames run number form line t at empty start = record {
   };
 }
 
-pub run_answered : (with_frames : Bool) (run : LiveRun) (known left : Option (List ℕ)) (out err : Written) → StandsFirst with_frames run
+pub run_answered : (form : LiveForm) (run : LiveRun) (known left : Option (List ℕ)) (out err : Written) → StandsFirst form run
     → IfSome known (λ all. AnswersAll all run out err)
-    → EndsInLive with_frames 0 (record { input = known; left = left; out = out; err = err })
-run_answered with_frames run None left out err first answers = (inl refl, tt)
-run_answered with_frames run (Some all) left out err first answers =
+    → EndsInLive form 0 (record { input = known; left = left; out = out; err = err })
+run_answered form run None left out err first answers = (inl refl, tt)
+run_answered form run (Some all) left out err first answers =
     let start : Start = record { out = out.before; err = err.before } in
-    (inl refl, inl (refl, answers with_frames [] start (first start)))
+    (inl refl, inl (refl, answers form [] start (first start)))
 
-pub run_failed : (with_frames : Bool) (run : LiveRun) (known left o o' e e' e'' : Option (List ℕ)) (fault : ProgramFault) (status : ℕ)
-    → StandsFirst with_frames run
+pub run_failed : (form : LiveForm) (run : LiveRun) (known left o o' e e' e'' : Option (List ℕ)) (fault : ProgramFault) (status : ℕ)
+    → StandsFirst form run
     → IfSome known (λ all. FailsIn all left fault run (record { before = o; after = o' }) (record { before = e; after = e' }))
     → status ≡ 1 → GainsPart (told_line [] fault) (record { before = e'; after = e'' })
-    → EndsInLive with_frames status (record {
+    → EndsInLive form status (record {
       input = known;
       left = left;
       out = record { before = o; after = o' };
       err = record { before = e; after = e'' };
     })
-run_failed with_frames run None left o o' e e' e'' fault status first fails one told = (inr one, tt)
-run_failed with_frames run (Some all) left o o' e e' e'' fault status first fails one told =
+run_failed form run None left o o' e e' e'' fault status first fails one told = (inr one, tt)
+run_failed form run (Some all) left o o' e e' e'' fault status first fails one told =
     let start : Start = record { out = o; err = e } in
-    (inr one, inr (one, record { fault = fault; mid = e'; ends = fails with_frames [] start (first start); told = told }))
+    (inr one, inr (one, record { fault = fault; mid = e'; ends = fails form [] start (first start); told = told }))

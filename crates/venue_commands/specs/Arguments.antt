@@ -13,6 +13,7 @@ use Rattle.clap.specs.declared.builder.command.Command.TheViews.{out-Command}
 use Rattle.clap.specs.declared.builder.action.ArgAction.TheVariants.{SetTrue}
 use Rattle.clap.specs.declared.error.kind.ErrorKind.{ErrorKind}
 use Rattle.clap.specs.declared.error.kind.ErrorKind.TheVariants as kind
+use Rattle.venue_text.specs.declared.live_form.LiveForm.{LiveForm}
 use Rattle.venue_commands.specs.declared.command.Flags.{Flags}
 use Rattle.venue_commands.specs.declared.command.Told.{Told}
 use Rattle.venue_commands.specs.declared.command.Told.TheVariants as told
@@ -30,8 +31,8 @@ pub data Command : Type 0 where
   -- all firms' messages of a day on threads, and with the second flag the number of the steps into
   -- which it is woven
   day : Bool → Bool → Command
-  -- a day that goes on, line by line
-  live : Bool → Command
+  -- a day that goes on, line by line, printed in this form
+  live : LiveForm → Command
   -- the due text of the dealer with this name
   due : Text → Command
   -- what differs for the dealer with this name between two days
@@ -40,11 +41,11 @@ pub data Command : Type 0 where
   blotter : Text → Command
 
 -- whether a command is `live`, which answers while it reads, and in which form then
-abbrev pub live_form : Command → Option Bool
+abbrev pub live_form : Command → Option LiveForm
 live_form (alone with_frames) = None
 live_form (replay firm with_frames) = None
 live_form (day with_frames woven) = None
-live_form (live with_frames) = Some with_frames
+live_form (live form) = Some form
 live_form (due dealer) = None
 live_form (compare dealer) = None
 live_form (blotter firm) = None
@@ -93,6 +94,7 @@ abbrev pub given : List Text → Flags
 given flags = record {
   frames = is_among (codes "--frames") flags;
   woven = is_among (codes "--woven") flags;
+  marks = is_among (codes "--marks") flags;
 }
 
 -- How many words a command takes.
@@ -126,6 +128,13 @@ frames_flag = codes "frames"
 abbrev pub woven_flag : Text
 woven_flag = codes "woven"
 
+abbrev pub marks_flag : Text
+marks_flag = codes "marks"
+
+-- the form that the flags ask for
+abbrev pub form_by : Flags → LiveForm
+form_by flags = record { frames = flags.frames; marks = flags.marks }
+
 abbrev pub line : Text → List Text → Words → (Option Text → Flags → Command) → Line
 line name flags words asks = record { name = name; flags = flags; words = words; asks = asks }
 
@@ -138,7 +147,7 @@ commands =
     ∷ line (codes "due") [] one_word (λ word flags. due (unwrap_or word []))
     ∷ line (codes "compare") [] one_word (λ word flags. compare (unwrap_or word []))
     ∷ line (codes "blotter") [] one_word (λ word flags. blotter (unwrap_or word []))
-    ∷ line (codes "live") (frames_flag ∷ []) no_word (λ word flags. live flags.frames)
+    ∷ line (codes "live") (frames_flag ∷ marks_flag ∷ []) no_word (λ word flags. live (form_by flags))
     ∷ []
 
 -- the line of a name
@@ -164,7 +173,7 @@ named_command name firm flags =
     if bytes_eq name (codes "alone") then alone flags.frames
     else (if bytes_eq name (codes "replay") then replay firm flags.frames
     else (if bytes_eq name (codes "day") then day flags.frames flags.woven
-    else (if bytes_eq name (codes "live") then live flags.frames
+    else (if bytes_eq name (codes "live") then live (form_by flags)
     else (if bytes_eq name (codes "due") then due (unwrap_or firm [])
     else (if bytes_eq name (codes "compare") then compare (unwrap_or firm [])
     else blotter (unwrap_or firm []))))))
@@ -174,7 +183,7 @@ abbrev pub meant : VenueCommand → Command
 meant (rust.Alone frames) = alone frames
 meant (rust.Replay firm frames) = replay (option_map (λ word. word.now) firm) frames
 meant (rust.Day frames woven) = day frames woven
-meant (rust.Live frames) = live frames
+meant (rust.Live form) = live form
 meant (rust.Due dealer) = due dealer.now
 meant (rust.Compare dealer) = compare dealer.now
 meant (rust.Blotter firm) = blotter firm.now

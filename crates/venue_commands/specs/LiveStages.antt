@@ -1,15 +1,16 @@
 -- How far a run of `live` has come: words of private functions alone.
-use Rattle.std.specs.Prelude.{◌≡◌, ◌<◌, ℕ, ◌+◌, ◌==◌, Bool, true, false, List, [], ◌∷◌, ◌++◌}
+use Rattle.std.specs.Prelude.{◌≡◌, ◌<◌, ℕ, ◌+◌, ◌==◌, true, false, List, [], ◌∷◌, ◌++◌}
 use Rattle.std.specs.Prelude.{length, Option, Some, None, Err}
 use Rattle.std.specs.List.{count_by, list_any}
 use Rattle.venue_config.specs.Rows.{Configuration}
 use Rattle.venue_text.specs.Lines.{lines_of}
+use Rattle.venue_text.specs.LiveAnswers.{Goes, Opens}
 use Rattle.venue_text.specs.LiveInput.{taken_in}
-use Rattle.venue_text.specs.LiveLines.{Goes, Opens}
 use Rattle.venue_text.specs.VenueParts.{is_divider, text_of_lines, venue_of}
 use Rattle.venue_text.specs.declared.faults.ProgramFault.{ProgramFault}
 use Rattle.venue_text.specs.declared.faults.ProgramFault.TheVariants as program
 use Rattle.venue_text.specs.declared.lines.TheConstants.{MOST_INPUT}
+use Rattle.venue_text.specs.declared.live_form.LiveForm.{LiveForm}
 use Rattle.venue_text.specs.declared.live_lines.LiveDay.{LiveDay}
 use Rattle.venue_commands.specs.LiveRuns.{AnswersDay, AnswersNothing, EndsWith, EndsDay}
 use Rattle.venue_commands.specs.LiveRuns.{EndsInAnswers}
@@ -24,22 +25,22 @@ pub record AwaitsDay (lines : List (List ℕ)) (text : List ℕ) (out err : Writ
   pub text_is : text ≡ text_of_lines lines
 
 -- the lines so far are those of a day that goes on
-pub record DayGoes (with_frames : Bool) (lines : List (List ℕ)) (day : LiveDay)
+pub record DayGoes (form : LiveForm) (lines : List (List ℕ)) (day : LiveDay)
     (out err : Written) : Type 0 where
   pub config : Configuration
-  pub answers : AnswersDay with_frames config lines out err
-  pub goes : Goes with_frames config (taken_in config lines).steps (taken_in config lines).heard day
+  pub answers : AnswersDay form config lines out err
+  pub goes : Goes form config (taken_in config lines) day
 
-abbrev pub StageIs : Bool → List (List ℕ) → Stage → Written → Written → Type 0
-StageIs with_frames lines (stage.Configuration text) out err = AwaitsDay lines text.items out err
-StageIs with_frames lines (stage.Day day) out err = DayGoes with_frames lines day out err
+abbrev pub StageIs : LiveForm → List (List ℕ) → Stage → Written → Written → Type 0
+StageIs form lines (stage.Configuration text) out err = AwaitsDay lines text.items out err
+StageIs form lines (stage.Day day) out err = DayGoes form lines day out err
 
 -- a run has answered these lines
-pub record HasCome (with_frames : Bool) (lines : List (List ℕ)) (run : LiveRun)
+pub record HasCome (form : LiveForm) (lines : List (List ℕ)) (run : LiveRun)
     (out err : Written) : Type 0 where
   pub number_is : run.number ≡ length lines + 1
-  pub form_is : run.with_frames ≡ with_frames
-  pub stage_is : StageIs with_frames lines run.stage out err
+  pub form_is : run.form ≡ form
+  pub stage_is : StageIs form lines run.stage out err
 
 -- bytes are these lines, each with its end, and one that has begun
 pub record IsCut (read : List ℕ) (lines : List (List ℕ)) (begun : List ℕ) : Type 0 where
@@ -48,11 +49,11 @@ pub record IsCut (read : List ℕ) (lines : List (List ℕ)) (begun : List ℕ) 
   pub goes_on : list_any (λ c. c == 10) begun ≡ false
 
 -- a run has read these bytes, and answered the lines in them that came whole
-pub record StandsAt (with_frames : Bool) (read : List ℕ) (run : LiveRun) (out err : Written)
+pub record StandsAt (form : LiveForm) (read : List ℕ) (run : LiveRun) (out err : Written)
     : Type 0 where
   pub lines : List (List ℕ)
   pub cut : IsCut read lines run.line.items
-  pub come : HasCome with_frames lines run out err
+  pub come : HasCome form lines run out err
 
 -- what the streams held at the start of a run
 pub record Start : Type 0 where
@@ -75,75 +76,75 @@ err_new start err = record { before = start.err; after = err.after }
 -- A line of steps is answered, wherever the run began and whatever came before; or a fault ends the
 -- day with it, whatever comes behind it.
 abbrev pub DayTakes : ℕ → List ℕ → LiveDay → LiveDay → Written → Written → Type 0
-DayTakes number line before after out err = (with_frames : Bool) (lines : List (List ℕ))
+DayTakes number line before after out err = (form : LiveForm) (lines : List (List ℕ))
     (start : Start) → number ≡ length lines + 1
-    → DayGoes with_frames lines before (out_old start out) (err_old start err)
-    → DayGoes with_frames (lines ++ line ∷ []) after (out_new start out) (err_new start err)
+    → DayGoes form lines before (out_old start out) (err_old start err)
+    → DayGoes form (lines ++ line ∷ []) after (out_new start out) (err_new start err)
 
 abbrev pub DayFails : ℕ → List ℕ → LiveDay → ProgramFault → Written → Written → Type 0
-DayFails number line before fault out err = (with_frames : Bool) (lines : List (List ℕ))
+DayFails number line before fault out err = (form : LiveForm) (lines : List (List ℕ))
     (start : Start) → number ≡ length lines + 1
-    → DayGoes with_frames lines before (out_old start out) (err_old start err)
-    → (more : List (List ℕ)) → EndsDay with_frames fault ((lines ++ line ∷ []) ++ more)
+    → DayGoes form lines before (out_old start out) (err_old start err)
+    → (more : List (List ℕ)) → EndsDay form fault ((lines ++ line ∷ []) ++ more)
     (out_new start out) (err_new start err)
 
 -- The same at each stage.
-abbrev pub StageTakes : Bool → ℕ → List ℕ → Stage → Stage → Written → Written → Type 0
-StageTakes with_frames number line before after out err = (lines : List (List ℕ)) (start : Start)
+abbrev pub StageTakes : LiveForm → ℕ → List ℕ → Stage → Stage → Written → Written → Type 0
+StageTakes form number line before after out err = (lines : List (List ℕ)) (start : Start)
     → number ≡ length lines + 1
-    → StageIs with_frames lines before (out_old start out) (err_old start err)
-    → StageIs with_frames (lines ++ line ∷ []) after (out_new start out) (err_new start err)
+    → StageIs form lines before (out_old start out) (err_old start err)
+    → StageIs form (lines ++ line ∷ []) after (out_new start out) (err_new start err)
 
-abbrev pub StageFails : Bool → ℕ → List ℕ → Stage → ProgramFault → Written → Written → Type 0
-StageFails with_frames number line before fault out err = (lines : List (List ℕ)) (start : Start)
+abbrev pub StageFails : LiveForm → ℕ → List ℕ → Stage → ProgramFault → Written → Written → Type 0
+StageFails form number line before fault out err = (lines : List (List ℕ)) (start : Start)
     → number ≡ length lines + 1
-    → StageIs with_frames lines before (out_old start out) (err_old start err)
-    → (more : List (List ℕ)) → EndsDay with_frames fault ((lines ++ line ∷ []) ++ more)
+    → StageIs form lines before (out_old start out) (err_old start err)
+    → (more : List (List ℕ)) → EndsDay form fault ((lines ++ line ∷ []) ++ more)
     (out_new start out) (err_new start err)
 
 -- The line that has begun is whole.
 abbrev pub LineTakes : LiveRun → LiveRun → Written → Written → Type 0
-LineTakes before after out err = (with_frames : Bool) (lines : List (List ℕ)) (start : Start)
-    → HasCome with_frames lines before (out_old start out) (err_old start err)
-    → HasCome with_frames (lines ++ before.line.items ∷ []) after (out_new start out)
+LineTakes before after out err = (form : LiveForm) (lines : List (List ℕ)) (start : Start)
+    → HasCome form lines before (out_old start out) (err_old start err)
+    → HasCome form (lines ++ before.line.items ∷ []) after (out_new start out)
     (err_new start err)
 
 abbrev pub LineFails : LiveRun → ProgramFault → Written → Written → Type 0
-LineFails before fault out err = (with_frames : Bool) (lines : List (List ℕ)) (start : Start)
-    → HasCome with_frames lines before (out_old start out) (err_old start err)
+LineFails before fault out err = (form : LiveForm) (lines : List (List ℕ)) (start : Start)
+    → HasCome form lines before (out_old start out) (err_old start err)
     → (more : List (List ℕ))
-    → EndsDay with_frames fault ((lines ++ before.line.items ∷ []) ++ more) (out_new start out)
+    → EndsDay form fault ((lines ++ before.line.items ∷ []) ++ more) (out_new start out)
     (err_new start err)
 
 -- Bytes are read.
 abbrev pub Feeds : List ℕ → LiveRun → LiveRun → Written → Written → Type 0
-Feeds bytes before after out err = (with_frames : Bool) (read : List ℕ) (start : Start)
-    → StandsAt with_frames read before (out_old start out) (err_old start err)
-    → StandsAt with_frames (read ++ bytes) after (out_new start out) (err_new start err)
+Feeds bytes before after out err = (form : LiveForm) (read : List ℕ) (start : Start)
+    → StandsAt form read before (out_old start out) (err_old start err)
+    → StandsAt form (read ++ bytes) after (out_new start out) (err_new start err)
 
 abbrev pub FeedFails : List ℕ → LiveRun → ProgramFault → Written → Written → Type 0
-FeedFails bytes before fault out err = (with_frames : Bool) (read : List ℕ) (start : Start)
-    → StandsAt with_frames read before (out_old start out) (err_old start err)
-    → (tail : List ℕ) → EndsDay with_frames fault (lines_of ((read ++ bytes) ++ tail))
+FeedFails bytes before fault out err = (form : LiveForm) (read : List ℕ) (start : Start)
+    → StandsAt form read before (out_old start out) (err_old start err)
+    → (tail : List ℕ) → EndsDay form fault (lines_of ((read ++ bytes) ++ tail))
     (out_new start out) (err_new start err)
 
 -- The input ends.
 abbrev pub Ends : LiveRun → Written → Written → Type 0
-Ends before out err = (with_frames : Bool) (read : List ℕ) (start : Start)
-    → StandsAt with_frames read before (out_old start out) (err_old start err)
-    → EndsInAnswers with_frames (lines_of read) (out_new start out) (err_new start err)
+Ends before out err = (form : LiveForm) (read : List ℕ) (start : Start)
+    → StandsAt form read before (out_old start out) (err_old start err)
+    → EndsInAnswers form (lines_of read) (out_new start out) (err_new start err)
 
 abbrev pub EndFails : LiveRun → ProgramFault → Written → Written → Type 0
-EndFails before fault out err = (with_frames : Bool) (read : List ℕ) (start : Start)
-    → StandsAt with_frames read before (out_old start out) (err_old start err)
-    → EndsDay with_frames fault (lines_of read) (out_new start out) (err_new start err)
+EndFails before fault out err = (form : LiveForm) (read : List ℕ) (start : Start)
+    → StandsAt form read before (out_old start out) (err_old start err)
+    → EndsDay form fault (lines_of read) (out_new start out) (err_new start err)
 
 -- A line before the day: the configuration goes on, or its text is whole and opens the day.
-abbrev pub IsNext : Bool → List ℕ → List ℕ → List ℕ → Option LiveDay → Type 0
-IsNext with_frames line before after None =
+abbrev pub IsNext : LiveForm → List ℕ → List ℕ → List ℕ → Option LiveDay → Type 0
+IsNext form line before after None =
     (is_divider line ≡ false) × (after ≡ before ++ line ++ 10 ∷ [])
-IsNext with_frames line before after (Some day) =
-    (is_divider line ≡ true) × Opens with_frames before day
+IsNext form line before after (Some day) =
+    (is_divider line ≡ true) × Opens form before day
 
 -- why it is at fault
 pub data IsBad (line before : List ℕ) (fault : ProgramFault) : Type 0 where
@@ -161,18 +162,18 @@ IsConfiguration (stage.Configuration text) = Unit {0}
 IsConfiguration (stage.Day day) = ⊥
 
 -- A run that has read nothing, whatever the streams held.
-abbrev pub StandsFirst : Bool → LiveRun → Type 0
-StandsFirst with_frames run = (start : Start)
-    → StandsAt with_frames [] run (record { before = start.out; after = start.out })
+abbrev pub StandsFirst : LiveForm → LiveRun → Type 0
+StandsFirst form run = (start : Start)
+    → StandsAt form [] run (record { before = start.out; after = start.out })
     (record { before = start.err; after = start.err })
 
 -- All of an input is answered behind what was read, or a fault ends the day.
 abbrev pub AnswersAll : List ℕ → LiveRun → Written → Written → Type 0
-AnswersAll all before out err = (with_frames : Bool) (read : List ℕ) (start : Start)
-    → StandsAt with_frames read before (out_old start out) (err_old start err)
-    → EndsInAnswers with_frames (lines_of (read ++ all)) (out_new start out) (err_new start err)
+AnswersAll all before out err = (form : LiveForm) (read : List ℕ) (start : Start)
+    → StandsAt form read before (out_old start out) (err_old start err)
+    → EndsInAnswers form (lines_of (read ++ all)) (out_new start out) (err_new start err)
 
 abbrev pub FailsIn : List ℕ → Option (List ℕ) → ProgramFault → LiveRun → Written → Written → Type 0
-FailsIn all left fault before out err = (with_frames : Bool) (read : List ℕ) (start : Start)
-    → StandsAt with_frames read before (out_old start out) (err_old start err)
-    → EndsWith with_frames fault (read ++ all) left (out_new start out) (err_new start err)
+FailsIn all left fault before out err = (form : LiveForm) (read : List ℕ) (start : Start)
+    → StandsAt form read before (out_old start out) (err_old start err)
+    → EndsWith form fault (read ++ all) left (out_new start out) (err_new start err)

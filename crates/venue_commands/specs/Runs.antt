@@ -1,5 +1,5 @@
 -- How a run of the program ends.
-use Rattle.std.specs.Prelude.{◌≡◌, ◌<◌, ◌≤◌, ◌⊎◌, ℕ, Bool, true, List, [], ◌++◌, length}
+use Rattle.std.specs.Prelude.{◌≡◌, ◌<◌, ◌≤◌, ◌⊎◌, ℕ, true, List, [], ◌++◌, length}
 use Rattle.std.specs.Prelude.{Option, Some, None, Result, Ok, Err}
 use Rattle.std.specs.Option.{IfSome}
 use Rattle.clap.specs.Kinds.{Kinds}
@@ -14,6 +14,7 @@ use Rattle.venue_text.specs.ReplayText.{IsReplayed}
 use Rattle.venue_text.specs.declared.faults.ProgramFault.{ProgramFault}
 use Rattle.venue_text.specs.declared.faults.ProgramFault.TheVariants.{Read, Memory, Write}
 use Rattle.venue_text.specs.declared.lines.TheConstants.{MOST_INPUT}
+use Rattle.venue_text.specs.declared.live_form.LiveForm.{LiveForm}
 use Rattle.venue_commands.specs.Arguments.{Command, alone, arguments_fault, blotter, command_of}
 use Rattle.venue_commands.specs.Arguments.{compare, day, due, live, live_form, may_be_help}
 use Rattle.venue_commands.specs.Arguments.{may_be_mistake, replay}
@@ -28,7 +29,7 @@ abbrev pub IsTextOf : Command → List ℕ → List ℕ → Type 0
 IsTextOf (alone with_frames) input text = IsPrinted with_frames input text
 IsTextOf (replay firm with_frames) input text = IsReplayed firm with_frames input text
 IsTextOf (day with_frames woven) input text = IsDay with_frames woven input text
-IsTextOf (live with_frames) input text = ⊥  -- it prints line by line
+IsTextOf (live form) input text = ⊥  -- it prints line by line
 IsTextOf (due dealer) input text = IsDueText dealer input text
 IsTextOf (compare dealer) input text = IsCompared dealer input text
 IsTextOf (blotter firm) input text = IsBlotter firm input text
@@ -38,7 +39,7 @@ abbrev pub IsFaultOf : Command → List ℕ → ProgramFault → Type 0
 IsFaultOf (alone with_frames) input fault = first_fault input ≡ Some fault
 IsFaultOf (replay firm with_frames) input fault = one_day (firms_by firm) input ≡ Err fault
 IsFaultOf (day with_frames woven) input fault = IsDayFault woven input fault
-IsFaultOf (live with_frames) input fault = ⊥  -- it tells line by line
+IsFaultOf (live form) input fault = ⊥  -- it tells line by line
 IsFaultOf (due dealer) input fault = one_day (dealer_by dealer) input ≡ Err fault
 IsFaultOf (compare dealer) input fault = two_days (dealer_by dealer) input ≡ Err fault
 IsFaultOf (blotter firm) input fault = one_day (firm_by firm) input ≡ Err fault
@@ -49,7 +50,7 @@ word_of (alone with_frames) = []
 word_of (replay None with_frames) = []
 word_of (replay (Some firm) with_frames) = firm
 word_of (day with_frames woven) = []
-word_of (live with_frames) = []
+word_of (live form) = []
 word_of (due dealer) = dealer
 word_of (compare dealer) = dealer
 word_of (blotter firm) = firm
@@ -136,8 +137,8 @@ EndsTold kinds status out err =
     ⊎ ((may_be_mistake kinds ≡ true) × EndsInMistake status out err))
 
 -- How a run of a command ends, whichever it is.
-abbrev pub EndsOf : Option Bool → Command → ℕ → Streams → Type 0
-EndsOf (Some with_frames) command status streams = EndsInLive with_frames status streams
+abbrev pub EndsOf : Option LiveForm → Command → ℕ → Streams → Type 0
+EndsOf (Some form) command status streams = EndsInLive form status streams
 EndsOf None command status streams = EndsInCommand command status streams
 
 -- How a run ends, by the command that is asked for, or else by what is wrong with the arguments.

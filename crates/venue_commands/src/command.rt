@@ -11,6 +11,7 @@ use clap::{Arg, ArgAction, Command, Error};
 use fix_fields::Memory;
 use std::alloc::Global;
 use std::convert::AsStr;
+use venue_text::LiveForm;
 
 /// What a command asks for.
 #[derive(Clone, Copy)]
@@ -36,8 +37,8 @@ pub(crate) enum VenueCommand<'a> {
     },
     /// A day that goes on: the messages of each line as it comes.
     Live {
-        /// Each message is printed as its whole frame.
-        frames: bool,
+        /// How it is printed.
+        form: LiveForm,
     },
     /// The due text of a dealer.
     Due {
@@ -74,6 +75,8 @@ pub(crate) struct Flags {
     pub(crate) frames: bool,
     /// `--woven`: behind the messages of a day stands into how many steps it is woven.
     pub(crate) woven: bool,
+    /// `--marks`: behind the messages of a line stands its mark.
+    pub(crate) marks: bool,
 }
 
 /// The command that arguments ask for, or what is wrong with arguments that are not those of one.
@@ -93,7 +96,12 @@ pub(crate) fn read_command<'a, S: AsStr>(
     };
     let frames = words.get_flag("frames");
     let woven = words.get_flag("woven");
-    let flags = Flags { frames, woven };
+    let marks = words.get_flag("marks");
+    let flags = Flags {
+        frames,
+        woven,
+        marks,
+    };
     let command = command_named(name, words.get_str("firm"), flags);
     Ok(command)
 }
@@ -122,7 +130,7 @@ fn command_named<'a>(name: &str, firm: Option<&'a str>, flags: Flags) -> VenueCo
     }
     if name == "live" {
         return VenueCommand::Live {
-            frames: flags.frames,
+            form: form_by(flags),
         };
     }
     let word = firm.unwrap_or("");
@@ -135,12 +143,22 @@ fn command_named<'a>(name: &str, firm: Option<&'a str>, flags: Flags) -> VenueCo
     VenueCommand::Blotter { firm: word }
 }
 
-/// Whether a command is `live`, and whether it prints whole frames then.
-pub(crate) fn form_of_live(command: &VenueCommand<'_>) -> Option<bool>
+/// The form in which `live` prints, by the flags that are given.
+fn form_by(flags: Flags) -> LiveForm
+    ensures { result ≡ spec.form_by flags }
+{
+    LiveForm {
+        frames: flags.frames,
+        marks: flags.marks,
+    }
+}
+
+/// Whether a command is `live`, and the form that it prints in then.
+pub(crate) fn form_of_live(command: &VenueCommand<'_>) -> Option<LiveForm>
     ensures { result ≡ spec.live_form (spec.meant command.now) }
 {
     match command {
-        VenueCommand::Live { frames } => Some(*frames),
+        VenueCommand::Live { form } => Some(*form),
         VenueCommand::Alone { .. } => None,
         VenueCommand::Replay { .. } => None,
         VenueCommand::Day { .. } => None,
@@ -281,6 +299,10 @@ pub fn arguments_have_these_faults()
     ensures woven_twice { spec.arguments_fault
         (codes "day" ∷ codes "--woven" ∷ codes "--woven" ∷ []) ≡ ErrorKind.ArgumentConflict ∷ [] }
     ensures woven_replay { spec.arguments_fault (codes "replay" ∷ codes "--woven" ∷ [])
+        ≡ ErrorKind.UnknownArgument ∷ [] }
+    ensures marks_and_frames { spec.arguments_fault
+        (codes "live" ∷ codes "--marks" ∷ codes "--frames" ∷ []) ≡ [] }
+    ensures marks_of_replay { spec.arguments_fault (codes "replay" ∷ codes "--marks" ∷ [])
         ≡ ErrorKind.UnknownArgument ∷ [] }
     ensures one_argument_more { spec.arguments_fault (codes "alone" ∷ codes "x" ∷ [])
         ≡ ErrorKind.UnknownArgument ∷ [] }

@@ -27,6 +27,9 @@ pub(crate) const FRAMES: &str =
 pub(crate) const WOVEN: &str =
     "Prints behind the messages `woven N`: N steps in a row send every firm the same";
 
+pub(crate) const MARKS: &str =
+    "Prints behind the messages of each line of steps a mark, `done K` or `fault K NAME`";
+
 pub(crate) const FIRM: &str = "The name of a dealer or of an investor of the configuration";
 
 pub(crate) const DEALER: &str = "The name of a dealer of the configuration";
@@ -144,6 +147,10 @@ is read. Nothing is printed of a line for which nothing is sent.
 
 A line of steps at fault is told on standard error, as `line K: form`, and changes nothing: the day
 goes on. A fault of the configuration ends it. No line has more than 16,777,216 bytes.
+
+With --marks a further line is printed behind the messages of each line of steps, in one write with
+them: `done K`, and behind it the earliest deadline of a request that has not ended, if there is
+one; or `fault K NAME`. K counts all lines from 1.
 
 The status is 0 at the end of the input, 1 for a fault that ends the day before, and 2 for wrong
 arguments.";

@@ -1,8 +1,8 @@
 //! The command `live`: a venue that answers line by line.
 ghost use Rattle.std.specs.Prelude.{◌≡◌, ◌≢◌, ◌==◌, ◌<◌, ◌≤◌, ◌+◌, ◌++◌, ◌⊎◌, [], ◌∷◌, length};
 ghost use Rattle.std.specs.Prelude.{IfOk, IfErr, IfSome, OnOk, OnErr};
-ghost use Rattle.std.specs.Io.KnownBytes.{Keeps};
-ghost use Rattle.venue_text.specs.Faults.{told_line};
+ghost use Rattle.std.specs.Io.KnownBytes.{Appends};
+ghost use Rattle.std.specs.Option.{option_to_list};
 ghost use Rattle.venue_text.specs.Lines.{lines_of};
 ghost use Rattle.venue_commands.specs.LiveRuns as spec;
 ghost use Rattle.venue_commands.specs.LiveStages as stages;
@@ -12,7 +12,7 @@ use crate::program::{print_text, report};
 use std::alloc::Global;
 use std::io::{Read, Write};
 use std::mem;
-use venue_text::{LiveDay, MOST_INPUT, ProgramFault, same_text};
+use venue_text::{LiveDay, LiveForm, MOST_INPUT, ProgramFault, same_text};
 
 /// How many lines a day that goes on may have.
 pub const MOST_LINES: usize = 1_000_000_000_000_000;
@@ -33,7 +33,7 @@ enum Stage {
 #[derive(Drop)]
 struct LiveRun {
     alloc: Global,
-    with_frames: bool,
+    form: LiveForm,
     /// The number of the line that comes next, or that has begun.
     number: usize,
     /// Its bytes so far.
@@ -45,19 +45,19 @@ struct LiveRun {
 /// the next one is read. A line at fault is told on `err`, and the day goes on.
 pub(crate) fn run_live<R: Read, W: Write, E: Write>(
     alloc: Global,
-    with_frames: bool,
+    form: LiveForm,
     input: &mut R,
     out: &mut W,
     err: &mut E,
 ) -> u8
-    ensures { spec.EndsInLive with_frames result (record {
+    ensures { spec.EndsInLive form result (record {
       input = R.remaining input.old;
       left = R.remaining input.new;
       out = record { before = W.contents out.old; after = W.contents out.new };
       err = record { before = E.contents err.old; after = E.contents err.new };
     }) }
 {
-    let mut run = LiveRun::new(alloc, with_frames);
+    let mut run = LiveRun::new(alloc, form);
     let Err(fault) = answer_all(&mut run, input, out, err) else {
         return 0;
     };
@@ -97,12 +97,12 @@ fn answer_all<R: Read, W: Write, E: Write>(
 
 impl LiveRun {
     /// Nothing was read.
-    fn new(alloc: Global, with_frames: bool) -> Self
-        ensures first { stages.StandsFirst with_frames result }
+    fn new(alloc: Global, form: LiveForm) -> Self
+        ensures first { stages.StandsFirst form result }
     {
         LiveRun {
             alloc,
-            with_frames,
+            form,
             number: 1,
             line: Vec::new(alloc),
             stage: Stage::Configuration(Vec::new(alloc)),
@@ -189,7 +189,7 @@ impl LiveRun {
         }
         let line = mem::replace(&mut self.line, Vec::new(self.alloc));
         self.number = number + 1;
-        let form = self.with_frames;
+        let form = self.form;
         answer_at(self.alloc, form, number, &mut self.stage, &line, out, err)?;
         Ok(())
     }
@@ -230,24 +230,24 @@ fn close(stage: &Stage) -> Result<(), ProgramFault>
 /// The line with this number is answered.
 fn answer_at<W: Write, E: Write>(
     alloc: Global,
-    with_frames: bool,
+    form: LiveForm,
     number: usize,
     stage: &mut Stage,
     line: &[u8],
     out: &mut W,
     err: &mut E,
 ) -> Result<(), ProgramFault>
-    ensures ok { OnOk result (stages.StageTakes with_frames number line.now stage.old stage.new
+    ensures ok { OnOk result (stages.StageTakes form number line.now stage.old stage.new
         (record { before = W.contents out.old; after = W.contents out.new })
         (record { before = E.contents err.old; after = E.contents err.new })) }
     ensures err { IfErr result (λ fault.
-        stages.StageFails with_frames number line.now stage.old fault
+        stages.StageFails form number line.now stage.old fault
         (record { before = W.contents out.old; after = W.contents out.new })
         (record { before = E.contents err.old; after = E.contents err.new })) }
 {
     match stage {
         Stage::Configuration(text) => {
-            let Some(day) = next_day(alloc, with_frames, text, line)? else {
+            let Some(day) = next_day(alloc, form, text, line)? else {
                 return Ok(());
             };
             *stage = Stage::Day(day);
@@ -263,18 +263,18 @@ fn answer_at<W: Write, E: Write>(
 /// A line before the day: it opens the day, or goes on with the configuration, whose text this is.
 fn next_day(
     alloc: Global,
-    with_frames: bool,
+    form: LiveForm,
     text: &mut Vec<u8>,
     line: &[u8],
 ) -> Result<Option<LiveDay>, ProgramFault>
-    ensures ok { IfOk result (stages.IsNext with_frames line.now text.old.items text.new.items) }
+    ensures ok { IfOk result (stages.IsNext form line.now text.old.items text.new.items) }
     ensures err { IfErr result (stages.IsBad line.now text.old.items) }
 {
     if !same_text(line, b"%%") {
         put_line(text, line)?;
         return Ok(None);
     }
-    let day = LiveDay::open(alloc, with_frames, text.as_slice())?;
+    let day = LiveDay::open(alloc, form, text.as_slice())?;
     Ok(Some(day))
 }
 
@@ -293,7 +293,7 @@ fn put_line(text: &mut Vec<u8>, line: &[u8]) -> Result<(), ProgramFault>
     Ok(())
 }
 
-/// A line of steps is answered, or its fault told.
+/// A line of steps is answered: its fault told, if it has one, and its text printed.
 fn answer_step<W: Write, E: Write>(
     alloc: Global,
     number: usize,
@@ -309,25 +309,33 @@ fn answer_step<W: Write, E: Write>(
         (record { before = W.contents out.old; after = W.contents out.new })
         (record { before = E.contents err.old; after = E.contents err.new })) }
 {
-    let text = match day.answer(alloc, number, line) {
-        Ok(text) => text,
-        Err(fault) => return refuse(err, &fault),
-    };
-    print_text(out, text.as_slice())?;
+    let answer = day.answer(alloc, number, line)?;
+    tell_fault(err, &answer.fault);
+    print_answer(out, answer.text.as_slice())?;
     Ok(())
 }
 
-/// Tells the fault of a line; only memory ends the day.
-fn refuse<E: Write>(err: &mut E, fault: &ProgramFault) -> Result<(), ProgramFault>
-    ensures ok { OnOk result (fault.now ≢ ProgramFault.Memory) }
-    ensures told { OnOk result (GainsPart (told_line [] fault.now)
-        (record { before = E.contents err.old; after = E.contents err.new })) }
-    ensures err { IfErr result (λ f. f ≡ ProgramFault.Memory) }
-    ensures untold { OnErr result (Keeps (E.contents err.old) (E.contents err.new)) }
+/// Tells the fault of a line, if it has one.
+fn tell_fault<E: Write>(err: &mut E, fault: &Option<ProgramFault>)
+    ensures { spec.GainsFaults (option_to_list fault.now)
+        (record { before = E.contents err.old; after = E.contents err.new }) }
 {
-    if matches!(fault, ProgramFault::Memory) {
-        return Err(ProgramFault::Memory);
-    }
+    let Some(fault) = fault else {
+        return;
+    };
     report(err, b"", fault);
+}
+
+/// Prints the text of a line; where there is none nothing is written.
+fn print_answer<W: Write>(out: &mut W, text: &[u8]) -> Result<(), ProgramFault>
+    ensures ok { OnOk result (Appends (W.contents out.old) (W.contents out.new) text.now) }
+    ensures err { IfErr result (λ fault. fault ≡ ProgramFault.Write) }
+    ensures part { OnErr result (GainsPart text.now
+        (record { before = W.contents out.old; after = W.contents out.new })) }
+{
+    if text.is_empty() {
+        return Ok(());
+    }
+    print_text(out, text)?;
     Ok(())
 }

@@ -66,10 +66,10 @@ fn run_command<H: Threads + Wait + Sync, R: Read, W: Write, E: Write>(
       err = record { before = E.contents err.old; after = E.contents err.new };
     }) }
 {
-    let Some(frames) = form_of_live(command) else {
+    let Some(form) = form_of_live(command) else {
         return run_text_command(rt, alloc, command, input, out, err);
     };
-    run_live(alloc, frames, input, out, err)
+    run_live(alloc, form, input, out, err)
 }
 
 /// The same of a command that prints one text.

@@ -1,6 +1,6 @@
 //! The table of the commands, as clap is told of them.
 use crate::help::{
-    ALONE, BLOTTER, COMPARE, DAY, DAYS, DEALER, DUE, DUE_TEXT, FIRM, FRAMES, LIVE, LIVE_DAY,
+    ALONE, BLOTTER, COMPARE, DAY, DAYS, DEALER, DUE, DUE_TEXT, FIRM, FRAMES, LIVE, LIVE_DAY, MARKS,
     REPLAY, THREADED, THREADS, WOVEN,
 };
 
@@ -44,6 +44,11 @@ const WITH_FRAMES: FlagLine = FlagLine {
 const WITH_WOVEN: FlagLine = FlagLine {
     name: "woven",
     help: WOVEN,
+};
+
+const WITH_MARKS: FlagLine = FlagLine {
+    name: "marks",
+    help: MARKS,
 };
 
 const OF_DEALER: WordLine = WordLine {
@@ -112,7 +117,7 @@ pub(crate) const COMMANDS: [CommandLine; 7] = [
         name: "live",
         about: LIVE,
         input: LIVE_DAY,
-        flags: &[WITH_FRAMES],
+        flags: &[WITH_FRAMES, WITH_MARKS],
         word: None,
     },
 ];

@@ -4,6 +4,7 @@ pub mod CompareLemmas
 pub mod CutLemmas
 pub mod DayLemmas
 pub mod FirmLemmas
+pub mod LiveGrowth
 pub mod LiveInputLemmas
 pub mod LiveLemmas
 pub mod PartLemmas

@@ -3,7 +3,8 @@ use Rattle.std.proofs.Common.{◌≡◌, ◌∙◌, sym, refl, List, [], ◌∷�
 use Rattle.std.proofs.lemmas.List.Sums.{fold-append}
 use Rattle.venue_config.specs.Rows.{ConfigValues}
 use Rattle.venue_text.specs.DueText.{Lines}
-use Rattle.venue_text.specs.LiveInput.{Taken, lines_in, taken_by, with_line}
+use Rattle.venue_text.specs.LiveInput.{lines_in, taken_by}
+use Rattle.venue_text.specs.LiveLines.{Taken, with_line}
 
 -- they bring what all of them bring at once
 pub part_by_part : (config : ConfigValues) (taken : Taken) (parts : List Lines)

@@ -9,7 +9,6 @@ use Rattle.venue_config.specs.Rows.{Configuration, InvestorValues, has_room, inv
 use Rattle.venue_config.specs.declared.investor_rows.InvestorRow.{InvestorRow}
 use Rattle.step_replay.specs.StepFaults.{first_fault_from}
 use Rattle.step_replay.specs.VenueRooms.{requests_of, rooms_behind, rooms_from, rooms_of}
-use Rattle.step_replay.specs.declared.steps.Step.{Step}
 use Rattle.step_replay.specs.declared.steps.Step.TheVariants as step
 use Rattle.venue_text.specs.StepLines.{sweeps_at, venue_rooms}
 use Rattle.venue_text.proofs.StepFaultLemmas.{none_then}

@@ -1,10 +1,9 @@
 -- Lines of steps: what was read so far, and what is left.
 use Rattle.std.proofs.Common.{◌≡◌, ℕ, ◌+◌, ◌==◌, Bool, true, false, not, List, [], ◌∷◌, ◌++◌, length, map, refl, ap, sym, ◌∙◌}
-use Rattle.std.proofs.Common.{Option, Some, None, Result, Ok, Err, append_assoc, replicate}
+use Rattle.std.proofs.Common.{Some, None, Result, Ok, Err, append_assoc, replicate}
 use Rattle.std.proofs.Common.{zero, suc, nat_lt, if◌then◌else◌}
 use Rattle.venue_config.specs.Rows.{ConfigValues, Configuration, values_of}
-use Rattle.step_replay.specs.StepFaults.{first_fault, first_fault_from, fault_of, or_else, firms_of}
-use Rattle.step_replay.specs.declared.faults.ReplayFault.{ReplayFault}
+use Rattle.step_replay.specs.StepFaults.{first_fault, first_fault_from, firms_of}
 use Rattle.step_replay.specs.declared.steps.Actor.{Actor}
 use Rattle.step_replay.specs.declared.steps.Actor.TheVariants as actor
 use Rattle.step_replay.specs.declared.steps.Step.{Step}

@@ -1,40 +1,13 @@
 -- The input of a day that goes on: a configuration, a line `%%`, and lines of steps. What its lines
 -- have brought so far, one after the other: a lawful line its steps, and a line at fault its fault
 -- and nothing else.
-use Rattle.std.specs.Prelude.{ℕ, Bool, List, [], ◌∷◌, ◌++◌, length, fold, Ok, Err}
+use Rattle.std.specs.Prelude.{ℕ, ◌+◌, Bool, List, [], ◌∷◌, ◌++◌, fold}
 use Rattle.std.specs.List.{list_any}
 use Rattle.venue_config.specs.Rows.{ConfigValues, Configuration, values_of}
-use Rattle.step_replay.specs.declared.steps.Step.{Step}
 use Rattle.venue_text.specs.DueText.{Lines}
-use Rattle.venue_text.specs.LiveLines.{live_steps_of, live_text}
-use Rattle.venue_text.specs.StepLines.{Heard, Read, names_of_firms, nothing_heard}
+use Rattle.venue_text.specs.LiveLines.{Taken, line_text, nothing_taken, with_any_line, with_line}
 use Rattle.venue_text.specs.VenueParts.{InputPart, is_divider, part_before, part_behind, spoken_in, text_of}
-use Rattle.venue_text.specs.declared.faults.ProgramFault.{ProgramFault}
-
--- what lines of steps have brought
-pub record Taken : Type 0 where
-  pub steps : List Step
-  pub heard : Heard
-  pub faults : List ProgramFault
-
--- before the first of them
-abbrev pub nothing_taken : ConfigValues → Taken
-nothing_taken config = record {
-  steps = [];
-  heard = nothing_heard (length (names_of_firms config));
-  faults = [];
-}
-
--- what a line brings, by what it spells
-abbrev pub with_read : Taken → Read → Taken
-with_read taken (Ok read) =
-    record { steps = taken.steps ++ read.0; heard = read.1; faults = taken.faults }
-with_read taken (Err fault) =
-    record { steps = taken.steps; heard = taken.heard; faults = taken.faults ++ fault ∷ [] }
-
-abbrev pub with_line : ConfigValues → Taken → ℕ × List ℕ → Taken
-with_line config taken line =
-    with_read taken (live_steps_of config taken.heard line.0 line.1)
+use Rattle.venue_text.specs.declared.live_form.LiveForm.{LiveForm}
 
 -- what lines bring, one after the other
 unfoldable pub taken_of : ConfigValues → Lines → Taken
@@ -72,7 +45,26 @@ steps_in lines = spoken_in (part_behind (as_part lines))
 abbrev pub taken_in : Configuration → List (List ℕ) → Taken
 taken_in config lines = taken_of (values_of config) (steps_in lines)
 
--- all that is printed for them: the messages that are sent in the steps, each with the turns that it
--- leaves, in the order in which they are sent
-abbrev pub text_in : Bool → Configuration → List (List ℕ) → List ℕ
-text_in with_frames config lines = live_text with_frames config (taken_in config lines).steps
+-- What is printed for them, line by line.
+
+-- lines with their numbers, where the first has number k, also those that are skipped
+abbrev pub numbered_from : ℕ → List (List ℕ) → Lines
+numbered_from k [] = []
+numbered_from k (line ∷ lines) = (k, line) ∷ numbered_from (k + 1) lines
+
+abbrev pub numbered_in : InputPart → Lines
+numbered_in part = numbered_from part.first part.lines
+
+-- what lines are answered, one behind the other, behind what was brought before
+abbrev pub lines_text : LiveForm → Configuration → Taken → Lines → List ℕ
+lines_text form config taken [] = []
+lines_text form config taken (line ∷ later) =
+    line_text form config taken line.0 line.1
+    ++ lines_text form config (with_any_line (values_of config) taken line) later
+
+-- all that is printed for the lines of an input: for each line of steps the messages that are sent
+-- in its steps, each with the turns that it leaves, in the order in which they are sent, and behind
+-- them its mark
+abbrev pub text_in : LiveForm → Configuration → List (List ℕ) → List ℕ
+text_in form config lines =
+    lines_text form config (nothing_taken (values_of config)) (numbered_in (part_behind (as_part lines)))

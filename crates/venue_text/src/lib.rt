@@ -30,8 +30,8 @@
 //!   the venue has, or their first fault.
 //! - [`day_parts`], [`two_days_parts`] and [`read_venue`] give the parts of an input and the
 //!   configuration that one spells, [`asked_firm`] and [`asked_dealer`] whom an argument names.
-//! - [`LiveDay`] answers a day line by line: each answer is what the text of the messages so far has
-//!   gained.
+//! - [`LiveDay`] answers a day line by line: each answer is exactly the messages that the line's steps
+//!   bring, and behind them its mark where the [`LiveForm`] has marks.
 //! - [`messages_text`] and [`due_lines`] are the lines of their definitions, byte by byte.
 //! - [`Said`] and [`read_received`] read what a firm sends as lines of steps and of due text
 //!   share it, [`SpokenLines`], [`Parts`], [`read_time`] and [`read_side`] what is in a line.
@@ -51,8 +51,10 @@ mod fitting;
 mod heard;
 mod input_parts;
 mod lines;
+mod live_form;
 mod live_laws;
 mod live_lines;
+mod live_marks;
 mod message_lines;
 mod parts;
 mod printed;
@@ -76,8 +78,9 @@ pub use faults::{ProgramFault, UnkeptDay, UnwovenDay, fault_line};
 pub use fields::{Field, read_fields};
 pub use fitting::LONGEST_BODY;
 pub use lines::{MOST_INPUT, Parts, SpokenLines, has_divider, one_past};
-pub use live_laws::lines_bring_the_same_however_they_come;
-pub use live_lines::LiveDay;
+pub use live_form::LiveForm;
+pub use live_laws::{lines_bring_the_same_however_they_come, without_marks_a_day_is_its_messages};
+pub use live_lines::{LineAnswer, LiveDay};
 pub use message_lines::messages_text;
 pub use parts::{cut_part, read_side, read_time, same_text};
 pub use printed::alone_text;

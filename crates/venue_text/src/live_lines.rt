@@ -1,32 +1,45 @@
 //! A day that is read line by line, and what is printed for each line.
-ghost use Rattle.std.specs.Prelude.{◌≡◌, ◌≢◌, ◌++◌, [], Bool, List, true, false};
-ghost use Rattle.std.specs.Prelude.{Ok, Err, IfOk, IfErr, IsOkAnd, OnOk};
+ghost use Rattle.std.specs.Prelude.{◌≡◌, ◌≢◌, ◌++◌, List, Bool};
+ghost use Rattle.std.specs.Prelude.{Ok, Err, Some, None, IfOk, IfErr, OnOk};
 ghost use Rattle.step_replay.specs.LiveStanding.{IsAt};
 ghost use Rattle.step_replay.specs.declared.steps.Step.{Step};
 ghost use Rattle.venue_config.specs.Rows.{Configuration, values_of};
-ghost use Rattle.venue_text.specs.Lines.{is_skipped};
-ghost use Rattle.venue_text.specs.LiveLines as spec;
-ghost use Rattle.venue_text.specs.StepLines as lines;
+ghost use Rattle.venue_text.specs.LiveAnswers as spec;
+ghost use Rattle.venue_text.specs.LiveLines as lines;
+ghost use Rattle.venue_text.specs.LiveLines.{Taken};
+ghost use Rattle.venue_text.specs.StepLines.{sweeps_at, venue_rooms};
+ghost use Rattle.venue_text.specs.StepReading.{steps_in};
 ghost use Rattle.venue_text.specs.VenueParts.{venue_of};
 
 use crate::faults::ProgramFault;
 use crate::heard::Heard;
 use crate::lines::is_skipped;
+use crate::live_form::LiveForm;
+use crate::live_marks::{fault_mark, push_done_mark};
 use crate::message_lines::push_sent_line;
 use crate::parts::{cut_part, same_text};
 use crate::printed_replay::firm_name;
-use crate::spelled::push_spelled;
+use crate::spelled::{Spelled, count_line, push_steps};
 use crate::step_lines::read_line;
 use crate::venue_parts::read_venue;
-use fix_fields::Memory;
+use fix_fields::{Memory, Moment};
 use std::alloc::{AllocError, Global};
 use step_replay::{LiveVenue, SentTo, Step};
 use venue_config::VenueConfig;
 
+/// What a line gives.
+#[derive(Drop)]
+pub struct LineAnswer {
+    /// What is printed for it: its messages, and its mark.
+    pub text: Vec<u8>,
+    /// What is wrong with it, if it is at fault.
+    pub fault: Option<ProgramFault>,
+}
+
 /// A day of a venue that goes on, line by line.
 #[derive(Drop)]
 pub struct LiveDay {
-    pub(crate) with_frames: bool,
+    pub(crate) form: LiveForm,
     pub(crate) config: VenueConfig,
     pub(crate) venue: LiveVenue,
     pub(crate) heard: Heard,
@@ -34,10 +47,10 @@ pub struct LiveDay {
 
 impl LiveDay {
     /// The day of the venue that a configuration spells, before its first line of steps; or the
-    /// configuration's first fault, which is a [`ProgramFault::Config`]. Each message will be
-    /// printed as its whole frame, or as a line of its fields. Memory may be refused at any point.
-    pub fn open(alloc: Global, with_frames: bool, text: &[u8]) -> Result<Self, ProgramFault>
-        ensures ok { IfOk result (spec.Opens with_frames text.now) }
+    /// configuration's first fault, which is a [`ProgramFault::Config`]. It will be printed in this
+    /// form. Memory may be refused at any point.
+    pub fn open(alloc: Global, form: LiveForm, text: &[u8]) -> Result<Self, ProgramFault>
+        ensures ok { IfOk result (spec.Opens form text.now) }
         ensures err { IfErr result (λ fault. fault ≢ ProgramFault.Memory
             → venue_of text.now ≡ Err fault) }
         ensures unwritten { IfErr result (λ fault. fault ≢ ProgramFault.Write) }
@@ -47,7 +60,7 @@ impl LiveDay {
         let firms = config.dealers().len() + config.investors().len();
         let heard = Heard::nothing(alloc, firms)?;
         Ok(LiveDay {
-            with_frames,
+            form,
             config,
             venue,
             heard,
@@ -55,59 +68,77 @@ impl LiveDay {
     }
 
     /// The line with this number comes: its steps are done, each with all duties that it leaves,
-    /// and the messages that are sent for them are answered, a line each in their order. A line at
-    /// fault ([`ProgramFault::Form`], [`ProgramFault::UnknownFirm`], [`ProgramFault::UnknownRoom`]
-    /// or [`ProgramFault::Stream`]) changes nothing, and the day goes on. After
-    /// [`ProgramFault::Memory`] it can't: memory was refused, or the firm has said 10^15 lines.
-    pub fn answer(
-        &mut self,
-        alloc: Global,
-        line: usize,
-        text: &[u8],
-    ) -> Result<Vec<u8>, ProgramFault>
-        // An empty line and a comment say nothing.
-        ensures skipped { is_skipped text.now ≡ true
-            → IsOkAnd result (λ answer. (answer.items ≡ []) × (self.new ≡ self.old)) }
-        ensures ok { is_skipped text.now ≡ false → IfOk result (λ answer. (with_frames : Bool)
-            (config : Configuration) (taken : List Step) (heard : lines.Heard)
-            → spec.Goes with_frames config taken heard self.old
-            → spec.LineIsAnswered with_frames config taken heard line text.now self.new
-            answer.items) }
-        ensures err { IfErr result (λ fault. fault ≢ ProgramFault.Memory
-            → (with_frames : Bool) (config : Configuration) (taken : List Step)
-            (heard : lines.Heard) → spec.Goes with_frames config taken heard self.old
-            → spec.LineIsRefused with_frames config taken heard line text.now fault self.new) }
+    /// and the messages that are sent for them are printed, a line each in their order, and behind
+    /// them the line's mark where the form has marks. A line at fault ([`ProgramFault::Form`],
+    /// [`ProgramFault::UnknownFirm`], [`ProgramFault::UnknownRoom`] or [`ProgramFault::Stream`])
+    /// changes nothing, and the day goes on; so does an empty line or a comment. After an error it
+    /// can't: memory was refused, or the firm has said 10^15 lines.
+    pub fn answer(&mut self, alloc: Global, line: usize, text: &[u8]) -> Result<LineAnswer, Memory>
+        ensures { IfOk result (λ answer. (form : LiveForm) (config : Configuration)
+            (taken : Taken) → spec.Goes form config taken self.old
+            → spec.Gives form config taken line text.now self.new answer.text.items
+            answer.fault) }
     {
         if is_skipped(text) {
-            return Ok(Vec::new(alloc));
+            let answer = self.marked(Vec::new(alloc), line)?;
+            return Ok(answer);
         }
-        let steps = match read_live_line(alloc, &self.config, &mut self.heard, line, text) {
-            Ok(steps) => steps,
-            Err(fault) => return Err(fault),
+        let spelled = match read_live_line(alloc, &self.config, &mut self.heard, line, text) {
+            Ok(spelled) => spelled,
+            Err(fault) => return refused(alloc, self.form, line, fault),
         };
-        let answer = answered(
-            alloc,
-            self.with_frames,
-            &self.config,
-            &mut self.venue,
-            steps.as_slice(),
-        )?;
+        let frames = self.form.frames;
+        let messages = done(alloc, frames, &self.config, &mut self.venue, spelled)?;
+        let answer = self.marked(messages, line)?;
         Ok(answer)
+    }
+
+    /// The messages of the line with this number, and its mark behind them.
+    fn marked(&self, messages: Vec<u8>, line: usize) -> Result<LineAnswer, Memory>
+        ensures none { IfOk result (λ answer. answer.fault ≡ None) }
+        ensures text { IfOk result (λ answer. (config : Configuration) (steps : List Step)
+            → IsAt config steps self.now.venue → answer.text.items
+            ≡ messages.items ++ lines.done_mark self.now.form config steps line) }
+    {
+        let mut text = messages;
+        push_done_mark(&mut text, self.form, line, self.venue.next_deadline())?;
+        Ok(LineAnswer { text, fault: None })
     }
 }
 
-/// The steps of a line. Turns are none of a day that goes on: they follow of themselves.
+/// What is printed of a line at fault: its mark alone.
+fn refused(
+    alloc: Global,
+    form: LiveForm,
+    line: usize,
+    fault: ProgramFault,
+) -> Result<LineAnswer, Memory>
+    ensures told { IfOk result (λ answer. answer.fault ≡ Some fault) }
+    ensures text { IfOk result (λ answer. answer.text.items ≡ lines.fault_mark form line fault) }
+    ensures other { IfOk result (λ _. fault ≢ ProgramFault.Memory) }
+{
+    if matches!(fault, ProgramFault::Memory) {
+        return Err(AllocError);
+    }
+    let text = fault_mark(alloc, form, line, &fault)?;
+    Ok(LineAnswer {
+        text,
+        fault: Some(fault),
+    })
+}
+
+/// What a line spells. Turns are none of a day that goes on: they follow of themselves.
 fn read_live_line(
     alloc: Global,
     config: &VenueConfig,
     heard: &mut Heard,
     line: usize,
     text: &[u8],
-) -> Result<Vec<Step>, ProgramFault>
-    ensures ok { IfOk result (λ steps. spec.live_steps_of (values_of config.now) heard.old line
-        text.now ≡ Ok (steps.items, heard.new)) }
+) -> Result<Spelled, ProgramFault>
+    ensures ok { IfOk result (λ spelled. lines.live_steps_of (values_of config.now) heard.old line
+        text.now ≡ Ok (steps_in (values_of config.now) spelled, heard.new)) }
     ensures err { IfErr result (λ fault. fault ≢ ProgramFault.Memory
-        → spec.live_steps_of (values_of config.now) heard.old line text.now ≡ Err fault) }
+        → lines.live_steps_of (values_of config.now) heard.old line text.now ≡ Err fault) }
     ensures unheard { IfErr result (λ fault. fault ≢ ProgramFault.Memory
         → heard.new ≡ heard.old) }
     ensures unwritten { IfErr result (λ fault. fault ≢ ProgramFault.Write) }
@@ -117,9 +148,69 @@ fn read_live_line(
         return Err(ProgramFault::Form { line });
     }
     let spelled = read_line(alloc, config, heard, line, text)?;
+    count_line(heard, &spelled)?;
+    Ok(spelled)
+}
+
+/// What a line spells is done, and the messages that are sent for it are printed. Its steps name
+/// what the venue has. A sweep of every room looks at those alone that are due.
+fn done(
+    alloc: Global,
+    with_frames: bool,
+    config: &VenueConfig,
+    venue: &mut LiveVenue,
+    spelled: Spelled,
+) -> Result<Vec<u8>, Memory>
+    ensures { IfOk result (λ text. (taken : List Step) → IsAt config.now taken venue.old
+        → spec.IsAnswered with_frames config.now taken (steps_in (values_of config.now) spelled)
+        venue.new text.items) }
+{
+    match spelled {
+        Spelled::Sweeps(moment) => {
+            let text = swept(alloc, with_frames, config, venue, moment)?;
+            Ok(text)
+        }
+        other => {
+            let text = stepped(alloc, with_frames, config, venue, other)?;
+            Ok(text)
+        }
+    }
+}
+
+/// A sweep of every room is done, and the messages that are sent for it are printed.
+fn swept(
+    alloc: Global,
+    with_frames: bool,
+    config: &VenueConfig,
+    venue: &mut LiveVenue,
+    moment: Moment,
+) -> Result<Vec<u8>, Memory>
+    ensures { IfOk result (λ text. (taken : List Step) → IsAt config.now taken venue.old
+        → spec.IsAnswered with_frames config.now taken
+        (sweeps_at moment (venue_rooms (values_of config.now))) venue.new text.items) }
+{
+    let told = venue.sweep(alloc, moment)?;
+    let mut text = Vec::new(alloc);
+    push_sent(&mut text, with_frames, config, told.as_slice())?;
+    Ok(text)
+}
+
+/// The steps of a line are done, one behind the other.
+fn stepped(
+    alloc: Global,
+    with_frames: bool,
+    config: &VenueConfig,
+    venue: &mut LiveVenue,
+    spelled: Spelled,
+) -> Result<Vec<u8>, Memory>
+    ensures { IfOk result (λ text. (taken : List Step) → IsAt config.now taken venue.old
+        → spec.IsAnswered with_frames config.now taken (steps_in (values_of config.now) spelled)
+        venue.new text.items) }
+{
     let mut steps = Vec::new(alloc);
-    push_spelled(config, &mut steps, heard, spelled)?;
-    Ok(steps)
+    push_steps(config, &mut steps, spelled)?;
+    let text = answered(alloc, with_frames, config, venue, steps.as_slice())?;
+    Ok(text)
 }
 
 /// Steps are done, each with all duties that it leaves, and the messages that are sent for them are
@@ -152,7 +243,7 @@ fn push_sent(
     sent: &[SentTo],
 ) -> Result<(), Memory>
     ensures { OnOk result (text.new.items
-        ≡ text.old.items ++ spec.sent_text with_frames config.now sent.now) }
+        ≡ text.old.items ++ lines.sent_text with_frames config.now sent.now) }
 {
     for message in sent {
         push_one(text, with_frames, config, message)?;
@@ -168,7 +259,7 @@ fn push_one(
     sent: &SentTo,
 ) -> Result<(), Memory>
     ensures { OnOk result (text.new.items
-        ≡ text.old.items ++ spec.sent_line with_frames config.now sent.now) }
+        ≡ text.old.items ++ lines.sent_line with_frames config.now sent.now) }
 {
     let Some(name) = firm_name(config, sent.firm()) else {
         return Ok(());

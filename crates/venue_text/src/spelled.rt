@@ -46,7 +46,7 @@ pub(crate) fn push_spelled(
 }
 
 /// Counts a line whose number was written for it.
-fn count_line(heard: &mut Heard, spelled: &Spelled) -> Result<(), Memory>
+pub(crate) fn count_line(heard: &mut Heard, spelled: &Spelled) -> Result<(), Memory>
     ensures { OnOk result (heard.new ≡ spec.counted spelled.now heard.old) }
 {
     let Spelled::Said(firm, _, _, true) = spelled else {
@@ -57,7 +57,11 @@ fn count_line(heard: &mut Heard, spelled: &Spelled) -> Result<(), Memory>
 }
 
 /// Puts the steps of a line behind other steps.
-fn push_steps(config: &VenueConfig, steps: &mut Vec<Step>, spelled: Spelled) -> Result<(), Memory>
+pub(crate) fn push_steps(
+    config: &VenueConfig,
+    steps: &mut Vec<Step>,
+    spelled: Spelled,
+) -> Result<(), Memory>
     ensures { OnOk result (steps.new.items
         ≡ steps.old.items ++ spec.steps_in (values_of config.now) spelled) }
 {

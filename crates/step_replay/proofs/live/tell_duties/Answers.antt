@@ -1,6 +1,6 @@
 use Rattle.std.proofs.Common.{◌++◌, arith, sym, subst}
 use Rattle.step_replay.specs.AuditTrail.{AuditTrail}
-use Rattle.step_replay.specs.LiveStanding.{TellsOf, after_turns}
+use Rattle.step_replay.specs.LiveStanding.{VenueTells, after_turns}
 use Rattle.step_replay.proofs.LiveLemmas.{no_turn, tells_all, turn_known, turns_more}
 use Rattle.step_replay.proofs.live.tell_duties.Goals as goal
 
@@ -8,14 +8,15 @@ pub loop-init : goal.loop-init
 loop-init c = record {
   within = omega arith;
   tells = λ config trail start known stood told.
-      subst (λ (t : AuditTrail). TellsOf config t c.args.replay.now (start ++ c.args.told.now.items))
+      subst (λ (t : AuditTrail). VenueTells config t c.args.venue.now
+      (start ++ c.args.told.now.items))
       (sym (no_turn config c.args.by trail))
       (record { stands = stood; told_is = told });
 }
 
 pub returns-in_default : goal.returns-in_default
 returns-in_default c config trail start known stood told =
-    tells_all config c.args.by trail c.loop.counter c.loop.replay (start ++ c.loop.told.items)
+    tells_all config c.args.by trail c.loop.counter c.loop.venue (start ++ c.loop.told.items)
     c.loop.invariant.within known (c.loop.invariant.tells config trail start known stood told)
     (sym c.in_default.ensures)
 
@@ -24,9 +25,9 @@ loop-preserved c = record {
   within = omega (arith, c.loop-test.true);
   tells = λ config trail start known stood told.
       let had = c.loop.invariant.tells config trail start known stood told in
-      subst (λ (t : AuditTrail). TellsOf config t c.tell_step.new.replay
-      (start ++ c.tell_step.new.told.items))
+      subst (λ (t : AuditTrail). VenueTells config t c.do_step.new.venue
+      (start ++ c.do_step.new.told.items))
       (sym (turns_more config c.args.by c.loop.counter trail))
-      (c.in_ok-tell_step.ensures config (after_turns config c.args.by c.loop.counter trail) start
+      (c.in_ok-do_step.ensures config (after_turns config c.args.by c.loop.counter trail) start
       (turn_known config c.args.by known) had.stands had.told_is);
 }

@@ -2,9 +2,8 @@
 use Rattle.std.proofs.Common.{◌≡◌, ◌≤◌, ◌++◌, List, true}
 use Rattle.venue_config.specs.Rows.{Configuration}
 use Rattle.step_replay.specs.AuditTrail.{AuditTrail}
-use Rattle.step_replay.specs.Following.{ReplayStands}
 use Rattle.step_replay.specs.LiveDays.{Sent, messages_in}
-use Rattle.step_replay.specs.LiveStanding.{TellsOf, after_turns}
+use Rattle.step_replay.specs.LiveStanding.{VenueStands, VenueTells, after_turns}
 use Rattle.step_replay.specs.Queues.{is_known}
 use Rattle.step_replay.specs.declared.steps.TheConstants.{MOST_TURNS_BEHIND}
 use Rattle.step_replay.proofs.live.tell_duties.Given as goal
@@ -13,7 +12,7 @@ abbrev pub invariant-loop : goal.invariant-loop
 invariant-loop l = record {
   within : l.counter ≤ MOST_TURNS_BEHIND;
   tells : (config : Configuration) (trail : AuditTrail) (start : List Sent)
-      → is_known config l.by ≡ true → ReplayStands config trail l.fn.replay
+      → is_known config l.by ≡ true → VenueStands config trail l.fn.venue
       → messages_in config trail.facts ≡ start ++ l.fn.told.items
-      → TellsOf config (after_turns config l.by l.counter trail) l.replay (start ++ l.told.items);
+      → VenueTells config (after_turns config l.by l.counter trail) l.venue (start ++ l.told.items);
 }

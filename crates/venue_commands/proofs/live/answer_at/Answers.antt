@@ -8,14 +8,14 @@ pub returns-in_err-day-in-Configuration-clause-err : goal.returns-in_err-day-in-
 returns-in_err-day-in-Configuration-clause-err g c =
     let was : c.args.stage.now ≡ stage.Configuration c.in-Configuration.text = search rules in
     same_fault _ c.from_residual.result c.in_err-day-in-Configuration.field-0.0 c.from_residual.ensures.1
-    (stage_bad c.args.with_frames c.args.number c.args.line.now c.args.stage.now c.in-Configuration.text c.in_err-day-in-Configuration.field-0.0
+    (stage_bad c.args.form c.args.number c.args.line.now c.args.stage.now c.in-Configuration.text c.in_err-day-in-Configuration.field-0.0
     (g.W.Write.contents c.args.out.now) (g.E.Write.contents c.args.err.now) was c.in_err-day-in-Configuration.ensures.err)
 
 pub returns-in-Some-clause-ok : goal.returns-in-Some-clause-ok
 returns-in-Some-clause-ok g c =
     let was : c.args.stage.now ≡ stage.Configuration c.in-Configuration.text = search rules in
     let is : c.in_ok-day-in-Configuration.field-0 ≡ Some c.in-Some.day = search rules in
-    stage_opens c.args.with_frames c.args.number c.args.line.now c.args.stage.now (stage.Day c.in-Some.day) c.in-Configuration.text
+    stage_opens c.args.form c.args.number c.args.line.now c.args.stage.now (stage.Day c.in-Some.day) c.in-Configuration.text
     c.next_day.new.text.items c.in-Some.day (g.W.Write.contents c.args.out.now) (g.E.Write.contents c.args.err.now) was refl
-    (subst (λ o. IsNext c.args.with_frames c.args.line.now c.in-Configuration.text.items c.next_day.new.text.items o) is
+    (subst (λ o. IsNext c.args.form c.args.line.now c.in-Configuration.text.items c.next_day.new.text.items o) is
     c.in_ok-day-in-Configuration.ensures.ok)

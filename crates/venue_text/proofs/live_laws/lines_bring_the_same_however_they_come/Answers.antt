@@ -1,5 +1,5 @@
 use Rattle.std.proofs.Common.{◌∙◌, sym, ap, fold}
-use Rattle.venue_text.specs.LiveInput.{nothing_taken, with_line}
+use Rattle.venue_text.specs.LiveLines.{nothing_taken, with_line}
 use Rattle.venue_text.proofs.LiveInputLemmas.{part_by_part}
 use Rattle.venue_text.proofs.live_laws.lines_bring_the_same_however_they_come.Goals as goal
 

@@ -1,6 +1,7 @@
 use Rattle.std.proofs.Common.{◌++◌, ◌∷◌, [], ℕ, List, take, sym, subst, ap, ◌∙◌}
 use Rattle.step_replay.specs.declared.steps.Step.{Step}
-use Rattle.venue_text.specs.LiveLines.{IsAnswered, sent_text}
+use Rattle.venue_text.specs.LiveAnswers.{IsAnswered}
+use Rattle.venue_text.specs.LiveLines.{sent_text}
 use Rattle.venue_text.proofs.LiveLemmas.{answered_more, answered_none, one_more}
 use Rattle.venue_text.proofs.live_lines.answered.Goals as goal
 

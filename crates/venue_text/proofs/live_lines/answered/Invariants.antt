@@ -1,7 +1,7 @@
 use Rattle.std.proofs.Common.{List, take}
 use Rattle.step_replay.specs.LiveStanding.{IsAt}
 use Rattle.step_replay.specs.declared.steps.Step.{Step}
-use Rattle.venue_text.specs.LiveLines.{IsAnswered}
+use Rattle.venue_text.specs.LiveAnswers.{IsAnswered}
 use Rattle.venue_text.proofs.live_lines.answered.Given as goal
 
 abbrev pub invariant-loop-step : goal.invariant-loop-step

@@ -1,9 +1,6 @@
-use Rattle.std.proofs.Common.{sym, subst}
-use Rattle.step_replay.specs.Following.{ReplayStands}
-use Rattle.step_replay.proofs.LiveLemmas.{live_begins}
+use Rattle.step_replay.proofs.LiveSteps.{is_at_start}
 use Rattle.step_replay.proofs.live.LiveVenue.open.Goals as goal
 
 pub returns : goal.returns
 returns c =
-    subst (λ trail. ReplayStands c.args.config.now trail c.in_ok-replay.replay)
-    (sym (live_begins c.args.config.now)) c.in_ok-replay.ensures
+    is_at_start c.args.config.now _ c.in_ok-replay.ensures c.none-open_rooms.ensures

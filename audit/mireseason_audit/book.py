@@ -1,0 +1,117 @@
+"""The acts of a day on disk, by their requests, so that no day is held in memory."""
+
+import marshal
+import sqlite3
+from collections.abc import Iterator
+from dataclasses import dataclass
+from pathlib import Path
+from typing import Any
+
+from .prices import Price
+from .reading import Shape, Words
+from .requests import Act, Note
+
+TABLES = """
+CREATE TABLE act (request INTEGER NOT NULL, place INTEGER NOT NULL, act BLOB NOT NULL);
+CREATE TABLE fault (place INTEGER NOT NULL, fault BLOB NOT NULL);
+"""
+ROWS_AT_ONCE = 1000
+
+
+@dataclass(frozen=True)
+class Fault:
+    """A message of a firm that was refused, rejected, or dropped without an answer."""
+
+    place: int
+    moment: str
+    firm: str
+    said: str
+    why: str
+    detail: str
+    request: int | None  # the key of the request that it is about
+
+
+def packed_fault(fault: Fault) -> bytes:
+    head = (fault.place, fault.moment, fault.firm, fault.said)
+    row: Any = (*head, fault.why, fault.detail, fault.request)
+    return marshal.dumps(row)
+
+
+def packed_words(words: Words) -> tuple[object, ...]:
+    price = None if words.price is None else words.price.text
+    return words.shape.value, words.text, price, words.detail, words.quote, words.refused
+
+
+def words_of(row: tuple[Any, ...]) -> Words:
+    shape, text, price, detail, quote, refused = row
+    return Words(
+        Shape(shape), text, None if price is None else Price(price), detail, quote, refused
+    )
+
+
+def packed(act: Act) -> bytes:
+    """An act as bytes, which this program alone reads again."""
+    told = [(one.firm, one.number, one.kind, packed_words(one.words)) for one in act.told]
+    row: Any = (act.place, act.moment, act.actor, act.number, packed_words(act.said), told)
+    return marshal.dumps(row)
+
+
+def act_of(data: bytes) -> Act:
+    place, moment, actor, number, said, told = marshal.loads(data)
+    notes = tuple(Note(firm, count, kind, words_of(words)) for firm, count, kind, words in told)
+    return Act(place, moment, actor, number, words_of(said), notes)
+
+
+class Book:
+    """A file of this program alone, written once and then read."""
+
+    def __init__(self, path: Path, write: bool = False) -> None:
+        self._connection = sqlite3.connect(path, isolation_level=None)
+        if write:
+            self._connection.execute("PRAGMA journal_mode = OFF")
+            self._connection.execute("PRAGMA synchronous = OFF")
+            self._connection.executescript(TABLES)
+            self._connection.execute("BEGIN")
+        self._acts: list[tuple[int, int, bytes]] = []
+        self._faults: list[tuple[int, bytes]] = []
+
+    def put(self, request: int, act: Act) -> None:
+        self._acts.append((request, act.place, packed(act)))
+        if len(self._acts) >= ROWS_AT_ONCE:
+            self._write()
+
+    def put_fault(self, fault: Fault) -> None:
+        self._faults.append((fault.place, packed_fault(fault)))
+        if len(self._faults) >= ROWS_AT_ONCE:
+            self._write()
+
+    def _write(self) -> None:
+        self._connection.executemany("INSERT INTO act VALUES (?, ?, ?)", self._acts)
+        self._connection.executemany("INSERT INTO fault VALUES (?, ?)", self._faults)
+        self._acts, self._faults = [], []
+
+    def finish(self) -> None:
+        """The end of the writing."""
+        self._write()
+        self._connection.execute("CREATE INDEX act_request ON act (request, place)")
+        self._connection.execute("CREATE INDEX act_place ON act (place)")
+        self._connection.execute("COMMIT")
+
+    def acts(self, request: int) -> list[Act]:
+        query = "SELECT act FROM act WHERE request = ? ORDER BY place"
+        return [act_of(data) for data, in self._connection.execute(query, (request,))]
+
+    def requests_at(self, first: int, end: int) -> dict[int, tuple[int, ...]]:
+        """Of the entries from one place to before another, the requests that each is about."""
+        query = "SELECT place, request FROM act WHERE place >= ? AND place < ? ORDER BY request"
+        found: dict[int, tuple[int, ...]] = {}
+        for place, request in self._connection.execute(query, (first, end)):
+            found[place] = (*found.get(place, ()), request)
+        return found
+
+    def faults(self) -> Iterator[Fault]:
+        for data, in self._connection.execute("SELECT fault FROM fault ORDER BY place"):
+            yield Fault(*marshal.loads(data))
+
+    def close(self) -> None:
+        self._connection.close()

@@ -1,0 +1,183 @@
+"""The certificate of a dealer: its list, its messages, their hashes, and the commands that make
+them again.
+"""
+
+import hashlib
+import itertools
+from dataclasses import dataclass
+from pathlib import Path
+
+from .frame import barred, fields_of, text_of
+from .jobs import Files
+from .log import Source
+from .pair import Compared, compare
+from .progress import Step
+from .reading import Reader
+from .records import Day, Firm
+from .requests import Request
+from .second_day import Moved, MovedDay, append, on_request
+from .templates import Templates
+from .venue import Venue, message_of
+
+SHOWN_LINES = 40
+
+
+@dataclass(frozen=True)
+class Second:
+    """A second day in which one dealer's prices on one request were moved."""
+
+    request: Request
+    mover: str
+    moved: tuple[Moved, ...]
+    day: Path
+    both: Path
+
+
+@dataclass(frozen=True)
+class Seen:
+    """A message that a dealer was sent, or would have been."""
+
+    number: str
+    moment: str
+    words: str
+    text: str
+
+
+@dataclass(frozen=True)
+class CertificateJob:
+    """Writes the certificate of one dealer, in a process of its own."""
+
+    source: Source
+    venue: Venue
+    files: Files
+    day: Day
+    dealer: Firm
+    reader: Reader
+    second: Second | None
+    good: bool
+    folder: Path
+
+    def __call__(self, step: Step) -> None:
+        name = self.dealer.name
+        list_path = self.folder / "certificates" / (name + ".due")
+        sums = Sums()
+        with list_path.open("wb") as file, self.files.due(name).open("rb") as due:
+            for line in due:
+                sums.take(line)
+                file.write(line)
+        messages_path = self.folder / "certificates" / (name + ".messages")
+        digest = self.venue.to_file(["alone", "--frames"], list_path, messages_path)
+        compared = None
+        before: list[Seen] = []
+        after: list[Seen] = []
+        if self.second is not None:
+            compared = compare(self.venue, name, self.second.both)
+            before = self._seen(self.files.day, self.second.request)
+            after = self._seen(self.second.day, self.second.request)
+        self._write(sums, digest, messages_path, compared, before, after)
+        step(1)
+
+    def _seen(self, day: Path, request: Request) -> list[Seen]:
+        """What the venue gives the dealer about one request on a day."""
+        name = request.shown.get(self.dealer.name)
+        found = []
+        with self.venue.run(["replay", self.dealer.name, "--live", "--frames"], day) as run:
+            for line in run.lines():
+                _, frame = message_of(line)
+                if b"\x01131=%s\x01" % (name or "").encode() not in frame:
+                    continue
+                fields = fields_of(frame)
+                words = self.reader.told(fields, is_dealer=True)
+                text = " ".join([words.text, str(words.price or "")]).strip()
+                moment = text_of(fields, 52).partition("-")[2]
+                found.append(Seen(text_of(fields, 34), moment, text, barred(frame)))
+        return found
+
+    def _write(
+        self,
+        sums: "Sums",
+        digest: str,
+        messages: Path,
+        compared: Compared | None,
+        before: list[Seen],
+        after: list[Seen],
+    ) -> None:
+        with messages.open("rb") as file:
+            first = itertools.islice(file, SHOWN_LINES)
+            shown = [line.decode("utf-8", "replace") for line in first]
+            rest = sum(1 for _ in file)
+        text = Templates(self.day).page(
+            "certificate.html",
+            "../",
+            dealer=self.dealer,
+            good=self.good,
+            sums=sums,
+            messages_digest=digest,
+            messages_count=len(shown) + rest,
+            messages="".join(shown),
+            compared=compared,
+            second=self.second,
+            seen=list(itertools.zip_longest(before, after)),
+        )
+        (self.folder / "certificates" / (self.dealer.name + ".html")).write_text(text)
+
+
+class Sums:
+    """A list of what was due, as it is read."""
+
+    def __init__(self) -> None:
+        self._digest = hashlib.sha256()
+        self.kinds: dict[str, int] = {}
+        self.first: list[str] = []
+        self.count = -2  # the date and the dealer's row are no items
+
+    def take(self, line: bytes) -> None:
+        self._digest.update(line)
+        self.count += 1
+        word = line.split(b" ", 1)[0].decode("utf-8", "replace")
+        if self.count > 0:
+            word = "own" if word in ("hex", "say") else word
+            self.kinds[word] = self.kinds.get(word, 0) + 1
+        if len(self.first) < SHOWN_LINES:
+            self.first.append(line.decode("utf-8", "backslashreplace"))
+
+    @property
+    def digest(self) -> str:
+        return self._digest.hexdigest()
+
+    @property
+    def text(self) -> str:
+        return "".join(self.first)
+
+
+def seconds_for(
+    source: Source, day: Day, requests: list[Request], folder: Path, day_file: Path, key: int | None
+) -> list[Second]:
+    """Second days: one dealer's prices on a request moved, and for its certificate another's."""
+    request = chosen(requests, key)
+    if request is None:
+        return []
+    found = []
+    for mover in movers(request):
+        changed = MovedDay()
+        path, both = folder / ("second-%s.live" % mover), folder / ("both-%s.live" % mover)
+        by = -32 if request.buys else 32
+        with source.open() as log:
+            changed.write(log, day, on_request(request, mover, by), path)
+        append(day_file, path, both)
+        found.append(Second(request, mover, tuple(changed.moved), path, both))
+    return found
+
+
+def chosen(requests: list[Request], key: int | None) -> Request | None:
+    """The request that is named, or else the first that was awarded with a cover, or the first."""
+    if key is not None:
+        return next((one for one in requests if one.key == key), None)
+    awarded = [one for one in requests if one.winner and one.cover]
+    return next(iter(awarded or requests), None)
+
+
+def movers(request: Request) -> list[str]:
+    """The dealer whose prices are moved, and another one for that dealer's own certificate."""
+    listed = [request.winner, request.cover, *request.dealers]
+    return list(dict.fromkeys(name for name in listed if name))[:2]

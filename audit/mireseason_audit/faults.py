@@ -1,0 +1,9 @@
+"""What ends a command: something that can't be read, or a venue that does not answer."""
+
+
+class Unreadable(Exception):
+    """Something could not be read, or a program could not be run: status 2."""
+
+
+class Wrong(Exception):
+    """What was read is not as it should be, and nothing more can be said: status 1."""

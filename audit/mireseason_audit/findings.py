@@ -1,0 +1,38 @@
+"""What a check found that is not as it should be."""
+
+from collections.abc import Iterator
+from dataclasses import dataclass
+
+from .frame import barred
+
+
+@dataclass(frozen=True)
+class Finding:
+    """One thing that is not as it should be, and where."""
+
+    where: str  # `entries`, or a firm's name
+    text: str
+    place: int | None = None  # of the entry
+    number: int | None = None  # the venue's, of the message to the firm
+    given: bytes | None = None  # what should stand there
+    found: bytes | None = None  # what does
+    given_by: str = "the venue gives"
+    found_in: str = "the log has"
+
+    @property
+    def place_words(self) -> str:
+        words = []
+        if self.place is not None:
+            words.append("entry %d" % self.place)
+        if self.number is not None:
+            words.append("number %d" % self.number)
+        return ", ".join(words)
+
+    def lines(self) -> Iterator[str]:
+        """The finding as lines of a report."""
+        where = self.place_words
+        yield "%s: %s%s" % (self.where, where + ": " if where else "", self.text)
+        if self.given is not None:
+            yield "    %-16s %s" % (self.given_by, barred(self.given))
+        if self.found is not None:
+            yield "    %-16s %s" % (self.found_in, barred(self.found))

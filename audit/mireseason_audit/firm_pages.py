@@ -1,0 +1,99 @@
+"""The pages of a firm: all that came from it, and all that it was sent, a page for so many
+entries.
+"""
+
+from collections.abc import Iterator
+from contextlib import closing
+from dataclasses import dataclass
+from pathlib import Path
+
+from .book import Book
+from .dictionary import read_dictionary
+from .frame import Fields, barred, fields_of, text_of
+from .lines import came_of
+from .log import Log, Source
+from .messages import MessageWriter, Shown
+from .progress import Step
+from .records import Day, Entry, Firm, Sent
+from .templates import Templates
+
+ENTRIES_A_PAGE = 1000
+
+
+def page_name(firm: str, place: int) -> str:
+    """The page of a firm that has what an entry is about."""
+    return "firms/%s-%d.html" % (firm, place // ENTRIES_A_PAGE + 1)
+
+
+@dataclass(frozen=True)
+class FirmJob:
+    """Writes the pages of one firm, in a process of its own. Answers how many."""
+
+    source: Source
+    day: Day
+    firm: Firm
+    book: Path
+    dictionary: Path
+    folder: Path
+
+    def __call__(self, step: Step) -> int:
+        writer = MessageWriter(read_dictionary(self.dictionary))
+        templates = Templates(self.day)
+        with self.source.open() as log, closing(Book(self.book)) as book:
+            last = log.counts().entries - 1
+            pages = last // ENTRIES_A_PAGE + 1
+            messages = merged(log, self.firm.name)
+            waiting = next(messages, None)
+            for page in range(pages):
+                requests = book.requests_at(page * ENTRIES_A_PAGE, (page + 1) * ENTRIES_A_PAGE)
+                parts = []
+                while waiting and (waiting[0] // ENTRIES_A_PAGE <= page or page == pages - 1):
+                    about = requests.get(waiting[0], ())
+                    parts.append(writer.html(shown(waiting[1], about)))
+                    waiting = next(messages, None)
+                self._write(templates, page, pages, parts)
+                step(len(parts))
+        return pages
+
+    def _write(self, templates: Templates, page: int, pages: int, parts: list[str]) -> None:
+        text = templates.page(
+            "firm.html",
+            "../",
+            firm=self.firm,
+            page=page + 1,
+            pages=pages,
+            first=page * ENTRIES_A_PAGE,
+            last=(page + 1) * ENTRIES_A_PAGE - 1,
+            count=len(parts),
+            messages="".join(parts),
+        )
+        (self.folder / page_name(self.firm.name, page * ENTRIES_A_PAGE)).write_text(text)
+
+
+def merged(log: Log, firm: str) -> Iterator[tuple[int, Entry | Sent]]:
+    """What came from a firm and what it was sent, by the entries; what came stands first."""
+    came, sent = log.came(firm), log.sent(firm)
+    entry, row = next(came, None), next(sent, None)
+    while entry is not None or row is not None:
+        if row is None or (entry is not None and entry.place <= row.place):
+            assert entry is not None
+            yield entry.place, entry
+            entry = next(came, None)
+        else:
+            yield row.place, row
+            row = next(sent, None)
+
+
+def shown(row: Entry | Sent, requests: tuple[int, ...]) -> Shown:
+    """A row as a message."""
+    if isinstance(row, Sent):
+        fields = fields_of(row.bytes)
+        moment = text_of(fields, 52).partition("-")[2]
+        anchor = "s%d" % row.number
+        text = barred(row.bytes)
+        return Shown(anchor, False, moment, row.place, str(row.number), text, fields, requests)
+    came = came_of(row.line)
+    fields = came.fields if came else Fields()
+    text = came.text if came else barred(row.line)
+    number = text_of(fields, 34)
+    return Shown("e%d" % row.place, True, row.moment, row.place, number, text, fields, requests)

@@ -1,0 +1,80 @@
+"""Frames of FIXT.1.1: bytes into fields, and fields into bytes."""
+
+import zlib
+from collections.abc import Iterable
+
+from .records import SOH
+
+START = b"8=FIXT.1.1\x019="
+CHECKSUM_BYTES = 7  # 10=ccc and its SOH
+TAGS = {b"%d" % tag: tag for tag in range(1, 2000)}  # those that messages have, at hand
+
+
+class Fields(list[tuple[int, bytes]]):
+    """The fields of a message, in their order, and the first value of each tag."""
+
+    def __init__(self, fields: Iterable[tuple[int, bytes]] = ()) -> None:
+        super().__init__(fields)
+        self.firsts: dict[int, bytes] = dict(reversed(self))
+
+
+def fields_of(data: bytes) -> Fields:
+    """All fields; of what is no field (no digits, no equals sign) the tag is 0."""
+    fields = []
+    for part in data.removesuffix(SOH).split(SOH):
+        text, equals, value = part.partition(b"=")
+        tag = TAGS.get(text)
+        if tag is None:
+            tag = int(text) if text.isdigit() else 0
+        fields.append((tag, value) if tag and equals else (0, part))
+    return Fields(fields)
+
+
+def text_of(fields: Fields, tag: int) -> str:
+    """The first value of a tag as text; empty where there is none."""
+    value = fields.firsts.get(tag)
+    return "" if value is None else value.decode("utf-8", "replace")
+
+
+def sum_of(data: bytes) -> int:
+    """The sum of all bytes modulo 256.
+
+    The lower half of an Adler-32 is one more than the sum, as long as that is below 65,521, and so
+    of up to 256 bytes. It is many times faster than `sum`, and a day has a million messages.
+    """
+    total = 0
+    for at in range(0, len(data), 256):
+        total += (zlib.adler32(data[at : at + 256]) & 0xFFFF) - 1
+    return total % 256
+
+
+def framed(fields: Iterable[tuple[int, bytes]]) -> bytes:
+    """The frame of the fields of a body, MsgType (35) first."""
+    body = b"".join(b"%d=%s\x01" % field for field in fields)
+    head = b"8=FIXT.1.1\x019=%d\x01" % len(body) + body
+    return head + b"10=%03d\x01" % sum_of(head)
+
+
+def fault_of(data: bytes) -> str | None:
+    """What is wrong with a frame's length or sum; None where nothing is."""
+    if not data.startswith(START) or len(data) < len(START) + CHECKSUM_BYTES:
+        return "it does not begin as a frame of FIXT.1.1"
+    length, soh, rest = data[len(START) :].partition(SOH)
+    if not soh or not length.isdigit() or int(length) != len(rest) - CHECKSUM_BYTES:
+        return "its length is not the one that it says"
+    end = data[-CHECKSUM_BYTES:]
+    if end != b"10=%03d\x01" % sum_of(data[:-CHECKSUM_BYTES]):
+        return "its sum is not the one that it says"
+    return None
+
+
+def barred(data: bytes) -> str:
+    """The bytes as text: a vertical bar for each SOH, an escape for what is not printable."""
+    if data.isascii():
+        text = data.decode("ascii").replace("\x01", "|")
+        if text.isprintable():
+            return text
+    return "".join(
+        "|" if byte == 1 else chr(byte) if 0x20 <= byte < 0x7F else "\\x%02x" % byte
+        for byte in data
+    )

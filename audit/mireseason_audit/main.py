@@ -1,0 +1,213 @@
+"""The command line of mireseason-audit."""
+
+import argparse
+import os
+import shlex
+import sys
+import tempfile
+from collections.abc import Callable
+from contextlib import ExitStack
+from dataclasses import dataclass
+from pathlib import Path
+
+from .check import Checker, Verdict, report
+from .faults import Unreadable, Wrong
+from .files_log import TwoFiles
+from .findings import Finding
+from .jobs import Files
+from .log import Source
+from .pages import Pager
+from .pair_command import PairCommand
+from .postgres_log import PostgresSource
+from .progress import Progress
+from .seal import Sealed, compared, read_seal, sealed, write_seal, write_sums
+from .sqlite_log import SqliteSource
+from .venue import Venue
+from .work import processors
+
+ROOT = Path(__file__).resolve().parent.parent.parent
+VENUE = ROOT / "crates" / "rfq_venue" / "out" / "rfq_venue"
+DICTIONARY = ROOT / "fix" / "MIRESEASON.xml"
+LOG_HELP = "a file of SQLite; postgres:CONNECTION with --schema; or a day of `live` with --sent"
+
+
+@dataclass(frozen=True)
+class Work:
+    """The arguments, the log, and a folder that is gone at the end."""
+
+    words: argparse.Namespace
+    source: Source
+    folder: Path
+    venue: Venue
+
+    def checker(self) -> Checker:
+        files = Files(self.folder)
+        return Checker(self.source, self.venue, files, self.words.jobs, Progress())
+
+
+def parser_of() -> argparse.ArgumentParser:
+    parser = argparse.ArgumentParser(
+        prog="mireseason-audit",
+        description="What firms were really sent on a day, checked and shown.",
+        epilog="Status 0: all is as it should be; 1: it is not; 2: something could not be read.",
+    )
+    commands = parser.add_subparsers(dest="command", required=True, metavar="COMMAND")
+    text = "holds what was sent, and the record, against the venue"
+    check = command(commands, "check", text, do_check)
+    check.add_argument("--key", type=Path, help="the public key of the seal, in PEM")
+    check.add_argument("--seal", type=Path, help="the seal (LOG.seal if it is not named)")
+    seal = command(commands, "seal", "signs what the log has", do_seal)
+    seal.add_argument("--key", type=Path, required=True, help="a private Ed25519 key in PEM")
+    seal.add_argument("--out", type=Path, help="the seal (LOG.seal if it is not named)")
+    page = command(commands, "page", "writes the day as static pages", do_page)
+    page.add_argument("folder", metavar="DIR", type=Path, help="an empty folder, or a new one")
+    page.add_argument("--request", type=int, help="the request of the certificates' second day")
+    page.add_argument("--dictionary", type=Path, default=DICTIONARY, help="fix/MIRESEASON.xml")
+    page.add_argument("--key", type=Path, help="the public key of the seal, in PEM")
+    page.add_argument("--seal", type=Path, help="the seal (LOG.seal if it is not named)")
+    page.add_argument("--sign", type=Path, help="a private Ed25519 key that signs the pages")
+    pair = command(commands, "pair", "second days beside this one, for one dealer", do_pair)
+    pair.add_argument("dealer", metavar="DEALER")
+    pair.add_argument("--seed", type=int, default=1, help="of the prices that are drawn")
+    return parser
+
+
+def command(
+    commands: "argparse._SubParsersAction[argparse.ArgumentParser]",
+    name: str,
+    text: str,
+    act: Callable[[Work], int],
+) -> argparse.ArgumentParser:
+    """A command on a log, with the options that all have."""
+    parser = commands.add_parser(name, help=text, description=text)
+    parser.set_defaults(act=act)
+    parser.add_argument("log", metavar="LOG", help=LOG_HELP)
+    parser.add_argument("--schema", default="public", help="the schema of the day in PostgreSQL")
+    parser.add_argument("--sent", type=Path, help="what was sent, as `live --frames` prints it")
+    venue = os.environ.get("VENUE", shlex.quote(str(VENUE)))
+    parser.add_argument("--venue", default=venue, help="the words of the venue's program (VENUE)")
+    parser.add_argument("--jobs", type=int, default=processors(), help="processes at one time")
+    return parser
+
+
+def source_of(words: argparse.Namespace, venue: Venue, folder: Path) -> Source:
+    """The log that the arguments name."""
+    if words.sent is not None:
+        for path in (Path(words.log), words.sent):
+            if not path.is_file():
+                raise Unreadable("%s: there is no such file" % path)
+        return TwoFiles(Path(words.log), words.sent, venue).to_log(folder / "files.db")
+    if words.log.startswith("postgres:"):
+        return PostgresSource(words.log.removeprefix("postgres:"), words.schema)
+    if words.log.startswith("postgresql:"):
+        return PostgresSource(words.log, words.schema)
+    return SqliteSource(Path(words.log))
+
+
+def seal_path(words: argparse.Namespace, source: Source, named: Path | None) -> Path:
+    if named is not None:
+        return named
+    if isinstance(source, SqliteSource):
+        return source.path.with_name(source.path.name + ".seal")
+    return Path(source.name + ".seal")
+
+
+def do_check(work: Work) -> int:
+    verdict = checked(work)
+    print("\n".join(report(verdict)))
+    return 0 if verdict.is_good else 1
+
+
+def checked(work: Work) -> Verdict:
+    """The verdict, that of the seal too where a key is given."""
+    seal = seal_of(work)
+    return compared_with(work, seal, work.checker().check())
+
+
+def seal_of(work: Work) -> Sealed | None:
+    """The seal that the arguments name; it is read first, since it may be none of the key."""
+    words = work.words
+    if words.key is None:
+        return None
+    return read_seal(seal_path(words, work.source, words.seal), words.key)
+
+
+def compared_with(work: Work, seal: Sealed | None, verdict: Verdict) -> Verdict:
+    """The verdict with what the seal says."""
+    if seal is not None:
+        with work.source.open() as log:
+            found = list(compared(seal, sealed(log, verdict.day, verdict.chained)))
+        verdict.findings += found
+        verdict.seal = seal_words(verdict, found)
+    return verdict
+
+
+def seal_words(verdict: Verdict, found: list[Finding]) -> str:
+    if found:
+        return "signed by the key; the log is NOT AS IT WAS SEALED"
+    if verdict.of("entries"):
+        return "signed by the key; the last entry is that, and others are NOT AS THEY WERE"
+    return "signed by the key, and the log is as it was sealed"
+
+
+def do_seal(work: Work) -> int:
+    if not isinstance(work.source, (SqliteSource, PostgresSource)) or work.words.sent is not None:
+        raise Unreadable("two files have no chain, so there is nothing to be sealed")
+    chained = work.checker().chain()
+    if chained.findings:
+        print("\n".join(line for finding in chained.findings for line in finding.lines()))
+        print("verdict: not sealed")
+        return 1
+    with work.source.open() as log:
+        what = sealed(log, log.day(), chained)
+    path = seal_path(work.words, work.source, work.words.out)
+    write_seal(what, work.words.key, path)
+    print("sealed: %d entries, the last %s" % (chained.entries, chained.last.hex()))
+    print("the seal is %s" % path)
+    return 0
+
+
+def do_page(work: Work) -> int:
+    words, seal = work.words, seal_of(work)
+    key = None if words.request is None else words.request - 1
+    pager = Pager(work.checker(), words.dictionary, words.folder, work.folder, key)
+    verdict, summary = pager.check()
+    pager.write(compared_with(work, seal, verdict), summary)
+    write_sums(words.folder, words.sign)
+    print("\n".join(report(verdict)))
+    print("%d requests: %s" % (len(summary.requests), words.folder / "index.html"))
+    return 0 if verdict.is_good else 1
+
+
+def do_pair(work: Work) -> int:
+    with work.source.open() as log:
+        firm = log.day().firm(work.words.dealer)
+    if firm is None or not firm.is_dealer:
+        raise Unreadable("the day has no dealer %s" % work.words.dealer)
+    told = PairCommand(work.checker(), firm.name, work.words.seed, work.folder).run()
+    print("\n".join(told.lines))
+    print()
+    if told.is_good:
+        text = "verdict: what differs is declared, and nothing else of another firm reaches %s"
+        print(text % firm.name)
+    else:
+        print("verdict: %s is sent what is not declared" % firm.name)
+    return 0 if told.is_good else 1
+
+
+def main(arguments: list[str] | None = None) -> int:
+    words = parser_of().parse_args(arguments)
+    stack = ExitStack()
+    try:
+        folder = Path(stack.enter_context(tempfile.TemporaryDirectory(prefix="mireseason-")))
+        venue = Venue(tuple(shlex.split(words.venue)))
+        status: int = words.act(Work(words, source_of(words, venue, folder), folder, venue))
+        return status
+    except Unreadable as fault:
+        print("mireseason-audit: %s" % fault, file=sys.stderr)
+        return 2
+    except Wrong as fault:
+        print("verdict: %s" % fault)
+        return 1
+    finally:
+        stack.close()

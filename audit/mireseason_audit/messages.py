@@ -1,0 +1,74 @@
+"""A message as HTML: its text, and its fields by their names."""
+
+from dataclasses import dataclass
+from html import escape
+
+from .dictionary import Dictionary
+from .frame import Fields, barred, text_of
+
+
+@dataclass(frozen=True)
+class Shown:
+    """A message, and what stands above it."""
+
+    anchor: str
+    incoming: bool
+    moment: str
+    place: int
+    number: str  # 34
+    text: str
+    fields: Fields
+    requests: tuple[int, ...] = ()
+
+
+class MessageWriter:
+    """Writes messages. Fields that often stand are written once and kept."""
+
+    def __init__(self, dictionary: Dictionary) -> None:
+        self._dictionary = dictionary
+        self._kept: dict[tuple[int, bytes], str] = {}
+
+    def html(self, shown: Shown) -> str:
+        kind = self._dictionary.type_name(text_of(shown.fields, 35))
+        links = "".join(
+            ' <a href="../requests/%04d.html">request %d</a>' % (key + 1, key + 1)
+            for key in shown.requests
+        )
+        return (
+            '<article class="message %s" id="%s"><p class="head"><span class="way">%s</span>'
+            " <b>%s</b> <span>34=%s</span> <span>%s</span> <span>entry %d</span>%s</p>"
+            "<code>%s</code><details><summary>%d fields by name</summary><ul>%s</ul></details>"
+            "</article>\n"
+            % (
+                "came" if shown.incoming else "told",
+                shown.anchor,
+                "▸ to the venue" if shown.incoming else "◂ from the venue",
+                escape(kind),
+                escape(shown.number),
+                escape(shown.moment),
+                shown.place,
+                links,
+                escape(shown.text),
+                len(shown.fields),
+                "".join([self._field(field) for field in shown.fields]),
+            )
+        )
+
+    def _field(self, field: tuple[int, bytes]) -> str:
+        text = self._kept.get(field)
+        if text is None:
+            text = self._written(*field)
+            if field[0] in self._dictionary.names and len(self._kept) < 10_000:
+                self._kept[field] = text
+        return text
+
+    def _written(self, tag: int, data: bytes) -> str:
+        value = barred(data)
+        name = self._dictionary.names.get(tag, "")
+        meaning = self._dictionary.meaning(tag, value)
+        return "<li><i>%s</i> %s <b>%s</b>%s</li>" % (
+            tag or "?",
+            escape(name or "(not in the dictionary)"),
+            escape(value),
+            " " + escape(meaning) if meaning else "",
+        )

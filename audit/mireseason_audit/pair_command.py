@@ -1,0 +1,163 @@
+"""`pair`: second days beside the log's, and what they show one dealer."""
+
+import random
+import textwrap
+from dataclasses import dataclass, field
+from pathlib import Path
+
+from .check import Checker
+from .frame import fields_of, text_of
+from .jobs import by_place
+from .left_out import LeftOutDay
+from .lines import Came
+from .log import Log
+from .pair import Differences, compare, difference_words, differences
+from .records import Day
+from .second_day import Move, MovedDay, append
+from .venue import message_of
+
+MOST_MOVED = 64  # 32nds
+WIDTH = 96
+CHOICES = [by for by in range(-MOST_MOVED, MOST_MOVED + 1) if by]
+
+
+@dataclass
+class Told:
+    """A report, and whether all that it says is as it should be."""
+
+    lines: list[str] = field(default_factory=list)
+    is_good: bool = True
+
+    def say(self, text: str, good: bool = True, indent: int = 4) -> None:
+        space = " " * indent
+        self.lines += textwrap.wrap(
+            text, WIDTH, initial_indent=space, subsequent_indent=space + "  "
+        )
+        self.is_good = self.is_good and good
+
+
+@dataclass(frozen=True)
+class PairCommand:
+    """What pairs are made with."""
+
+    checker: Checker
+    dealer: str
+    seed: int
+    folder: Path
+
+    def run(self) -> Told:
+        told = Told()
+        day = self.checker.begun().day
+        venue, files = self.checker.venue, self.checker.files
+        venue.to_file(["due", self.dealer, "--live"], files.day, files.due(self.dealer))
+        self._prices(day, told)
+        self._left_out(day, told)
+        return told
+
+    # ------------------------------------------------------------ prices
+
+    def _prices(self, day: Day, told: Told) -> None:
+        """The second day on which the other dealers' prices are moved."""
+        path = self.folder / "prices.live"
+        changed, put_back = self._moved_day(day, path)
+        dealers = len({one.dealer for one in changed.moved})
+        text = "Other dealers' prices: %d quotes of %d dealers moved by up to %d 32nds (seed %d)."
+        told.say(text % (len(changed.moved), dealers, MOST_MOVED, self.seed), indent=0)
+        told.say("The venue answers each of these quotes as it was answered.")
+        if put_back:
+            told.say("%d more stand as they were: it refuses the other price." % put_back)
+        found = self._compared(path, told)
+        if not found.only_cover:
+            told.say("MORE DIFFERS THAN OTHER DEALERS' PRICES MAY CHANGE.", False)
+
+    def _moved_day(self, day: Day, path: Path) -> tuple[MovedDay, int]:
+        """Moves prices, and puts back those for which the venue has another answer."""
+        kept: set[tuple[str, str]] = set()
+        while True:
+            changed = MovedDay()
+            with self.checker.source.open() as log:
+                changed.write(log, day, self._move(kept), path)
+                places = {one.place: (one.dealer, one.number) for one in changed.moved}
+                otherwise = self._otherwise(log, path, places)
+            if not otherwise:
+                return changed, len(kept)
+            kept |= otherwise
+
+    def _move(self, kept: set[tuple[str, str]]) -> Move:
+        """By how many 32nds each quote is moved: the same at each call."""
+        draw = random.Random(self.seed)
+
+        def move(came: Came) -> int:
+            by = draw.choice(CHOICES)
+            stays = came.firm == self.dealer or (came.firm, text_of(came.fields, 34)) in kept
+            return 0 if stays else by
+
+        return move
+
+    def _otherwise(
+        self, log: Log, path: Path, places: dict[int, tuple[str, str]]
+    ) -> set[tuple[str, str]]:
+        """The moved quotes that the venue answers otherwise than the log has it."""
+        before = {}
+        for firm in {firm for firm, _ in places.values()}:
+            for row in log.sent(firm):
+                if places.get(row.place, ("", ""))[0] == firm:
+                    before[row.place] = answer_of(row.bytes)
+        found = set()
+        arguments = ["live", "--frames", "--marks"]
+        with self.checker.venue.run(arguments, path) as run:
+            for place, lines in by_place(run.lines(), (p for p in log.places() if p > 0)):
+                firm, number = places.get(place, ("", ""))
+                for name, frame in map(message_of, lines):
+                    if name == firm and answer_of(frame) != before.get(place):
+                        found.add((firm, number))
+        return found
+
+    # ------------------------------------------------------------ messages left out
+
+    def _left_out(self, day: Day, told: Told) -> None:
+        """The second day without the other dealers' messages."""
+        path, second = self.folder / "without.live", LeftOutDay(self.dealer)
+        progress = self.checker.progress
+        with self.checker.source.open() as log:
+            progress.begin("entries", log.counts().entries)
+            second.write(log, day, self.checker.venue, path, progress.step)
+            progress.end()
+        dealers = {firm.name for firm in day.dealers}
+        count = sum(count for firm, count in second.left_out.items() if firm in dealers)
+        hits = sum(second.left_out.values()) - count
+        told.lines.append("")
+        text = "Others' messages: all %d of the other dealers are left out, and %d hits of quotes."
+        told.say(text % (count, hits), indent=0)
+        if second.renamed:
+            text = "%d hits of its quotes name them as they are shown on the second day."
+            told.say(text % second.renamed)
+        self._compared(path, told)
+
+    # ------------------------------------------------------------ what both days show
+
+    def _compared(self, path: Path, told: Told) -> Differences:
+        """What `compare` says, and what differs in words."""
+        venue, files = self.checker.venue, self.checker.files
+        both, second = self.folder / "both.live", self.folder / "second.due"
+        append(files.day, path, both)
+        compared = compare(venue, self.dealer, both)
+        told.say("rfq_venue compare %s --live: %s." % (self.dealer, ", ".join(compared.lines)))
+        venue.to_file(["due", self.dealer, "--live"], path, second)
+        found = differences(files.due(self.dealer), second)
+        if not compared.holds:
+            told.say("ROW AND LIST ARE EQUAL AND THE MESSAGES ARE NOT: THAT MUST NOT BE.", False)
+        elif compared.due_equal:
+            text = "All %d items of its list are equal, so it was sent the same bytes."
+            told.say(text % found.items)
+        else:
+            told.say("Of its list, and so of its messages, this differs and nothing else:")
+        for words in difference_words(found):
+            told.say(words, found.are_declared, indent=8)
+        return found
+
+
+def answer_of(frame: bytes) -> tuple[str, str]:
+    """QuoteStatus (297) and QuoteRejectReason (300)."""
+    fields = fields_of(frame)
+    return text_of(fields, 297), text_of(fields, 300)

@@ -1,0 +1,52 @@
+"""A price as it stands in a message, and in 32nds. Whether it is lawful is for the venue to say."""
+
+from dataclasses import dataclass
+from decimal import Decimal, InvalidOperation
+
+TICKS = 256  # in a point
+MOST_DIGITS = 15
+
+
+@dataclass(frozen=True)
+class Price:
+    """A price as it was written."""
+
+    text: str
+
+    @property
+    def decimal(self) -> Decimal | None:
+        """None where the text is no number."""
+        if len(self.text) > MOST_DIGITS + 2:
+            return None
+        try:
+            value = Decimal(self.text)
+        except InvalidOperation:
+            return None
+        return value if value.is_finite() else None
+
+    @property
+    def ticks(self) -> int | None:
+        """Whole 256ths of a point; None where it is none."""
+        value = self.decimal
+        if value is None or value < 0 or value * TICKS != int(value * TICKS):
+            return None
+        return int(value * TICKS)
+
+    @property
+    def thirty_seconds(self) -> str:
+        """Points, 32nds and eighths of a 32nd, a plus sign for four; empty where it has none."""
+        ticks = self.ticks
+        if ticks is None:
+            return ""
+        points, part = divmod(ticks, TICKS)
+        whole, eighths = divmod(part, 8)
+        return "%d-%02d%s" % (points, whole, {0: "", 4: "+"}.get(eighths, str(eighths)))
+
+    def moved(self, thirty_seconds: int) -> str:
+        """The price so many 32nds higher, as it is written in a message."""
+        value = (self.decimal or Decimal(0)) + Decimal(thirty_seconds) / 32
+        text = format(value, "f")
+        return text.rstrip("0").rstrip(".") if "." in text else text
+
+    def __str__(self) -> str:
+        return self.text

@@ -1,0 +1,108 @@
+"""The rows of a log, as gateway/schema.sql has them, and the day that stands in entry 0."""
+
+import hashlib
+import tomllib
+from dataclasses import dataclass
+from typing import NamedTuple
+
+from .faults import Wrong
+
+SOH = b"\x01"
+DIVIDER = b"%%\n"
+HEAD = (b"version ", b"program ", b"configuration ")
+
+
+class Entry(NamedTuple):
+    """What the venue was given at one place of its order."""
+
+    place: int
+    term: int
+    moment: str
+    firm: str | None
+    number: int | None  # of the session
+    line: bytes
+    before: bytes
+    hash: bytes
+
+
+class Sent(NamedTuple):
+    """What the venue gave for a firm: its frame, as the venue wrote it."""
+
+    firm: str
+    number: int  # the venue's, to that firm
+    place: int  # of the entry that it answers
+    bytes: bytes
+
+
+class Outgoing(NamedTuple):
+    """A message of a session, as it stood on the wire."""
+
+    firm: str
+    number: int  # of the session
+    sent: int | None  # the number of the row of `sent` that it carries
+    bytes: bytes
+
+
+@dataclass(frozen=True)
+class Firm:
+    """A firm of the day's configuration."""
+
+    name: str
+    is_dealer: bool
+
+    @property
+    def kind(self) -> str:
+        return "dealer" if self.is_dealer else "investor"
+
+
+@dataclass(frozen=True)
+class Day:
+    """What entry 0 says of the day."""
+
+    version: str
+    program: str
+    configuration: bytes
+    firms: tuple[Firm, ...]  # dealers, then investors, in the order of their rows
+    date: str
+
+    @property
+    def dealers(self) -> tuple[Firm, ...]:
+        return tuple(firm for firm in self.firms if firm.is_dealer)
+
+    @property
+    def head(self) -> bytes:
+        """The configuration and its divider, as the venue reads them."""
+        text = self.configuration
+        return text + (b"" if text.endswith(b"\n") else b"\n") + DIVIDER
+
+    def firm(self, name: str) -> Firm | None:
+        return next((firm for firm in self.firms if firm.name == name), None)
+
+
+def day_of(line: bytes) -> Day:
+    """Reads the line of entry 0."""
+    values = []
+    rest = line
+    for name in HEAD:
+        first, feed, rest = rest.partition(b"\n")
+        if not feed or not first.startswith(name):
+            raise Wrong("entry 0 has no line `%s`" % name.decode().strip())
+        values.append(first[len(name) :].decode("utf-8", "replace"))
+    if not rest.startswith(DIVIDER):
+        raise Wrong("entry 0 has no line `%%`")
+    configuration = rest[len(DIVIDER) :]
+    if hashlib.sha256(configuration).hexdigest() != values[2]:
+        raise Wrong("entry 0 was changed: its configuration has another SHA-256 than it says")
+    return configured(values[0], values[1], configuration)
+
+
+def configured(version: str, program: str, configuration: bytes) -> Day:
+    """The day of a configuration. Which names are lawful is for the venue to say."""
+    try:
+        table = tomllib.loads(configuration.decode())
+        firms = [Firm(str(row["name"]), True) for row in table.get("dealer", [])]
+        firms += [Firm(str(row["name"]), False) for row in table.get("investor", [])]
+        date = str(table["date"])
+    except (ValueError, KeyError, TypeError, AttributeError) as fault:
+        raise Wrong("entry 0: the configuration can't be read: %s" % fault) from None
+    return Day(version, program, configuration, tuple(firms), date)

@@ -1,0 +1,225 @@
+"""Which request each message is about, by the names that the messages bear.
+
+A request has its own name in the messages of its investor (131), and one for each dealer (`R1`,
+`R2`, ..); a quote has its dealer's (117) and the one by which the investor is shown it (`Q1`,
+`Q2`, ..). Each is learnt from the message that brings it, and none is counted.
+"""
+
+from collections import defaultdict
+from collections.abc import Iterator
+from dataclasses import dataclass, field
+
+from .exchanges import Exchange, Told
+from .frame import text_of
+from .lines import Came
+from .reading import Reader, Words, moment_of
+
+
+@dataclass(frozen=True)
+class Note:
+    """What a firm was told."""
+
+    firm: str
+    number: int  # the venue's, to that firm
+    kind: str  # 35
+    words: Words
+
+
+@dataclass(frozen=True)
+class Act:
+    """An exchange, as far as it is about one request."""
+
+    place: int
+    moment: str
+    actor: str | None  # None: the clock
+    number: int | None  # of the actor's session
+    said: Words
+    told: tuple[Note, ...]
+
+    def note_to(self, firm: str | None) -> Note | None:
+        return next((note for note in self.told if note.firm == firm), None)
+
+    @property
+    def is_refused(self) -> bool:
+        answer = self.note_to(self.actor)
+        return answer is not None and answer.words.refused
+
+
+@dataclass
+class Request:
+    """A request, as far as the day has come."""
+
+    key: int
+    place: int
+    moment: str
+    investor: str
+    trader: str
+    name: str  # the investor's
+    bond: str
+    side: str
+    quantity: str
+    deadline: str
+    dealers: list[str]
+    shown: dict[str, str] = field(default_factory=dict)  # dealer to its name of the request
+    quotes: int = 0
+    winner: str = ""
+    price: str = ""
+    quote: str = ""  # the winning one, as its dealer names it
+    cover: str = ""
+    end: str = "open"
+    end_moment: str = ""
+
+    @property
+    def file(self) -> str:
+        return "request-%04d.html" % self.key
+
+    @property
+    def buys(self) -> bool:
+        return self.side == "1"
+
+
+@dataclass
+class Names:
+    """The names that messages have brought, each with its request."""
+
+    of_dealers: dict[tuple[str, str], int] = field(default_factory=dict)  # dealer and R
+    of_investors: dict[tuple[str, str], int] = field(default_factory=dict)  # investor and 131
+    quotes: dict[tuple[str, str], int] = field(default_factory=dict)  # dealer and its 117
+    shown: dict[tuple[str, str], int] = field(default_factory=dict)  # investor and Q
+
+
+class Requests:
+    """Takes the exchanges of a day in their order; answers the acts on each request."""
+
+    def __init__(self, reader: Reader) -> None:
+        self.all: list[Request] = []
+        self._reader = reader
+        self._names = Names()
+
+    def take(self, exchange: Exchange) -> Iterator[tuple[Request, Act]]:
+        """The acts that an exchange is, one for each request that it is about."""
+        opened = self._opened(exchange)
+        if opened is not None:
+            self.all.append(opened)
+        about: dict[int, list[Told]] = defaultdict(list)
+        for told in exchange.told:
+            self._learn(told, exchange)
+            key = self._about(told)
+            if key is not None:
+                about[key].append(told)
+        own = self._own(exchange)
+        if own is not None:
+            rest = [told for told in exchange.answers() if self._about(told) is None]
+            about[own] = rest + [told for told in about[own] if told not in rest]
+        for key, told_of_it in about.items():
+            act = self._act(exchange, told_of_it)
+            self._follow(self.all[key], act)
+            yield self.all[key], act
+
+    # ------------------------------------------------------------ names
+
+    def _opened(self, exchange: Exchange) -> Request | None:
+        """The request that a message opens: one that is answered by its acceptance."""
+        came = exchange.came
+        if came is None or text_of(came.fields, 35) != "R":
+            return None
+        answer = next(iter(exchange.answers()), None)
+        if answer is None or answer.kind != "AI" or answer.text(297) != "0":
+            return None
+        key = len(self.all)
+        self._names.of_investors[came.firm, answer.text(131)] = key
+        return request_of(key, exchange, came)
+
+    def _learn(self, told: Told, exchange: Exchange) -> None:
+        """The names that a message of the venue brings."""
+        firm, names = told.firm, self._names
+        if told.kind == "R" and self.all:
+            names.of_dealers[firm.name, told.text(131)] = len(self.all) - 1
+            self.all[-1].shown[firm.name] = told.text(131)
+        elif told.kind == "S":
+            key = names.of_investors.get((firm.name, told.text(131)))
+            if key is not None:
+                names.shown[firm.name, told.text(117)] = key
+        elif firm.is_dealer and told.kind == "AI" and told.text(297) == "0":
+            key = names.of_dealers.get((firm.name, told.text(131)))
+            if key is not None and told.text(117):
+                names.quotes[firm.name, told.text(117)] = key
+
+    def _about(self, told: Told) -> int | None:
+        """The request that a message of the venue is about."""
+        firm, request, quote = told.firm, told.text(131), told.text(117)
+        if told.kind in ("3", "AG"):
+            return None
+        if firm.is_dealer:
+            if request:
+                return self._names.of_dealers.get((firm.name, request))
+            return self._names.quotes.get((firm.name, quote))
+        if request:
+            return self._names.of_investors.get((firm.name, request))
+        return self._names.shown.get((firm.name, quote))
+
+    def _own(self, exchange: Exchange) -> int | None:
+        """The request that the firm's own message names."""
+        came = exchange.came
+        if came is None:
+            return None
+        kind, firm = text_of(came.fields, 35), came.firm
+        request, quote = text_of(came.fields, 131), text_of(came.fields, 117)
+        names = self._names
+        if kind in ("S", "AG"):
+            return names.of_dealers.get((firm, request))
+        if kind == "Z" and text_of(came.fields, 298).lstrip("0") != "4":
+            return names.quotes.get((firm, quote))
+        if kind == "AJ":
+            if text_of(came.fields, 694).lstrip("0") == "1":
+                return names.shown.get((firm, quote))
+            return names.of_investors.get((firm, request))
+        return None
+
+    # ------------------------------------------------------------ acts
+
+    def _act(self, exchange: Exchange, told: list[Told]) -> Act:
+        came, reader = exchange.came, self._reader
+        notes = tuple(
+            Note(one.firm.name, one.number, one.kind, reader.told(one.fields, one.firm.is_dealer))
+            for one in told
+        )
+        said = reader.said(came.fields) if came else reader.clock()
+        actor = came.firm if came else None
+        return Act(exchange.place, exchange.moment, actor, exchange.entry.number, said, notes)
+
+    def _follow(self, request: Request, act: Act) -> None:
+        """What an act changes of its request, by what firms are told."""
+        answer = act.note_to(act.actor)
+        if act.said.quote and answer and answer.kind == "AI" and act.actor in request.dealers:
+            request.quotes += answer.words.text == "accepted"
+        for note in act.told:
+            if note.kind != "AJ":
+                continue
+            request.end_moment = act.moment
+            text = note.words.text
+            if text == "won":
+                request.winner, request.quote = note.firm, note.words.quote
+                request.price = str(note.words.price or "")
+            elif text == "cover":
+                request.cover = note.firm
+            request.end = "awarded" if text in ("won", "cover", "done away") else text
+
+
+def request_of(key: int, exchange: Exchange, came: Came) -> Request:
+    """A request as its investor's message has it."""
+    fields = came.fields
+    dealers = [value.decode("utf-8", "replace") for tag, value in fields if tag == 448]
+    return Request(
+        key,
+        exchange.place,
+        exchange.moment,
+        came.firm,
+        text_of(fields, 50),
+        text_of(fields, 131),
+        text_of(fields, 48),
+        text_of(fields, 54),
+        text_of(fields, 38),
+        moment_of(text_of(fields, 126)),
+        dealers,
+    )

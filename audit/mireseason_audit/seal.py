@@ -1,0 +1,175 @@
+"""The seal of a log: what stands in it, signed with an Ed25519 key by openssl.
+
+A seal is text. It has the hash of the last entry, from which all others follow, and that of
+each hundredth, so that a log whose chain was made anew is told by its place; of each firm, how
+many messages it was sent, and those of its session, with their SHA-256; and a signature of all
+that in its last line.
+"""
+
+import base64
+import binascii
+import hashlib
+import subprocess
+import tempfile
+from collections.abc import Iterable, Iterator
+from dataclasses import dataclass
+from pathlib import Path
+
+from .chain import Chained
+from .faults import Unreadable, Wrong
+from .findings import Finding
+from .log import Log
+from .records import Day
+
+TITLE = "mireseason-seal 1"
+SIGNATURE = "signature "
+
+
+@dataclass(frozen=True)
+class Sealed:
+    """What a seal says of a log."""
+
+    lines: tuple[str, ...]
+
+    @property
+    def text(self) -> bytes:
+        return "".join(line + "\n" for line in self.lines).encode()
+
+    def values(self, word: str) -> dict[str, str]:
+        """Of the lines `WORD NAME VALUE`, the values by their names."""
+        parts = [line.split(" ", 2) for line in self.lines]
+        return {part[1]: part[2] for part in parts if part[0] == word and len(part) == 3}
+
+
+def sealed(log: Log, day: Day, chained: Chained) -> Sealed:
+    """What the seal of a log has to say."""
+    lines = [TITLE, "date day %s" % day.date, "version day %s" % day.version]
+    lines.append("program day %s" % day.program)
+    configuration = hashlib.sha256(day.configuration).hexdigest()
+    lines.append("configuration day %s" % configuration)
+    lines += ["entry %d %s" % item for item in sorted(chained.checkpoints.items())]
+    lines.append("last %d %s" % (chained.last_place, chained.last.hex()))
+    for firm in day.firms:
+        sent = digest((row.number, row.place, row.bytes) for row in log.sent(firm.name))
+        lines.append("sent %s %s" % (firm.name, sent))
+        went = digest((row.number, row.sent, row.bytes) for row in log.outgoing(firm.name))
+        lines.append("session %s %s" % (firm.name, went))
+    return Sealed(tuple(lines))
+
+
+def digest(rows: Iterable[tuple[int, int | None, bytes]]) -> str:
+    """How many rows, and their SHA-256: of each its numbers, its length, its bytes."""
+    found, count = hashlib.sha256(), 0
+    for number, other, data in rows:
+        found.update(b"%d %d %d\n" % (number, -1 if other is None else other, len(data)))
+        found.update(data)
+        count += 1
+    return "%d %s" % (count, found.hexdigest())
+
+
+def write_seal(what: Sealed, key: Path, path: Path) -> None:
+    """Signs and writes a seal."""
+    signature = base64.b64encode(sign(what.text, key))
+    try:
+        path.write_bytes(what.text + SIGNATURE.encode() + signature + b"\n")
+    except OSError as fault:
+        raise Unreadable("the seal can't be written: %s" % fault) from None
+
+
+def read_seal(path: Path, key: Path) -> Sealed:
+    """Reads a seal and its signature; Wrong where that is not the key's."""
+    try:
+        text = path.read_bytes()
+    except OSError as fault:
+        raise Unreadable("the seal can't be read: %s" % fault) from None
+    body, mark, last = text.rpartition(SIGNATURE.encode())
+    if not mark or not body.startswith(TITLE.encode() + b"\n"):
+        raise Wrong("%s is no seal of this form" % path.name)
+    try:
+        signature = base64.b64decode(last.strip(), validate=True)
+    except binascii.Error:
+        raise Wrong("%s: its signature is no base64" % path.name) from None
+    if not verify(body, signature, key):
+        raise Wrong("%s: the signature is not that of the key" % path.name)
+    return Sealed(tuple(body.decode("utf-8", "replace").splitlines()))
+
+
+def compared(seal: Sealed, now: Sealed) -> Iterator[Finding]:
+    """What a log is now, against what its seal says."""
+    if seal == now:
+        return
+    yield from compared_entries(seal, now)
+    for word, whose in (("sent", "messages"), ("session", "messages of its session")):
+        said, found = seal.values(word), now.values(word)
+        for firm in sorted(said.keys() | found.keys()):
+            if said.get(firm) != found.get(firm):
+                yield Finding(firm, "its %s are not those that were sealed" % whose)
+
+
+def compared_entries(seal: Sealed, now: Sealed) -> Iterator[Finding]:
+    """The first entries that are not those that were sealed."""
+    said, found = seal.values("entry"), now.values("entry")
+    last_said, last_found = seal.values("last"), now.values("last")
+    whole = 0
+    for name, value in sorted(said.items(), key=lambda item: int(item[0])):
+        if found.get(name) != value:
+            yield Finding("entries", between(whole, int(name)), int(name))
+            return
+        whole = int(name) + 1
+    if last_said != last_found:
+        place = int(next(iter(last_said), "0"))
+        yield Finding("entries", between(whole, place), place)
+    elif seal.lines[1:5] != now.lines[1:5]:
+        yield Finding("entries", "the day is not the one that was sealed", 0)
+
+
+def between(first: int, last: int) -> str:
+    return "from entry %d to %d they are not those that were sealed" % (first, last)
+
+
+def write_sums(folder: Path, key: Path | None) -> None:
+    """The SHA-256 of each file of a folder, as sha256sum reads them, and a signature of that."""
+    lines = []
+    for path in sorted(folder.rglob("*")):
+        if path.is_file():
+            with path.open("rb") as file:
+                found = hashlib.sha256()
+                while block := file.read(1 << 20):
+                    found.update(block)
+            lines.append("%s  %s\n" % (found.hexdigest(), path.relative_to(folder)))
+    text = "".join(lines).encode()
+    (folder / "SHA256SUMS").write_bytes(text)
+    if key is not None:
+        (folder / "SHA256SUMS.sig").write_bytes(sign(text, key))
+
+
+def sign(text: bytes, key: Path) -> bytes:
+    """The signature of a private key in PEM."""
+    with tempfile.NamedTemporaryFile() as file:
+        file.write(text)
+        file.flush()
+        return openssl(["pkeyutl", "-sign", "-rawin", "-inkey", str(key), "-in", file.name])
+
+
+def verify(text: bytes, signature: bytes, key: Path) -> bool:
+    """Whether a signature is that of a public key in PEM."""
+    openssl(["pkey", "-pubin", "-in", str(key), "-noout"])
+    with tempfile.NamedTemporaryFile() as file, tempfile.NamedTemporaryFile() as mark:
+        for target, data in ((file, text), (mark, signature)):
+            target.write(data)
+            target.flush()
+        words = ["pkeyutl", "-verify", "-rawin", "-pubin", "-inkey", str(key)]
+        words += ["-in", file.name, "-sigfile", mark.name]
+        done = subprocess.run(["openssl", *words], capture_output=True, check=False)
+        return done.returncode == 0
+
+
+def openssl(words: list[str]) -> bytes:
+    try:
+        done = subprocess.run(["openssl", *words], capture_output=True, check=False)
+    except OSError as fault:
+        raise Unreadable("openssl: %s" % fault) from None
+    if done.returncode != 0:
+        text = done.stderr.decode("utf-8", "replace").strip().splitlines()
+        raise Unreadable("openssl %s: %s" % (words[0], text[0] if text else "it fails"))
+    return done.stdout

@@ -1,0 +1,103 @@
+"""A second day beside the one in a log: other dealers' prices moved, or their messages left out."""
+
+from collections.abc import Callable, Iterator
+from dataclasses import dataclass, field
+from pathlib import Path
+
+from .frame import Fields, framed, text_of
+from .lines import Came, came_of
+from .log import Log
+from .prices import Price
+from .records import Day
+from .requests import Request
+
+BID, OFFER, SEQ_NUM, QUOTE = 132, 133, 34, 117
+
+
+@dataclass(frozen=True)
+class Moved:
+    """A quote whose price was moved."""
+
+    place: int
+    dealer: str
+    number: str  # 34
+    before: Price
+    after: Price
+
+
+Move = Callable[[Came], int]  # by how many 32nds a dealer's quote is moved; 0 leaves it
+
+
+@dataclass
+class MovedDay:
+    """A day with some prices moved, and which."""
+
+    moved: list[Moved] = field(default_factory=list)
+
+    def write(self, log: Log, day: Day, move: Move, path: Path) -> None:
+        """Writes the second day; prices alone differ, and with them lengths and sums of frames."""
+        with path.open("wb", buffering=1 << 20) as file:
+            file.write(day.head)
+            for entry in log.entries():
+                if entry.place > 0:
+                    file.write(self._line(entry.place, entry.line, move) + b"\n")
+
+    def _line(self, place: int, line: bytes, move: Move) -> bytes:
+        came = came_of(line)
+        if came is None or came.frame is None or text_of(came.fields, 35) != "S":
+            return line
+        by = move(came)
+        changed = moved_fields(came.fields, by) if by else None
+        if changed is None:
+            return line
+        fields, before, after = changed
+        number = text_of(came.fields, SEQ_NUM)
+        self.moved.append(Moved(place, came.firm, number, before, after))
+        return line_of(came, fields)
+
+
+def line_of(came: Came, fields: Fields) -> bytes:
+    """A line with the same firm and time, and other fields in its body."""
+    return ("hex %s %s %s" % (came.firm, came.time, framed(fields).hex())).encode()
+
+
+def body_of(fields: Fields) -> Fields:
+    """The fields without 8, 9 and 10."""
+    return Fields(pair for pair in fields if pair[0] not in (8, 9, 10))
+
+
+def moved_fields(fields: Fields, by: int) -> tuple[Fields, Price, Price] | None:
+    """The body with its price moved; None where it has no price that can be moved."""
+    for at, (tag, value) in enumerate(fields):
+        price = Price(value.decode("ascii", "replace"))
+        if tag in (BID, OFFER) and price.ticks is not None:
+            after = Price(price.moved(by))
+            changed = Fields([*fields[:at], (tag, after.text.encode()), *fields[at + 1 :]])
+            return body_of(changed), price, after
+    return None
+
+
+def on_request(request: Request, dealer: str, by: int) -> Move:
+    """Moves one dealer's quotes on one request."""
+    name = request.shown.get(dealer)
+
+    def move(came: Came) -> int:
+        return by if came.firm == dealer and text_of(came.fields, 131) == name else 0
+
+    return move
+
+
+def append(first: Path, second: Path, both: Path) -> None:
+    """Both days as `compare` reads them."""
+    with both.open("wb", buffering=1 << 20) as file:
+        for path in (first, second):
+            if path is second:
+                file.write(b"%%\n")
+            for block in blocks_of(path):
+                file.write(block)
+
+
+def blocks_of(path: Path) -> Iterator[bytes]:
+    with path.open("rb") as file:
+        while block := file.read(1 << 20):
+            yield block

@@ -1,0 +1,125 @@
+"""One request, whole: its acts in their order, and the life of each quote."""
+
+from dataclasses import dataclass, field, replace
+from itertools import pairwise
+
+from .prices import Price
+from .reading import GLYPHS, Shape
+from .requests import Act, Note, Request
+
+FATES = {
+    "replaced": Shape.REPLACE,
+    "withdrawn": Shape.WITHDRAW,
+    "won": Shape.WON,
+    "cover": Shape.COVER,
+    "done away": Shape.AWAY,
+    "passed": Shape.PASS,
+    "expired": Shape.CLOCK,
+    "standing": Shape.QUOTE,
+}
+
+
+@dataclass
+class Quote:
+    """A quote that was accepted, until it stood no longer."""
+
+    dealer: str
+    name: str  # its dealer's
+    shown: str  # the investor's
+    price: Price
+    first: int  # the act that brought it
+    moment: str
+    last: int | None = None  # the act that ended it
+    end_moment: str = ""
+    fate: str = "standing"
+
+    @property
+    def shape(self) -> Shape:
+        return FATES[self.fate]
+
+    @property
+    def glyph(self) -> str:
+        return GLYPHS[self.shape]
+
+
+@dataclass
+class Story:
+    """A request with its acts."""
+
+    request: Request
+    acts: list[Act]
+    quotes: list[Quote] = field(default_factory=list)
+
+    @property
+    def lanes(self) -> list[str]:
+        """The investor and the dealers that it asked, in its order."""
+        return [self.request.investor, *self.request.dealers]
+
+    def quotes_of(self, dealer: str) -> list[Quote]:
+        return [quote for quote in self.quotes if quote.dealer == dealer]
+
+    def closing(self, dealer: str) -> Note | None:
+        """How the dealer was told that the request ended."""
+        for act in self.acts:
+            note = act.note_to(dealer)
+            if note is not None and note.kind == "AJ":
+                return note
+        return None
+
+    def declined(self, dealer: str) -> bool:
+        return any(
+            act.actor == dealer and act.said.shape is Shape.DECLINE and not act.is_refused
+            for act in self.acts
+        )
+
+    @property
+    def gaps(self) -> list[float]:
+        """Of each act but the first, the seconds since the one before."""
+        moments = [seconds(act.moment) for act in self.acts]
+        return [after - before for before, after in pairwise(moments)]
+
+
+def seconds(moment: str) -> float:
+    """The seconds of a time of day; 0 where the text is none."""
+    parts = moment.split(":")
+    try:
+        return int(parts[0]) * 3600 + int(parts[1]) * 60 + float(parts[2])
+    except (ValueError, IndexError):
+        return 0.0
+
+
+def story_of(request: Request, acts: list[Act]) -> Story:
+    """Follows the quotes through the acts, by what their dealers are told."""
+    story = Story(request, list(acts))
+    live: dict[str, Quote] = {}
+    for index, act in enumerate(acts):
+        answer = act.note_to(act.actor)
+        accepted = answer is not None and answer.words.text == "accepted"
+        if act.said.shape is Shape.QUOTE and accepted and act.actor is not None:
+            before = live.pop(act.actor, None)
+            if before is not None:
+                end(before, "replaced", index, act)
+                words = replace(act.said, shape=Shape.REPLACE, text="replaces")
+                story.acts[index] = replace(act, said=words)
+            live[act.actor] = quote = quote_of(request, act, index)
+            story.quotes.append(quote)
+        for note in act.told:
+            if note.firm == request.investor or note.firm not in live:
+                continue
+            if note.words.text == "withdrawn" and note.words.quote == live[note.firm].name:
+                end(live.pop(note.firm), "withdrawn", index, act)
+            elif note.kind == "AJ":
+                fate = note.words.text if note.words.text in FATES else "done away"
+                end(live.pop(note.firm), fate, index, act)
+    return story
+
+
+def quote_of(request: Request, act: Act, index: int) -> Quote:
+    shown = [note for note in act.told if note.firm == request.investor and note.kind == "S"]
+    name = shown[0].words.quote if shown else ""
+    price = act.said.price or Price("")
+    return Quote(act.actor or "", act.said.quote, name, price, index, act.moment)
+
+
+def end(quote: Quote, fate: str, index: int, act: Act) -> None:
+    quote.fate, quote.last, quote.end_moment = fate, index, act.moment

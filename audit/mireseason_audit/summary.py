@@ -1,0 +1,125 @@
+"""What a day came to: one pass over its exchanges, which leaves the acts and the faults behind on
+disk.
+"""
+
+from collections import Counter
+from contextlib import closing
+from dataclasses import dataclass, field
+from pathlib import Path
+
+from .book import Book, Fault
+from .dictionary import Dictionary
+from .exchanges import Exchange, exchanges
+from .frame import text_of
+from .log import Source
+from .progress import Step
+from .reading import Reader
+from .records import Day
+from .requests import Request, Requests
+
+NO_ANSWER = "no answer"
+
+
+@dataclass
+class FirmCounts:
+    """What came from a firm, what it was sent, and what of it was refused."""
+
+    came: Counter[str] = field(default_factory=Counter)  # by MsgType (35)
+    sent: Counter[str] = field(default_factory=Counter)
+    refused: int = 0
+
+
+@dataclass
+class Summary:
+    """The counts of a day."""
+
+    requests: list[Request] = field(default_factory=list)
+    firms: dict[str, FirmCounts] = field(default_factory=dict)
+    faults: Counter[str] = field(default_factory=Counter)  # by why
+    entries: int = 0
+    sweeps: int = 0
+    first: str = ""
+    last: str = ""
+
+    @property
+    def came(self) -> int:
+        return sum(sum(firm.came.values()) for firm in self.firms.values())
+
+    @property
+    def sent(self) -> int:
+        return sum(sum(firm.sent.values()) for firm in self.firms.values())
+
+    @property
+    def ends(self) -> Counter[str]:
+        return Counter(request.end for request in self.requests)
+
+    @property
+    def quotes(self) -> int:
+        return sum(request.quotes for request in self.requests)
+
+    @property
+    def quantity(self) -> int:
+        """What was awarded in all."""
+        return sum(int(one.quantity) for one in self.requests if one.end == "awarded")
+
+
+class Summarizer:
+    """Takes the exchanges of a day."""
+
+    def __init__(self, day: Day, reader: Reader, book: Book) -> None:
+        self.summary = Summary(firms={firm.name: FirmCounts() for firm in day.firms})
+        self._reader, self._book = reader, book
+        self._requests = Requests(reader)
+        self.summary.requests = self._requests.all
+
+    def take(self, exchange: Exchange) -> None:
+        summary, about = self.summary, None
+        summary.entries += 1
+        summary.first = summary.first or exchange.moment
+        summary.last = exchange.moment
+        for request, act in self._requests.take(exchange):
+            self._book.put(request.key, act)
+            about = request.key
+        for told in exchange.told:
+            summary.firms[told.firm.name].sent[told.kind] += 1
+        if exchange.came is None:
+            summary.sweeps += exchange.entry.line.startswith((b"clock ", b"expire "))
+        elif exchange.came.firm in summary.firms:
+            self._take_message(exchange, about)
+
+    def _take_message(self, exchange: Exchange, about: int | None) -> None:
+        came = exchange.came
+        assert came is not None
+        counts = self.summary.firms[came.firm]
+        counts.came[text_of(came.fields, 35)] += 1
+        answers = exchange.answers()
+        words = [self._reader.told(one.fields, one.firm.is_dealer) for one in answers]
+        refused = next((one for one in words if one.refused), None)
+        if answers and refused is None:
+            return
+        counts.refused += 1
+        why = refused.text if refused else NO_ANSWER
+        detail = refused.detail if refused else "it was no message of the venue, and was dropped"
+        self.summary.faults[why] += 1
+        said = self._reader.said(came.fields)
+        text = " ".join([said.text, str(said.price or "")]).strip()
+        fault = Fault(exchange.place, exchange.moment, came.firm, text, why, detail, about)
+        self._book.put_fault(fault)
+
+
+@dataclass(frozen=True)
+class SummaryJob:
+    """The pass over a day, in a process of its own."""
+
+    source: Source
+    day: Day
+    dictionary: Dictionary
+    book: Path
+
+    def __call__(self, step: Step) -> Summary:
+        with closing(Book(self.book, write=True)) as book, self.source.open() as log:
+            summarizer = Summarizer(self.day, Reader(self.dictionary), book)
+            for exchange in exchanges(log, self.day):
+                summarizer.take(exchange)
+            book.finish()
+        return summarizer.summary

@@ -1,0 +1,64 @@
+"""The templates of the pages, and how values are written in them."""
+
+from pathlib import Path
+
+import jinja2
+from markupsafe import Markup
+
+from .prices import Price
+from .records import Day
+
+HERE = Path(__file__).resolve().parent / "templates"
+MONTHS = (
+    "January February March April May June July August September October November December"
+).split()
+
+
+def quantity_text(text: str) -> str:
+    """A whole number with a space between thousands; what is none stays as it is."""
+    return format(int(text), ",").replace(",", "\u202f") if text.isdigit() else text
+
+
+def date_text(text: str) -> str:
+    """A date in words; what is none stays as it is."""
+    if len(text) == 8 and text.isdigit() and 1 <= int(text[4:6]) <= 12:
+        return "%d %s %s" % (int(text[6:]), MONTHS[int(text[4:6]) - 1], text[:4])
+    return text
+
+
+def price_html(price: Price | str | None) -> Markup:
+    """A price in 32nds and as a decimal."""
+    price = Price(price) if isinstance(price, str) else price
+    if price is None or not price.text:
+        return Markup("")
+    if not price.thirty_seconds:
+        return Markup('<span class="price">%s</span>') % price.text
+    text = Markup('<span class="price">%s <small>%s</small></span>')
+    return text % (price.thirty_seconds, price.text)
+
+
+def capitalize_first(text: str) -> str:
+    return text[:1].upper() + text[1:]
+
+
+class Templates:
+    """Pages of one day."""
+
+    def __init__(self, day: Day) -> None:
+        self._day = day
+        self._environment = jinja2.Environment(
+            loader=jinja2.FileSystemLoader(HERE),
+            autoescape=True,
+            trim_blocks=True,
+            lstrip_blocks=True,
+            undefined=jinja2.StrictUndefined,
+        )
+        self._environment.filters["quantity"] = quantity_text
+        self._environment.filters["price"] = price_html
+        self._environment.filters["capitalize_first"] = capitalize_first
+        self._environment.filters["date"] = date_text
+
+    def page(self, name: str, up: str, **values: object) -> str:
+        """A page; `up` leads from it to the folder of all."""
+        template = self._environment.get_template(name)
+        return template.render(up=up, day=self._day, **values)

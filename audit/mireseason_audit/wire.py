@@ -1,0 +1,127 @@
+"""What a session sent of the venue's messages, against `sent`: the translation of
+gateway/README.md, read back.
+
+A message on the wire has the venue's number in ApplSeqNum (1181), first behind the header, and
+its moment in TransactTime (60), whose place depends on the type; the rest of its body is the
+venue's, byte for byte.
+"""
+
+from collections.abc import Iterator
+from typing import NamedTuple
+
+from .findings import Finding
+from .frame import CHECKSUM_BYTES, fault_of
+from .log import Log
+from .records import SOH, Outgoing, Sent
+
+IN_FRONT_OF = {b"S": b"\x01537=", b"AI": b"\x01297=", b"R": b"\x01453="}  # where 60 stands
+REJECT = b"3"
+REFERS = b"\x0145="
+CARRIED = b"\x011181="
+
+
+class Parts(NamedTuple):
+    """What the translation looks at in a frame of the venue."""
+
+    kind: bytes
+    number: bytes
+    moment: bytes
+    body: bytes  # all fields behind 52, with an SOH before each and none behind the last
+
+
+def parts_of(frame: bytes) -> Parts | None:
+    """A frame that begins with 8, 9, 35, 49, 56, 34 and 52."""
+    fields = frame.split(SOH, 7)
+    if len(fields) < 8 or fields[2][:3] != b"35=" or fields[5][:3] != b"34=":
+        return None
+    rest = fields[7][:-CHECKSUM_BYTES].removesuffix(SOH)
+    return Parts(fields[2][3:], fields[5][3:], fields[6][3:], SOH + rest)
+
+
+def carried(parts: Parts, session_number: int | None) -> bytes:
+    """What stands from 1181 to the last field of the message that carries a frame of the venue."""
+    body = parts.body
+    if parts.kind == REJECT and session_number is not None and body.startswith(REFERS):
+        _, soh, rest = body[1:].partition(SOH)
+        body = REFERS + b"%d" % session_number + soh + rest
+    before = IN_FRONT_OF.get(parts.kind)
+    at = body.find(before) if before else -1
+    if at < 0:
+        at = len(body)
+    return CARRIED + parts.number + body[:at] + b"\x0160=" + parts.moment + body[at:]
+
+
+class WireReader:
+    """Holds the messages of one session against what the venue gave for the firm."""
+
+    def __init__(self, firm: str, sent: Iterator[Sent], rejects: dict[int, int]) -> None:
+        self._rejects = rejects
+        self._waiting = sent
+        self._expected = next(sent, None)
+        self._number = 0
+        self._to = b"\x0156=" + firm.encode() + SOH
+
+    def take(self, row: Outgoing) -> Finding | None:
+        """What is wrong with the next message."""
+        self._number += 1
+        if row.number != self._number:
+            text = "its session has no message %d; %d comes"
+            return Finding(row.firm, text % (self._number, row.number))
+        head, mark, rest = row.bytes.partition(CARRIED)
+        finding = self._header_finding(row, head + SOH)
+        if finding is None and row.sent is not None:
+            finding = self._carried_finding(row, head, mark + rest[: -CHECKSUM_BYTES - 1])
+            self._expected = next(self._waiting, None)
+        return finding
+
+    def rest(self, firm: str) -> Finding | None:
+        """What no message carried."""
+        if self._expected is None:
+            return None
+        where = self._expected.place, self._expected.number
+        return Finding(firm, "no message of its session carries it", *where)
+
+    def _header_finding(self, row: Outgoing, head: bytes) -> Finding | None:
+        """What is wrong with a message, whatever it carries."""
+        fault = fault_of(row.bytes)
+        if fault is None and b"\x0134=%d\x01" % self._number not in head:
+            fault = "its 34 is another"
+        if fault is None and (b"\x0149=VENUE\x01" not in head or self._to not in head):
+            fault = "it is not of the venue for this firm"
+        if fault is None and row.sent is None and CARRIED in row.bytes:
+            fault = "it carries what the log does not say"
+        if fault is None:
+            return None
+        text = "message %d of its session: %s" % (row.number, fault)
+        return Finding(row.firm, text, found=row.bytes)
+
+    def _carried_finding(self, row: Outgoing, head: bytes, body: bytes) -> Finding | None:
+        """Holds a message that carries one of the venue's against that."""
+        expected = self._expected
+        text = "message %d of its session carries number %s" % (row.number, row.sent)
+        if expected is None:
+            return Finding(row.firm, text + ", which the venue did not give", found=row.bytes)
+        where = expected.place, expected.number
+        if row.sent != expected.number:
+            return Finding(row.firm, text + " where %d comes next" % expected.number, *where)
+        parts = parts_of(expected.bytes)
+        if parts is not None and body == carried(parts, self._rejects.get(expected.place)):
+            if b"\x0135=" + parts.kind + SOH in head:
+                return None
+        text = "message %d of its session carries another text" % row.number
+        return Finding(
+            row.firm, text, *where, expected.bytes, row.bytes, "`sent` has", "the session has"
+        )
+
+
+def check_wire(log: Log, firm: str) -> Iterator[Finding]:
+    """Holds a firm's session against what the venue gave for it; the first fault is told."""
+    reader = WireReader(firm, log.sent(firm), log.session_numbers(firm))
+    for row in log.outgoing(firm):
+        finding = reader.take(row)
+        if finding is not None:
+            yield finding
+            return
+    left = reader.rest(firm)
+    if left is not None:
+        yield left

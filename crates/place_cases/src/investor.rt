@@ -1,0 +1,73 @@
+//! The desk of one investor, driven by lines.
+//!
+//! | call | does | answers |
+//! |---|---|---|
+//! | `bond ID GRID`, `dealer NAME`, `investor NAME REQUESTS OPEN QUANTITY TRADER` | a row more of the configuration | |
+//! | `open NAME` | the desk of this investor at the start of the day | |
+//! | `say TRADER TIME TYPE BODY`, `own TIME BYTES`, `long COUNT TIME TEXT` | `take`: a message comes, bytes come, COUNT times TEXT comes | what is left to be done, what is sent |
+//! | `quote_came N DEALER WORD PRICE TIME [UNTIL]` | a quote for request N; PRICE is in 256ths | what is sent |
+//! | `quote_gone N WORD TIME`, `dealer_declined N DEALER TIME`, `closed N TIME` | the call of this name | what is sent |
+//! | `answered N ID QUOTE REPLY TIME` | the same; QUOTE is `pass` where a pass is answered, REPLY `Awarded`, `Passed` or the name of a refusal | what is sent |
+//! | `requests COUNT TIME` | so many requests of the first dealer, A1 .., for 1, and a quote of each dealer on each | what they leave, and how many of them one behind another |
+//! | `knows N`, `knows N QUOTE`, `events`, `sent`, `lines`, `date`, `firm`, `row` | the reader of this name; `sent` counts the messages | |
+//! | `event N`, `line N`, `frames N` | the N-th event or line; the messages from the N-th on, byte by byte | |
+//! | `into_parts` | the desk is taken apart | how many events, messages and lines |
+//! | `repeat FROM TO CALL` | CALL for each number, which stands for `<n>` | what the last one answers |
+
+mod calls;
+mod lines;
+mod many;
+mod opened;
+mod venue;
+
+use crate::repeating::{Calls, make};
+use calls::called;
+use case_lines::{CaseFault, Place, Words};
+use lines::taken_apart;
+use opened::Opened;
+use std::alloc::Global;
+use venue::Rows;
+
+/// The place `investor_desk`.
+#[derive(Drop)]
+pub struct InvestorPlace {
+    rows: Rows,
+    opened: Option<Opened>,
+}
+
+impl Place for InvestorPlace {
+    fn new(alloc: Global) -> Result<Self, CaseFault> {
+        let rows = Rows::none(alloc)?;
+        Ok(InvestorPlace { rows, opened: None })
+    }
+
+    fn call(&mut self, alloc: Global, call: &str, answer: &mut String) -> Result<(), CaseFault> {
+        make(self, alloc, call, answer)
+    }
+}
+
+impl Calls for InvestorPlace {
+    fn one(&mut self, alloc: Global, call: &str, answer: &mut String) -> Result<(), CaseFault> {
+        let mut words = Words::of(call);
+        let word = words.word()?;
+        if self.rows.add(alloc, word, &mut words)? {
+            return Ok(());
+        }
+        if word == "open" {
+            let opened = Opened::read(alloc, &self.rows, &mut words)?;
+            self.opened = Some(opened);
+            return Ok(());
+        }
+        if word == "into_parts" {
+            words.end()?;
+            let Some(opened) = self.opened.take() else {
+                return Err(CaseFault::NotOpen);
+            };
+            return taken_apart(opened, answer);
+        }
+        let Some(opened) = &mut self.opened else {
+            return Err(CaseFault::NotOpen);
+        };
+        called(opened, alloc, word, &mut words, answer)
+    }
+}

@@ -1,0 +1,127 @@
+//! What a desk has sent, as lines.
+use crate::replies::push_line;
+use crate::terms::nth;
+use case_lines::{CaseFault, Words, push_bytes};
+use fix_fields::{Date, Fields, Moment, time_text};
+use itoa::Buffer;
+use quote_messages::SentMessage;
+use std::alloc::Global;
+use venue_config::Traders;
+
+/// The lines of the messages behind the first `shown` ones. It answers how many there are in all.
+pub(crate) fn push_new(
+    answer: &mut String,
+    sent: &[SentMessage],
+    shown: usize,
+) -> Result<usize, CaseFault> {
+    for message in &sent[shown.min(sent.len())..] {
+        push_message(answer, message)?;
+    }
+    Ok(sent.len())
+}
+
+/// `FIRM N TIME TYPE BODY`.
+fn push_message(answer: &mut String, message: &SentMessage) -> Result<(), CaseFault> {
+    let mut fields = message.frame().fields();
+    let msg_type = next_value(&mut fields, 35)?;
+    let sender = next_value(&mut fields, 49)?;
+    let firm = next_value(&mut fields, 56)?;
+    let number = next_value(&mut fields, 34)?;
+    let time = next_value(&mut fields, 52)?;
+    if sender != b"VENUE".as_slice() {
+        return Err(CaseFault::Condition);
+    }
+    push_bytes(answer, firm)?;
+    answer.push(' ')?;
+    push_bytes(answer, number)?;
+    answer.push(' ')?;
+    push_bytes(answer, time_of_day(time)?)?;
+    answer.push(' ')?;
+    push_bytes(answer, msg_type)?;
+    push_fields(answer, fields)?;
+    answer.push('\n')?;
+    Ok(())
+}
+
+/// The value of the next field, which has this tag.
+fn next_value<'a>(fields: &mut Fields<'a>, tag: u32) -> Result<&'a [u8], CaseFault> {
+    let Some((found, value)) = fields.next() else {
+        return Err(CaseFault::Condition);
+    };
+    if found != tag {
+        return Err(CaseFault::Condition);
+    }
+    Ok(value)
+}
+
+/// The time of day of a timestamp of the day.
+fn time_of_day(timestamp: &[u8]) -> Result<&[u8], CaseFault> {
+    let Some(time) = timestamp.strip_prefix(b"20250314-") else {
+        return Err(CaseFault::Condition);
+    };
+    Ok(time)
+}
+
+/// Fields, a space before the first one and a bar before each other.
+fn push_fields(answer: &mut String, fields: Fields<'_>) -> Result<(), CaseFault> {
+    let mut divider = ' ';
+    for (tag, value) in fields {
+        let mut digits = Buffer::new();
+        answer.push(divider)?;
+        answer.push_str(digits.format(tag))?;
+        answer.push('=')?;
+        push_bytes(answer, value)?;
+        divider = '|';
+    }
+    Ok(())
+}
+
+/// `N`: the messages from the n-th on, whole, with a bar for each SOH.
+pub(crate) fn push_frames(
+    answer: &mut String,
+    sent: &[SentMessage],
+    words: &mut Words<'_>,
+) -> Result<(), CaseFault> {
+    let before = nth(words)?.min(sent.len());
+    for message in &sent[before..] {
+        push_bytes(answer, message.as_bytes())?;
+        answer.push('\n')?;
+    }
+    Ok(())
+}
+
+/// A line with a number.
+pub(crate) fn push_number_line(answer: &mut String, number: u64) -> Result<(), CaseFault> {
+    let mut digits = Buffer::new();
+    push_line(answer, digits.format(number))
+}
+
+/// A line with a count.
+pub(crate) fn push_count_line(answer: &mut String, count: usize) -> Result<(), CaseFault> {
+    let mut digits = Buffer::new();
+    push_line(answer, digits.format(count))
+}
+
+/// The time of day of a moment, `HH:MM:SS.sss`.
+pub(crate) fn clock(alloc: Global, moment: Moment) -> Result<String, CaseFault> {
+    let text = String::from_str(alloc, time_text(moment).as_str())?;
+    Ok(text)
+}
+
+/// The day.
+pub(crate) fn push_date(answer: &mut String, date: &Date) -> Result<(), CaseFault> {
+    push_bytes(answer, date.digits().as_slice())?;
+    answer.push('\n')?;
+    Ok(())
+}
+
+/// Traders, a space before each.
+pub(crate) fn push_traders(answer: &mut String, traders: &Traders) -> Result<(), CaseFault> {
+    for n in 0..traders.len() {
+        if let Some(trader) = traders.get(n) {
+            answer.push(' ')?;
+            push_bytes(answer, trader)?;
+        }
+    }
+    Ok(())
+}

@@ -1,0 +1,98 @@
+//! What a place answers, as text.
+use case_lines::CaseFault;
+use fix_fields::{Moment, time_text};
+use market_terms::{Ask, HitRefusal, Reply, Side};
+use quote_word::Settled;
+
+/// Ends a line.
+pub(crate) fn push_line(answer: &mut String, line: &str) -> Result<(), CaseFault> {
+    answer.push_str(line)?;
+    answer.push('\n')?;
+    Ok(())
+}
+
+/// `yes` or `no`: whether a call took effect, or what a reader answers.
+pub(crate) fn push_truth(answer: &mut String, effect: bool) -> Result<(), CaseFault> {
+    push_line(answer, if effect { "yes" } else { "no" })
+}
+
+/// A number behind a space.
+pub(crate) fn push_number(answer: &mut String, number: u64) -> Result<(), CaseFault> {
+    write!(answer, " {number}")?;
+    Ok(())
+}
+
+/// A word behind a space.
+pub(crate) fn push_word(answer: &mut String, word: &str) -> Result<(), CaseFault> {
+    answer.push(' ')?;
+    answer.push_str(word)?;
+    Ok(())
+}
+
+/// A time behind a space.
+pub(crate) fn push_time(answer: &mut String, moment: Moment) -> Result<(), CaseFault> {
+    let text = time_text(moment);
+    push_word(answer, text.as_str())
+}
+
+/// The numbers of firms, each behind a space.
+pub(crate) fn push_firms(answer: &mut String, firms: &[u16]) -> Result<(), CaseFault> {
+    for firm in firms {
+        push_number(answer, u64::from(*firm))?;
+    }
+    Ok(())
+}
+
+/// What is asked for: the investor, the bond, the side, the quantity, the deadline and the grid.
+pub(crate) fn push_ask(answer: &mut String, ask: &Ask) -> Result<(), CaseFault> {
+    push_word(answer, ask.investor.as_str())?;
+    push_word(answer, ask.bond.as_str())?;
+    push_word(answer, side_name(ask.side))?;
+    push_number(answer, ask.quantity.get())?;
+    push_time(answer, ask.deadline)?;
+    push_number(answer, u64::from(ask.grid.get()))
+}
+
+/// What a side is called in a line.
+pub(crate) fn side_name(side: Side) -> &'static str {
+    match side {
+        Side::Buy => "buy",
+        Side::Sell => "sell",
+    }
+}
+
+/// What a settlement is called in a line.
+pub(crate) fn settled_name(settled: Settled) -> &'static str {
+    match settled {
+        Settled::Withdrawn => "withdrawn",
+        Settled::Lifted => "lifted",
+    }
+}
+
+/// What a word is called in a line, open or settled.
+pub(crate) fn entry_name(entry: Option<Settled>) -> &'static str {
+    match entry {
+        None => "open",
+        Some(settled) => settled_name(settled),
+    }
+}
+
+/// The name of a refusal.
+pub(crate) fn refusal_name(refusal: HitRefusal) -> &'static str {
+    match refusal {
+        HitRefusal::NotOpen => "NotOpen",
+        HitRefusal::Deadline => "Deadline",
+        HitRefusal::Gone => "Gone",
+        HitRefusal::Expired => "Expired",
+        HitRefusal::Withdrawn => "Withdrawn",
+    }
+}
+
+/// What a reply is called in a line: `Awarded`, `Passed`, or the name of its refusal.
+pub(crate) fn reply_name(reply: Reply) -> &'static str {
+    match reply {
+        Reply::Awarded => "Awarded",
+        Reply::Passed => "Passed",
+        Reply::Refused(refusal) => refusal_name(refusal),
+    }
+}

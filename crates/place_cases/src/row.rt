@@ -1,0 +1,77 @@
+//! A row of words in a list.
+use crate::replies::{push_line, push_number, push_truth, settled_name};
+use crate::terms::{settled, short_number};
+use case_lines::{CaseFault, Place};
+use quote_word::{PlainWords, Settled, Words};
+use std::alloc::Global;
+
+/// A row of words in a list, none before the first call.
+///
+/// | call | answer |
+/// |---|---|
+/// | `new N` | nothing |
+/// | `length` | how many words there are |
+/// | `withdraw WORD`, `lift WORD` | what the word is from then on |
+/// | `is_withdrawn SETTLED`, `is_lifted SETTLED`, where SETTLED is `withdrawn` or `lifted` | whether a word that is settled so is |
+#[derive(Drop)]
+pub struct RowPlace {
+    row: PlainWords,
+}
+
+impl Place for RowPlace {
+    fn new(alloc: Global) -> Result<Self, CaseFault> {
+        let row = PlainWords::new(alloc, 0)?;
+        Ok(RowPlace { row })
+    }
+
+    fn call(&mut self, alloc: Global, call: &str, answer: &mut String) -> Result<(), CaseFault> {
+        let mut words = case_lines::Words::of(call);
+        match words.word()? {
+            "new" => self.open(alloc, &mut words),
+            "length" => push_length(answer, self.row.len()),
+            "withdraw" => self.settle(Settled::Withdrawn, &mut words, answer),
+            "lift" => self.settle(Settled::Lifted, &mut words, answer),
+            "is_withdrawn" => push_truth(answer, settled(&mut words)?.is_withdrawn()),
+            "is_lifted" => push_truth(answer, settled(&mut words)?.is_lifted()),
+            _ => Err(CaseFault::Form),
+        }
+    }
+}
+
+impl RowPlace {
+    fn open(&mut self, alloc: Global, words: &mut case_lines::Words) -> Result<(), CaseFault> {
+        let count = short_number(words)?;
+        self.row = PlainWords::new(alloc, count)?;
+        Ok(())
+    }
+
+    fn settle(
+        &mut self,
+        wish: Settled,
+        words: &mut case_lines::Words,
+        answer: &mut String,
+    ) -> Result<(), CaseFault> {
+        let word = short_number(words)?;
+        let settled = exchanged(&mut self.row, word, wish)?;
+        push_line(answer, settled_name(settled))
+    }
+}
+
+/// How many words there are.
+pub(crate) fn push_length(answer: &mut String, count: u32) -> Result<(), CaseFault> {
+    answer.push_str("words")?;
+    push_number(answer, u64::from(count))?;
+    answer.push('\n')?;
+    Ok(())
+}
+
+/// Withdraws or lifts a word of a row that has it.
+fn exchanged(row: &mut PlainWords, word: u32, wish: Settled) -> Result<Settled, CaseFault> {
+    if word >= row.len() {
+        return Err(CaseFault::Condition);
+    }
+    match wish {
+        Settled::Withdrawn => Ok(row.withdraw(word)),
+        Settled::Lifted => Ok(row.lift(word)),
+    }
+}

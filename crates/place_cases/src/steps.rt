@@ -1,0 +1,305 @@
+//! The steps of the venue.
+mod at_investor;
+mod at_room;
+
+ghost use Rattle.std.specs.Prelude.{◌≡◌};
+
+use crate::duties::{push_duties, push_sent};
+use crate::floor::{Counts, Floor, INVESTOR, ROOM, counts_of, new_floor};
+use crate::replies::{push_line, push_number};
+use crate::terms::{close, name, response, short_number, ticks};
+use at_room::{does_in_room, request};
+use case_lines::{CaseFault, Place, Words, frame_of, piped_bytes_of};
+use dealer_desk::DealerDesk;
+use fix_fields::Moment;
+use market_terms::{Offer, ResponseRef, RoomRef};
+use quote_word::{Board, BoardPass, BoardSeen, PlainWords};
+use request_room::Room;
+use std::alloc::Global;
+use venue_steps::{Duties, do_drop, do_hit, do_show, do_tell, own_dealer, own_investor};
+
+/// The desks of DLR1, DLR2 and INV1, the room of the first request of INV1, and a row of words, of
+/// which there are none before the first call. The words of DLR1 stand from 0 on, those of DLR2
+/// from 4 on. Its request is an offer of 2,000,000 of BONDA0000001, until 09:05.
+///
+/// A step answers `done` where one event came to one place, and `undone` where none did, then a
+/// line for each duty that follows, and one for each message that a desk has sent.
+///
+/// | call | what it is |
+/// |---|---|
+/// | `words N`, `board N` | a new row of open words: in a list, or a board |
+/// | `own FIRM MOMENT BODY` | a message comes, with a bar for SOH |
+/// | `show FIRM MOMENT N`, `tell FIRM MOMENT N CLOSE` | the request N, and how it ended: `hit`, `expired`, `cover`, `away`, `pass` |
+/// | `drop FIRM MOMENT LAST` | the next quote of a cancel of all |
+/// | `open MOMENT DEALER ..`, `ready`, `expire MOMENT` | the room |
+/// | `post MOMENT DEALER NAME WORD TICKS`, `unpost MOMENT DEALER WORD`, `decline MOMENT DEALER` | the room |
+/// | `hit MOMENT ID QUOTE WORD`, `pass MOMENT ID` | the room |
+/// | `relay MOMENT N NAME WORD TICKS`, `gone MOMENT N WORD`, `declined MOMENT N NAME` | the desk of INV1 |
+/// | `answer MOMENT N ID QUOTE REPLY`, `close MOMENT N` | the desk of INV1; QUOTE is `pass` where a pass is answered |
+/// | `seen` | how many events each place has, and how many messages each desk has sent |
+#[derive(Drop)]
+pub struct StepPlace {
+    floor: Floor,
+    row: Row,
+}
+
+/// The words that steps ask.
+#[derive(Drop)]
+enum Row {
+    Plain(PlainWords),
+    Shared(SharedRow),
+}
+
+/// A board, with the token of its opening.
+#[derive(Drop)]
+struct SharedRow {
+    board: Board,
+    opening: BoardSeen,
+    ghost ours: { opening.board ≡ board },
+}
+
+impl SharedRow {
+    /// A board of open words.
+    fn new(alloc: Global, count: u32) -> Result<Self, CaseFault> {
+        let (board, opening) = Board::open(alloc, count)?;
+        Ok(SharedRow { board, opening })
+    }
+
+    /// Its words, for one call.
+    fn pass(&self) -> BoardPass<'_> {
+        BoardPass::new(&self.board, self.opening.again())
+    }
+}
+
+impl Place for StepPlace {
+    fn new(alloc: Global) -> Result<Self, CaseFault> {
+        let floor = new_floor(alloc)?;
+        let row = PlainWords::new(alloc, 0)?;
+        Ok(StepPlace {
+            floor,
+            row: Row::Plain(row),
+        })
+    }
+
+    fn call(&mut self, alloc: Global, call: &str, answer: &mut String) -> Result<(), CaseFault> {
+        let mut words = Words::of(call);
+        match words.word()? {
+            "words" => self.plain(alloc, &mut words),
+            "board" => self.shared(alloc, &mut words),
+            "seen" => push_seen(answer, &counts_of(&self.floor)),
+            other => self.step(alloc, other, &mut words, answer),
+        }
+    }
+}
+
+impl StepPlace {
+    fn plain(&mut self, alloc: Global, words: &mut Words) -> Result<(), CaseFault> {
+        let count = short_number(words)?;
+        let row = PlainWords::new(alloc, count)?;
+        self.row = Row::Plain(row);
+        Ok(())
+    }
+
+    fn shared(&mut self, alloc: Global, words: &mut Words) -> Result<(), CaseFault> {
+        let count = short_number(words)?;
+        let row = SharedRow::new(alloc, count)?;
+        self.row = Row::Shared(row);
+        Ok(())
+    }
+
+    /// A step, with all that it leaves.
+    fn step(
+        &mut self,
+        alloc: Global,
+        name: &str,
+        words: &mut Words,
+        answer: &mut String,
+    ) -> Result<(), CaseFault> {
+        let before = counts_of(&self.floor);
+        let duties = self.does(alloc, name, words)?;
+        push_done(answer, &before, &counts_of(&self.floor))?;
+        push_duties(answer, duties.as_slice())?;
+        push_all_sent(alloc, answer, &self.floor, &before)
+    }
+
+    /// Does a step.
+    fn does(&mut self, alloc: Global, name: &str, words: &mut Words) -> Result<Duties, CaseFault> {
+        match name {
+            "own" => self.own(alloc, words),
+            "drop" => self.drop_one(words),
+            "hit" => self.hit(words),
+            "show" => self.show(words),
+            "tell" => self.tell(words),
+            other => does_in_room(alloc, &mut self.floor, other, words),
+        }
+    }
+
+    fn own(&mut self, alloc: Global, words: &mut Words) -> Result<Duties, CaseFault> {
+        let firm = words.word()?;
+        let moment = words.moment()?;
+        let body = piped_bytes_of(alloc, words.rest())?;
+        let bytes = frame_of(alloc, body.as_slice())?;
+        if firm == "INV1" {
+            return own_investors(&mut self.floor, moment, bytes.as_slice());
+        }
+        let (desk, first_word) = dealer_at(&mut self.floor, firm)?;
+        match &mut self.row {
+            Row::Plain(row) => comes(desk, row, first_word, moment, bytes.as_slice()),
+            Row::Shared(row) => comes(desk, &mut row.pass(), first_word, moment, bytes.as_slice()),
+        }
+    }
+
+    fn drop_one(&mut self, words: &mut Words) -> Result<Duties, CaseFault> {
+        let (desk, first_word) = dealer_at(&mut self.floor, words.word()?)?;
+        let moment = words.moment()?;
+        let last = short_number(words)?;
+        match &mut self.row {
+            Row::Plain(row) => drops(desk, row, first_word, last, moment),
+            Row::Shared(row) => drops(desk, &mut row.pass(), first_word, last, moment),
+        }
+    }
+
+    fn hit(&mut self, words: &mut Words) -> Result<Duties, CaseFault> {
+        let moment = words.moment()?;
+        let response = response(words)?;
+        let word = short_number(words)?;
+        let room = &mut self.floor.room;
+        match &mut self.row {
+            Row::Plain(row) => hits(room, row, response, word, moment),
+            Row::Shared(row) => hits(room, &mut row.pass(), response, word, moment),
+        }
+    }
+
+    fn show(&mut self, words: &mut Words) -> Result<Duties, CaseFault> {
+        let (desk, _) = dealer_at(&mut self.floor, words.word()?)?;
+        let moment = words.moment()?;
+        let room = room(words)?;
+        let duties = do_show(desk, room, request()?, moment)?;
+        Ok(duties)
+    }
+
+    fn tell(&mut self, words: &mut Words) -> Result<Duties, CaseFault> {
+        let (desk, _) = dealer_at(&mut self.floor, words.word()?)?;
+        let moment = words.moment()?;
+        let room = room(words)?;
+        let duties = do_tell(desk, room, close(words)?, moment)?;
+        Ok(duties)
+    }
+}
+
+/// The room of a request of INV1.
+fn room(words: &mut Words) -> Result<RoomRef, CaseFault> {
+    let n = short_number(words)?;
+    Ok(RoomRef {
+        investor: INVESTOR,
+        n,
+    })
+}
+
+/// The desk of a dealer, and its first word.
+fn dealer_at<'a>(floor: &'a mut Floor, firm: &str) -> Result<(&'a mut DealerDesk, u32), CaseFault> {
+    match firm {
+        "DLR1" => Ok((&mut floor.first, 0)),
+        "DLR2" => Ok((&mut floor.second, 4)),
+        _ => Err(CaseFault::Form),
+    }
+}
+
+/// A quote as INV1 is shown it.
+fn offer(words: &mut Words) -> Result<Offer, CaseFault> {
+    let dealer = name(words)?;
+    let word = short_number(words)?;
+    let price = ticks(words)?;
+    Ok(Offer {
+        dealer,
+        word,
+        price,
+        valid_until: None,
+    })
+}
+
+/// A message comes to the desk of INV1.
+fn own_investors(floor: &mut Floor, moment: Moment, bytes: &[u8]) -> Result<Duties, CaseFault> {
+    let duties = own_investor(&mut floor.investor, moment, bytes)?;
+    Ok(duties)
+}
+
+/// A message comes to the desk of a dealer.
+fn comes<W: quote_word::Words>(
+    desk: &mut DealerDesk,
+    row: &mut W,
+    first_word: u32,
+    moment: Moment,
+    bytes: &[u8],
+) -> Result<Duties, CaseFault> {
+    let duties = own_dealer(desk, row, first_word, moment, bytes)?;
+    Ok(duties)
+}
+
+/// The next quote of a cancel of all is dropped.
+fn drops<W: quote_word::Words>(
+    desk: &mut DealerDesk,
+    row: &mut W,
+    first_word: u32,
+    last: u32,
+    moment: Moment,
+) -> Result<Duties, CaseFault> {
+    let duties = do_drop(desk, row, first_word, last, moment)?;
+    Ok(duties)
+}
+
+/// INV1 hits a quote.
+fn hits<W: quote_word::Words>(
+    room: &mut Room,
+    row: &mut W,
+    response: ResponseRef,
+    word: u32,
+    moment: Moment,
+) -> Result<Duties, CaseFault> {
+    let duties = do_hit(room, row, ROOM, response, word, moment)?;
+    Ok(duties)
+}
+
+/// Whether a step was done: one event came to one place.
+fn push_done(answer: &mut String, before: &Counts, after: &Counts) -> Result<(), CaseFault> {
+    let came = events(after).saturating_sub(events(before));
+    match came {
+        0 => push_line(answer, "undone"),
+        1 => push_line(answer, "done"),
+        _ => push_line(answer, "more than one event"),
+    }
+}
+
+/// How many events there were.
+fn events(seen: &Counts) -> usize {
+    seen.first
+        .saturating_add(seen.second)
+        .saturating_add(seen.investor)
+        .saturating_add(seen.room)
+}
+
+/// The messages that the desks have sent since.
+fn push_all_sent(
+    alloc: Global,
+    answer: &mut String,
+    floor: &Floor,
+    before: &Counts,
+) -> Result<(), CaseFault> {
+    push_sent(alloc, answer, floor.first.sent(), before.to_first)?;
+    push_sent(alloc, answer, floor.second.sent(), before.to_second)?;
+    push_sent(alloc, answer, floor.investor.sent(), before.to_investor)
+}
+
+/// What the places have seen: the events of DLR1, DLR2, INV1 and the room, then the messages.
+fn push_seen(answer: &mut String, seen: &Counts) -> Result<(), CaseFault> {
+    answer.push_str("events")?;
+    for count in [seen.first, seen.second, seen.investor, seen.room] {
+        push_number(answer, count as u64)?;
+    }
+    answer.push_str(" messages")?;
+    for count in [seen.to_first, seen.to_second, seen.to_investor] {
+        push_number(answer, count as u64)?;
+    }
+    answer.push('\n')?;
+    Ok(())
+}

@@ -1,0 +1,74 @@
+"""What the tests of the audit share."""
+
+import os
+import shlex
+import subprocess
+import sys
+import tempfile
+from dataclasses import dataclass
+from pathlib import Path
+
+sys.dont_write_bytecode = True
+
+HERE = Path(__file__).resolve().parent
+ROOT = HERE.parent.parent
+AUDIT = ROOT / "audit" / "mireseason-audit"
+STORED = HERE / "stored"
+DAY = STORED / "day.db"
+SQLITE = "file:%s?mode=ro"
+
+sys.path.insert(0, str(ROOT / "audit"))
+
+
+def venue_words() -> list[str]:
+    """The words of the venue's program that the tests are run with."""
+    program = ROOT / "crates" / "rfq_venue" / "out" / "rfq_venue"
+    return shlex.split(os.environ.get("VENUE", shlex.quote(str(program))))
+
+
+def remembered() -> list[str]:
+    """The same program, whose answers are kept by what it reads: see remembered.py."""
+    return ["/usr/bin/python3", str(HERE / "remembered.py"), *venue_words()]
+
+
+@dataclass(frozen=True)
+class Ran:
+    """What a command of the audit did."""
+
+    status: int
+    out: str
+    err: str
+
+    @property
+    def text(self) -> str:
+        return self.out + self.err
+
+
+def audit(*words: object, venue: list[str] | None = None, **environment: str) -> Ran:
+    """Runs a command of the audit."""
+    listed = [str(word) for word in words]
+    listed[1:1] = ["--venue", shlex.join(venue or remembered())]
+    done = subprocess.run(
+        [str(AUDIT), *listed],
+        capture_output=True,
+        text=True,
+        env={**os.environ, **environment},
+        check=False,
+    )
+    return Ran(done.returncode, done.stdout, done.stderr)
+
+
+def folder() -> "tempfile.TemporaryDirectory[str]":
+    return tempfile.TemporaryDirectory(prefix="audit-test-")
+
+
+def keys(where: Path) -> tuple[Path, Path]:
+    """An Ed25519 key, made now: the private and the public one."""
+    private, public = where / "private.pem", where / "public.pem"
+    openssl("genpkey", "-algorithm", "ed25519", "-out", str(private))
+    openssl("pkey", "-in", str(private), "-pubout", "-out", str(public))
+    return private, public
+
+
+def openssl(*words: str) -> None:
+    subprocess.run(["openssl", *words], check=True, capture_output=True)

@@ -1,0 +1,259 @@
+"""The commands and their statuses: 0 where all is as it should be, 1 where it is not, 2 where
+something can't be read.
+"""
+
+import base64
+import os
+import re
+import shutil
+import sqlite3
+import subprocess
+import unittest
+from contextlib import closing
+from pathlib import Path
+
+from common import AUDIT, DAY, audit, folder, keys, openssl, venue_words
+from witness import Witness
+
+
+def day_text(path: Path) -> bytes:
+    """The day of a log as `live` reads it."""
+    with closing(sqlite3.connect(path)) as connection:
+        lines = [line for line, in connection.execute("SELECT line FROM entry ORDER BY place")]
+    configuration = lines[0].split(b"%%\n", 1)[1]
+    return configuration + b"%%\n" + b"".join(line + b"\n" for line in lines[1:])
+
+
+class Commands(unittest.TestCase):
+    def setUp(self) -> None:
+        kept = folder()
+        self.addCleanup(kept.cleanup)
+        self.place = Path(kept.name)
+        self.log = self.place / "day.db"
+        shutil.copyfile(DAY, self.log)
+
+    def change(self, query: str, *values: object) -> None:
+        with closing(sqlite3.connect(self.log, isolation_level=None)) as connection:
+            connection.execute(query, values)
+
+    def change_answer(self, before: str, after: str) -> int:
+        """Changes the bytes of the first acceptance of a quote of ALPHA; answers its number."""
+        number = next(
+            row.number for row in Witness(DAY).sent
+            if row.firm == "ALPHA" and row.message["35"] == "AI" and row.message.get("297") == "0"
+        )
+        query = "UPDATE sent SET bytes = CAST(replace(bytes, %s, %s) AS BLOB) WHERE firm = 'ALPHA' AND number = ?"
+        self.change(query % (before, after), number)
+        return number
+
+    # ------------------------------------------------------------ check
+
+    def test_a_line_for_each_firm_and_one_verdict(self) -> None:
+        ran = audit("check", self.log)
+        witness = Witness(self.log)
+        self.assertEqual((ran.status, ran.err), (0, ""))
+        for name in witness.dealers + witness.investors:
+            count = sum(row.firm == name for row in witness.sent)
+            self.assertRegex(ran.out, r"(?m)^%s +\w+ +%d messages: as replayed" % (name, count))
+        self.assertRegex(ran.out, r"(?m)^entries +%d, each follows on the one before" % witness.entries)
+        self.assertEqual(len(re.findall(r"(?m)^verdict: ", ran.out)), 1)
+
+    def test_a_difference_has_firm_number_texts_and_place(self) -> None:
+        number = self.change_answer("'297=0'", "'297=9'")
+        ran = audit("check", self.log)
+        self.assertEqual(ran.status, 1)
+        place = next(row.place for row in Witness(DAY).sent if (row.firm, row.number) == ("ALPHA", number))
+        text = "ALPHA: entry %d, number %d: the log has another message" % (place, number)
+        self.assertIn(text, ran.out)
+        self.assertRegex(ran.out, r"the venue gives +8=FIXT\.1\.1\|.*297=0\|10=")
+        self.assertRegex(ran.out, r"the log has +8=FIXT\.1\.1\|.*297=9\|10=")
+        self.assertRegex(ran.out, r"(?m)^ALPHA .* NOT AS THEY SHOULD BE$")
+        self.assertRegex(ran.out, r"(?m)^BRAVO .* as replayed")
+
+    def test_a_bar_where_an_soh_should_stand(self) -> None:
+        number = self.change_answer("char(1) || '297'", "'|297'")
+        ran = audit("check", self.log)
+        self.assertEqual(ran.status, 1)
+        self.assertRegex(ran.out, r"number %d: the log has another message than the venue gives" % number)
+
+    def test_what_cannot_be_read(self) -> None:
+        empty, text = self.place / "empty.db", self.place / "text.db"
+        empty.write_bytes(b"")
+        text.write_text("no log")
+        for path in (empty, text, self.place / "nothing.db", self.place):
+            self.assertEqual(audit("check", path).status, 2, path)
+        self.change("UPDATE form SET number = 2")
+        self.assertEqual(audit("check", self.log).status, 2)
+
+    def test_a_program_that_is_no_venue(self) -> None:
+        for words in (["false"], ["true"], ["/nowhere/venue"], ["sh", "-c", "exit 3"]):
+            ran = audit("check", self.log, venue=words)
+            self.assertNotEqual(ran.status, 0, words)
+            self.assertNotIn("Traceback", ran.text)
+        self.assertEqual(audit("check", self.log, venue=["/nowhere/venue"]).status, 2)
+
+    def test_another_type_in_a_column(self) -> None:
+        self.change("UPDATE entry SET line = CAST(line AS TEXT) WHERE place = 3")
+        self.change("UPDATE sent SET bytes = CAST(bytes AS TEXT) WHERE firm = 'ALPHA' AND number = 1")
+        self.assertEqual(audit("check", self.log).status, 0)
+        self.change("UPDATE sent SET place = 'x' WHERE firm = 'ALPHA' AND number = 1")
+        ran = audit("check", self.log)
+        self.assertEqual(ran.status, 2, ran.text)
+        self.assertIn("sent ALPHA 1", ran.err)
+
+    def test_a_log_in_a_folder_that_is_not_ours(self) -> None:
+        """A file that was copied while it was open, without its write-ahead log, can still be read."""
+        with closing(sqlite3.connect(self.log)) as connection:
+            connection.execute("PRAGMA journal_mode = WAL")
+        self.place.chmod(0o555)
+        try:
+            self.assertEqual(audit("check", self.log).status, 0)
+        finally:
+            self.place.chmod(0o755)
+
+    def test_no_entry_and_no_day(self) -> None:
+        self.change("DELETE FROM entry")
+        ran = audit("check", self.log)
+        self.assertEqual((ran.status, ran.err), (1, ""))
+        self.assertIn("no entry 0", ran.out)
+
+    def test_a_firm_that_the_day_does_not_have(self) -> None:
+        self.change("INSERT INTO sent SELECT 'NOBODY', number, place, bytes FROM sent WHERE firm = 'ALPHA'")
+        ran = audit("check", self.log)
+        self.assertEqual(ran.status, 1)
+        self.assertIn("NOBODY: the configuration has no such firm", ran.out)
+
+    # ------------------------------------------------------------ two files
+
+    def two_files(self) -> tuple[Path, Path]:
+        day, sent = self.place / "day.live", self.place / "sent.txt"
+        day.write_bytes(day_text(self.log))
+        witness = []
+        with closing(sqlite3.connect(self.log)) as connection:
+            for firm, data in connection.execute("SELECT firm, bytes FROM sent ORDER BY place, firm, number"):
+                witness.append(firm.encode() + b" " + data.replace(b"\x01", b"|") + b"\n")
+        sent.write_bytes(b"".join(witness))
+        return day, sent
+
+    def test_two_files(self) -> None:
+        day, sent = self.two_files()
+        ran = audit("check", day, "--sent", sent)
+        self.assertEqual(ran.status, 0, ran.text)
+        self.assertIn("without a chain", ran.out)
+        sent.write_bytes(sent.read_bytes().replace(b"297=17", b"297=18", 1))
+        self.assertEqual(audit("check", day, "--sent", sent).status, 1)
+        self.assertEqual(audit("check", day, "--sent", self.place / "nothing").status, 2)
+        self.assertEqual(audit("seal", day, "--sent", sent, "--key", sent).status, 2)
+
+    def test_two_files_are_paged(self) -> None:
+        """One line more has bytes that are no message: the venue drops them without an answer."""
+        day, sent = self.two_files()
+        day.write_bytes(day.read_bytes() + b"in ALPHA 17:00:00.000 no message\n")
+        ran = audit("page", day, self.place / "pages", "--sent", sent)
+        self.assertEqual(ran.status, 0, ran.text)
+        refused = sorted((self.place / "pages").glob("refused-*.html"))[-1].read_text()
+        self.assertEqual(refused.count("no answer"), 1)
+        pages = len(list((self.place / "pages" / "requests").iterdir()))
+        self.assertEqual(pages, len(Witness(self.log).requests))
+
+    # ------------------------------------------------------------ seal
+
+    def test_seal_and_key(self) -> None:
+        private, public = keys(self.place)
+        other = self.place / "other"
+        other.mkdir()
+        _, wrong = keys(other)
+        self.assertEqual(audit("check", self.log, "--key", public).status, 2)  # no seal yet
+        self.assertEqual(audit("seal", self.log, "--key", private).status, 0)
+        first = self.log.with_name("day.db.seal").read_bytes()
+        self.assertEqual(audit("seal", self.log, "--key", private).status, 0)
+        self.assertEqual(first, self.log.with_name("day.db.seal").read_bytes())
+        ran = audit("check", self.log, "--key", public)
+        self.assertEqual(ran.status, 0, ran.text)
+        self.assertIn("as it was sealed", ran.out)
+        self.assertEqual(audit("check", self.log, "--key", wrong).status, 1)
+        self.assertEqual(audit("check", self.log, "--key", self.place / "none.pem").status, 2)
+        for at in range(0, len(first), 97):
+            changed = bytes([first[at] ^ 1])
+            self.log.with_name("day.db.seal").write_bytes(first[:at] + changed + first[at + 1 :])
+            self.assertIn(audit("check", self.log, "--key", public).status, (1, 2), at)
+
+    def test_the_signature_is_openssl_s(self) -> None:
+        """Whoever has openssl alone verifies a seal: its last line is the signature of the others."""
+        private, public = keys(self.place)
+        audit("seal", self.log, "--key", private)
+        lines = self.log.with_name("day.db.seal").read_bytes().splitlines(keepends=True)
+        (self.place / "text").write_bytes(b"".join(lines[:-1]))
+        (self.place / "signature").write_bytes(base64.b64decode(lines[-1].split()[1]))
+        openssl(
+            "pkeyutl", "-verify", "-rawin", "-pubin", "-inkey", str(public),
+            "-in", str(self.place / "text"), "-sigfile", str(self.place / "signature"),
+        )
+
+    def test_a_broken_chain_is_not_sealed(self) -> None:
+        private, _ = keys(self.place)
+        self.change("UPDATE entry SET moment = '23:00:00.000' WHERE place = 5")
+        self.assertEqual(audit("seal", self.log, "--key", private).status, 1)
+        self.assertFalse(self.log.with_name("day.db.seal").exists())
+
+    def test_a_signed_page(self) -> None:
+        private, public = keys(self.place)
+        pages = self.place / "pages"
+        audit("seal", self.log, "--key", private)
+        ran = audit("page", self.log, pages, "--key", public, "--sign", private)
+        self.assertEqual(ran.status, 0, ran.text)
+        openssl(
+            "pkeyutl", "-verify", "-rawin", "-pubin", "-inkey", str(public),
+            "-in", str(pages / "SHA256SUMS"), "-sigfile", str(pages / "SHA256SUMS.sig"),
+        )
+        self.assertIn("as it was sealed", (pages / "index.html").read_text())
+        self.assertEqual(audit("page", self.log, pages).status, 2)  # the folder is not empty
+
+    def test_a_page_of_a_day_with_a_fault(self) -> None:
+        self.change_answer("'297=0'", "'297=9'")
+        ran = audit("page", self.log, self.place / "pages")
+        self.assertEqual(ran.status, 1, ran.text)
+        text = (self.place / "pages" / "index.html").read_text()
+        self.assertIn("Not as it should be.", text)
+        self.assertIn("ALPHA: entry", text)
+
+    # ------------------------------------------------------------ certificates and pairs
+
+    def test_the_commands_of_a_certificate(self) -> None:
+        """Each command that a certificate prints gives the hash that stands there."""
+        pages = self.place / "pages"
+        self.assertEqual(audit("page", self.log, pages).status, 0)
+        (self.place / "bin").mkdir()
+        program = self.place / "bin" / "rfq_venue"
+        program.write_text("#!/bin/sh\nexec %s \"$@\"\n" % " ".join(venue_words()))
+        program.chmod(0o755)
+        path = "%s:%s" % (self.place / "bin", os.environ["PATH"])
+        text = (pages / "certificates" / "BRAVO.html").read_text()
+        hashes = re.findall(r"SHA-256\s+<code>([0-9a-f]{64})", text)
+        commands = re.findall(r"(?m)^(?:<pre[^>]*>)?((?:rfq_venue|sha256sum) .*?)(?:</pre>)?$", text)
+        answers = []
+        for command in commands:
+            command = command.replace("&lt;", "<")
+            done = subprocess.run(
+                command, shell=True, cwd=pages / "certificates", capture_output=True, text=True,
+                env={**os.environ, "PATH": path}, check=True,
+            )
+            answers.append(done.stdout.split()[0])
+        self.assertEqual(answers, [hashes[0], hashes[1], hashes[0], hashes[1]])
+
+    def test_pair(self) -> None:
+        ran = audit("pair", self.log, "ALPHA", venue=venue_words())
+        self.assertEqual(ran.status, 0, ran.text)
+        self.assertEqual(len(re.findall(r"compare ALPHA --live: row equal", ran.out)), 2)
+        self.assertRegex(ran.out, r"quotes of 4 dealers moved by up to 64 32nds")
+        self.assertEqual(audit("pair", self.log, "FJORD").status, 2)
+        self.assertEqual(audit("pair", self.log, "NOBODY").status, 2)
+
+    def test_wrong_arguments(self) -> None:
+        for words in ([], ["nothing"], ["check"], ["page", "x"], ["pair", "x"]):
+            done = subprocess.run([str(AUDIT), *words], capture_output=True, check=False)
+            self.assertEqual(done.returncode, 2)
+
+
+if __name__ == "__main__":
+    unittest.main()

@@ -1,0 +1,79 @@
+"""A long day: how long `check` and `page` take, and how much memory the audit's own processes."""
+
+import os
+import re
+import shlex
+import subprocess
+import threading
+import time
+import unittest
+from dataclasses import dataclass, field
+from pathlib import Path
+
+from common import AUDIT, HERE, folder, venue_words
+from test_commands import day_text
+
+FRAMES = int(os.environ.get("FRAMES", "300000"))
+TIMES, PAGE_SECONDS, MEGABYTES = 3, 120, 200
+LOOK = 0.02  # seconds from one look at the processes to the next
+
+
+@dataclass
+class Watch:
+    """The most memory that any process of the audit took, looked at while it runs."""
+
+    most: int = 0  # kilobytes
+    over: threading.Event = field(default_factory=threading.Event)
+
+    def look(self) -> None:
+        while not self.over.wait(LOOK):
+            for path in Path("/proc").glob("[0-9]*"):
+                self.most = max(self.most, self.memory(path))
+
+    def memory(self, path: Path) -> int:
+        try:
+            if AUDIT.name.encode() not in (path / "cmdline").read_bytes():
+                return 0
+            found = re.search(r"VmHWM:\s+([0-9]+) kB", (path / "status").read_text())
+            return int(found[1]) if found else 0
+        except OSError:
+            return 0
+
+
+def timed(words: list[str], input_: Path | None = None) -> tuple[float, int]:
+    """Runs a command; the seconds that it took, and the most memory of the audit's processes."""
+    watch = Watch()
+    thread = threading.Thread(target=watch.look)
+    thread.start()
+    began = time.monotonic()
+    try:
+        with open(input_ or os.devnull, "rb") as file:
+            subprocess.run(words, stdin=file, stdout=subprocess.DEVNULL, check=True)
+        return time.monotonic() - began, watch.most
+    finally:
+        watch.over.set()
+        thread.join()
+
+
+class LongDay(unittest.TestCase):
+    def test_times_and_memory(self) -> None:
+        with folder() as name:
+            place = Path(name)
+            log, day = place / "day.db", place / "day.live"
+            words = ["/usr/bin/python3", str(HERE / "long_day.py"), str(log), str(FRAMES), "--"]
+            subprocess.run([*words, *venue_words()], check=True)
+            day.write_bytes(day_text(log))
+            venue = shlex.join(venue_words())
+            replay, _ = timed([*venue_words(), "replay", "--live", "--frames"], day)
+            check, memory = timed([str(AUDIT), "check", str(log), "--venue", venue])
+            page, more = timed([str(AUDIT), "page", str(log), str(place / "pages"), "--venue", venue])
+            print("%d messages: replay --live %.1f s; check %.1f s, %d MB; page %.1f s, %d MB" % (
+                FRAMES, replay, check, memory // 1000, page, more // 1000))
+            self.assertLess(max(memory, more), MEGABYTES * 1000)
+            if FRAMES >= 100_000:  # of a shorter day the processes that are started are the most
+                self.assertLess(check, TIMES * replay)
+                self.assertLess(page, PAGE_SECONDS)
+
+
+if __name__ == "__main__":
+    unittest.main()

@@ -1,0 +1,273 @@
+"""The parts of the audit, one by one, against what docs/ and gateway/ say of frames, prices,
+entries and names.
+"""
+
+import hashlib
+import unittest
+from collections import Counter
+from pathlib import Path
+
+from common import ROOT, folder
+
+from mireseason_audit.chain import ChainReader, hash_of
+from mireseason_audit.dictionary import read_dictionary
+from mireseason_audit.faults import Unreadable, Wrong
+from mireseason_audit.frame import barred, fault_of, fields_of, framed, sum_of
+from mireseason_audit.jobs import held
+from mireseason_audit.lines import came_of, firm_and_time
+from mireseason_audit.pair import Compared, Differences, difference_words, differences
+from mireseason_audit.prices import Price
+from mireseason_audit.reading import Reader
+from mireseason_audit.records import Entry, Sent, day_of
+from mireseason_audit.second_day import moved_fields
+from mireseason_audit.timeline import broken, gap_text
+from mireseason_audit.wire import carried, parts_of
+
+# Frames of docs/MESSAGES.md and docs/CONNECTING.md, with a bar for each SOH.
+ACCEPTED = "8=FIXT.1.1|9=73|35=AI|49=VENUE|56=DLR1|34=2|52=20250314-09:00:10.000|131=R1|117=a1|297=0|10=207|"
+QUOTE = "8=FIXT.1.1|9=109|35=S|49=DLR1|56=VENUE|34=1|52=20250314-09:00:10.000|50=T1|131=R1|117=a1|48=BONDA0000001|22=4|133=99.50390625|10=039|"
+SHOWN = "8=FIXT.1.1|9=165|35=R|49=VENUE|56=DLR1|34=1|52=20250314-09:00:00.000|131=R1|146=1|55=[N/A]|48=BONDA0000001|22=4|54=1|38=2000000|126=20250314-09:05:00.000|453=1|448=INV1|447=D|452=13|10=216|"
+REJECT = "8=FIXT.1.1|9=76|35=3|49=VENUE|56=DLR1|34=6|52=20250314-09:01:10.000|45=4|371=50|372=Z|373=1|10=010|"
+OFFERED = "8=FIXT.1.1|9=185|35=S|49=VENUE|56=INV1|34=3|52=20250314-09:00:20.000|131=A|117=Q2|55=[N/A]|48=BONDA0000001|22=4|54=1|133=99.515625|135=2000000|62=20250314-09:04:00.000|537=1|453=1|448=DLR2|447=D|452=35|10=169|"
+CONFIGURATION = b'version = 1\ndate = "20250314"\n[[dealer]]\nname = "DLR1"\n[[investor]]\nname = "INV1"\n'
+
+
+def soh(text: str) -> bytes:
+    return text.replace("|", "\x01").encode()
+
+
+def told(text: str, is_dealer: bool) -> str:
+    reader = Reader(read_dictionary(ROOT / "fix" / "MIRESEASON.xml"))
+    return reader.told(fields_of(soh(text)), is_dealer).text
+
+
+class Frames(unittest.TestCase):
+    def test_a_frame_is_written_as_the_documents_have_it(self) -> None:
+        for text in (ACCEPTED, QUOTE, SHOWN, REJECT, OFFERED):
+            data = soh(text)
+            self.assertEqual(framed(fields_of(data)[2:-1]), data)
+            self.assertIsNone(fault_of(data))
+            self.assertEqual(barred(data), text)
+
+    def test_each_changed_byte_is_a_fault(self) -> None:
+        data = soh(ACCEPTED)
+        for at in range(len(data)):
+            for other in (data[at] ^ 1, data[at] ^ 128, 1, 0x7C):
+                if other != data[at]:
+                    changed = data[:at] + bytes([other]) + data[at + 1 :]
+                    self.assertIsNotNone(fault_of(changed), at)
+
+    def test_sums(self) -> None:
+        for length in (0, 1, 255, 256, 257, 4096):
+            for data in (b"\xff" * length, bytes(at * 7 % 256 for at in range(length))):
+                self.assertEqual(sum_of(data), sum(data) % 256)
+
+    def test_bytes_that_are_no_text(self) -> None:
+        self.assertEqual(barred(b"8=\xff\x01\x00|"), "8=\\xff|\\x00|")
+        self.assertEqual(fields_of(b"x\x01=\x018=1\x01"), [(0, b"x"), (0, b"="), (8, b"1")])
+
+
+class Prices(unittest.TestCase):
+    def test_thirty_seconds(self) -> None:
+        for text, expected in (
+            ("99.50390625", "99-161"), ("99.515625", "99-16+"), ("99.5", "99-16"), ("101", "101-00"),
+            ("0.00390625", "0-001"), ("99.501", ""), ("", ""), ("x", ""), ("-1", ""), ("1e2", "100-00"),
+        ):
+            self.assertEqual(Price(text).thirty_seconds, expected, text)
+
+    def test_moved(self) -> None:
+        self.assertEqual(Price("99.5").moved(1), "99.53125")
+        self.assertEqual(Price("99.53125").moved(-1), "99.5")
+        self.assertEqual(Price("100").moved(-32), "99")
+
+    def test_a_moved_quote_is_a_frame_with_another_price_alone(self) -> None:
+        changed = moved_fields(fields_of(soh(QUOTE)), 32)
+        assert changed is not None
+        fields, before, after = changed
+        self.assertEqual((before.text, after.text), ("99.50390625", "100.50390625"))
+        self.assertIsNone(fault_of(framed(fields)))
+        same = [pair for pair in fields_of(soh(QUOTE))[2:-1] if pair[0] != 133]
+        self.assertEqual([pair for pair in fields if pair[0] != 133], same)
+        self.assertIsNone(moved_fields(fields_of(soh(ACCEPTED)), 32))
+
+
+class Lines(unittest.TestCase):
+    def test_lines_of_a_day(self) -> None:
+        data = soh(QUOTE)
+        for line in (b"hex DLR1 09:00:10.000 " + data.hex().encode(), b"in DLR1 09:00:10.000 " + QUOTE.encode()):
+            came = came_of(line)
+            assert came is not None
+            self.assertEqual((came.firm, came.time, came.frame), ("DLR1", "09:00:10.000", data))
+            self.assertEqual(firm_and_time(line), ("DLR1", "09:00:10.000"))
+        said = came_of(b"say DLR1 T1 09:00:10 S 117=a1|131=R1|133=99.5")
+        assert said is not None
+        self.assertEqual(said.fields, [(35, b"S"), (50, b"T1"), (117, b"a1"), (131, b"R1"), (133, b"99.5")])
+        self.assertEqual(firm_and_time(b"clock 09:05:00.000"), (None, "09:05:00.000"))
+        for line in (b"clock 09:05:00", b"", b"# x", b"hex DLR1 09:00:00 0", b"piece DLR1 09:00:00 8=", b"say"):
+            self.assertIsNone(came_of(line), line)
+
+
+def entry(place: int, moment: str, line: bytes, before: bytes, **other: object) -> Entry:
+    made = Entry(place, 0, moment, None, None, line, before, b"")._replace(**other)
+    return made._replace(hash=hash_of(made))
+
+
+class Chains(unittest.TestCase):
+    def test_the_hash_is_that_of_the_schema(self) -> None:
+        """The text of gateway/schema.sql: BEFORE PLACE TERM MOMENT FIRM NUMBER LENGTH, a line feed, the line."""
+        line = b"hex DLR1 09:00:10.000 00"
+        made = Entry(7, 2, "09:00:10.000", "DLR1", 5, line, bytes(range(32)), b"")
+        text = bytes(range(32)).hex() + " 7 2 09:00:10.000 DLR1 5 %d\n" % len(line)
+        self.assertEqual(hash_of(made), hashlib.sha256(text.encode() + line).digest())
+        made = made._replace(firm=None, number=None)
+        text = text.replace("DLR1 5", "- -")
+        self.assertEqual(hash_of(made), hashlib.sha256(text.encode() + line).digest())
+
+    def found(self, *entries: Entry) -> list[str]:
+        reader = ChainReader(has_chain=True)
+        for one in entries:
+            reader.take(one)
+        return [finding.text for finding in reader.found.findings]
+
+    def test_whole_and_broken_chains(self) -> None:
+        first = entry(0, "09:00:00.000", b"", bytes(32))
+        second = entry(1, "09:00:01.000", b"clock 09:00:01.000", first.hash)
+        third = entry(2, "09:00:02.000", b"clock 09:00:02.000", second.hash)
+        self.assertEqual(self.found(first, second, third), [])
+        self.assertIn("entry 1 is missing: behind 0 comes 2", self.found(first, third))
+        self.assertIn("entry 0 is missing", self.found(second))
+        earlier = entry(2, "09:00:00.500", b"clock 09:00:00.500", second.hash)
+        self.assertEqual(len(self.found(first, second, earlier)), 1)
+        later = entry(1, "09:00:01.000", b"clock 09:00:01.000", first.hash, term=2)
+        older = entry(2, "09:00:02.000", b"clock 09:00:02.000", later.hash, term=1)
+        self.assertEqual(self.found(first, later, older), ["its term 1 is before 2, that of entry 1"])
+        other = entry(2, "09:00:02.000", b"clock 09:00:03.000", second.hash)
+        self.assertEqual(len(self.found(first, second, other)), 1)
+        stranger = entry(2, "09:00:02.000", b"hex DLR1 09:00:02.000 00", second.hash, firm="DLR2", number=3)
+        self.assertEqual(len(self.found(first, second, stranger)), 1)
+        foreign = entry(2, "09:00:02.000", b"clock 09:00:02.000", bytes(32))
+        self.assertEqual(len(self.found(first, second, foreign)), 1)
+
+    def test_the_day_of_entry_0(self) -> None:
+        digest = hashlib.sha256(CONFIGURATION).hexdigest().encode()
+        line = b"version v 1\nprogram 00\nconfiguration " + digest + b"\n%%\n" + CONFIGURATION
+        day = day_of(line)
+        self.assertEqual((day.version, day.date), ("v 1", "20250314"))
+        self.assertEqual([(firm.name, firm.kind) for firm in day.firms], [("DLR1", "dealer"), ("INV1", "investor")])
+        self.assertEqual(day.head, CONFIGURATION + b"%%\n")
+        for wrong in (b"", line[1:], line + b" ", line.replace(b"%%\n", b""), line.replace(digest, b"00")):
+            self.assertRaises(Wrong, day_of, wrong)
+
+
+class Wires(unittest.TestCase):
+    """The body on the wire: 1181 first, 60 in front of 537, 297 or 453, or last; 45 the session's."""
+
+    def test_each_type(self) -> None:
+        for text, expected in (
+            (ACCEPTED, "|1181=2|131=R1|117=a1|60=20250314-09:00:10.000|297=0"),
+            (SHOWN, "|1181=1|131=R1|146=1|55=[N/A]|48=BONDA0000001|22=4|54=1|38=2000000|126=20250314-09:05:00.000"
+                    "|60=20250314-09:00:00.000|453=1|448=INV1|447=D|452=13"),
+            (REJECT, "|1181=6|45=9|371=50|372=Z|373=1|60=20250314-09:01:10.000"),
+            (OFFERED, "|1181=3|131=A|117=Q2|55=[N/A]|48=BONDA0000001|22=4|54=1|133=99.515625|135=2000000"
+                      "|62=20250314-09:04:00.000|60=20250314-09:00:20.000|537=1|453=1|448=DLR2|447=D|452=35"),
+        ):
+            parts = parts_of(soh(text))
+            assert parts is not None
+            self.assertEqual(carried(parts, 9), soh(expected))
+        self.assertIsNone(parts_of(b"8=FIXT.1.1\x01"))
+
+
+class Holding(unittest.TestCase):
+    def found(self, rows: list[bytes], lines: list[bytes]) -> list[tuple[str, int | None]]:
+        sent = [Sent("DLR1", at, at + 10, data) for at, data in enumerate(rows, 1)]
+        findings = held("DLR1", sent, lines, lambda rows: None)
+        return [(finding.text.partition(" ")[2].split(" ")[0], finding.number) for finding in findings]
+
+    def test_the_first_difference(self) -> None:
+        a, b = soh(ACCEPTED), soh(REJECT)
+        one, two = b"DLR1 " + ACCEPTED.encode(), b"DLR1 " + REJECT.encode()
+        self.assertEqual(self.found([a, b], [one, two]), [])
+        self.assertEqual(self.found([a, b], [one]), [("log", 2)])
+        self.assertEqual(self.found([a], [one, two]), [("log", 2)])
+        self.assertEqual(self.found([b, a], [one, two]), [("log", 1)])
+        self.assertEqual(self.found([ACCEPTED.encode()], [one]), [("log", 1)])  # bars are no SOH
+
+
+class Words(unittest.TestCase):
+    def test_what_is_told(self) -> None:
+        head = "8=FIXT.1.1|9=1|35=%s|49=VENUE|56=X|34=1|52=20250314-09:00:00.000|%s|10=000|"
+        for kind, body, is_dealer, expected in (
+            ("AI", "131=R1|117=a1|297=0", True, "accepted"),
+            ("AI", "131=R1|117=a1|297=5|300=8", True, "refused: invalid price"),
+            ("AI", "117=a1|297=17", True, "withdrawn"),
+            ("AI", "117=a1|297=9", True, "no such quote"),
+            ("AI", "131=R1|297=11", True, "accepted"),
+            ("AI", "117=a1|297=5|300=4", True, "refused: too late to enter"),
+            ("AI", "131=A|297=0", False, "accepted"),
+            ("AI", "131=A|117=Q1|297=17", False, "Q1 is gone"),
+            ("AI", "131=A|297=11|453=1|448=DLR3|447=D|452=35", False, "DLR3 declined"),
+            ("AI", "693=h|131=A|117=Q1|297=0", False, "awarded"),
+            ("AI", "693=h|131=A|117=Q1|297=5|300=4|58=Gone", False, "refused: quote replaced or gone"),
+            ("AI", "693=p|131=A|297=11", False, "passed"),
+            ("AI", "693=h|117=Q9|297=9", False, "not found"),
+            ("AI", "131=A|297=7", False, "expired"),
+            ("AG", "131=A|658=1|146=1|55=[N/A]|48=X|22=4", False, "refused: unknown symbol"),
+            ("AJ", "693=N1|131=R1|694=4", True, "cover"),
+            ("AJ", "693=N1|131=R1|694=5", True, "done away"),
+            ("AJ", "693=N1|131=R1|117=a1|694=1|133=99.5", True, "won"),
+            ("AJ", "693=N1|131=R1|694=3", True, "expired"),
+            ("AJ", "693=N1|131=R1|694=6", True, "passed"),
+            ("3", "45=4|371=50|372=Z|373=1", True, "rejected: required tag missing"),
+        ):
+            self.assertEqual(told(head % (kind, body), is_dealer), expected, body)
+
+    def test_the_dictionary(self) -> None:
+        dictionary = read_dictionary(ROOT / "fix" / "MIRESEASON.xml")
+        named = dictionary.named(fields_of(soh(ACCEPTED)))
+        self.assertEqual([(one.name, one.meaning) for one in named][-2:], [("QuoteStatus", "accepted"), ("CheckSum", "")])
+        self.assertEqual(dictionary.type_name("S"), "Quote")
+        with folder() as name:
+            path = Path(name) / "none.xml"
+            self.assertRaises(Unreadable, read_dictionary, path)
+            path.write_text("<fix>")
+            self.assertRaises(Unreadable, read_dictionary, path)
+
+    def test_texts_of_the_drawing(self) -> None:
+        self.assertEqual(broken("a bb ccc dddd", 6), ["a bb", "ccc", "dddd"])
+        self.assertEqual([gap_text(gap) for gap in (0.04, 59.9, 61, 3600)], ["+0.040 s", "+59.900 s", "+1 min 01 s", "+60 min 00 s"])
+
+
+class Pairs(unittest.TestCase):
+    def held(self, first: str, second: str) -> Differences:
+        head = "date 20250314\ndealer DLR1 4 10000000 T1\n"
+        with folder() as name:
+            paths = Path(name) / "first", Path(name) / "second"
+            for path, text in zip(paths, (first, second)):
+                path.write_text(head + text)
+            return differences(*paths)
+
+    def test_lists(self) -> None:
+        shown = "shown INV1 BONDA0000001 1 2000000 09:05:00.000 09:00:00.000\n"
+        own = "own 09:00:10.000 8=FIXT.1.1|\n"
+        cover, away = "closed 1 4 09:01:00.000\n", "closed 1 5 09:01:00.000\n"
+        same = self.held(shown + own + cover, shown + own + cover)
+        self.assertTrue(same.only_cover and not difference_words(same))
+        other = self.held(shown + own + cover, shown + own + away)
+        self.assertEqual(other.notices, Counter({("cover", "done away"): 1}))
+        self.assertTrue(other.only_cover and other.are_declared)
+        ended = self.held(shown + own + cover, shown + own + "closed 1 3 09:05:00.000\n")
+        self.assertTrue(ended.are_declared and not ended.only_cover)
+        lifted = self.held(shown + own + "lifted 1\n", shown + own)
+        self.assertEqual((lifted.lifted, lifted.only_cover), ((1, 0), False))
+        lost = self.held(shown + own, shown)
+        self.assertFalse(lost.are_declared)
+        self.assertIn("MUST NOT", difference_words(lost)[0])
+
+    def test_the_headline(self) -> None:
+        self.assertTrue(Compared(("row equal", "due equal", "messages equal")).holds)
+        self.assertTrue(Compared(("row equal", "due differs at 3", "messages differ at 2")).holds)
+        self.assertFalse(Compared(("row equal", "due equal", "messages differ at 2")).holds)
+
+
+if __name__ == "__main__":
+    unittest.main()

@@ -1,0 +1,124 @@
+"""Logs that were changed by hand: each change is found, with its place."""
+
+import hashlib
+import os
+import random
+import re
+import shutil
+import subprocess
+import unittest
+from concurrent.futures import ProcessPoolExecutor
+from dataclasses import dataclass
+from multiprocessing import get_context
+from pathlib import Path
+
+from common import HERE, audit, folder, keys, venue_words
+from tamper import Tamperer
+
+from mireseason_audit.check import report
+from mireseason_audit.faults import Unreadable, Wrong
+from mireseason_audit.main import Work, checked, parser_of, source_of
+from mireseason_audit.venue import Run, Venue
+
+CHANGES = int(os.environ.get("CHANGES", "500"))
+SEED = int(os.environ.get("SEED", "1"))
+AT_ONCE = 4
+PRINT = 'cat "$1"; cat "$2" >&2; exit "$(cat "$3")"'
+
+
+@dataclass(frozen=True)
+class KeptVenue(Venue):
+    """The venue's program, a function of its input: what it answered once is kept, and printed again."""
+
+    kept: Path = Path()
+
+    def run(self, arguments: list[str], input_: Path) -> Run:
+        digest = hashlib.sha256(" ".join(arguments).encode() + b"\0" + input_.read_bytes()).hexdigest()
+        parts = [self.kept / (digest + end) for end in (".out", ".err", ".status")]
+        if not parts[2].exists():
+            self.answer(arguments, input_, parts)
+        return Run(Venue(("/bin/sh", "-c", PRINT, "sh")), [str(path) for path in parts], input_)
+
+    def answer(self, arguments: list[str], input_: Path, parts: list[Path]) -> None:
+        mine = [path.with_name("%s.%d" % (path.name, os.getpid())) for path in parts]
+        with input_.open("rb") as file, mine[0].open("wb") as out, mine[1].open("wb") as err:
+            words = [*self.words, *arguments]
+            done = subprocess.run(words, stdin=file, stdout=out, stderr=err, check=False)
+        mine[2].write_text("%d" % done.returncode)
+        for one, path in zip(mine, parts):
+            os.replace(one, path)
+
+    def version(self) -> str:
+        return "the venue of the tests"
+
+
+@dataclass(frozen=True)
+class Sealed:
+    """A short day of two dealers and an investor, with a message of each kind, and its seal."""
+
+    place: Path
+
+    @property
+    def log(self) -> Path:
+        return self.place / "day.db"
+
+    def check(self, log: Path) -> tuple[int, str]:
+        """What `check --key` prints, and its status."""
+        words = ["check", str(log), "--key", str(self.place / "public.pem"), "--jobs", "2"]
+        parsed = parser_of().parse_args([*words, "--seal", str(self.place / "day.db.seal")])
+        venue = KeptVenue(tuple(venue_words()), self.place / "kept")
+        with folder() as name:
+            try:
+                verdict = checked(Work(parsed, source_of(parsed, venue, Path(name)), Path(name), venue))
+            except Wrong as fault:
+                return 1, str(fault)
+            except Unreadable as fault:
+                return 2, str(fault)
+            return (0 if verdict.is_good else 1), "\n".join(report(verdict))
+
+    def tampered(self, number: int) -> str:
+        """Changes a copy; answers what was not found of it."""
+        path = self.place / ("tampered-%d.db" % number)
+        shutil.copyfile(self.log, path)
+        change = Tamperer(path, random.Random("%d %d" % (SEED, number))).change()
+        status, text = self.check(path)
+        path.unlink()
+        if status == 1 and re.search(change.pattern, text):
+            return ""
+        return "change %d, %s: status %d, without %r:\n%s" % (
+            number, change.what, status, change.pattern, text,
+        )
+
+
+class Tampered(unittest.TestCase):
+    @classmethod
+    def setUpClass(cls) -> None:
+        cls.kept = folder()
+        cls.sealed = Sealed(Path(cls.kept.name))
+        draw_day(cls.sealed.log)
+        private, _ = keys(cls.sealed.place)
+        (cls.sealed.place / "kept").mkdir()
+        assert audit("seal", cls.sealed.log, "--key", private).status == 0
+
+    @classmethod
+    def tearDownClass(cls) -> None:
+        cls.kept.cleanup()
+
+    def test_the_day_as_it_is(self) -> None:
+        status, text = self.sealed.check(self.sealed.log)
+        self.assertEqual((status, "as it was sealed" in text), (0, True), text)
+
+    def test_changes_that_are_drawn(self) -> None:
+        with ProcessPoolExecutor(AT_ONCE, get_context("fork")) as pool:
+            missed = [text for text in pool.map(self.sealed.tampered, range(CHANGES)) if text]
+        self.assertEqual(missed, [], "%d of %d:\n%s" % (len(missed), CHANGES, "\n".join(missed[:5])))
+
+
+def draw_day(path: Path) -> None:
+    words = ["/usr/bin/python3", str(HERE / "draw_day.py"), str(path), "--requests", "7"]
+    words += ["--seed", "4", "--dealers", "2", "--investors", "1", "--", *venue_words()]
+    subprocess.run(words, check=True)
+
+
+if __name__ == "__main__":
+    unittest.main()
