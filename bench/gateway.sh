@@ -1,8 +1,11 @@
 #!/bin/sh
-# The time from a quote to its 297=0 through TCP, log and venue, beside a bare QuickFIX echo with an fdatasync a message,
-# and messages a second in a burst, both in one run. Needs what gateway/README.md installs.
+# The time from a quote to its 297=0 through TCP, log and venue, beside a bare QuickFIX echo with an
+# fdatasync a message, and messages a second in a burst, both in one run. Needs what gateway/packages.sh
+# names.
 #
 #     bench/gateway.sh [GATEWAY [VENUE WORDS ..]]
+#
+# The venue `-` is gateway_venue.cpp, which does nothing but answer: the gateway's own part.
 set -eu
 here=$(cd "$(dirname "$0")" && pwd)
 root=$(cd "$here/.." && pwd)
@@ -12,4 +15,8 @@ gateway=${1:-$root/gateway/out/mireseason-gateway}
 make=$(mktemp -d)
 trap 'rm -rf "$make"' EXIT
 g++ -std=c++14 -O2 -Wall -Wextra -Werror -o "$make/load" "$here/gateway_load.cpp" -lquickfix -lpthread
+if [ "$1" = - ]; then
+    g++ -std=c++20 -O2 -Wall -Wextra -Werror -o "$make/venue" "$here/gateway_venue.cpp"
+    set -- "$make/venue"
+fi
 python3 "$here/gateway.py" "$gateway" "$make/load" -- "$@"

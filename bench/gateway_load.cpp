@@ -26,6 +26,7 @@
 #include <algorithm>
 #include <chrono>
 #include <condition_variable>
+#include <cstdlib>
 #include <iostream>
 #include <mutex>
 #include <stdexcept>
@@ -97,6 +98,9 @@ class Firm : public End {
     void toAdmin(FIX::Message &message, const FIX::SessionID &) override {
         if (field(message.getHeader(), 35) != "A")
             return;
+        // Where a gateway has several venues, a Logon names one.
+        if (const char *venue = std::getenv("PLAYER_VENUE"))
+            message.getHeader().setField(57, venue);
         message.setField(553, m_username);
         message.setField(554, m_password);
     }

@@ -33,6 +33,7 @@ DEALERS = [Identity("DLR%d" % n, "T%d" % n, "dealer-%d-secret" % n) for n in (1,
 INVESTORS = [Identity("INV1", "V1", "investor-1-secret")]
 NAMES = ("north", "south")
 DICTIONARIES = (ROOT / "fix" / "FIXT11.xml", ROOT / "fix" / "MIRESEASON.xml")
+LOOKS = 5  # how often the day is looked at until no deadline comes in between
 SILENCE = 4.0  # seconds in which a refused Logon is not answered by another
 
 
@@ -55,9 +56,12 @@ class TwoVenues:
         self.venue = [str(Path(word).resolve()) if Path(word).exists() else word for word in words.venue]
         self.write()
         self.sides = [self.side(name, seed) for seed, name in enumerate(NAMES)]
-        with (folder / "told").open("wb") as told:
-            self.gateway = subprocess.Popen([words.gateway.resolve(), folder / "gateway.toml"],
-                                            stdin=subprocess.DEVNULL, stdout=told, stderr=told)
+        self.gateway = self.start()
+
+    def start(self) -> subprocess.Popen:
+        with (self.folder / "told").open("ab") as told:
+            return subprocess.Popen([self.words.gateway.resolve(), self.folder / "gateway.toml"],
+                                    stdin=subprocess.DEVNULL, stdout=told, stderr=told)
 
     def write(self) -> None:
         text, credentials = "", ""
@@ -125,13 +129,17 @@ class TwoVenues:
             firm.kill()
 
     def settled(self) -> Iterator[str]:
-        for side in self.sides:
-            within(20, lambda: not any(True for firm in side.firms for _ in unlogged(firm, side.ledger())))
-            wanted = answers(self.venue, side.ledger().day())
-            within(20, lambda: all([has_all(firm, wanted) for firm in side.firms]))
-        self.gateway.terminate()
-        if self.gateway.wait(30) != 0:
-            yield "the gateway ended with status %d" % self.gateway.returncode
+        for look in range(LOOKS):
+            if look > 0:
+                self.gateway = self.start()
+                until("all firms are logged on", 30, self.all_on)
+            before = [self.caught_up(side) for side in self.sides]
+            self.gateway.terminate()
+            if self.gateway.wait(30) != 0:
+                yield "the gateway ended with status %d" % self.gateway.returncode
+            # Where a deadline came in between, its messages are still to be sent.
+            if [len(side.ledger().entries) for side in self.sides] == before:
+                break
         for side in self.sides:
             ledger = side.ledger()
             wanted = answers(self.venue, ledger.day())
@@ -142,6 +150,17 @@ class TwoVenues:
                 for fault in (*differences(firm, wanted.get(firm.name, []), ledger), *unlogged(firm, ledger)):
                     yield "%s: %s" % (side.name, fault)
             yield from unkept(ledger, wanted)
+
+    def all_on(self) -> bool:
+        return all([firm.logged_on() for side in self.sides for firm in side.firms])
+
+    def caught_up(self, side: Side) -> int:
+        """Waits until each firm has what the log of now gives it; the entries of that log."""
+        within(20, lambda: not any(True for firm in side.firms for _ in unlogged(firm, side.ledger())))
+        ledger = side.ledger()
+        wanted = answers(self.venue, ledger.day())
+        within(20, lambda: all([has_all(firm, wanted) for firm in side.firms]))
+        return len(ledger.entries)
 
     def close(self) -> None:
         for side in self.sides:
