@@ -117,8 +117,9 @@ def compared_entries(seal: Sealed, now: Sealed) -> Iterator[Finding]:
             return
         whole = int(name) + 1
     if last_said != last_found:
-        place = int(next(iter(last_said), "0"))
-        yield Finding("entries", between(whole, place), place)
+        place, there = int(next(iter(last_said), "0")), int(next(iter(last_found), "0"))
+        end = "; the log ends at entry %d" % there if there < place else ""
+        yield Finding("entries", between(whole, place) + end, place)
     elif seal.lines[1:5] != now.lines[1:5]:
         yield Finding("entries", "the day is not the one that was sealed", 0)
 

@@ -89,7 +89,8 @@ class Tamperer:
         self.do("DELETE FROM entry WHERE place = ?", row[0])
         last = self.rows("SELECT max(place) FROM entry")[0][0]
         if row[0] > last:
-            return Change("entry %d, the last, taken out" % row[0], r"last entry", needs_seal=True)
+            pattern = r"entries: entry %d: .* sealed; the log ends at entry %d" % (row[0], last)
+            return Change("entry %d, the last, taken out" % row[0], pattern, needs_seal=True)
         return Change("entry %d taken out" % row[0], r"entry %d is missing" % row[0])
 
     def entry_doubled(self) -> Change:
