@@ -104,7 +104,7 @@ pub(crate) fn read_day<T: Abort + AllocGlobal>(rt: &T, input: &str) -> Result<Ar
 }
 
 /// The name of a firm.
-fn name_of(config: &VenueConfig, firm: u16) -> Option<Name> {
+pub(crate) fn name_of(config: &VenueConfig, firm: u16) -> Option<Name> {
     if let Some(row) = config.dealer(firm) {
         return Some(row.name.copy());
     }

@@ -1,0 +1,128 @@
+//! The sessions of firms and the clock, called one behind the other on a venue that they share.
+ghost use Rattle.std.specs.Prelude.{◌≡◌};
+ghost use Rattle.step_replay.specs.Actions as actions;
+
+use super::fixtures::{Arrivals, VENUE, read_day};
+use super::scripts::Stand::{After, Asks, Before, GoesOn};
+use super::scripts::{CLOCK, Mark, Script};
+use quote_word::{Board, BoardSeen};
+use recorded_days::{Inbound, Sweep};
+use session_worker::{Naming, SharedVenue, clock, session};
+use std::marker::Brand;
+use std::process::Abort;
+use std::sync::Wait;
+use std::test::Fail;
+use venue_config::VenueConfig;
+
+const DLR2: u16 = 1;
+
+const INV1: u16 = 3;
+
+// INV1 asks DLR2, which quotes and cancels; then the clock sweeps the room twice.
+const LINES: &str =
+    "say INV1 T8 09:00:00 R 131=A|146=1|48=BONDA0000001|22=4|54=1|38=2000000|126=20250314-09:05:00|453=1|448=DLR2|447=D|452=35
+say DLR2 T2 09:00:10 S 117=a1|131=R1|48=BONDA0000001|22=4|133=99.5
+say DLR2 T2 09:00:20 Z 298=5|117=a1
+expire INV1 1 09:05:00
+expire INV1 1 09:06:00
+";
+
+// Where each of them stands, one behind the other: duties are done behind the message or the sweep
+// that they follow from, before the next one.
+const STANDS: &[Mark] = &[
+    Mark(Before, INV1, "In"),
+    Mark(After, INV1, "In"),
+    Mark(Before, INV1, "Open"),
+    Mark(After, INV1, "Open"),
+    Mark(Before, INV1, "Show"),
+    Mark(After, INV1, "Show"),
+    Mark(Before, INV1, "Ready"),
+    Mark(After, INV1, "Ready"),
+    Mark(Before, DLR2, "In"),
+    Mark(After, DLR2, "In"),
+    Mark(Before, DLR2, "Post"),
+    Mark(After, DLR2, "Post"),
+    Mark(Before, DLR2, "Relay"),
+    Mark(After, DLR2, "Relay"),
+    Mark(Before, DLR2, "In"),
+    Mark(Asks, DLR2, ""),
+    Mark(GoesOn, DLR2, ""),
+    Mark(After, DLR2, "In"),
+    Mark(Before, DLR2, "Unpost"),
+    Mark(After, DLR2, "Unpost"),
+    Mark(Before, DLR2, "Gone"),
+    Mark(After, DLR2, "Gone"),
+    Mark(Before, CLOCK, "Expire"),
+    Mark(After, CLOCK, "Expire"),
+    Mark(Before, CLOCK, "Close"),
+    Mark(After, CLOCK, "Close"),
+    Mark(Before, CLOCK, "Tell"),
+    Mark(After, CLOCK, "Tell"),
+    Mark(Before, CLOCK, "Expire"),
+    Mark(After, CLOCK, "Expire"),
+];
+
+/// How many words a venue has.
+fn words_of(config: &VenueConfig) -> u32
+    ensures { result ≡ actions.words_of config.now }
+{
+    let mut words = 0;
+    for row in config.dealers() {
+        words += row.quotes;
+    }
+    words
+}
+
+/// Calls the sessions of a venue on a board that was opened for it, the last firm's first, and then
+/// the clock.
+fn each_works<J: Naming, T: Wait + Abort + AllocGlobal>(
+    rt: &T,
+    config: VenueConfig,
+    board: Board,
+    seen: BoardSeen,
+    mut inboxes: Vec<Vec<Inbound>>,
+    sweeps: Vec<Sweep>,
+    gate: &Script,
+) -> Result<(), Fail>
+    requires board { board ≡ J.board }
+    requires words { board.words ≡ actions.words_of config }
+    requires seen { seen.board ≡ J.board }
+    requires config { config ≡ J.config }
+{
+    let venue = SharedVenue::<J>::new(rt.alloc(), config, board, seen)?;
+    for _ in 0..inboxes.len() {
+        let inbox = inboxes.pop().ok_or("an inbox")?;
+        let Ok(firm) = u16::try_from(inboxes.len()) else {
+            return Err(Fail::from("a number of a firm"));
+        };
+        session(rt, &venue, firm, inbox, gate)?;
+    }
+    clock(rt, &venue, sweeps, gate)?;
+    Ok(())
+}
+
+/// The same on a board that it opens.
+fn all_work<T: Wait + Abort + AllocGlobal>(
+    rt: &T,
+    arrivals: Arrivals,
+    gate: &Script,
+) -> Result<(), Fail> {
+    let Arrivals {
+        config,
+        inboxes,
+        sweeps,
+    } = arrivals;
+    let (board, seen) = Board::open(rt.alloc(), words_of(&config))?;
+    each_works::<Brand, T>(rt, config, board, seen, inboxes, sweeps, gate)?;
+    Ok(())
+}
+
+#[test]
+fn sessions_and_the_clock_do_all_duties(rt: HostRuntime) -> Result<(), Fail> {
+    let gate = Script::new(STANDS);
+    let input = format!(in rt.alloc(); "{VENUE}{LINES}")?;
+    let arrivals = read_day(&rt, input.as_str())?;
+    all_work(&rt, arrivals, &gate)?;
+    assert!(rt; gate.is_done(), "each stands where it has to");
+    Ok(())
+}
