@@ -140,6 +140,13 @@ std::string with_line(const std::vector<std::string> &lines, size_t index,
     return text;
 }
 
+// ApplSeqNum and TransactTime are put into messages of the venue by the gateway, so no frame of the
+// venue's own needs them; tests/gateway has firms that do.
+bool is_gateways(const std::string &line) {
+    return line.find("\"ApplSeqNum\"") != std::string::npos
+           || line.find("\"TransactTime\"") != std::string::npos;
+}
+
 // Each field of a message taken out, each listed value taken out, each field that may be left out
 // made required: some lawful frame has to be refused then, so the dictionary has nothing that no
 // message uses. QuickFIX knows the fields of headers itself.
@@ -164,6 +171,9 @@ int plant_in_text(const std::string &text, const std::vector<std::string> &frame
                  && line.find("</messages>") == std::string::npos;
         const bool member = line.find("<field name=") != std::string::npos
                             || line.find("<component name=") != std::string::npos;
+        if (bodies && is_gateways(line)) {
+            continue;
+        }
         if (bodies && member) {
             find(index, "");
         }

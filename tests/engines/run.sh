@@ -25,6 +25,7 @@ mkdir "$work/inputs" "$work/frames"
 # One input for each list of what is due and each day of the venue. A day is a file that has its configuration, or
 # steps alone: then its configuration is a file of the same name, or that of the examples.
 for file in "$root"/examples/* "$here"/days/*; do
+    [ -f "$file" ] || continue
     name=$(basename "$file")
     parts=$(grep -cx '%%' "$file" || true)
     case $name in
