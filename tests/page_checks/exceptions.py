@@ -5,7 +5,7 @@ from __future__ import annotations
 import fnmatch
 
 # Names of what the repository stands on: Rust's standard library as the kit has it, and antt.
-OF_THE_KIT = {"AllocError", "Data", "Display", "refl"}
+OF_THE_KIT = {"Abort", "AllocError", "Data", "Display", "refl"}
 
 # A page, and what it alone may name: files that its reader makes, and what other programs print or take.
 ON_A_PAGE = [

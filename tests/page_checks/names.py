@@ -8,6 +8,7 @@ The rule. A span is cut at spaces, and each part is one of these, the first that
   a qualified name has `::`: the first part and the last exist
   a name           a word with an underscore, or the whole span one word: it is declared
   a hyphened word  the whole span: it is a file's, or a word of a program; one with a star is a file's
+A name with a file behind it in parentheses, `NAME` (`FILE`), stands in that file.
 All else (a value, a text, a plain word of a phrase, a word in capitals that stands for one) is no name.
 """
 
@@ -27,6 +28,7 @@ HYPHENED = re.compile(r"^[a-z][a-z0-9_]*(?:-(?:[a-z0-9_]+|\*))+$")
 FLAG = re.compile(r"^--[a-z][a-z-]+$")
 TAGGED = re.compile(r"^(\d{1,5})=")
 QUALIFIED = re.compile(r"^[A-Za-z_]\w*(?:::[A-Za-z_]\w*)+$")
+PLACED = re.compile(r"`([A-Za-z_][\w:]*)` \(`([\w./-]+\.\w+)`")
 CAPITALS = re.compile(r"^[A-Z][A-Z0-9]*$")
 OF_A_CRATE = ("specs/", "proofs/", "src/", "must-fail/")
 
@@ -75,4 +77,8 @@ def check_names(pages: list[Page], words: Vocabulary) -> Checked:
             parts = span.split()
             faults = [fault_of_part(page.path, part, len(parts) == 1, words) for part in parts]
             checked.note(page.path, line, next((fault for fault in faults if fault), None))
+        for line, text in page.prose():
+            for name, path in PLACED.findall(text):
+                known = words.stands_in(name, path)
+                checked.note(page.path, line, None if known else f"{name} does not stand in {path}")
     return checked

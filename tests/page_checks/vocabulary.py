@@ -40,6 +40,7 @@ class Vocabulary:
     texts: str
     tags: set[str]
     crates: dict[str, set[str]]
+    of_file: dict[str, set[str]]
 
     def has_path(self, path: str, crate: str) -> bool:
         """Whether the path of a file or a folder ends so; of a crate's own where one is named.
@@ -68,6 +69,11 @@ class Vocabulary:
         if any(first in names for names in self.crates.values()):
             return any({first, last} <= names for names in self.crates.values())
         return self.has_name(first) and self.has_name(last)
+
+    def stands_in(self, name: str, path: str) -> bool:
+        """Whether a file whose path ends so has the name; so too where there is no such file of names."""
+        files = [one for one in self.of_file if ("/" + one).endswith("/" + path)]
+        return not files or any(name.split("::")[-1] in self.of_file[one] for one in files)
 
 
 def rust_names(text: str) -> set[str]:
@@ -120,7 +126,7 @@ def names_in(path: str, text: str) -> set[str]:
 def vocabulary_of(root: Path, files: list[str]) -> Vocabulary:
     """Reads every file but the pages."""
     paths = with_folders(files)
-    words = Vocabulary(paths, ends_of(paths), crates_of(root), "", set(), {})
+    words = Vocabulary(paths, ends_of(paths), crates_of(root), "", set(), {}, {})
     texts: list[str] = []
     for path in files:
         words.names |= {Path(path).stem, Path(path).name}
@@ -129,6 +135,7 @@ def vocabulary_of(root: Path, files: list[str]) -> Vocabulary:
         text = (root / path).read_text(encoding="utf-8", errors="replace")
         names = names_in(path, text)
         words.names |= names
+        words.of_file[path] = names
         if path.startswith("crates/") and path.endswith((".rt", ".antt")):
             words.crates.setdefault(path.split("/")[1], set()).update(names)
         if path.endswith(".xml"):
