@@ -91,8 +91,14 @@ class Page:
                 yield block
                 block = None
 
+    def is_written(self) -> bool:
+        """Whether a script wrote the whole page, which it then says at its head."""
+        return any(line.startswith("Written by `tests/") for line in self.lines[:4])
+
     def words(self) -> int:
         """How many words a person wrote: none of a block's, and none of what a script wrote."""
+        if self.is_written():
+            return 0
         count = 0
         written = False
         for _, line in self.prose():
