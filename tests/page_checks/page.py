@@ -96,7 +96,8 @@ class Page:
         return any(line.startswith("Written by `tests/") for line in self.lines[:4])
 
     def words(self) -> int:
-        """How many words a person wrote: none of a block's, and none of what a script wrote."""
+        """How many words a person wrote: none of a block, and none that a script wrote. A word has a letter
+        or a digit."""
         if self.is_written():
             return 0
         count = 0
@@ -106,7 +107,7 @@ class Page:
             if mark:
                 written = mark.group(1).startswith("written by")
             elif not written and not is_indented(line):
-                count += len(line.split())
+                count += sum(1 for word in line.split() if any(map(str.isalnum, word)))
         return count
 
 
