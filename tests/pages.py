@@ -32,7 +32,7 @@ def print_words(pages: list[Page]) -> None:
 def check_pages(root: Path, files: list[str], pages: list[Page], program: str | None) -> Checked:
     """All checks; prints the commands that were not run."""
     words = vocabulary_of(root, files)
-    checked, left = check_commands(pages, root, program)
+    checked, left = check_commands(pages, root, words, program)
     for shown in left:
         print(f"{shown.page}:{shown.line}: not run here: {shown.command}")
     checked.add(check_names(pages, words))

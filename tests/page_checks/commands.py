@@ -2,7 +2,8 @@
 
 A block ```console has lines `$ COMMAND` and below each what it prints, both streams; a line `...` stands
 for any lines. Each is run at the top of the repository, `rfq_venue` being the program that was given.
-A block ```sh has commands that take minutes, or more than one process: they are listed, and not run.
+A block ```sh, and an indented line that begins with a program or a file of the repository, is a command that
+takes minutes, or more than one process: it is listed, and not run; the file has to be there.
 """
 
 from __future__ import annotations
@@ -15,9 +16,13 @@ import tempfile
 from dataclasses import dataclass, field
 from pathlib import Path
 
-from .page import Block, Checked, Page
+from .page import Block, Checked, Page, is_indented
+from .vocabulary import Vocabulary
 
 LIMIT = 60  # seconds for a command
+PROGRAMS = {"rt", "rfq_venue", "mireseason-audit", "python3", "apt-get", "systemctl", "etcdctl", "openssl",
+            "ctest", "cmake"}
+SCRIPT = re.compile(r"^[a-z][\w-]*(?:/[\w.-]+)+$")
 
 
 @dataclass
@@ -70,22 +75,41 @@ def environment_with(program: str, folder: str) -> dict[str, str]:
     return {**os.environ, "PATH": f"{folder}:{os.environ['PATH']}", "LC_ALL": "C.UTF-8"}
 
 
-def check_commands(pages: list[Page], root: Path, program: str | None) -> tuple[Checked, list[Shown]]:
-    """Runs what can be run, and lists the rest: what needs minutes, or the program where none was given."""
+def listed_in(page: Page) -> list[Shown]:
+    """The commands of a page that are not run: those of blocks ```sh, and indented ones."""
+    listed = [Shown(page.path, number, line)
+              for block in page.blocks() if block.kind == "sh"
+              for number, line in enumerate(block.lines, block.first) if line and not line.startswith("#")]
+    for number, line in page.prose():
+        first = (line.split() or [""])[0]
+        if is_indented(line) and (first in PROGRAMS or SCRIPT.match(first)):
+            listed.append(Shown(page.path, number, line.strip()))
+    return listed
+
+
+def check_listed(listed: list[Shown], words: Vocabulary) -> Checked:
+    """Of a command that is not run: the file with which it begins is there."""
     checked = Checked()
-    left: list[Shown] = []
+    for shown in listed:
+        first = shown.command.split()[0]
+        if SCRIPT.match(first):
+            known = words.has_path(first, "")
+            checked.note(shown.page, shown.line, None if known else f"there is no file {first}")
+    return checked
+
+
+def check_commands(pages: list[Page], root: Path, words: Vocabulary,
+                   program: str | None) -> tuple[Checked, list[Shown]]:
+    """Runs what can be run, and lists the rest: what needs minutes, or the program where none was given."""
+    listed = [shown for page in pages for shown in listed_in(page)]
+    checked = check_listed(listed, words)
     with tempfile.TemporaryDirectory() as folder:
         environment = environment_with(program or "false", folder)
         for page in pages:
             for block in page.blocks():
-                if block.kind == "sh":
-                    left += [Shown(page.path, number, line) for number, line in
-                             enumerate(block.lines, block.first) if line and not line.startswith("#")]
-                if block.kind != "console":
-                    continue
-                for shown in shown_in(page, block):
+                for shown in shown_in(page, block) if block.kind == "console" else []:
                     if program is None and re.search(r"\brfq_venue\b", shown.command):
-                        left.append(shown)
+                        listed.append(shown)
                     else:
                         checked.note(shown.page, shown.line, fault_of(shown, root, environment))
-    return checked, left
+    return checked, listed

@@ -49,7 +49,7 @@ def fault_of_part(page: str, part: str, alone: bool, words: Vocabulary) -> str |
     if part.startswith(("/", "~", "$", "@", "<", "--")) and not FLAG.match(part):
         return None
     if FLAG.match(part):
-        return None if part in words.texts or f'"{part[2:]}"' in words.texts else f"no program has {part}"
+        return None if words.has_flag(part) else f"no program has {part}"
     tagged = TAGGED.match(part)
     if tagged:
         return None if tagged.group(1) in words.tags else f"no dictionary has tag {tagged.group(1)}"

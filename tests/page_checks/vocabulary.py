@@ -61,6 +61,10 @@ class Vocabulary:
         return name.endswith("_") and any(one.startswith(name) for one in self.names)
 
 
+    def has_flag(self, flag: str) -> bool:
+        """Whether a program has it, with its dashes or, in a table of flags, without."""
+        return re.search(rf'(?<![\w-]){flag}(?![\w-])|"{flag[2:]}"', self.texts) is not None
+
     def has_qualified(self, name: str) -> bool:
         """Whether `CRATE::ITEM` is of that crate, `TYPE::ITEM` of one crate; else both stand elsewhere."""
         first, last = name.split("::")[0], name.split("::")[-1]
