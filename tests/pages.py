@@ -4,8 +4,9 @@
     tests/pages.py [--venue PROGRAM]     names, links, commands, and what scripts write into pages
     tests/pages.py --words               how many words a person wrote, page by page
 
-PROGRAM is a built rfq_venue, or words as "python3 tests/model/program.py"; without it the commands that
-ask it are listed as not run. A finding is a line `PAGE:LINE: WHAT`, the last line `N passed, M failed`.
+PROGRAM is a built rfq_venue, or words as "python3 tests/model/program.py"; without it the commands
+that ask it are listed as not run. A finding is a line `PAGE:LINE: WHAT`, the last line
+`N passed, M failed`.
 """
 
 from __future__ import annotations
@@ -43,7 +44,8 @@ def check_pages(root: Path, files: list[str], pages: list[Page], program: str | 
 
 def main() -> int:
     """The status: 0 where nothing was found."""
-    arguments = argparse.ArgumentParser(description=__doc__, formatter_class=argparse.RawTextHelpFormatter)
+    arguments = argparse.ArgumentParser(description=__doc__,
+                                        formatter_class=argparse.RawTextHelpFormatter)
     arguments.add_argument("--venue", metavar="PROGRAM")
     arguments.add_argument("--words", action="store_true")
     asked = arguments.parse_args()

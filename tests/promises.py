@@ -1,6 +1,6 @@
 #!/usr/bin/env python3
-"""Writes docs/PROMISES.md: for each crate what its definitions are about, and each clause of its public
-functions with what it says, from the comments and the contracts in crates/*/src and crates/*/specs.
+"""Writes docs/PROMISES.md: for each crate what its definitions are about, and each clause of its
+public functions with what it says, from the comments and the contracts in crates/*/src and specs.
 
     tests/promises.py            writes the page
     tests/promises.py --check    says whether it is up to date, by the status
@@ -16,11 +16,11 @@ from pathlib import Path
 PAGE = "docs/PROMISES.md"
 HEAD = """# Promises
 
-Written by `tests/promises.py`; change nothing here by hand. What every public function of a crate requires of its
-caller and ensures, from the function's own comments and clauses. Each is proved, for every input; what a clause
-is made of stands in the crate's `specs/`. A function's first row has its comment, and below it stand its clauses,
-each under its name where it has one, with the comment that it has of its own. A clause `requires` is the
-caller's. Laws are functions that do nothing.
+Written by `tests/promises.py`; change nothing here by hand. What every public function of a crate
+requires of its caller and ensures, from the function's own comments and clauses. Each is proved, for
+every input; what a clause is made of stands in the crate's `specs/`. A function's first row has its
+comment, and below it stand its clauses, each under its name where it has one, with the comment that
+it has of its own. A clause `requires` is the caller's. Laws are functions that do nothing.
 """
 
 COMMENT = re.compile(r"^\s*// ?(?!/)(.*)$")
@@ -58,7 +58,8 @@ def depth_of(text: str) -> int:
 
 
 def braced(lines: list[str], at: int, first: str) -> tuple[str, int]:
-    """The text up to the brace that closes, and the line behind it. `first` stands behind the opening brace."""
+    """The text up to the brace that closes, and the line behind it. `first` stands behind the brace
+    that opens."""
     text, depth = first, 1 + depth_of(first)
     while depth > 0 and at + 1 < len(lines):
         at += 1
@@ -81,8 +82,8 @@ def plain(doc: list[str]) -> str:
 
 @dataclass
 class Owner:
-    """The type or trait whose block is open. In a trait's, and in that of a type's impl of one, every
-    function is public."""
+    """The type or trait whose block is open. In a trait's, and in a type's impl of one, every function
+    is public."""
 
     name: str
     is_of_trait: bool
@@ -98,7 +99,7 @@ def owner_at(line: str) -> Owner | None:
 
 
 def clauses_at(lines: list[str], at: int, indent: str) -> tuple[list[Clause], int]:
-    """The clauses of the function whose head begins here, and the line of its body or behind its end."""
+    """The clauses of the function whose head begins here, and the line behind its head."""
     clauses: list[Clause] = []
     comment: list[str] = []
     while at < len(lines):
@@ -155,7 +156,8 @@ class FileReader:
             self.read_law(self.owner.name, law.group(1), law.group(2))
         elif self.owner and invariant:
             text, self.at = braced(self.lines, self.at - 1, invariant.group(1))
-            self.add(self.owner.name, "What every value of this type keeps.", Clause("invariant", text, ""))
+            self.add(self.owner.name, "What every value of this type keeps.",
+                     Clause("invariant", text, ""))
 
     def read_function(self, head: re.Match[str]) -> None:
         """A function, with its clauses where it is public."""
@@ -240,7 +242,8 @@ def crate_lines(crate: Path) -> list[str]:
     if not any(promise.clauses for promise in promises):
         return []
     return [f"## {crate.name}", "", *definition_lines(crate),
-            *promise_lines([promise for promise in promises if promise.clauses]), *bare_lines(promises)]
+            *promise_lines([promise for promise in promises if promise.clauses]),
+            *bare_lines(promises)]
 
 
 def page_text(root: Path) -> str:
@@ -257,7 +260,8 @@ def main() -> int:
     root = Path(__file__).resolve().parent.parent
     text = page_text(root)
     if sys.argv[1:] == ["--check"]:
-        return 0 if (root / PAGE).exists() and (root / PAGE).read_text(encoding="utf-8") == text else 1
+        page = root / PAGE
+        return 0 if page.exists() and page.read_text(encoding="utf-8") == text else 1
     if sys.argv[1:]:
         print(__doc__, file=sys.stderr)
         return 2

@@ -1,6 +1,6 @@
 #!/usr/bin/env python3
-"""What has to be read to judge the headline: the files of definitions on which its two laws rest, by the `use`
-lines from the laws' own file downwards. Proofs are not among them: those are the prover's.
+"""What has to be read to judge the headline: the files of definitions on which its two laws rest, by
+the `use` lines from the laws' own file downwards. Proofs are not among them: those are the prover's.
 
     tests/reading_list.py            prints the list
     tests/reading_list.py --write    puts it between the two marks in docs/PROOFS.md
@@ -20,7 +20,8 @@ PAGE = "docs/PROOFS.md"
 BEGIN = "<!-- written by tests/reading_list.py -->"
 END = "<!-- end of what is written -->"
 
-USE = re.compile(r"^\s*(?:ghost )?use Rattle\.(\w+)\.specs\.(\w+)(?:\.\{([^}]*)\}| as (\w+))?", re.MULTILINE)
+USE = re.compile(r"^\s*(?:ghost )?use Rattle\.(\w+)\.specs\.(\w+)(?:\.\{([^}]*)\}| as (\w+))?",
+                 re.MULTILINE)
 Definitions = tuple[str, str]  # a crate, and a file of its specs/
 
 
@@ -43,7 +44,7 @@ def cited_by(text: str, clauses: str) -> list[Definitions]:
 
 
 def below(root: Path, cited: list[Definitions]) -> dict[Definitions, str]:
-    """These files and all that they use, with their texts. What the code declares, and std, are none."""
+    """These files and all that they use, with their texts. What code declares, and std, are none."""
     found: dict[Definitions, str] = {}
     left = list(cited)
     while left:
@@ -59,24 +60,24 @@ def below(root: Path, cited: list[Definitions]) -> dict[Definitions, str]:
 def lines_of(text: str) -> int:
     """How many lines of definitions a file has."""
     return sum(1 for line in text.split("\n")
-               if line.strip() and not line.startswith("use ") and not line.strip().startswith("--"))
+               if line.strip() and not line.strip().startswith(("use ", "--")))
 
 
 def reading_list(root: Path) -> str:
     """The list as a table, a line a crate, the highest first."""
     text = (root / LAWS).read_text(encoding="utf-8")
     files = below(root, cited_by(text, "".join(clause_of(law, text) for law in HEADLINE)))
-    crates = [line.split(":")[0].split()[0]
-              for line in (root / "crates.txt").read_text(encoding="utf-8").split("\n") if ":" in line and line[0] != "#"]
+    listed = (root / "crates.txt").read_text(encoding="utf-8").split("\n")
+    crates = [line.split(":")[0].split()[0] for line in listed if ":" in line and line[0] != "#"]
     rows: list[str] = []
     for crate in reversed(crates):
-        names = [(file, lines_of(files[(crate, file)])) for crate_of, file in sorted(files) if crate_of == crate]
-        if names:
-            listed = ", ".join(f"`{file}` {count}" for file, count in names)
-            rows.append(f"| `{crate}` | {listed} | {sum(count for _, count in names)} |")
+        counts = {file: lines_of(text) for (one, file), text in sorted(files.items()) if one == crate}
+        if counts:
+            named = ", ".join(f"`{file}` {count}" for file, count in counts.items())
+            rows.append(f"| `{crate}` | {named} | {sum(counts.values())} |")
     total = sum(lines_of(one) for one in files.values())
-    return "\n".join(["| crate | files of `specs/`, with their lines | lines |", "|---|---|---|", *rows,
-                      f"| | {len(files)} files | {total} |"]) + "\n"
+    head = ["| crate | files of `specs/`, with their lines | lines |", "|---|---|---|"]
+    return "\n".join([*head, *rows, f"| | {len(files)} files | {total} |"]) + "\n"
 
 
 def page_with(page: str, listed: str) -> str:

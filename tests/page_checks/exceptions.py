@@ -7,7 +7,8 @@ import fnmatch
 # Names of what the repository stands on: Rust's standard library as the kit has it, and antt.
 OF_THE_KIT = {"Abort", "AllocError", "Data", "Display", "refl"}
 
-# A page, and what it alone may name: files that its reader makes, and what other programs print or take.
+# A page, and what it alone may name: files that its reader makes, and what other programs print or
+# take.
 ON_A_PAGE = [
     ("audit/README.md", "--strict"),  # of mypy
     ("crates/quote_word/README.md", "Pens"),  # of the kit's logbook

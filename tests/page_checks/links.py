@@ -36,7 +36,8 @@ def anchors_of(page: Page) -> set[str]:
 def fault_of(page: Page, link: str, pages: dict[str, Page], files: set[str]) -> str | None:
     """What is wrong with a link, if anything."""
     target, _, anchor = link.partition("#")
-    path = posixpath.normpath(posixpath.join(posixpath.dirname(page.path), target)) if target else page.path
+    folder = posixpath.dirname(page.path)
+    path = posixpath.normpath(posixpath.join(folder, target)) if target else page.path
     if path not in files:
         return f"there is no {path} behind the link {link}"
     if not anchor:

@@ -1,15 +1,16 @@
 """Every name in backticks exists.
 
 The rule. A span is cut at spaces, and each part is one of these, the first that fits:
-  a path           has a slash, or ends as a file does: some file's or folder's path ends so; in a page
-                   of a crate a path in specs/, proofs/, src/ or must-fail/ is that crate's
+  a path           has a slash, or ends as a file does: some file's or folder's path ends so; in a
+                   page of a crate a path in specs/, proofs/, src/ or must-fail/ is that crate's
   a flag           begins with two dashes: some program has it
   a field of FIX   digits, an equals sign: a dictionary of fix/ has the tag
   a qualified name has `::`: the first part and the last exist
   a name           a word with an underscore, or the whole span one word: it is declared
-  a hyphened word  the whole span: it is a file's, or a word of a program; one with a star is a file's
+  a hyphened word  the whole span: it is a file's, or a word of a program; with a star a file's
 A name with a file behind it in parentheses, `NAME` (`FILE`), stands in that file.
-All else (a value, a text, a plain word of a phrase, a word in capitals that stands for one) is no name.
+All else (a value, a text, a plain word of a phrase, a word in capitals that stands for one) is no
+name.
 """
 
 from __future__ import annotations
@@ -20,8 +21,8 @@ from .exceptions import is_excepted
 from .page import Checked, Page
 from .vocabulary import Vocabulary
 
-ENDS = re.compile(r"[\w*.-]\.(?:rt|antt|py|sh|cpp|h|c|md|toml|yml|sql|cases|due|venue|xml|txt|lines|out|service"
-                  r"|html|db|edit|png)$")
+ENDS = re.compile(r"[\w*.-]\.(?:rt|antt|py|sh|cpp|h|c|md|toml|yml|sql|cases|due|venue|xml|txt|lines|out"
+                  r"|service|html|db|edit|png)$")
 NAME = re.compile(r"^[A-Za-z][A-Za-z0-9_]*$")
 END_OF_NAME = re.compile(r"^_[a-z_]+")
 HYPHENED = re.compile(r"^[a-z][a-z0-9_]*(?:-(?:[a-z0-9_]+|\*))+$")

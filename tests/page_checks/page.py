@@ -47,7 +47,7 @@ class Checked:
 
 @dataclass
 class Block:
-    """A fenced block: its kind (the word behind the fence), its lines, and the first one's number."""
+    """A fenced block: its kind (the word behind the fence), the number of its first line, all lines."""
 
     kind: str
     first: int
@@ -96,8 +96,8 @@ class Page:
         return any(line.startswith("Written by `tests/") for line in self.lines[:4])
 
     def words(self) -> int:
-        """How many words a person wrote: none of a block, and none that a script wrote. A word has a letter
-        or a digit."""
+        """How many words a person wrote: none of a block, and none that a script wrote. A word has a
+        letter or a digit."""
         if self.is_written():
             return 0
         count = 0
@@ -121,7 +121,8 @@ def tracked(root: Path) -> list[str]:
     listed = subprocess.run(
         ["git", "ls-files", "--cached", "--others", "--exclude-standard"],
         cwd=root, capture_output=True, text=True, check=True)
-    return [path for path in sorted(set(listed.stdout.split("\n"))) if path and (root / path).exists()]
+    paths = sorted(set(listed.stdout.split("\n")))
+    return [path for path in paths if path and (root / path).exists()]
 
 
 def pages_of(root: Path, files: list[str]) -> list[Page]:

@@ -1,4 +1,7 @@
-"""The checks find what is wrong, and nothing else. Run: cd tests && python3 -m unittest page_checks.test_checks"""
+"""The checks find what is wrong, and nothing else.
+
+Run: cd tests && python3 -m unittest page_checks.test_checks
+"""
 
 from __future__ import annotations
 
@@ -15,7 +18,8 @@ from .page import Page
 from .vocabulary import Vocabulary, ends_of, names_in
 
 FILES = {
-    "crates/desk/src/rules.rt": 'pub fn price_for(ask: &Ask) -> bool\n    ensures grid { result ≡ true }\n{}\n',
+    "crates/desk/src/rules.rt":
+        "pub fn price_for(ask: &Ask) -> bool\n    ensures grid { result ≡ true }\n{}\n",
     "crates/desk/specs/Rules.antt": "abbrev pub quote_checks : ℕ → ℕ\n",
     "tests/run.sh": "rfq_venue --marks\n",
 }
@@ -35,14 +39,16 @@ def vocabulary() -> Vocabulary:
 
 def faults(text: str) -> list[str]:
     """What the check of names finds in a line of a page."""
-    return [finding.text for finding in check_names([Page("crates/desk/README.md", [text])], vocabulary()).findings]
+    checked = check_names([Page("crates/desk/README.md", [text])], vocabulary())
+    return [finding.text for finding in checked.findings]
 
 
 class Checks(unittest.TestCase):
     """Each check by a thing that holds and one that does not."""
 
     def test_names(self) -> None:
-        self.assertEqual(faults("`price_for`, `grid`, `quote_checks row`, `desk::price_for`, `131=R1`, `--marks`"), [])
+        held = "`price_for`, `grid`, `quote_checks row`, `desk::price_for`, `131=R1`, `--marks`"
+        self.assertEqual(faults(held), [])
         self.assertEqual(faults("`price_of`"), ["nothing is named price_of"])
         self.assertEqual(faults("`quote_check row`"), ["nothing is named quote_check"])
         self.assertEqual(faults("`desk::quote`"), ["there is no desk::quote"])
@@ -51,7 +57,8 @@ class Checks(unittest.TestCase):
         self.assertEqual(faults("`--sweeps`"), ["no program has --sweeps"])
 
     def test_files(self) -> None:
-        self.assertEqual(faults("`src/rules.rt`, `specs/Rules`, `tests/run.sh`, `desk/src/*.rt`"), [])
+        held = "`src/rules.rt`, `specs/Rules`, `tests/run.sh`, `desk/src/*.rt`"
+        self.assertEqual(faults(held), [])
         self.assertEqual(faults("`src/rule.rt`"), ["there is no file src/rule.rt"])
         self.assertEqual(faults("`price_for` (`desk/src/rules.rt`)"), [])
         self.assertEqual(faults("`quote_checks` (`desk/src/rules.rt`)"),
@@ -68,8 +75,8 @@ class Checks(unittest.TestCase):
                                  "there is no docs/TOUR.md behind the link TOUR.md"])
 
     def test_commands(self) -> None:
-        lines = ["```console", "$ printf 'a\\nb\\nc\\n'", "a", "...", "$ echo d", "e", "$ rfq_venue x", "x", "```",
-                 "```sh", "tests/run.sh", "tests/runs.sh", "```"]
+        lines = ["```console", "$ printf 'a\\nb\\nc\\n'", "a", "...", "$ echo d", "e",
+                 "$ rfq_venue x", "x", "```", "```sh", "tests/run.sh", "tests/runs.sh", "```"]
         page = Page("docs/MARKET.md", lines)
         checked, listed = check_commands([page], Path("."), vocabulary(), "echo")
         self.assertEqual([finding.line for finding in checked.findings], [12, 5])
@@ -78,7 +85,8 @@ class Checks(unittest.TestCase):
 
     def test_words(self) -> None:
         lines = ["| two | words |", "|---|---|", "", "    four words of code", "```", "x", "```",
-                 "<!-- written by tests/x.py -->", "nine", "<!-- end of what is written -->", "last"]
+                 "<!-- written by tests/x.py -->", "nine", "<!-- end of what is written -->",
+                 "last"]
         self.assertEqual(Page("a.md", lines).words(), 3)
 
 
@@ -88,7 +96,8 @@ class Written(unittest.TestCase):
     def test_promises(self) -> None:
         text = ("impl Desk {\n    /// The price of [`Ask`].\n    pub fn price(&self) -> u32\n"
                 "        requires open { is_open self.now }\n        // Nothing is rounded.\n"
-                "        ensures { IfSome result (λ p.\n            p ≡ 1) }\n    {\n        1\n    }\n\n"
+                "        ensures { IfSome result (λ p.\n            p ≡ 1) }\n"
+                "    {\n        1\n    }\n\n"
                 "    fn hidden(&self)\n        ensures { true }\n    {}\n}\n")
         promise, = FileReader(text.split("\n")).read()
         self.assertEqual((promise.name, promise.says), ("Desk::price", "The price of `Ask`."))
@@ -97,8 +106,10 @@ class Written(unittest.TestCase):
                           ("", "IfSome result (λ p. p ≡ 1)", "Nothing is rounded.")])
 
     def test_reading_list(self) -> None:
-        text = "ghost use Rattle.low.specs.Rows.{Row, names};\nghost use Rattle.low.specs.Text as texts;\n"
-        self.assertEqual(cited_by(text, "(row : Row) → texts.is_name row"), [("low", "Rows"), ("low", "Text")])
+        text = ("ghost use Rattle.low.specs.Rows.{Row, names};\n"
+                "ghost use Rattle.low.specs.Text as texts;\n")
+        self.assertEqual(cited_by(text, "(row : Row) → texts.is_name row"),
+                         [("low", "Rows"), ("low", "Text")])
         self.assertEqual(cited_by(text, "(row : ℕ) → row"), [])
         self.assertEqual(lines_of("-- a comment\nuse A.{b}\n\nabbrev pub one : ℕ\none = 1\n"), 2)
 

@@ -1,7 +1,8 @@
 """The names that the repository has.
 
 Of Rattle's files (.rt, .antt) those that are declared: functions, types, fields, variants, clauses,
-definitions, lemmas, and the words that stand in quotes. Of every other file each word that stands in it.
+definitions, lemmas, and the words that stand in quotes. Of every other file each word that stands
+in it.
 """
 
 from __future__ import annotations
@@ -21,11 +22,11 @@ GHOST = re.compile(r"\bghost\s+(\w+)\s*=")
 COMMENT = re.compile(r"//.*")
 QUOTED = re.compile(r'"((?:[^"\\\n]|\\.)*)"')
 DEFINED = re.compile(r"^\s*(?:pub\s+)?([\w'-]+)\s*:", re.MULTILINE)
-HEAD = re.compile(r"^\s*(?:(?:pub|abbrev|unfoldable|data|record|mod|lemma)\s+)+([\w'-]+)", re.MULTILINE)
+HEAD = re.compile(r"^\s*(?:(?:pub|abbrev|unfoldable|data|record|mod)\s+)+([\w'-]+)", re.MULTILINE)
 TAG = re.compile(r"<field number=['\"](\d+)['\"]")
 
-TEXTS = {".rt", ".antt", ".py", ".cpp", ".h", ".c", ".sh", ".toml", ".sql", ".yml", ".cases", ".txt",
-         ".xml", ".due", ".venue", ".steps", ".lines", ".cfg", ".service", ".html", ".css", ".edit",
+TEXTS = {".rt", ".antt", ".py", ".cpp", ".h", ".c", ".sh", ".toml", ".sql", ".yml", ".cases",
+         ".txt", ".xml", ".due", ".venue", ".steps", ".lines", ".cfg", ".service", ".html", ".css", ".edit",
          ".suppressions", ".in", ""}
 ENDINGS = ["", ".rt", ".antt", ".cases", ".h", ".cpp", ".py", ".edit"]
 
@@ -51,7 +52,8 @@ class Vocabulary:
             return True
         patterns = [path + ending for ending in ENDINGS]
         if "*" in path:
-            return any(fnmatch.fnmatch("/" + one, "*/" + pattern) for one in self.paths for pattern in patterns)
+            return any(fnmatch.fnmatch("/" + one, "*/" + pattern)
+                       for one in self.paths for pattern in patterns)
         return any(pattern in self.ends for pattern in patterns)
 
     def has_name(self, name: str) -> bool:
@@ -66,7 +68,7 @@ class Vocabulary:
         return re.search(rf'(?<![\w-]){flag}(?![\w-])|"{flag[2:]}"', self.texts) is not None
 
     def has_qualified(self, name: str) -> bool:
-        """Whether `CRATE::ITEM` is of that crate, `TYPE::ITEM` of one crate; else both stand elsewhere."""
+        """Whether `CRATE::ITEM` is of that crate, `TYPE::ITEM` of one crate, or both stand elsewhere."""
         first, last = name.split("::")[0], name.split("::")[-1]
         if first in self.crates:
             return last in self.crates[first]
@@ -75,7 +77,7 @@ class Vocabulary:
         return self.has_name(first) and self.has_name(last)
 
     def stands_in(self, name: str, path: str) -> bool:
-        """Whether a file whose path ends so has the name; so too where there is no such file of names."""
+        """Whether a file whose path ends so has the name; so too where no file of names has that path."""
         files = [one for one in self.of_file if ("/" + one).endswith("/" + path)]
         return not files or any(name.split("::")[-1] in self.of_file[one] for one in files)
 
@@ -104,7 +106,7 @@ def with_folders(files: list[str]) -> list[str]:
 
 
 def ends_of(paths: list[str]) -> set[str]:
-    """Each end of each path, cut at slashes; of a wrong body (crates/NAME/must-fail/EDIT) NAME/EDIT too."""
+    """Each end of each path, cut at slashes; of a wrong body in must-fail/ also CRATE/EDIT."""
     ends: set[str] = set()
     for path in paths + [path.replace("/must-fail/", "/") for path in paths]:
         parts = path.split("/")
