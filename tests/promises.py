@@ -20,8 +20,29 @@ Written by `tests/promises.py`; change nothing here by hand. What every public f
 requires of its caller and ensures, from the function's own comments and clauses. Each is proved, for
 every input; what a clause is made of stands in the crate's `specs/`. A function's first row has its
 comment, and below it stand its clauses, each under its name where it has one, with the comment that
-it has of its own. A clause `requires` is the caller's. Laws are functions that do nothing.
+it has of its own. A clause `requires` is the caller's. Laws are functions that do nothing. Behind the
+tables stands one caller of the crate, as it is proved.
 """
+
+# A function that calls each crate, from a crate above: where it stands, and its name.
+CALLERS = {
+    "fix_fields": ("quote_messages/src/arrivals.rt", "turn_of"),
+    "bond_prices": ("dealer_desk/src/rules.rt", "if_on_grid"),
+    "venue_config": ("venue_text/src/venue_parts.rt", "read_venue"),
+    "market_terms": ("investor_desk/src/rules.rt", "asked_dealers"),
+    "quote_messages": ("dealer_desk/src/rules.rt", "dealer_verdict"),
+    "quote_word": ("venue_steps/src/words.rt", "settle"),
+    "dealer_desk": ("venue_steps/src/dealers.rt", "own_dealer"),
+    "request_room": ("venue_steps/src/ends.rt", "do_hit"),
+    "investor_desk": ("venue_steps/src/investors.rt", "do_relay"),
+    "venue_steps": ("step_replay/src/hits.rt", "hit"),
+    "step_replay": ("venue_text/src/printed.rt", "alone_text"),
+    "recorded_days": ("venue_commands/src/days.rt", "count_woven"),
+    "venue_text": ("venue_commands/src/live.rt", "answer_step"),
+    "venue_commands": ("rfq_venue/src/main.rt", "main"),
+    "blotter": ("venue_text/src/printed_blotter.rt", "lines_text"),
+    "session_worker": ("venue_commands/src/days.rt", "day_text"),
+}
 
 COMMENT = re.compile(r"^\s*// ?(?!/)(.*)$")
 DOC = re.compile(r"^\s*/// ?(.*)$")
@@ -224,6 +245,22 @@ def promise_lines(promises: list[Promise]) -> list[str]:
     return [*lines, ""]
 
 
+def caller_lines(crate: Path) -> list[str]:
+    """A caller of the crate with its contract and its body."""
+    if crate.name not in CALLERS:
+        return []
+    path, name = CALLERS[crate.name]
+    lines = (crate.parent / path).read_text(encoding="utf-8").split("\n")
+    head = re.compile(rf"\s*(?:pub(?:\(crate\))? )?fn {name}\b")
+    heads = [at for at, line in enumerate(lines) if head.match(line)]
+    if not heads:
+        raise LookupError(f"{path} has no {name}, which calls {crate.name}: name another in CALLERS")
+    indent = " " * (len(lines[heads[0]]) - len(lines[heads[0]].lstrip()))
+    end = lines.index(indent + "}", heads[0])
+    body = [line.removeprefix(indent) for line in lines[heads[0]:end + 1]]
+    return [f"`{name}` (`{path}`) calls it:", "", "```rust", *body, "```", ""]
+
+
 def bare_lines(promises: list[Promise]) -> list[str]:
     """The public functions that have no clause, which are said to be safe and no more."""
     bare = [f"`{promise.name}`" for promise in promises if not promise.clauses]
@@ -243,7 +280,7 @@ def crate_lines(crate: Path) -> list[str]:
         return []
     return [f"## {crate.name}", "", *definition_lines(crate),
             *promise_lines([promise for promise in promises if promise.clauses]),
-            *bare_lines(promises)]
+            *bare_lines(promises), *caller_lines(crate)]
 
 
 def page_text(root: Path) -> str:
