@@ -15,7 +15,7 @@ from .commands import check_commands
 from .links import check_links
 from .names import check_names
 from .page import Page
-from .vocabulary import Vocabulary, ends_of, names_in
+from .vocabulary import Vocabulary, ends_of, flags_in, names_in
 
 FILES = {
     "crates/desk/src/rules.rt":
@@ -28,7 +28,8 @@ FILES = {
 def vocabulary() -> Vocabulary:
     """A small repository."""
     paths = [*FILES, "crates", "crates/desk", "docs/MARKET.md"]
-    words = Vocabulary(paths, ends_of(paths), {"desk"}, "\n".join(FILES.values()), {"131"}, {}, {})
+    text = "\n".join(FILES.values())
+    words = Vocabulary(paths, ends_of(paths), {"desk"}, text, flags_in(text), {"131"}, {}, {})
     for path, text in FILES.items():
         words.of_file[path] = names_in(path, text)
         words.names |= words.of_file[path]

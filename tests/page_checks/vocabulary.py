@@ -7,7 +7,6 @@ in it.
 
 from __future__ import annotations
 
-import fnmatch
 import re
 from dataclasses import dataclass
 from pathlib import Path
@@ -23,6 +22,8 @@ COMMENT = re.compile(r"//.*")
 QUOTED = re.compile(r'"((?:[^"\\\n]|\\.)*)"')
 DEFINED = re.compile(r"^\s*(?:pub\s+)?([\w'-]+)\s*:", re.MULTILINE)
 HEAD = re.compile(r"^\s*(?:(?:pub|abbrev|unfoldable|data|record|mod)\s+)+([\w'-]+)", re.MULTILINE)
+FLAG = re.compile(r"(?<![\w-])--[a-z][a-z-]*")
+FLAG_WORD = re.compile(r'"([a-z][a-z-]*)"')
 TAG = re.compile(r"<field number=['\"](\d+)['\"]")
 
 TEXTS = {".rt", ".antt", ".py", ".cpp", ".h", ".c", ".sh", ".toml", ".sql", ".yml", ".cases",
@@ -39,9 +40,14 @@ class Vocabulary:
     ends: set[str]
     names: set[str]
     texts: str
+    flags: set[str]
     tags: set[str]
     crates: dict[str, set[str]]
     of_file: dict[str, set[str]]
+    listed: str = ""
+
+    def __post_init__(self) -> None:
+        self.listed = "\n".join(self.paths)
 
     def has_path(self, path: str, crate: str) -> bool:
         """Whether the path of a file or a folder ends so; of a crate's own where one is named.
@@ -52,8 +58,8 @@ class Vocabulary:
             return True
         patterns = [path + ending for ending in ENDINGS]
         if "*" in path:
-            return any(fnmatch.fnmatch("/" + one, "*/" + pattern)
-                       for one in self.paths for pattern in patterns)
+            shape = re.escape(path).replace(r"\*", "[^\n]*")
+            return re.search(rf"(?:^|/){shape}(?:\.\w+)?$", self.listed, re.MULTILINE) is not None
         return any(pattern in self.ends for pattern in patterns)
 
     def has_name(self, name: str) -> bool:
@@ -65,7 +71,7 @@ class Vocabulary:
 
     def has_flag(self, flag: str) -> bool:
         """Whether a program has it, with its dashes or, in a table of flags, without."""
-        return re.search(rf'(?<![\w-]){flag}(?![\w-])|"{flag[2:]}"', self.texts) is not None
+        return flag in self.flags
 
     def has_qualified(self, name: str) -> bool:
         """Whether `CRATE::ITEM` is of that crate, `TYPE::ITEM` of one crate, or both stand elsewhere."""
@@ -129,10 +135,15 @@ def names_in(path: str, text: str) -> set[str]:
     return other_names(text)
 
 
+def flags_in(text: str) -> set[str]:
+    """The flags that a text has, with their dashes or as words in quotes."""
+    return set(FLAG.findall(text)) | {f"--{word}" for word in FLAG_WORD.findall(text)}
+
+
 def vocabulary_of(root: Path, files: list[str]) -> Vocabulary:
     """Reads every file but the pages."""
     paths = with_folders(files)
-    words = Vocabulary(paths, ends_of(paths), crates_of(root), "", set(), {}, {})
+    words = Vocabulary(paths, ends_of(paths), crates_of(root), "", set(), set(), {}, {})
     texts: list[str] = []
     for path in files:
         words.names |= {Path(path).stem, Path(path).name}
@@ -149,4 +160,5 @@ def vocabulary_of(root: Path, files: list[str]) -> Vocabulary:
         if not path.endswith(".antt"):
             texts.append(text)
     words.texts = "\n".join(texts)
+    words.flags = flags_in(words.texts)
     return words
