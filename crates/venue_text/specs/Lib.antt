@@ -9,14 +9,16 @@ pub mod DueCuts
 pub mod DueLines
 pub mod DueText
 pub mod Faults
-pub mod Lines
+pub mod FirmLines
 pub mod KeptDays
+pub mod Lines
 pub mod LiveAnswers
 pub mod LiveInput
 pub mod LiveLines
 pub mod MessageLines
 pub mod OptionSteps
 pub mod PartReading
+pub mod ReadBack
 pub mod RecordText
 pub mod ReplayText
 pub mod ResultSteps

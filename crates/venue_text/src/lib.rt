@@ -64,6 +64,7 @@ mod printed_comparison;
 mod printed_due;
 mod printed_record;
 mod printed_replay;
+mod read_back;
 mod received;
 mod said;
 mod same_dues;
@@ -81,7 +82,10 @@ pub use fitting::LONGEST_BODY;
 pub use kept_days::{KeptDay, Wanted};
 pub use lines::{MOST_INPUT, Parts, SpokenLines, has_divider, one_past};
 pub use live_form::LiveForm;
-pub use live_laws::{lines_bring_the_same_however_they_come, without_marks_a_day_is_its_messages};
+pub use live_laws::{
+    a_firm_is_printed_what_live_prints_of_it, lines_bring_the_same_however_they_come,
+    without_marks_a_day_is_its_messages,
+};
 pub use live_lines::{LineAnswer, LineTold, LiveDay};
 pub use message_lines::messages_text;
 pub use parts::{cut_part, read_side, read_time, same_text};
@@ -91,6 +95,7 @@ pub use printed_comparison::compare_text;
 pub use printed_due::due_command_text;
 pub use printed_record::{record_text, woven_line};
 pub use printed_replay::replay_text;
+pub use read_back::what_was_due_is_read_back;
 pub use received::read_received;
 pub use said::Said;
 pub use step_lines::MOST_TURNS;
