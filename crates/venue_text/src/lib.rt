@@ -32,6 +32,9 @@
 //!   configuration that one spells, [`asked_firm`] and [`asked_dealer`] whom an argument names.
 //! - [`LiveDay`] answers a day line by line: each answer is exactly the messages that the line's steps
 //!   bring, and behind them its mark where the [`LiveForm`] has marks.
+//! - [`KeptDay`] takes the lines of such a day, and at its end gives what is asked for.
+//!   [`a_firm_is_printed_what_live_prints_of_it`]: of a firm that is what was printed of it.
+//! - [`what_was_due_is_read_back`]: a list that is written as due text is read as that list.
 //! - [`messages_text`] and [`due_lines`] are the lines of their definitions, byte by byte.
 //! - [`Said`] and [`read_received`] read what a firm sends as lines of steps and of due text
 //!   share it, [`SpokenLines`], [`Parts`], [`read_time`] and [`read_side`] what is in a line.
