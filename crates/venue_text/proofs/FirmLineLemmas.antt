@@ -1,6 +1,6 @@
 -- What `live` prints of one firm is what is printed of the firm at the end of the same day.
 use Rattle.std.proofs.Common.{◌≡◌, ◌<◌, ℕ, zero, suc, ◌==◌, Bool, true, false, nat_lt, List, [], ◌∷◌}
-use Rattle.std.proofs.Common.{◌++◌, length, drop, fold, Option, Some, None, Result, Ok, refl, sym, ap}
+use Rattle.std.proofs.Common.{◌++◌, length, drop, fold, map, Option, Some, None, Result, Ok, refl, sym, ap}
 use Rattle.std.proofs.Common.{◌∙◌, arith, inl, inr}
 use Rattle.std.specs.Prelude.{slice_get}
 use Rattle.std.specs.List.{flat_map}
@@ -11,7 +11,8 @@ use Rattle.std.proofs.lemmas.Bool.Decides.{nat_tests}
 use Rattle.std.proofs.lemmas.List.{append-nil, append_assoc}
 use Rattle.std.proofs.lemmas.List.Concat.{flat_map-append}
 use Rattle.std.proofs.lemmas.List.Elements.{filter-append}
-use Rattle.venue_config.specs.Rows.{Configuration, firm_names, values_of}
+use Rattle.venue_config.specs.Rows.{Configuration, dealer_numbered, firm_names, values_of}
+use Rattle.venue_config.specs.declared.dealer_rows.DealerRow.{DealerRow}
 use Rattle.step_replay.specs.FirmDays.{FirmDay, firm_days}
 use Rattle.step_replay.specs.LiveDays.{Sent, live_messages, live_trail, messages_for}
 use Rattle.step_replay.specs.StepFaults.{firms_of}
@@ -194,3 +195,19 @@ module _ (config : Configuration) (name : List ℕ) (firm : ℕ)
       ∙ messages_at frames (firm_names config) days firm own.0
       (messages_for firm (live_messages config steps)) (sym own.1) (sym sent)
       ∙ sym (part_named frames config firm own.0 own.1 (live_messages config steps))
+
+-- Of a dealer.
+
+name_at : (rows : List DealerRow) (others : List (List ℕ)) (n : ℕ) (row : DealerRow)
+    → slice_get rows n ≡ Some row
+    → slice_get (map (λ (row : DealerRow). row.name) rows ++ others) n ≡ Some row.name
+name_at [] others n row is = cc
+name_at (own ∷ rows) others zero row is =
+    let same : own ≡ row = cc in ap (λ (row : DealerRow). Some row.name) same
+name_at (own ∷ rows) others (suc n) row is = name_at rows others n row is
+
+pub part_of_dealer : (frames : Bool) (config : Configuration) (dealer : ℕ) (row : DealerRow)
+    → dealer_numbered config dealer ≡ Some row → (sent : List Sent)
+    → messages_text frames row.name (messages_for dealer sent) ≡ part_text frames config dealer sent
+part_of_dealer frames config dealer row is sent =
+    sym (part_named frames config dealer row.name (name_at config.dealers _ dealer row is) sent)

@@ -1,8 +1,9 @@
-use Rattle.std.proofs.Common.{Some, ap, sym, ◌∙◌}
-use Rattle.step_replay.specs.LiveDays.{live_steps}
+use Rattle.std.proofs.Common.{List, ℕ, Some, ap, sym, ◌∙◌}
+use Rattle.step_replay.specs.LiveDays.{live_messages, live_steps}
 use Rattle.venue_text.specs.LiveInput.{taken_in}
 use Rattle.venue_text.specs.FirmLines.{line_messages}
-use Rattle.venue_text.proofs.FirmLineLemmas.{input_part, is_known, line_adds, text_of_firm}
+use Rattle.venue_text.specs.MessageLines.{messages_text}
+use Rattle.venue_text.proofs.FirmLineLemmas.{input_part, is_known, line_adds, part_of_dealer, text_of_firm}
 use Rattle.venue_text.proofs.LiveLemmas.{text_told}
 use Rattle.venue_text.proofs.live_laws.a_firm_is_printed_what_live_prints_of_it.Goals as goal
 
@@ -19,3 +20,11 @@ returns-clause-firm c frames config name firm lines is =
     ∙ ap Some (sym (one.live config steps firm)) in
     text_of_firm config name firm is frames steps sent
     ∙ sym (input_part frames config firm lines)
+
+pub returns-clause-dealer : goal.returns-clause-dealer
+returns-clause-dealer c frames config dealer row lines is =
+    let steps = (taken_in config lines).steps in
+    let view = c.dealers_are_given_their_view.ensures.live config steps dealer row is in
+    ap (λ (sent : List (List ℕ)). messages_text frames row.name sent) (sym view)
+    ∙ part_of_dealer frames config dealer row is (live_messages config steps)
+    ∙ sym (input_part frames config dealer lines)
