@@ -170,7 +170,8 @@ module _ (config : Configuration) (name : List ℕ) (firm : ℕ)
   own_name =
       let known = is_known in
       let many = length_names config in
-      let within : firm < length (firm_names config) = grind (arith, nat_tests) in
+      let below : firm < firms_of config = grind (arith, nat_tests) in
+      let within : firm < length (firm_names config) = omega (arith, many) in
       item_at (firm_names config) firm within
 
   text_asked : (frames : Bool) (steps : List Step)

@@ -57,18 +57,18 @@ quantity_word n least most =
 -- TIME, and GRID where it is not the finest
 
 record EndWord (date : List ℕ) (moment grid : ℕ) (text : List ℕ) : Type 0 where
-  in_line : list_all is_in_line text ≡ true
-  time : time_of date (first_part text) ≡ Some moment
-  grid : grid_behind text ≡ Some grid
+  one_line : list_all is_in_line text ≡ true
+  time_is : time_of date (first_part text) ≡ Some moment
+  grid_is : grid_behind text ≡ Some grid
 
 finest_end : (date : List ℕ) (moment grid : ℕ) → time_of date (time_text moment) ≡ Some moment
     → grid ≡ finest_grid → EndWord date moment grid (time_text moment)
 finest_end date moment grid time is =
     let word = time_in_part moment in
     record {
-      in_line = in_line (time_text moment) word;
-      time = ap (time_of date) (last_is (time_text moment) word) ∙ time;
-      grid = ap (λ (b : Bool). cond b (number_of (behind_part (time_text moment)) >>= grid_of)
+      one_line = in_line (time_text moment) word;
+      time_is = ap (time_of date) (last_is (time_text moment) word) ∙ time;
+      grid_is = ap (λ (b : Bool). cond b (number_of (behind_part (time_text moment)) >>= grid_of)
           (Some finest_grid)) (none_behind (time_text moment) word) ∙ ap Some (sym is);
     }
 
@@ -84,12 +84,12 @@ other_end date moment grid time is =
     length-decimal-le 9 grid (omega arith) (omega arith) (omega arith) in
     let text = time_text moment ++ 32 ∷ decimal grid in
     record {
-      in_line = all_append is_in_line (time_text moment) (32 ∷ decimal grid)
+      one_line = all_append is_in_line (time_text moment) (32 ∷ decimal grid)
           (in_line (time_text moment) word)
           (all_more is_in_line 32 (decimal grid) refl
           (in_line (decimal grid) (decimal_in_part grid (omega arith))));
-      time = ap (time_of date) (first_is (time_text moment) (decimal grid) word) ∙ time;
-      grid = ap (λ (b : Bool). cond b (number_of (behind_part text) >>= grid_of) (Some finest_grid))
+      time_is = ap (time_of date) (first_is (time_text moment) (decimal grid) word) ∙ time;
+      grid_is = ap (λ (b : Bool). cond b (number_of (behind_part text) >>= grid_of) (Some finest_grid))
           (more_behind (time_text moment) (decimal grid))
           ∙ ap (λ (l : List ℕ). number_of l >>= grid_of)
           (behind_is (time_text moment) (decimal grid) word)
@@ -165,13 +165,13 @@ shown_all ask moment = refl
 
 -- each part stands before the next, behind a space
 record Cut (text part behind : List ℕ) : Type 0 where
-  first : first_part text ≡ part
-  behind : behind_part text ≡ behind
+  part_is : first_part text ≡ part
+  rest_is : behind_part text ≡ behind
 
 cut : (part behind : List ℕ) → list_all is_in_part part ≡ true → Cut (part ++ 32 ∷ behind) part behind
 cut part behind word = record {
-  first = first_is part behind word;
-  behind = behind_is part behind word;
+  part_is = first_is part behind word;
+  rest_is = behind_is part behind word;
 }
 
 -- what the parts of a request's line are read as
@@ -182,18 +182,18 @@ shown_by : (date : List ℕ) (ask : Ask) (moment : ℕ) (t₁ t₂ t₃ t₄ t�
     → time_of date d ≡ Some ask.deadline → time_of date (first_part t₆) ≡ Some moment
     → grid_behind t₆ ≡ Some ask.grid → shown_of date t₁ ≡ Some (due.Shown ask moment)
 shown_by date ask moment t₁ t₂ t₃ t₄ t₅ t₆ i b s q d c₁ c₂ c₃ c₄ c₅ investor bond side quantity deadline time grid =
-    let b₂ = ap behind_part c₁.behind ∙ c₂.behind in
-    let b₃ = ap behind_part b₂ ∙ c₃.behind in
-    let b₄ = ap behind_part b₃ ∙ c₄.behind in
-    let b₅ = ap behind_part b₄ ∙ c₅.behind in
-    let e₁ = ap (text_if is_firm_name) c₁.first ∙ investor in
-    let e₂ = ap (λ (t : List ℕ). text_if is_bond_id (first_part t)) c₁.behind
-    ∙ ap (text_if is_bond_id) c₂.first ∙ bond in
-    let e₃ = ap (λ (t : List ℕ). side_of (first_part t)) b₂ ∙ ap side_of c₃.first ∙ side in
+    let b₂ = ap behind_part c₁.rest_is ∙ c₂.rest_is in
+    let b₃ = ap behind_part b₂ ∙ c₃.rest_is in
+    let b₄ = ap behind_part b₃ ∙ c₄.rest_is in
+    let b₅ = ap behind_part b₄ ∙ c₅.rest_is in
+    let e₁ = ap (text_if is_firm_name) c₁.part_is ∙ investor in
+    let e₂ = ap (λ (t : List ℕ). text_if is_bond_id (first_part t)) c₁.rest_is
+    ∙ ap (text_if is_bond_id) c₂.part_is ∙ bond in
+    let e₃ = ap (λ (t : List ℕ). side_of (first_part t)) b₂ ∙ ap side_of c₃.part_is ∙ side in
     let e₄ = ap (λ (t : List ℕ). asked_quantity (first_part t)) b₃
-    ∙ ap asked_quantity c₄.first ∙ quantity in
+    ∙ ap asked_quantity c₄.part_is ∙ quantity in
     let e₅ = ap (λ (t : List ℕ). time_of date (first_part t)) b₄
-    ∙ ap (time_of date) c₅.first ∙ deadline in
+    ∙ ap (time_of date) c₅.part_is ∙ deadline in
     let e₆ = ap (λ (t : List ℕ). time_of date (first_part t)) b₅ ∙ time in
     let e₇ = ap grid_behind b₅ ∙ grid in
     shown_is date t₁
@@ -249,7 +249,7 @@ shown_back date ask moment named bond least most grid deadline time =
             (both ask.bond (32 ∷ t₃) (in_line ask.bond b_word) (more t₃ refl
             (both s (32 ∷ t₄) (in_line s s_word.0) (more t₄ refl
             (both q (32 ∷ t₅) (in_line q q_word.word) (more t₅ refl
-            (both d (32 ∷ t₆) (in_line d d_word) (more t₆ refl ends.word.in_line))))))))));
+            (both d (32 ∷ t₆) (in_line d d_word) (more t₆ refl ends.word.one_line))))))))));
         spoken = refl;
         undivided = refl;
       };
@@ -260,5 +260,5 @@ shown_back date ask moment named bond least most grid deadline time =
           (cut q t₅ q_word.word) (cut d t₆ d_word)
           (ap (λ (b : Bool). cond b (Some ask.investor) None) named)
           (ap (λ (b : Bool). cond b (Some ask.bond) None) bond)
-          s_word.1 q_word.back deadline ends.word.time ends.word.grid);
+          s_word.1 q_word.back deadline ends.word.time_is ends.word.grid_is);
     }
