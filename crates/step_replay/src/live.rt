@@ -1,10 +1,10 @@
 //! A venue that answers as steps come.
 ghost use Rattle.std.specs.Prelude.{◌≡◌, ◌++◌, List, [], None, Err, map, drop};
-ghost use Rattle.std.specs.Prelude.{slice_get, IfOk, IfErr, IfSome, OnOk};
+ghost use Rattle.std.specs.Prelude.{slice_get, IfOk, IfErr, IfSome, IsSome, OnOk};
 ghost use Rattle.std.specs.Option.{option_copied, option_map};
 ghost use Rattle.step_replay.specs.AuditTrail as venue;
 ghost use Rattle.step_replay.specs.Deadlines.{next_deadline};
-ghost use Rattle.step_replay.specs.FirmDays.{FirmDay};
+ghost use Rattle.step_replay.specs.FirmDays.{FirmDay, firm_days};
 ghost use Rattle.step_replay.specs.FloorDays.{days_of_floor};
 ghost use Rattle.step_replay.specs.LiveDays as live;
 ghost use Rattle.step_replay.specs.LiveStanding as spec;
@@ -12,15 +12,18 @@ ghost use Rattle.step_replay.specs.LiveStanding.{Answers, AnswersSweeps, IsAt, T
 ghost use Rattle.step_replay.specs.LiveStanding.{TellsDuties, TellsStep};
 ghost use Rattle.step_replay.specs.StepFaults as faults;
 ghost use Rattle.step_replay.specs.declared.steps.Step.{Step};
-ghost use Rattle.venue_config.specs.Rows.{Configuration};
+ghost use Rattle.venue_config.specs.Rows.{Configuration, dealer_numbered};
 
 use crate::deadlines::deadline_at;
+use crate::due_lists::dues_at;
+use crate::dues::Due;
 use crate::faults::{ReplayFault, fault_of};
 use crate::floor::Floor;
 use crate::open_rooms::OpenRooms;
 use crate::replay::Replay;
 use crate::sent_to::SentTo;
 use crate::steps::{Actor, MOST_TURNS_BEHIND, Step};
+use crate::world::World;
 use fix_fields::{Memory, Moment};
 use market_terms::{Duty, RoomRef};
 use quote_messages::SentMessage;
@@ -86,6 +89,28 @@ impl LiveVenue {
             answer(alloc, self, &step, &mut told)?;
         }
         Ok(told)
+    }
+
+    /// What each firm has of the day, which ends with it.
+    pub fn into_world(self) -> World
+        ensures { (config : Configuration) (steps : List Step) → IsAt config steps self
+            → result ≡ firm_days config (live.live_trail config steps).facts }
+    {
+        let Replay { floor, .. } = self.replay;
+        World { floor }
+    }
+
+    /// What was due so far to the dealer with this number, one of the venue's.
+    pub fn due(&self, alloc: Global, dealer: u16) -> Result<Vec<Due>, Memory>
+        ensures { IfOk result (λ dues. (config : Configuration) (steps : List Step)
+            → IsAt config steps self.now → IsSome (dealer_numbered config dealer)
+            → dues.items ≡ venue.due_to dealer (live.live_trail config steps)) }
+    {
+        let Some(place) = self.replay.floor.dealers.get(usize::from(dealer)) else {
+            return Ok(Vec::new(alloc));
+        };
+        let dues = dues_at(alloc, place)?;
+        Ok(dues)
     }
 
     /// The earliest deadline (126) of a request whose room is opening or open, or none where no room

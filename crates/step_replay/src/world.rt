@@ -24,7 +24,7 @@ use venue_config::VenueConfig;
 /// numbers: the dealers from 0 on, behind them the investors.
 #[derive(Drop)]
 pub struct World {
-    floor: Floor,
+    pub(crate) floor: Floor,
 }
 
 impl Model for World {

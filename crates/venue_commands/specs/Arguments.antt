@@ -13,8 +13,12 @@ use Rattle.clap.specs.declared.builder.command.Command.TheViews.{out-Command}
 use Rattle.clap.specs.declared.builder.action.ArgAction.TheVariants.{SetTrue}
 use Rattle.clap.specs.declared.error.kind.ErrorKind.{ErrorKind}
 use Rattle.clap.specs.declared.error.kind.ErrorKind.TheVariants as kind
+use Rattle.venue_text.specs.KeptDays as kept_days
+use Rattle.venue_text.specs.KeptDays.{Wanted, dues, messages}
 use Rattle.venue_text.specs.declared.live_form.LiveForm.{LiveForm}
 use Rattle.venue_commands.specs.declared.command.Flags.{Flags}
+use Rattle.venue_commands.specs.declared.command.LineForm.{LineForm as RustForm}
+use Rattle.venue_commands.specs.declared.command.LineForm.TheVariants as rust_form
 use Rattle.venue_commands.specs.declared.command.Told.{Told}
 use Rattle.venue_commands.specs.declared.command.Told.TheVariants as told
 use Rattle.venue_commands.specs.declared.command.VenueCommand.{VenueCommand}
@@ -28,6 +32,8 @@ pub data Command : Type 0 where
   alone : Bool → Command
   -- all firms' messages of a day, or those of the firm with this name
   replay : Option Text → Bool → Command
+  -- the messages, the due text or the blotter of a day that comes line by line, as `live` takes it
+  kept : Wanted → Command
   -- all firms' messages of a day on threads, and with the second flag the number of the steps into
   -- which it is woven
   day : Bool → Bool → Command
@@ -40,15 +46,22 @@ pub data Command : Type 0 where
   -- the blotter of the firm with this name
   blotter : Text → Command
 
--- whether a command is `live`, which answers while it reads, and in which form then
-abbrev pub live_form : Command → Option LiveForm
-live_form (alone with_frames) = None
-live_form (replay firm with_frames) = None
-live_form (day with_frames woven) = None
-live_form (live form) = Some form
-live_form (due dealer) = None
-live_form (compare dealer) = None
-live_form (blotter firm) = None
+-- What is printed of a day that is taken line by line: the messages of each line as it comes; or
+-- what is asked for, at the end.
+pub data LineForm : Type 0 where
+  answered : LiveForm → LineForm
+  kept_for : Wanted → LineForm
+
+-- whether a command takes a day line by line, and what it prints then
+abbrev pub line_form : Command → Option LineForm
+line_form (alone with_frames) = None
+line_form (replay firm with_frames) = None
+line_form (day with_frames woven) = None
+line_form (live form) = Some (answered form)
+line_form (kept wanted) = Some (kept_for wanted)
+line_form (due dealer) = None
+line_form (compare dealer) = None
+line_form (blotter firm) = None
 
 -- The words behind a command's name.
 
@@ -95,6 +108,7 @@ given flags = record {
   frames = is_among (codes "--frames") flags;
   woven = is_among (codes "--woven") flags;
   marks = is_among (codes "--marks") flags;
+  live = is_among (codes "--live") flags;
 }
 
 -- How many words a command takes.
@@ -131,6 +145,20 @@ woven_flag = codes "woven"
 abbrev pub marks_flag : Text
 marks_flag = codes "marks"
 
+abbrev pub live_flag : Text
+live_flag = codes "live"
+
+-- a replay, a due text and a blotter, by the flags
+abbrev pub replay_by : Option Text → Flags → Command
+replay_by word flags =
+    if flags.live then kept (messages word flags.frames) else replay word flags.frames
+
+abbrev pub due_by : Text → Flags → Command
+due_by dealer flags = if flags.live then kept (dues dealer) else due dealer
+
+abbrev pub blotter_by : Text → Flags → Command
+blotter_by firm flags = if flags.live then kept (kept_days.blotter firm) else blotter firm
+
 -- the form that the flags ask for
 abbrev pub form_by : Flags → LiveForm
 form_by flags = record { frames = flags.frames; marks = flags.marks }
@@ -141,12 +169,13 @@ line name flags words asks = record { name = name; flags = flags; words = words;
 abbrev pub commands : List Line
 commands =
     line (codes "alone") (frames_flag ∷ []) no_word (λ word flags. alone flags.frames)
-    ∷ line (codes "replay") (frames_flag ∷ []) one_or_none (λ word flags. replay word flags.frames)
+    ∷ line (codes "replay") (frames_flag ∷ live_flag ∷ []) one_or_none replay_by
     ∷ line (codes "day") (frames_flag ∷ woven_flag ∷ []) no_word
     (λ word flags. day flags.frames flags.woven)
-    ∷ line (codes "due") [] one_word (λ word flags. due (unwrap_or word []))
+    ∷ line (codes "due") (live_flag ∷ []) one_word (λ word flags. due_by (unwrap_or word []) flags)
     ∷ line (codes "compare") [] one_word (λ word flags. compare (unwrap_or word []))
-    ∷ line (codes "blotter") [] one_word (λ word flags. blotter (unwrap_or word []))
+    ∷ line (codes "blotter") (live_flag ∷ []) one_word
+    (λ word flags. blotter_by (unwrap_or word []) flags)
     ∷ line (codes "live") (frames_flag ∷ marks_flag ∷ []) no_word (λ word flags. live (form_by flags))
     ∷ []
 
@@ -171,22 +200,28 @@ command_of (name ∷ rest) =
 abbrev pub named_command : Text → Option Text → Flags → Command
 named_command name firm flags =
     if bytes_eq name (codes "alone") then alone flags.frames
-    else (if bytes_eq name (codes "replay") then replay firm flags.frames
+    else (if bytes_eq name (codes "replay") then replay_by firm flags
     else (if bytes_eq name (codes "day") then day flags.frames flags.woven
     else (if bytes_eq name (codes "live") then live (form_by flags)
-    else (if bytes_eq name (codes "due") then due (unwrap_or firm [])
+    else (if bytes_eq name (codes "due") then due_by (unwrap_or firm []) flags
     else (if bytes_eq name (codes "compare") then compare (unwrap_or firm [])
-    else blotter (unwrap_or firm []))))))
+    else blotter_by (unwrap_or firm []) flags)))))
 
 -- the command of the code's type
 abbrev pub meant : VenueCommand → Command
 meant (rust.Alone frames) = alone frames
 meant (rust.Replay firm frames) = replay (option_map (λ word. word.now) firm) frames
+meant (rust.Kept wanted) = kept (kept_days.meant wanted)
 meant (rust.Day frames woven) = day frames woven
 meant (rust.Live form) = live form
 meant (rust.Due dealer) = due dealer.now
 meant (rust.Compare dealer) = compare dealer.now
 meant (rust.Blotter firm) = blotter firm.now
+
+-- the same of what it prints
+abbrev pub meant_form : RustForm → LineForm
+meant_form (rust_form.Answered form) = answered form
+meant_form (rust_form.Kept wanted) = kept_for (kept_days.meant wanted)
 
 -- The same as clap reads it.
 

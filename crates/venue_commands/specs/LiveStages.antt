@@ -1,19 +1,22 @@
 -- How far a run of `live` has come: words of private functions alone.
 use Rattle.std.specs.Prelude.{◌≡◌, ◌<◌, ℕ, ◌+◌, ◌==◌, true, false, List, [], ◌∷◌, ◌++◌}
-use Rattle.std.specs.Prelude.{length, Option, Some, None, Err}
+use Rattle.std.specs.Prelude.{length, Option, Some, None, Ok, Err}
 use Rattle.std.specs.List.{count_by, list_any}
-use Rattle.venue_config.specs.Rows.{Configuration}
+use Rattle.venue_config.specs.Rows.{Configuration, values_of}
+use Rattle.venue_text.specs.KeptDays.{Keeps, OpensKept, Wanted}
 use Rattle.venue_text.specs.Lines.{lines_of}
 use Rattle.venue_text.specs.LiveAnswers.{Goes, Opens}
-use Rattle.venue_text.specs.LiveInput.{taken_in}
+use Rattle.venue_text.specs.LiveInput.{taken_in, text_in}
 use Rattle.venue_text.specs.VenueParts.{is_divider, text_of_lines, venue_of}
 use Rattle.venue_text.specs.declared.faults.ProgramFault.{ProgramFault}
 use Rattle.venue_text.specs.declared.faults.ProgramFault.TheVariants as program
+use Rattle.venue_text.specs.declared.kept_days.KeptDay.{KeptDay}
 use Rattle.venue_text.specs.declared.lines.TheConstants.{MOST_INPUT}
 use Rattle.venue_text.specs.declared.live_form.LiveForm.{LiveForm}
 use Rattle.venue_text.specs.declared.live_lines.LiveDay.{LiveDay}
-use Rattle.venue_commands.specs.LiveRuns.{AnswersDay, AnswersNothing, EndsWith, EndsDay}
-use Rattle.venue_commands.specs.LiveRuns.{EndsInAnswers}
+use Rattle.venue_commands.specs.Arguments.{LineForm, answered, kept_for, meant_form}
+use Rattle.venue_commands.specs.LiveRuns.{AnswersNothing, EndsWith, EndsDay, EndsInAnswers}
+use Rattle.venue_commands.specs.LiveRuns.{TakesDay, name_fault}
 use Rattle.venue_commands.specs.Written.{Written}
 use Rattle.venue_commands.specs.declared.live.LiveRun.{LiveRun}
 use Rattle.venue_commands.specs.declared.live.Stage.{Stage}
@@ -24,22 +27,32 @@ pub record AwaitsDay (lines : List (List ℕ)) (text : List ℕ) (out err : Writ
   pub nothing : AnswersNothing lines out err
   pub text_is : text ≡ text_of_lines lines
 
--- the lines so far are those of a day that goes on
+-- the lines so far are those of a day that goes on, and each was answered
 pub record DayGoes (form : LiveForm) (lines : List (List ℕ)) (day : LiveDay)
     (out err : Written) : Type 0 where
   pub config : Configuration
-  pub answers : AnswersDay form config lines out err
+  pub answers : TakesDay (answered form) config lines (text_in form config lines) out err
   pub goes : Goes form config (taken_in config lines) day
 
-abbrev pub StageIs : LiveForm → List (List ℕ) → Stage → Written → Written → Type 0
+-- the same, and what is asked for is printed at the end
+pub record KeptGoes (wanted : Wanted) (lines : List (List ℕ)) (day : KeptDay)
+    (out err : Written) : Type 0 where
+  pub config : Configuration
+  pub answers : TakesDay (kept_for wanted) config lines [] out err
+  pub keeps : Keeps wanted config (taken_in config lines) day
+
+abbrev pub StageIs : LineForm → List (List ℕ) → Stage → Written → Written → Type 0
 StageIs form lines (stage.Configuration text) out err = AwaitsDay lines text.items out err
-StageIs form lines (stage.Day day) out err = DayGoes form lines day out err
+StageIs (answered form) lines (stage.Day day) out err = DayGoes form lines day out err
+StageIs (kept_for wanted) lines (stage.Kept day) out err = KeptGoes wanted lines day out err
+StageIs (answered form) lines (stage.Kept day) out err = ⊥
+StageIs (kept_for wanted) lines (stage.Day day) out err = ⊥
 
 -- a run has answered these lines
-pub record HasCome (form : LiveForm) (lines : List (List ℕ)) (run : LiveRun)
+pub record HasCome (form : LineForm) (lines : List (List ℕ)) (run : LiveRun)
     (out err : Written) : Type 0 where
   pub number_is : run.number ≡ length lines + 1
-  pub form_is : run.form ≡ form
+  pub form_is : meant_form run.form ≡ form
   pub stage_is : StageIs form lines run.stage out err
 
 -- bytes are these lines, each with its end, and one that has begun
@@ -49,7 +62,7 @@ pub record IsCut (read : List ℕ) (lines : List (List ℕ)) (begun : List ℕ) 
   pub goes_on : list_any (λ c. c == 10) begun ≡ false
 
 -- a run has read these bytes, and answered the lines in them that came whole
-pub record StandsAt (form : LiveForm) (read : List ℕ) (run : LiveRun) (out err : Written)
+pub record StandsAt (form : LineForm) (read : List ℕ) (run : LiveRun) (out err : Written)
     : Type 0 where
   pub lines : List (List ℕ)
   pub cut : IsCut read lines run.line.items
@@ -85,17 +98,24 @@ abbrev pub DayFails : ℕ → List ℕ → LiveDay → ProgramFault → Written 
 DayFails number line before fault out err = (form : LiveForm) (lines : List (List ℕ))
     (start : Start) → number ≡ length lines + 1
     → DayGoes form lines before (out_old start out) (err_old start err)
-    → (more : List (List ℕ)) → EndsDay form fault ((lines ++ line ∷ []) ++ more)
+    → (more : List (List ℕ)) → EndsDay (answered form) fault ((lines ++ line ∷ []) ++ more)
     (out_new start out) (err_new start err)
 
+-- The same where the messages are kept: nothing is printed.
+abbrev pub KeptTakes : ℕ → List ℕ → KeptDay → KeptDay → Written → Written → Type 0
+KeptTakes number line before after out err = (wanted : Wanted) (lines : List (List ℕ))
+    (start : Start) → number ≡ length lines + 1
+    → KeptGoes wanted lines before (out_old start out) (err_old start err)
+    → KeptGoes wanted (lines ++ line ∷ []) after (out_new start out) (err_new start err)
+
 -- The same at each stage.
-abbrev pub StageTakes : LiveForm → ℕ → List ℕ → Stage → Stage → Written → Written → Type 0
+abbrev pub StageTakes : LineForm → ℕ → List ℕ → Stage → Stage → Written → Written → Type 0
 StageTakes form number line before after out err = (lines : List (List ℕ)) (start : Start)
     → number ≡ length lines + 1
     → StageIs form lines before (out_old start out) (err_old start err)
     → StageIs form (lines ++ line ∷ []) after (out_new start out) (err_new start err)
 
-abbrev pub StageFails : LiveForm → ℕ → List ℕ → Stage → ProgramFault → Written → Written → Type 0
+abbrev pub StageFails : LineForm → ℕ → List ℕ → Stage → ProgramFault → Written → Written → Type 0
 StageFails form number line before fault out err = (lines : List (List ℕ)) (start : Start)
     → number ≡ length lines + 1
     → StageIs form lines before (out_old start out) (err_old start err)
@@ -104,13 +124,13 @@ StageFails form number line before fault out err = (lines : List (List ℕ)) (st
 
 -- The line that has begun is whole.
 abbrev pub LineTakes : LiveRun → LiveRun → Written → Written → Type 0
-LineTakes before after out err = (form : LiveForm) (lines : List (List ℕ)) (start : Start)
+LineTakes before after out err = (form : LineForm) (lines : List (List ℕ)) (start : Start)
     → HasCome form lines before (out_old start out) (err_old start err)
     → HasCome form (lines ++ before.line.items ∷ []) after (out_new start out)
     (err_new start err)
 
 abbrev pub LineFails : LiveRun → ProgramFault → Written → Written → Type 0
-LineFails before fault out err = (form : LiveForm) (lines : List (List ℕ)) (start : Start)
+LineFails before fault out err = (form : LineForm) (lines : List (List ℕ)) (start : Start)
     → HasCome form lines before (out_old start out) (err_old start err)
     → (more : List (List ℕ))
     → EndsDay form fault ((lines ++ before.line.items ∷ []) ++ more) (out_new start out)
@@ -118,62 +138,83 @@ LineFails before fault out err = (form : LiveForm) (lines : List (List ℕ)) (st
 
 -- Bytes are read.
 abbrev pub Feeds : List ℕ → LiveRun → LiveRun → Written → Written → Type 0
-Feeds bytes before after out err = (form : LiveForm) (read : List ℕ) (start : Start)
+Feeds bytes before after out err = (form : LineForm) (read : List ℕ) (start : Start)
     → StandsAt form read before (out_old start out) (err_old start err)
     → StandsAt form (read ++ bytes) after (out_new start out) (err_new start err)
 
 abbrev pub FeedFails : List ℕ → LiveRun → ProgramFault → Written → Written → Type 0
-FeedFails bytes before fault out err = (form : LiveForm) (read : List ℕ) (start : Start)
+FeedFails bytes before fault out err = (form : LineForm) (read : List ℕ) (start : Start)
     → StandsAt form read before (out_old start out) (err_old start err)
     → (tail : List ℕ) → EndsDay form fault (lines_of ((read ++ bytes) ++ tail))
     (out_new start out) (err_new start err)
 
 -- The input ends.
 abbrev pub Ends : LiveRun → Written → Written → Type 0
-Ends before out err = (form : LiveForm) (read : List ℕ) (start : Start)
+Ends before out err = (form : LineForm) (read : List ℕ) (start : Start)
     → StandsAt form read before (out_old start out) (err_old start err)
     → EndsInAnswers form (lines_of read) (out_new start out) (err_new start err)
 
 abbrev pub EndFails : LiveRun → ProgramFault → Written → Written → Type 0
-EndFails before fault out err = (form : LiveForm) (read : List ℕ) (start : Start)
+EndFails before fault out err = (form : LineForm) (read : List ℕ) (start : Start)
     → StandsAt form read before (out_old start out) (err_old start err)
     → EndsDay form fault (lines_of read) (out_new start out) (err_new start err)
 
 -- A line before the day: the configuration goes on, or its text is whole and opens the day.
-abbrev pub IsNext : LiveForm → List ℕ → List ℕ → List ℕ → Option LiveDay → Type 0
+abbrev pub OpensStage : LineForm → List ℕ → Stage → Type 0
+OpensStage (answered form) text (stage.Day day) = Opens form text day
+OpensStage (kept_for wanted) text (stage.Kept day) = OpensKept wanted text day
+OpensStage form text _ = ⊥
+
+abbrev pub IsNext : LineForm → List ℕ → List ℕ → List ℕ → Option Stage → Type 0
 IsNext form line before after None =
     (is_divider line ≡ false) × (after ≡ before ++ line ++ 10 ∷ [])
-IsNext form line before after (Some day) =
-    (is_divider line ≡ true) × Opens form before day
+IsNext form line before after (Some next) =
+    (is_divider line ≡ true) × OpensStage form before next
 
 -- why it is at fault
-pub data IsBad (line before : List ℕ) (fault : ProgramFault) : Type 0 where
-  OfMemory : fault ≡ program.Memory → IsBad line before fault
-  OfConfig : is_divider line ≡ true → venue_of before ≡ Err fault → IsBad line before fault
+pub data IsBad (form : LineForm) (line before : List ℕ) (fault : ProgramFault) : Type 0 where
+  OfMemory : fault ≡ program.Memory → IsBad form line before fault
+  OfConfig : is_divider line ≡ true → venue_of before ≡ Err fault → IsBad form line before fault
+  OfFirm : is_divider line ≡ true → (config : Configuration)
+      → venue_of before ≡ Ok (values_of config) → name_fault form (values_of config) ≡ Some fault
+      → IsBad form line before fault
   OfLength : fault ≡ program.Input → is_divider line ≡ false
-      → MOST_INPUT < length (before ++ line ++ 10 ∷ []) → IsBad line before fault
+      → MOST_INPUT < length (before ++ line ++ 10 ∷ []) → IsBad form line before fault
 
 abbrev pub IsDay : Stage → Type 0
 IsDay (stage.Configuration text) = ⊥
 IsDay (stage.Day day) = Unit {0}
+IsDay (stage.Kept day) = Unit {0}
 
 abbrev pub IsConfiguration : Stage → Type 0
 IsConfiguration (stage.Configuration text) = Unit {0}
 IsConfiguration (stage.Day day) = ⊥
+IsConfiguration (stage.Kept day) = ⊥
+
+-- The input ends at a stage: all that is still to be printed was.
+abbrev pub Closes : Stage → Written → Type 0
+Closes before out = (form : LineForm) (lines : List (List ℕ)) (start : Option (List ℕ)) (err : Written)
+    → StageIs form lines before (record { before = start; after = out.before }) err
+    → EndsInAnswers form lines (record { before = start; after = out.after }) err
+
+abbrev pub CloseFails : Stage → ProgramFault → Written → Type 0
+CloseFails before fault out = (form : LineForm) (lines : List (List ℕ)) (start : Option (List ℕ))
+    (err : Written) → StageIs form lines before (record { before = start; after = out.before }) err
+    → EndsDay form fault lines (record { before = start; after = out.after }) err
 
 -- A run that has read nothing, whatever the streams held.
-abbrev pub StandsFirst : LiveForm → LiveRun → Type 0
+abbrev pub StandsFirst : LineForm → LiveRun → Type 0
 StandsFirst form run = (start : Start)
     → StandsAt form [] run (record { before = start.out; after = start.out })
     (record { before = start.err; after = start.err })
 
 -- All of an input is answered behind what was read, or a fault ends the day.
 abbrev pub AnswersAll : List ℕ → LiveRun → Written → Written → Type 0
-AnswersAll all before out err = (form : LiveForm) (read : List ℕ) (start : Start)
+AnswersAll all before out err = (form : LineForm) (read : List ℕ) (start : Start)
     → StandsAt form read before (out_old start out) (err_old start err)
     → EndsInAnswers form (lines_of (read ++ all)) (out_new start out) (err_new start err)
 
 abbrev pub FailsIn : List ℕ → Option (List ℕ) → ProgramFault → LiveRun → Written → Written → Type 0
-FailsIn all left fault before out err = (form : LiveForm) (read : List ℕ) (start : Start)
+FailsIn all left fault before out err = (form : LineForm) (read : List ℕ) (start : Start)
     → StandsAt form read before (out_old start out) (err_old start err)
     → EndsWith form fault (read ++ all) left (out_new start out) (err_new start err)

@@ -1,6 +1,6 @@
 -- How a run of the program ends.
 use Rattle.std.specs.Prelude.{◌≡◌, ◌<◌, ◌≤◌, ◌⊎◌, ℕ, true, List, [], ◌++◌, length}
-use Rattle.std.specs.Prelude.{Option, Some, None, Result, Ok, Err}
+use Rattle.std.specs.Prelude.{Option, Some, None, Result, Ok, Err, unwrap_or}
 use Rattle.std.specs.Option.{IfSome}
 use Rattle.clap.specs.Kinds.{Kinds}
 use Rattle.clap.specs.Walk.{Text}
@@ -10,13 +10,15 @@ use Rattle.venue_text.specs.BlotterCommand.{IsBlotter}
 use Rattle.venue_text.specs.CompareText.{IsCompared}
 use Rattle.venue_text.specs.DueCommand.{IsDueText}
 use Rattle.venue_text.specs.Faults.{fault_line, told_line}
+use Rattle.venue_text.specs.KeptDays as kept_days
+use Rattle.venue_text.specs.KeptDays.{Wanted, dues, messages}
 use Rattle.venue_text.specs.ReplayText.{IsReplayed}
 use Rattle.venue_text.specs.declared.faults.ProgramFault.{ProgramFault}
 use Rattle.venue_text.specs.declared.faults.ProgramFault.TheVariants.{Read, Memory, Write}
 use Rattle.venue_text.specs.declared.lines.TheConstants.{MOST_INPUT}
-use Rattle.venue_text.specs.declared.live_form.LiveForm.{LiveForm}
-use Rattle.venue_commands.specs.Arguments.{Command, alone, arguments_fault, blotter, command_of}
-use Rattle.venue_commands.specs.Arguments.{compare, day, due, live, live_form, may_be_help}
+use Rattle.venue_text.specs.declared.line_form.LiveForm.{LiveForm}
+use Rattle.venue_commands.specs.Arguments.{Command, LineForm, alone, arguments_fault, blotter, command_of, kept}
+use Rattle.venue_commands.specs.Arguments.{compare, day, due, live, line_form, may_be_help}
 use Rattle.venue_commands.specs.Arguments.{may_be_mistake, replay}
 use Rattle.venue_commands.specs.LiveRuns.{EndsInLive}
 use Rattle.venue_commands.specs.ThreadedDays.{IsDay, IsDayFault}
@@ -29,7 +31,8 @@ abbrev pub IsTextOf : Command → List ℕ → List ℕ → Type 0
 IsTextOf (alone with_frames) input text = IsPrinted with_frames input text
 IsTextOf (replay firm with_frames) input text = IsReplayed firm with_frames input text
 IsTextOf (day with_frames woven) input text = IsDay with_frames woven input text
-IsTextOf (live form) input text = ⊥  -- it prints line by line
+IsTextOf (live form) input text = ⊥  -- it is taken line by line
+IsTextOf (kept wanted) input text = ⊥  -- the same
 IsTextOf (due dealer) input text = IsDueText dealer input text
 IsTextOf (compare dealer) input text = IsCompared dealer input text
 IsTextOf (blotter firm) input text = IsBlotter firm input text
@@ -40,9 +43,16 @@ IsFaultOf (alone with_frames) input fault = first_fault input ≡ Some fault
 IsFaultOf (replay firm with_frames) input fault = one_day (firms_by firm) input ≡ Err fault
 IsFaultOf (day with_frames woven) input fault = IsDayFault woven input fault
 IsFaultOf (live form) input fault = ⊥  -- it tells line by line
+IsFaultOf (kept wanted) input fault = ⊥  -- the same
 IsFaultOf (due dealer) input fault = one_day (dealer_by dealer) input ≡ Err fault
 IsFaultOf (compare dealer) input fault = two_days (dealer_by dealer) input ≡ Err fault
 IsFaultOf (blotter firm) input fault = one_day (firm_by firm) input ≡ Err fault
+
+-- the word in what is asked for at the end of a day
+abbrev pub word_in : Wanted → List ℕ
+word_in (messages name frames) = unwrap_or name []
+word_in (dues dealer) = dealer
+word_in (kept_days.blotter firm) = firm
 
 -- the word of a command that names a firm; it is told where no firm has that name
 abbrev pub word_of : Command → List ℕ
@@ -51,6 +61,7 @@ word_of (replay None with_frames) = []
 word_of (replay (Some firm) with_frames) = firm
 word_of (day with_frames woven) = []
 word_of (live form) = []
+word_of (kept wanted) = word_in wanted
 word_of (due dealer) = dealer
 word_of (compare dealer) = dealer
 word_of (blotter firm) = firm
@@ -137,13 +148,13 @@ EndsTold kinds status out err =
     ⊎ ((may_be_mistake kinds ≡ true) × EndsInMistake status out err))
 
 -- How a run of a command ends, whichever it is.
-abbrev pub EndsOf : Option LiveForm → Command → ℕ → Streams → Type 0
-EndsOf (Some form) command status streams = EndsInLive form status streams
+abbrev pub EndsOf : Option LineForm → Command → ℕ → Streams → Type 0
+EndsOf (Some form) command status streams = EndsInLive form (word_of command) status streams
 EndsOf None command status streams = EndsInCommand command status streams
 
 -- How a run ends, by the command that is asked for, or else by what is wrong with the arguments.
 abbrev pub EndsBy : Option Command → Kinds → ℕ → Streams → Type 0
-EndsBy (Some command) kinds status streams = EndsOf (live_form command) command status streams
+EndsBy (Some command) kinds status streams = EndsOf (line_form command) command status streams
 EndsBy None kinds status streams = EndsTold kinds status streams.out streams.err
 
 -- How a run ends, by its arguments.

@@ -6,12 +6,13 @@ ghost use Rattle.venue_commands.specs.Arguments as spec;
 
 use crate::help::{ABOUT, READS, VERSION};
 use crate::table::{COMMANDS, CommandLine, FlagLine, WordLine};
+use crate::texts::word_bytes;
 use clap::error::ErrorKind;
 use clap::{Arg, ArgAction, Command, Error};
 use fix_fields::Memory;
 use std::alloc::Global;
 use std::convert::AsStr;
-use venue_text::LiveForm;
+use venue_text::{LiveForm, Wanted};
 
 /// What a command asks for.
 #[derive(Clone, Copy)]
@@ -28,6 +29,9 @@ pub(crate) enum VenueCommand<'a> {
         /// Each message is printed as its whole frame.
         frames: bool,
     },
+    /// The messages, the due text or the blotter of a day that comes line by line, as `live` takes
+    /// it.
+    Kept(Wanted<'a>),
     /// All firms' messages of a day on threads.
     Day {
         /// Each message is printed as its whole frame.
@@ -57,6 +61,15 @@ pub(crate) enum VenueCommand<'a> {
     },
 }
 
+/// What is printed of a day that is taken line by line, and when.
+#[derive(Clone, Copy)]
+pub(crate) enum LineForm<'a> {
+    /// The messages of each line as it comes.
+    Answered(LiveForm),
+    /// What is asked for, at the end.
+    Kept(Wanted<'a>),
+}
+
 /// What is told of arguments that are not those of a command.
 #[derive(Drop)]
 pub(crate) enum Told {
@@ -77,6 +90,8 @@ pub(crate) struct Flags {
     pub(crate) woven: bool,
     /// `--marks`: behind the messages of a line stands its mark.
     pub(crate) marks: bool,
+    /// `--live`: the day is taken as `live` takes it.
+    pub(crate) live: bool,
 }
 
 /// The command that arguments ask for, or what is wrong with arguments that are not those of one.
@@ -97,10 +112,12 @@ pub(crate) fn read_command<'a, S: AsStr>(
     let frames = words.get_flag("frames");
     let woven = words.get_flag("woven");
     let marks = words.get_flag("marks");
+    let live = words.get_flag("live");
     let flags = Flags {
         frames,
         woven,
         marks,
+        live,
     };
     let command = command_named(name, words.get_str("firm"), flags);
     Ok(command)
@@ -117,10 +134,7 @@ fn command_named<'a>(name: &str, firm: Option<&'a str>, flags: Flags) -> VenueCo
         };
     }
     if name == "replay" {
-        return VenueCommand::Replay {
-            firm,
-            frames: flags.frames,
-        };
+        return replay_by(firm, flags);
     }
     if name == "day" {
         return VenueCommand::Day {
@@ -135,12 +149,45 @@ fn command_named<'a>(name: &str, firm: Option<&'a str>, flags: Flags) -> VenueCo
     }
     let word = firm.unwrap_or("");
     if name == "due" {
-        return VenueCommand::Due { dealer: word };
+        return due_by(word, flags);
     }
     if name == "compare" {
         return VenueCommand::Compare { dealer: word };
     }
-    VenueCommand::Blotter { firm: word }
+    blotter_by(word, flags)
+}
+
+/// A due text, by the flags that are given.
+fn due_by<'a>(dealer: &'a str, flags: Flags) -> VenueCommand<'a>
+    ensures { spec.meant result ≡ spec.due_by dealer.now flags }
+{
+    if flags.live {
+        return VenueCommand::Kept(Wanted::Due(dealer.as_bytes()));
+    }
+    VenueCommand::Due { dealer }
+}
+
+/// A blotter, by the flags that are given.
+fn blotter_by<'a>(firm: &'a str, flags: Flags) -> VenueCommand<'a>
+    ensures { spec.meant result ≡ spec.blotter_by firm.now flags }
+{
+    if flags.live {
+        return VenueCommand::Kept(Wanted::Blotter(firm.as_bytes()));
+    }
+    VenueCommand::Blotter { firm }
+}
+
+/// A replay, by the flags that are given.
+fn replay_by<'a>(firm: Option<&'a str>, flags: Flags) -> VenueCommand<'a>
+    ensures { spec.meant result ≡ spec.replay_by (option_map (λ word. word.now) firm.entry) flags }
+{
+    if flags.live {
+        return VenueCommand::Kept(Wanted::Messages(word_bytes(firm), flags.frames));
+    }
+    VenueCommand::Replay {
+        firm,
+        frames: flags.frames,
+    }
 }
 
 /// The form in which `live` prints, by the flags that are given.
@@ -153,12 +200,13 @@ fn form_by(flags: Flags) -> LiveForm
     }
 }
 
-/// Whether a command is `live`, and the form that it prints in then.
-pub(crate) fn form_of_live(command: &VenueCommand<'_>) -> Option<LiveForm>
-    ensures { result ≡ spec.live_form (spec.meant command.now) }
+/// Whether a command takes a day line by line, and how it prints then.
+pub(crate) fn line_form<'a>(command: &VenueCommand<'a>) -> Option<LineForm<'a>>
+    ensures { option_map spec.meant_form result ≡ spec.line_form (spec.meant command.now) }
 {
     match command {
-        VenueCommand::Live { form } => Some(*form),
+        VenueCommand::Live { form } => Some(LineForm::Answered(*form)),
+        VenueCommand::Kept(wanted) => Some(LineForm::Kept(*wanted)),
         VenueCommand::Alone { .. } => None,
         VenueCommand::Replay { .. } => None,
         VenueCommand::Day { .. } => None,

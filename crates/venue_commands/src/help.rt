@@ -30,6 +30,9 @@ pub(crate) const WOVEN: &str =
 pub(crate) const MARKS: &str =
     "Prints behind the messages of each line of steps a mark, `done K` or `fault K NAME`";
 
+pub(crate) const LINE_BY_LINE: &str =
+    "Takes the day as `live` does: each step with its turns, and no line `turn`";
+
 pub(crate) const FIRM: &str = "The name of a dealer or of an investor of the configuration";
 
 pub(crate) const DEALER: &str = "The name of a dealer of the configuration";

@@ -1,18 +1,23 @@
-//! The command `live`: a venue that answers line by line.
-ghost use Rattle.std.specs.Prelude.{◌≡◌, ◌≢◌, ◌==◌, ◌<◌, ◌≤◌, ◌+◌, ◌++◌, ◌⊎◌, [], ◌∷◌, length};
+//! The commands that take a day line by line: `live`, which answers each line as it comes, and
+//! `replay --live`, which prints the messages of the firms at the end.
+ghost use Rattle.std.specs.Prelude.{◌≡◌, ◌≢◌, ◌==◌, ◌<◌, ◌≤◌, ◌+◌, ◌++◌, ◌⊎◌, [], ◌∷◌, length, Ok, Err, Some};
 ghost use Rattle.std.specs.Prelude.{IfOk, IfErr, IfSome, OnOk, OnErr};
 ghost use Rattle.std.specs.Io.KnownBytes.{Appends};
 ghost use Rattle.std.specs.Option.{option_to_list};
+ghost use Rattle.venue_config.specs.Rows.{Configuration, values_of};
 ghost use Rattle.venue_text.specs.Lines.{lines_of};
+ghost use Rattle.venue_text.specs.VenueParts.{venue_of};
+ghost use Rattle.venue_commands.specs.Arguments.{meant_form};
 ghost use Rattle.venue_commands.specs.LiveRuns as spec;
 ghost use Rattle.venue_commands.specs.LiveStages as stages;
 ghost use Rattle.venue_commands.specs.Written.{GainsPart};
 
+use crate::command::LineForm;
 use crate::program::{print_text, report};
 use std::alloc::Global;
 use std::io::{Read, Write};
 use std::mem;
-use venue_text::{LiveDay, LiveForm, MOST_INPUT, ProgramFault, same_text};
+use venue_text::{KeptDay, LiveDay, MOST_INPUT, ProgramFault, same_text};
 
 /// How many lines a day that goes on may have.
 pub const MOST_LINES: usize = 1_000_000_000_000_000;
@@ -25,15 +30,17 @@ const CHUNK: usize = 16_384;
 enum Stage {
     /// The lines of the configuration so far, each with its line feed.
     Configuration(Vec<u8>),
-    /// The day goes on.
+    /// The day goes on, and each line is answered.
     Day(LiveDay),
+    /// The day goes on, and its messages are kept.
+    Kept(KeptDay),
 }
 
 /// A run of `live`: what was read so far.
 #[derive(Drop)]
-struct LiveRun {
+struct LiveRun<'a> {
     alloc: Global,
-    form: LiveForm,
+    form: LineForm<'a>,
     /// The number of the line that comes next, or that has begun.
     number: usize,
     /// Its bytes so far.
@@ -42,15 +49,17 @@ struct LiveRun {
 }
 
 /// Runs `live`: reads a configuration and a line `%%`, and then answers each line of steps before
-/// the next one is read. A line at fault is told on `err`, and the day goes on.
+/// the next one is read. A line at fault is told on `err`, and the day goes on. Or the same of
+/// `replay --live`, which prints at the end; the word is that of its argument.
 pub(crate) fn run_live<R: Read, W: Write, E: Write>(
     alloc: Global,
-    form: LiveForm,
+    form: LineForm<'_>,
+    word: &[u8],
     input: &mut R,
     out: &mut W,
     err: &mut E,
 ) -> u8
-    ensures { spec.EndsInLive form result (record {
+    ensures { spec.EndsInLive (meant_form form) word.now result (record {
       input = R.remaining input.old;
       left = R.remaining input.new;
       out = record { before = W.contents out.old; after = W.contents out.new };
@@ -61,12 +70,12 @@ pub(crate) fn run_live<R: Read, W: Write, E: Write>(
     let Err(fault) = answer_all(&mut run, input, out, err) else {
         return 0;
     };
-    report(err, b"", &fault)
+    report(err, word, &fault)
 }
 
 /// Reads to the end of the input.
 fn answer_all<R: Read, W: Write, E: Write>(
-    run: &mut LiveRun,
+    run: &mut LiveRun<'_>,
     input: &mut R,
     out: &mut W,
     err: &mut E,
@@ -95,10 +104,10 @@ fn answer_all<R: Read, W: Write, E: Write>(
     Err(ProgramFault::Read)
 }
 
-impl LiveRun {
+impl<'a> LiveRun<'a> {
     /// Nothing was read.
-    fn new(alloc: Global, form: LiveForm) -> Self
-        ensures first { stages.StandsFirst form result }
+    fn new(alloc: Global, form: LineForm<'a>) -> Self
+        ensures first { stages.StandsFirst (meant_form form) result }
     {
         LiveRun {
             alloc,
@@ -161,11 +170,13 @@ impl LiveRun {
             (record { before = E.contents err.old; after = E.contents err.new })) }
     {
         if is_bare(&self.line) {
-            close(&self.stage)?;
+            let stage = mem::replace(&mut self.stage, Stage::Configuration(Vec::new(self.alloc)));
+            close(self.alloc, stage, out)?;
             return Ok(());
         }
         self.answer_line(out, err)?;
-        close(&self.stage)?;
+        let stage = mem::replace(&mut self.stage, Stage::Configuration(Vec::new(self.alloc)));
+        close(self.alloc, stage, out)?;
         Ok(())
     }
 
@@ -215,67 +226,98 @@ fn put(line: &mut Vec<u8>, byte: u8) -> Result<(), ProgramFault>
     Ok(())
 }
 
-/// At the end there is a day.
-fn close(stage: &Stage) -> Result<(), ProgramFault>
-    ensures ok { OnOk result (stages.IsDay stage.now) }
-    ensures err { IfErr result (λ fault.
-        (fault ≡ ProgramFault.Parts) × stages.IsConfiguration stage.now) }
+/// At the end there is a day, and what is asked for of it is printed.
+fn close<W: Write>(alloc: Global, stage: Stage, out: &mut W) -> Result<(), ProgramFault>
+    ensures ok { OnOk result (stages.Closes stage
+        (record { before = W.contents out.old; after = W.contents out.new })) }
+    ensures err { IfErr result (λ fault. stages.CloseFails stage fault
+        (record { before = W.contents out.old; after = W.contents out.new })) }
 {
     match stage {
         Stage::Configuration(_) => Err(ProgramFault::Parts),
         Stage::Day(_) => Ok(()),
+        Stage::Kept(day) => {
+            let text = day.into_text(alloc)?;
+            print_text(out, text.as_slice())?;
+            Ok(())
+        }
     }
 }
 
 /// The line with this number is answered.
 fn answer_at<W: Write, E: Write>(
     alloc: Global,
-    form: LiveForm,
+    form: LineForm<'_>,
     number: usize,
     stage: &mut Stage,
     line: &[u8],
     out: &mut W,
     err: &mut E,
 ) -> Result<(), ProgramFault>
-    ensures ok { OnOk result (stages.StageTakes form number line.now stage.old stage.new
+    ensures ok { OnOk result (stages.StageTakes (meant_form form) number line.now stage.old stage.new
         (record { before = W.contents out.old; after = W.contents out.new })
         (record { before = E.contents err.old; after = E.contents err.new })) }
     ensures err { IfErr result (λ fault.
-        stages.StageFails form number line.now stage.old fault
+        stages.StageFails (meant_form form) number line.now stage.old fault
         (record { before = W.contents out.old; after = W.contents out.new })
         (record { before = E.contents err.old; after = E.contents err.new })) }
 {
     match stage {
         Stage::Configuration(text) => {
-            let Some(day) = next_day(alloc, form, text, line)? else {
+            let Some(next) = next_stage(alloc, form, text, line)? else {
                 return Ok(());
             };
-            *stage = Stage::Day(day);
+            *stage = next;
             Ok(())
         }
         Stage::Day(day) => {
             answer_step(alloc, number, day, line, out, err)?;
             Ok(())
         }
+        Stage::Kept(day) => {
+            let fault = day.take(alloc, number, line)?;
+            tell_fault(err, &fault);
+            Ok(())
+        }
     }
 }
 
 /// A line before the day: it opens the day, or goes on with the configuration, whose text this is.
-fn next_day(
+fn next_stage(
     alloc: Global,
-    form: LiveForm,
+    form: LineForm<'_>,
     text: &mut Vec<u8>,
     line: &[u8],
-) -> Result<Option<LiveDay>, ProgramFault>
-    ensures ok { IfOk result (stages.IsNext form line.now text.old.items text.new.items) }
-    ensures err { IfErr result (stages.IsBad line.now text.old.items) }
+) -> Result<Option<Stage>, ProgramFault>
+    ensures ok { IfOk result (stages.IsNext (meant_form form) line.now text.old.items text.new.items) }
+    ensures err { IfErr result (stages.IsBad (meant_form form) line.now text.old.items) }
 {
     if !same_text(line, b"%%") {
         put_line(text, line)?;
         return Ok(None);
     }
-    let day = LiveDay::open(alloc, form, text.as_slice())?;
-    Ok(Some(day))
+    let stage = open_stage(alloc, form, text.as_slice())?;
+    Ok(Some(stage))
+}
+
+/// The day that a configuration opens.
+fn open_stage(alloc: Global, form: LineForm<'_>, text: &[u8]) -> Result<Stage, ProgramFault>
+    ensures ok { IfOk result (stages.OpensStage (meant_form form) text.now) }
+    ensures err { IfErr result (λ fault. fault ≢ ProgramFault.Memory
+        → (venue_of text.now ≡ Err fault) ⊎ ((config : Configuration)
+        × (venue_of text.now ≡ Ok (values_of config))
+        × (spec.name_fault (meant_form form) (values_of config) ≡ Some fault))) }
+{
+    match form {
+        LineForm::Answered(form) => {
+            let day = LiveDay::open(alloc, form, text)?;
+            Ok(Stage::Day(day))
+        }
+        LineForm::Kept(wanted) => {
+            let day = KeptDay::open(alloc, wanted, text)?;
+            Ok(Stage::Kept(day))
+        }
+    }
 }
 
 /// Puts a line behind those of a configuration.

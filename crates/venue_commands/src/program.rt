@@ -4,11 +4,11 @@ ghost use Rattle.std.specs.Prelude.{OnOk, OnErr};
 ghost use Rattle.std.specs.Io.KnownBytes.{Appends};
 ghost use Rattle.clap.specs.Words.{kind_of};
 ghost use Rattle.venue_text.specs.Faults as faults;
-ghost use Rattle.venue_commands.specs.Arguments.{live_form, meant};
+ghost use Rattle.venue_commands.specs.Arguments.{line_form, meant};
 ghost use Rattle.venue_commands.specs.Runs as spec;
 ghost use Rattle.venue_commands.specs.Written.{GainsPart};
 
-use crate::command::{Told, VenueCommand, form_of_live, read_command, told_by};
+use crate::command::{Told, VenueCommand, line_form, read_command, told_by};
 use crate::input::read_input;
 use crate::live::run_live;
 use crate::output::write_text;
@@ -59,17 +59,17 @@ fn run_command<H: Threads + Wait + Sync, R: Read, W: Write, E: Write>(
     out: &mut W,
     err: &mut E,
 ) -> u8
-    ensures { spec.EndsOf (live_form (meant command.now)) (meant command.now) result (record {
+    ensures { spec.EndsOf (line_form (meant command.now)) (meant command.now) result (record {
       input = R.remaining input.old;
       left = R.remaining input.new;
       out = record { before = W.contents out.old; after = W.contents out.new };
       err = record { before = E.contents err.old; after = E.contents err.new };
     }) }
 {
-    let Some(form) = form_of_live(command) else {
+    let Some(form) = line_form(command) else {
         return run_text_command(rt, alloc, command, input, out, err);
     };
-    run_live(alloc, form, input, out, err)
+    run_live(alloc, form, command_word(command), input, out, err)
 }
 
 /// The same of a command that prints one text.
@@ -81,7 +81,7 @@ fn run_text_command<H: Threads + Wait + Sync, R: Read, W: Write, E: Write>(
     out: &mut W,
     err: &mut E,
 ) -> u8
-    requires { live_form (meant command.now) ≡ None }
+    requires { line_form (meant command.now) ≡ None }
     ensures { spec.EndsInCommand (meant command.now) result (record {
       input = R.remaining input.old;
       left = R.remaining input.new;
@@ -131,7 +131,7 @@ fn print_command<H: Threads + Wait + Sync, R: Read, W: Write>(
     input: &mut R,
     out: &mut W,
 ) -> Result<(), ProgramFault>
-    requires { live_form (meant command.now) ≡ None }
+    requires { line_form (meant command.now) ≡ None }
     ensures ok { OnOk result (IfSome (R.remaining input.old) (λ all. spec.HasPrinted
         (meant command.now) all
         (record { before = W.contents out.old; after = W.contents out.new }))) }

@@ -1,7 +1,7 @@
 //! The table of the commands, as clap is told of them.
 use crate::help::{
-    ALONE, BLOTTER, COMPARE, DAY, DAYS, DEALER, DUE, DUE_TEXT, FIRM, FRAMES, LIVE, LIVE_DAY, MARKS,
-    REPLAY, THREADED, THREADS, WOVEN,
+    ALONE, BLOTTER, COMPARE, DAY, DAYS, DEALER, DUE, DUE_TEXT, FIRM, FRAMES, LINE_BY_LINE, LIVE,
+    LIVE_DAY, MARKS, REPLAY, THREADED, THREADS, WOVEN,
 };
 
 /// A command: its arguments, and the texts of its help.
@@ -46,6 +46,11 @@ const WITH_WOVEN: FlagLine = FlagLine {
     help: WOVEN,
 };
 
+const WITH_LIVE: FlagLine = FlagLine {
+    name: "live",
+    help: LINE_BY_LINE,
+};
+
 const WITH_MARKS: FlagLine = FlagLine {
     name: "marks",
     help: MARKS,
@@ -82,7 +87,7 @@ pub(crate) const COMMANDS: [CommandLine; 7] = [
         name: "replay",
         about: REPLAY,
         input: DAY,
-        flags: &[WITH_FRAMES],
+        flags: &[WITH_FRAMES, WITH_LIVE],
         word: Some(OF_ANY_FIRM),
     },
     CommandLine {
@@ -96,7 +101,7 @@ pub(crate) const COMMANDS: [CommandLine; 7] = [
         name: "due",
         about: DUE,
         input: DAY,
-        flags: &[],
+        flags: &[WITH_LIVE],
         word: Some(OF_DEALER),
     },
     CommandLine {
@@ -110,7 +115,7 @@ pub(crate) const COMMANDS: [CommandLine; 7] = [
         name: "blotter",
         about: BLOTTER,
         input: DAY,
-        flags: &[],
+        flags: &[WITH_LIVE],
         word: Some(OF_FIRM),
     },
     CommandLine {

@@ -2,8 +2,8 @@
 use Rattle.std.proofs.Common.{◌≡◌, ◌<◌, ℕ, ◌+◌, Bool, List, [], ◌∷◌, ◌++◌, take, drop, length, get_or, sym, ap, ap₂, subst, refl, ◌∙◌}
 use Rattle.std.proofs.Common.{Result, Ok, Err, true, false, fold, Option, Some, None, inl, inr}
 use Rattle.std.proofs.Math.Seq.{drop-append_seam}
-use Rattle.std.proofs.Transfers.{drop-appended}
 use Rattle.std.proofs.lemmas.Bool.{cases_Bool}
+use Rattle.std.specs.Option.{option_to_list}
 use Rattle.std.specs.Prelude.{IfOk}
 use Rattle.std.proofs.lemmas.List.{append-nil, append_assoc, take_more}
 use Rattle.std.proofs.lemmas.List.Concat.{flat_map-append}
@@ -15,10 +15,10 @@ use Rattle.step_replay.specs.declared.live.LiveVenue.{LiveVenue}
 use Rattle.step_replay.specs.declared.steps.Step.{Step}
 use Rattle.venue_text.specs.DueText.{Lines}
 use Rattle.venue_text.specs.Lines.{is_skipped, spoken_from}
-use Rattle.venue_text.specs.LiveAnswers.{Gives, Goes, IsAnswered}
+use Rattle.venue_text.specs.LiveAnswers.{AreTold, Gives, Goes, Tells}
 use Rattle.venue_text.specs.LiveInput.{as_part, lines_text, numbered_from, numbered_in, taken_in, taken_of, text_in}
-use Rattle.venue_text.specs.LiveLines.{Taken, done_mark, fault_mark, gained_messages, line_text, live_steps_of}
-use Rattle.venue_text.specs.LiveLines.{live_text, nothing_taken, read_text, sent_line, sent_text}
+use Rattle.venue_text.specs.LiveLines.{Taken, done_mark, fault_in, gained_messages, line_fault, line_text, live_steps_of}
+use Rattle.venue_text.specs.LiveLines.{live_text, nothing_taken, read_text, sent_line, sent_text, told_text}
 use Rattle.venue_text.specs.LiveLines.{with_any_line, with_line, with_read}
 use Rattle.venue_text.specs.StepLines.{Heard, Read, sweeps_at, venue_rooms}
 use Rattle.venue_text.specs.VenueParts.{part_behind}
@@ -28,46 +28,35 @@ use Rattle.venue_text.specs.declared.live_lines.LiveDay.{LiveDay}
 use Rattle.venue_text.proofs.LiveGrowth.{messages_grow, no_text}
 use Rattle.venue_text.proofs.RoomLemmas.{rooms_are}
 
-pub answered_none : (with_frames : Bool) (config : Configuration) (taken : List Step)
-    (venue : LiveVenue) → IsAt config taken venue → IsAnswered with_frames config taken [] venue []
-answered_none with_frames config taken venue at = record {
+pub told_none : (config : Configuration) (taken : List Step) (venue : LiveVenue)
+    → IsAt config taken venue → AreTold config taken [] venue []
+told_none config taken venue at = record {
   stands = subst (λ (l : List Step). IsAt config l venue) (sym (append-nil taken)) at;
-  printed = ap (live_text with_frames config) (append-nil taken)
-      ∙ sym (append-nil (live_text with_frames config taken));
+  told_is = ap (live_messages config) (append-nil taken)
+      ∙ sym (append-nil (live_messages config taken));
 }
 
-pub answered_more : (with_frames : Bool) (config : Configuration) (taken more : List Step)
-    (next : Step) (before after : LiveVenue) (text : List ℕ) (told : List Sent)
-    → IsAnswered with_frames config taken more before text
-    → Answers config (taken ++ more) next after told
-    → IsAnswered with_frames config taken (more ++ next ∷ []) after
-    (text ++ sent_text with_frames config told)
-answered_more with_frames config taken more next before after text told had answers =
+pub told_more : (config : Configuration) (taken more : List Step) (next : Step)
+    (before after : LiveVenue) (told new : List Sent) → AreTold config taken more before told
+    → Answers config (taken ++ more) next after new
+    → AreTold config taken (more ++ next ∷ []) after (told ++ new)
+told_more config taken more next before after told new had answers =
     let same = append_assoc taken more (next ∷ []) in
     record {
       stands = subst (λ (l : List Step). IsAt config l after) same answers.stands;
-      printed = ap (live_text with_frames config) (sym same)
-          ∙ ap (sent_text with_frames config) answers.told_is
-          ∙ flat_map-append (sent_line with_frames config) (live_messages config (taken ++ more)) told
-          ∙ ap (λ (l : List ℕ). l ++ sent_text with_frames config told) had.printed
-          ∙ append_assoc (live_text with_frames config taken) text
-          (sent_text with_frames config told);
+      told_is = ap (live_messages config) (sym same) ∙ answers.told_is
+          ∙ ap (λ (l : List Sent). l ++ new) had.told_is
+          ∙ append_assoc (live_messages config taken) told new;
     }
 
--- a sweep of every room, where its messages are printed
-pub answered_sweeps : (with_frames : Bool) (config : Configuration) (taken : List Step)
-    (moment : ℕ) (after : LiveVenue) (text : List ℕ) (told : List Sent)
-    → AnswersSweeps config taken moment after told → text ≡ sent_text with_frames config told
-    → IsAnswered with_frames config taken (sweeps_at moment (venue_rooms (values_of config))) after
-    text
-answered_sweeps with_frames config taken moment after text told answers text_is =
+-- a sweep of every room
+pub told_sweeps : (config : Configuration) (taken : List Step) (moment : ℕ) (after : LiveVenue)
+    (told : List Sent) → AnswersSweeps config taken moment after told
+    → AreTold config taken (sweeps_at moment (venue_rooms (values_of config))) after told
+told_sweeps config taken moment after told answers =
     let same = ap (λ (rooms : List RoomRef). sweeps_at moment rooms) (sym (rooms_are config)) in
-    subst (λ (l : List Step). IsAnswered with_frames config taken l after text) same (record {
-      stands = answers.stands;
-      printed = ap (sent_text with_frames config) answers.told_is
-          ∙ flat_map-append (sent_line with_frames config) (live_messages config taken) told
-          ∙ ap (λ (l : List ℕ). live_text with_frames config taken ++ l) (sym text_is);
-    })
+    subst (λ (l : List Step). AreTold config taken l after told) same
+    (record { stands = answers.stands; told_is = answers.told_is })
 
 pub one_more : (steps : List Step) (at : ℕ) (s : Step) → at < length steps → s ≡ get_or steps at s
     → take (at + 1) steps ≡ take at steps ++ s ∷ []
@@ -95,16 +84,13 @@ text_grows with_frames config taken more =
     ∙ flat_map-append (sent_line with_frames config) (live_messages config taken)
     (gained_messages config taken more)
 
--- what was answered for more steps are their messages
-answer_is : (with_frames : Bool) (config : Configuration) (taken more : List Step)
-    (venue : LiveVenue) (messages : List ℕ) → IsAnswered with_frames config taken more venue messages
-    → messages ≡ sent_text with_frames config (gained_messages config taken more)
-answer_is with_frames config taken more venue messages answered =
-    let before = live_text with_frames config taken in
-    let after = live_text with_frames config (taken ++ more) in
-    sym (drop-appended before after messages answered.printed)
-    ∙ drop-appended before after (sent_text with_frames config (gained_messages config taken more))
-    (text_grows with_frames config taken more)
+-- what stands behind a list is known by the whole
+behind_is : (front behind other : List Sent) (whole : List Sent) → whole ≡ front ++ behind
+    → whole ≡ front ++ other → behind ≡ other
+behind_is front behind other whole one two =
+    sym (drop-append_seam front behind)
+    ∙ ap (λ (l : List Sent). drop (length front) l) (sym one ∙ two)
+    ∙ drop-append_seam front other
 
 -- A line.
 
@@ -128,22 +114,28 @@ module _ (config : Configuration) (taken : Taken) (k : ℕ) (line : List ℕ) wh
     unfolding line_text
     text_spoken spoken = rw spoken refl
 
-pub line_skipped : (form : LiveForm) (config : Configuration) (taken : Taken) (k : ℕ)
-    (line : List ℕ) (day : LiveDay) (printed : List ℕ) (fault : Option ProgramFault)
-    → Goes form config taken day → is_skipped line ≡ true → fault ≡ None
-    → ((c : Configuration) (steps : List Step) → IsAt c steps day.venue
-    → printed ≡ [] ++ done_mark day.form c steps k)
-    → Gives form config taken k line day printed fault
-line_skipped form config taken k line day printed fault goes skipped none marked =
+pub fault_skipped : (config : ConfigValues) (taken : Taken) (k : ℕ) (line : List ℕ)
+    → is_skipped line ≡ true → line_fault config taken (k, line) ≡ None
+fault_skipped config taken k line skipped = rw skipped refl
+
+pub fault_spoken : (config : ConfigValues) (taken : Taken) (k : ℕ) (line : List ℕ)
+    → is_skipped line ≡ false
+    → line_fault config taken (k, line) ≡ fault_in (live_steps_of config taken.heard k line)
+fault_spoken config taken k line spoken = rw spoken refl
+
+pub tells_nothing : (form : LiveForm) (config : Configuration) (taken : Taken) (k : ℕ)
+    (line : List ℕ) (day : LiveDay) (messages : List Sent) (fault : Option ProgramFault)
+    → Goes form config taken day → is_skipped line ≡ true → messages ≡ [] → fault ≡ None
+    → Tells form config taken k line day messages fault
+tells_nothing form config taken k line day messages fault goes skipped empty none =
     let same = any_skipped config taken k line skipped in
-    subst (λ (f : Option ProgramFault). Gives form config taken k line day printed f) (sym none)
-    (record {
+    record {
       goes = subst (λ (t : Taken). Goes form config t day) (sym same) goes;
-      printed_is = marked config taken.steps goes.stands
-          ∙ ap (λ (f : LiveForm). done_mark f config taken.steps k) goes.form_is
-          ∙ sym (text_skipped config taken k line form skipped);
-      told = ap (λ (t : Taken). t.faults) same ∙ sym (append-nil taken.faults);
-    })
+      told_is = ap (λ (t : Taken). live_messages config t.steps) same
+          ∙ sym (append-nil (live_messages config taken.steps))
+          ∙ ap (λ (l : List Sent). live_messages config taken.steps ++ l) (sym empty);
+      fault_is = none ∙ sym (fault_skipped (values_of config) taken k line skipped);
+    }
 
 -- what it spells, by what the day has
 read_as : (form : LiveForm) (config : Configuration) (taken : Taken) (k : ℕ) (line : List ℕ)
@@ -154,69 +146,145 @@ read_as form config taken k line day read goes is =
     ap₂ (λ (c : Configuration) (h : Heard). live_steps_of (values_of c) h k line)
     (sym goes.config_is) (sym goes.heard_is) ∙ is
 
-pub line_done : (form : LiveForm) (config : Configuration) (taken : Taken) (k : ℕ) (line : List ℕ)
-    (before after : LiveDay) (messages printed : List ℕ) (fault : Option ProgramFault)
+pub tells_done : (form : LiveForm) (config : Configuration) (taken : Taken) (k : ℕ)
+    (line : List ℕ) (before after : LiveDay) (messages : List Sent) (fault : Option ProgramFault)
     (more : List Step) → Goes form config taken before → is_skipped line ≡ false
     → live_steps_of (values_of before.config) before.heard k line ≡ Ok (more, after.heard)
     → ((steps : List Step) → IsAt before.config steps before.venue
-    → IsAnswered before.form.frames before.config steps more after.venue messages)
-    → fault ≡ None
-    → ((c : Configuration) (steps : List Step) → IsAt c steps after.venue
-    → printed ≡ messages ++ done_mark after.form c steps k)
-    → after.form ≡ before.form → after.config ≡ before.config
-    → Gives form config taken k line after printed fault
-line_done form config taken k line before after messages printed fault more goes spoken spelled done
-    none marked form_same config_same =
+    → AreTold before.config steps more after.venue messages)
+    → fault ≡ None → after.form ≡ before.form → after.config ≡ before.config
+    → Tells form config taken k line after messages fault
+tells_done form config taken k line before after messages fault more goes spoken spelled done none
+    form_same config_same =
     let read = read_as form config taken k line before _ goes spelled in
-    let form_is = form_same ∙ goes.form_is in
     let is_at = subst (λ (v : Configuration). IsAt v taken.steps before.venue) (sym goes.config_is)
     goes.stands in
-    let answered = subst (λ (v : Configuration). IsAnswered before.form.frames v taken.steps more
-    after.venue messages) goes.config_is (done taken.steps is_at) in
-    let in_form = subst (λ (f : LiveForm). IsAnswered f.frames config taken.steps more after.venue
-    messages) goes.form_is answered in
+    let told = subst (λ (v : Configuration). AreTold v taken.steps more after.venue messages)
+    goes.config_is (done taken.steps is_at) in
     let same = any_spoken config taken k line spoken ∙ ap (with_read taken) read in
-    subst (λ (f : Option ProgramFault). Gives form config taken k line after printed f) (sym none)
-    (record {
+    record {
       goes = subst (λ (t : Taken). Goes form config t after) (sym same) (record {
-        form_is = form_is;
+        form_is = form_same ∙ goes.form_is;
         config_is = config_same ∙ goes.config_is;
-        stands = in_form.stands;
+        stands = told.stands;
         heard_is = refl;
       });
-      printed_is = marked config (taken.steps ++ more) in_form.stands
-          ∙ ap (λ (f : LiveForm). messages ++ done_mark f config (taken.steps ++ more) k) form_is
-          ∙ ap (λ (l : List ℕ). l ++ done_mark form config (taken.steps ++ more) k)
-          (answer_is form.frames config taken.steps more after.venue messages in_form)
-          ∙ ap (read_text form config taken k) (sym read)
-          ∙ sym (text_spoken config taken k line form spoken);
-      told = ap (λ (t : Taken). t.faults) same ∙ sym (append-nil taken.faults);
-    })
+      told_is = ap (λ (t : Taken). live_messages config t.steps) same ∙ told.told_is;
+      fault_is = none ∙ ap fault_in (sym read)
+          ∙ sym (fault_spoken (values_of config) taken k line spoken);
+    }
 
-pub line_refused : (form : LiveForm) (config : Configuration) (taken : Taken) (k : ℕ)
-    (line : List ℕ) (before after : LiveDay) (what : ProgramFault) (printed : List ℕ)
+pub tells_refused : (form : LiveForm) (config : Configuration) (taken : Taken) (k : ℕ)
+    (line : List ℕ) (before after : LiveDay) (what : ProgramFault) (messages : List Sent)
     (fault : Option ProgramFault) → Goes form config taken before → is_skipped line ≡ false
     → live_steps_of (values_of before.config) before.heard k line ≡ Err what
-    → fault ≡ Some what → printed ≡ fault_mark before.form k what
+    → fault ≡ Some what → messages ≡ []
     → after.form ≡ before.form → after.config ≡ before.config → after.venue ≡ before.venue
-    → after.heard ≡ before.heard → Gives form config taken k line after printed fault
-line_refused form config taken k line before after what printed fault goes spoken spelled told marked
-    form_same config_same venue_same heard_same =
+    → after.heard ≡ before.heard → Tells form config taken k line after messages fault
+tells_refused form config taken k line before after what messages fault goes spoken spelled told
+    empty form_same config_same venue_same heard_same =
     let read = read_as form config taken k line before _ goes spelled in
     let same = any_spoken config taken k line spoken ∙ ap (with_read taken) read in
-    subst (λ (f : Option ProgramFault). Gives form config taken k line after printed f) (sym told)
-    (record {
+    record {
       goes = subst (λ (t : Taken). Goes form config t after) (sym same) (record {
         form_is = form_same ∙ goes.form_is;
         config_is = config_same ∙ goes.config_is;
         stands = subst (λ (v : LiveVenue). IsAt config taken.steps v) (sym venue_same) goes.stands;
         heard_is = heard_same ∙ goes.heard_is;
       });
-      printed_is = marked ∙ ap (λ (f : LiveForm). fault_mark f k what) goes.form_is
-          ∙ ap (read_text form config taken k) (sym read)
-          ∙ sym (text_spoken config taken k line form spoken);
-      told = ap (λ (t : Taken). t.faults) same;
-    })
+      told_is = ap (λ (t : Taken). live_messages config t.steps) same
+          ∙ sym (append-nil (live_messages config taken.steps))
+          ∙ ap (λ (l : List Sent). live_messages config taken.steps ++ l) (sym empty);
+      fault_is = told ∙ ap fault_in (sym read)
+          ∙ sym (fault_spoken (values_of config) taken k line spoken);
+    }
+
+-- What was told of a line, as it is printed.
+
+module _ (form : LiveForm) (config : Configuration) (taken : Taken) (k : ℕ) (line : List ℕ)
+    (messages : List Sent) where
+  read_told : (read : Read)
+      → live_messages config (with_read taken read).steps
+      ≡ live_messages config taken.steps ++ messages
+      → told_text form config (with_read taken read).steps k messages (fault_in read)
+      ≡ read_text form config taken k read
+  read_told (Ok read) told =
+      ap (λ (l : List Sent). sent_text form.frames config l
+      ++ done_mark form config (taken.steps ++ read.0) k)
+      (behind_is (live_messages config taken.steps) messages
+      (gained_messages config taken.steps read.0) (live_messages config (taken.steps ++ read.0)) told
+      (gained_is config taken.steps read.0))
+  read_told (Err fault) told = refl
+
+  pub text_told : live_messages config (with_any_line (values_of config) taken (k, line)).steps
+      ≡ live_messages config taken.steps ++ messages
+      → told_text form config (with_any_line (values_of config) taken (k, line)).steps k messages
+      (line_fault (values_of config) taken (k, line)) ≡ line_text form config taken k line
+  text_told told =
+      elim (cases_Bool (is_skipped line)) [
+        | inl skipped ↦
+            (let same = any_skipped config taken k line skipped in
+            let front = live_messages config taken.steps in
+            let empty = behind_is front messages [] front
+            (ap (λ (t : Taken). live_messages config t.steps) (sym same) ∙ told)
+            (sym (append-nil front)) in
+            ap₂ (λ (t : Taken) (f : Option ProgramFault). told_text form config t.steps k messages f)
+            same (fault_skipped (values_of config) taken k line skipped)
+            ∙ ap (λ (l : List Sent). sent_text form.frames config l
+            ++ done_mark form config taken.steps k) empty
+            ∙ sym (text_skipped config taken k line form skipped))
+        | inr spoken ↦
+            (let read = live_steps_of (values_of config) taken.heard k line in
+            let same = any_spoken config taken k line spoken in
+            ap₂ (λ (t : Taken) (f : Option ProgramFault). told_text form config t.steps k messages f)
+            same (fault_spoken (values_of config) taken k line spoken)
+            ∙ read_told read (ap (λ (t : Taken). live_messages config t.steps) (sym same) ∙ told)
+            ∙ sym (text_spoken config taken k line form spoken))
+      ]
+
+read_faults : (taken : Taken) (read : Read)
+    → (with_read taken read).faults ≡ taken.faults ++ option_to_list (fault_in read)
+read_faults taken (Ok read) = sym (append-nil taken.faults)
+read_faults taken (Err fault) = refl
+
+pub faults_told : (config : Configuration) (taken : Taken) (k : ℕ) (line : List ℕ)
+    → (with_any_line (values_of config) taken (k, line)).faults
+    ≡ taken.faults ++ option_to_list (line_fault (values_of config) taken (k, line))
+faults_told config taken k line =
+    elim (cases_Bool (is_skipped line)) [
+      | inl skipped ↦
+          ap (λ (t : Taken). t.faults) (any_skipped config taken k line skipped)
+          ∙ sym (append-nil taken.faults)
+          ∙ ap (λ (f : Option ProgramFault). taken.faults ++ option_to_list f)
+          (sym (fault_skipped (values_of config) taken k line skipped))
+      | inr spoken ↦
+          ap (λ (t : Taken). t.faults) (any_spoken config taken k line spoken)
+          ∙ read_faults taken (live_steps_of (values_of config) taken.heard k line)
+          ∙ ap (λ (f : Option ProgramFault). taken.faults ++ option_to_list f)
+          (sym (fault_spoken (values_of config) taken k line spoken))
+    ]
+
+pub gives : (form : LiveForm) (config : Configuration) (taken : Taken) (k : ℕ) (line : List ℕ)
+    (after : LiveDay) (messages : List Sent) (told fault : Option ProgramFault) (printed : List ℕ)
+    → Tells form config taken k line after messages told → fault ≡ told
+    → ((steps : List Step) → IsAt after.config steps after.venue
+    → printed ≡ told_text after.form after.config steps k messages told)
+    → Gives form config taken k line after printed fault
+gives form config taken k line after messages told fault printed tells same printed_is =
+    let then = with_any_line (values_of config) taken (k, line) in
+    let is_at = subst (λ (v : Configuration). IsAt v then.steps after.venue)
+    (sym tells.goes.config_is) tells.goes.stands in
+    record {
+      goes = tells.goes;
+      printed_is = printed_is then.steps is_at
+          ∙ ap₂ (λ (f : LiveForm) (v : Configuration). told_text f v then.steps k messages told)
+          tells.goes.form_is tells.goes.config_is
+          ∙ ap (told_text form config then.steps k messages) tells.fault_is
+          ∙ text_told form config taken k line messages tells.told_is;
+      told = faults_told config taken k line
+          ∙ ap (λ (f : Option ProgramFault). taken.faults ++ option_to_list f)
+          (sym (same ∙ tells.fault_is));
+    }
 
 -- what three clauses say of a result
 pub all_ok : {A E : Type 0} (r : Result A E) (P Q R S : A → Type 0) → IfOk r P → IfOk r Q → IfOk r R
@@ -227,7 +295,7 @@ all_ok (Err e) P Q R S p q r f = tt
 -- All lines.
 
 -- lines that are skipped bring nothing
-any_lines : (config : ConfigValues) (taken : Taken) (k : ℕ) (lines : List (List ℕ))
+pub any_lines : (config : ConfigValues) (taken : Taken) (k : ℕ) (lines : List (List ℕ))
     → fold (with_any_line config) taken (numbered_from k lines)
     ≡ fold (with_line config) taken (spoken_from k lines)
 any_lines config taken k [] = refl

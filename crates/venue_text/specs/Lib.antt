@@ -9,6 +9,8 @@ pub mod DueCuts
 pub mod DueLines
 pub mod DueText
 pub mod Faults
+pub mod FirmLines
+pub mod KeptDays
 pub mod Lines
 pub mod LiveAnswers
 pub mod LiveInput
@@ -16,6 +18,7 @@ pub mod LiveLines
 pub mod MessageLines
 pub mod OptionSteps
 pub mod PartReading
+pub mod ReadBack
 pub mod RecordText
 pub mod ReplayText
 pub mod ResultSteps

@@ -1,22 +1,22 @@
 -- Where a day that goes on stands, and what a line gives.
-use Rattle.std.specs.Prelude.{◌≡◌, ℕ, Bool, List, ◌++◌, Option, Ok}
+use Rattle.std.specs.Prelude.{◌≡◌, ℕ, List, ◌++◌, Option, Ok}
 use Rattle.std.specs.Option.{option_to_list}
 use Rattle.venue_config.specs.Rows.{Configuration, values_of}
+use Rattle.step_replay.specs.LiveDays.{Sent, live_messages}
 use Rattle.step_replay.specs.LiveStanding.{IsAt}
 use Rattle.step_replay.specs.declared.live.LiveVenue.{LiveVenue}
 use Rattle.step_replay.specs.declared.steps.Step.{Step}
-use Rattle.venue_text.specs.LiveLines.{Taken, line_text, live_text, nothing_taken, with_any_line}
+use Rattle.venue_text.specs.LiveLines.{Taken, line_fault, line_text, nothing_taken, with_any_line}
 use Rattle.venue_text.specs.VenueParts.{venue_of}
 use Rattle.venue_text.specs.declared.faults.ProgramFault.{ProgramFault}
 use Rattle.venue_text.specs.declared.live_form.LiveForm.{LiveForm}
 use Rattle.venue_text.specs.declared.live_lines.LiveDay.{LiveDay}
 
--- what more steps bring: the venue stands behind them, and their messages were printed
-pub record IsAnswered (with_frames : Bool) (config : Configuration) (taken more : List Step)
-    (after : LiveVenue) (answer : List ℕ) : Type 0 where
+-- what more steps bring: the venue stands behind them, and their messages were told
+pub record AreTold (config : Configuration) (taken more : List Step) (after : LiveVenue)
+    (told : List Sent) : Type 0 where
   pub stands : IsAt config (taken ++ more) after
-  pub printed : live_text with_frames config (taken ++ more)
-      ≡ live_text with_frames config taken ++ answer
+  pub told_is : live_messages config (taken ++ more) ≡ live_messages config taken ++ told
 
 -- A day of this form and configuration stands where lines have brought it. It is for callers, who
 -- need not know what it is made of.
@@ -43,3 +43,12 @@ pub record Gives (form : LiveForm) (config : Configuration) (taken : Taken) (k :
   pub printed_is : printed ≡ line_text form config taken k line
   pub told : (with_any_line (values_of config) taken (k, line)).faults
       ≡ taken.faults ++ option_to_list fault
+
+-- What the line with this number brings, before it is printed.
+pub record Tells (form : LiveForm) (config : Configuration) (taken : Taken) (k : ℕ)
+    (line : List ℕ) (after : LiveDay) (messages : List Sent) (fault : Option ProgramFault)
+    : Type 0 where
+  pub goes : Goes form config (with_any_line (values_of config) taken (k, line)) after
+  pub told_is : live_messages config (with_any_line (values_of config) taken (k, line)).steps
+      ≡ live_messages config taken.steps ++ messages
+  pub fault_is : fault ≡ line_fault (values_of config) taken (k, line)

@@ -53,6 +53,16 @@ abbrev pub with_any_line : ConfigValues → Taken → ℕ × List ℕ → Taken
 with_any_line config taken line =
     if is_skipped line.1 then taken else with_line config taken line
 
+-- the fault of a line, if it has one
+abbrev pub fault_in : Read → Option ProgramFault
+fault_in (Ok read) = None
+fault_in (Err fault) = Some fault
+
+abbrev pub line_fault : ConfigValues → Taken → ℕ × List ℕ → Option ProgramFault
+line_fault config taken line =
+    if is_skipped line.1 then None
+    else fault_in (live_steps_of config taken.heard line.0 line.1)
+
 -- Messages.
 
 -- the line of a message, of the firm that it was sent to
@@ -127,3 +137,10 @@ unfoldable pub line_text : LiveForm → Configuration → Taken → ℕ → List
 line_text form config taken k line =
     if is_skipped line then done_mark form config taken.steps k
     else read_text form config taken k (live_steps_of (values_of config) taken.heard k line)
+
+-- by what was told of it: its messages and its mark, or the mark of its fault
+abbrev pub told_text : LiveForm → Configuration → List Step → ℕ → List Sent → Option ProgramFault
+    → List ℕ
+told_text form config steps k messages None =
+    sent_text form.frames config messages ++ done_mark form config steps k
+told_text form config steps k messages (Some fault) = fault_mark form k fault

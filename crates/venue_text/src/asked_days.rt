@@ -95,7 +95,10 @@ pub(crate) fn read_open_day(
 }
 
 /// The number of the firm that an argument names, if there is an argument.
-fn asked_firms(venue: &VenueConfig, name: Option<&[u8]>) -> Result<Option<u16>, ProgramFault>
+pub(crate) fn asked_firms(
+    venue: &VenueConfig,
+    name: Option<&[u8]>,
+) -> Result<Option<u16>, ProgramFault>
     ensures { result ≡ spec.firms_by (option_copied name.entry) (values_of venue.now) }
 {
     let Some(name) = name else {

@@ -1,5 +1,5 @@
 //! A day that is read line by line, and what is printed for each line.
-ghost use Rattle.std.specs.Prelude.{◌≡◌, ◌≢◌, ◌++◌, List, Bool};
+ghost use Rattle.std.specs.Prelude.{◌≡◌, ◌≢◌, ◌++◌, [], List};
 ghost use Rattle.std.specs.Prelude.{Ok, Err, Some, None, IfOk, IfErr, OnOk};
 ghost use Rattle.step_replay.specs.LiveStanding.{IsAt};
 ghost use Rattle.step_replay.specs.declared.steps.Step.{Step};
@@ -27,7 +27,16 @@ use std::alloc::{AllocError, Global};
 use step_replay::{LiveVenue, SentTo, Step};
 use venue_config::VenueConfig;
 
-/// What a line gives.
+/// What a line brings.
+#[derive(Drop)]
+pub struct LineTold {
+    /// The messages that are sent in its steps, in their order.
+    pub messages: Vec<SentTo>,
+    /// What is wrong with it, if it is at fault.
+    pub fault: Option<ProgramFault>,
+}
+
+/// What is printed of a line.
 #[derive(Drop)]
 pub struct LineAnswer {
     /// What is printed for it: its messages, and its mark.
@@ -68,61 +77,80 @@ impl LiveDay {
     }
 
     /// The line with this number comes: its steps are done, each with all duties that it leaves,
-    /// and the messages that are sent for them are printed, a line each in their order, and behind
-    /// them the line's mark where the form has marks. A line at fault ([`ProgramFault::Form`],
-    /// [`ProgramFault::UnknownFirm`], [`ProgramFault::UnknownRoom`] or [`ProgramFault::Stream`])
-    /// changes nothing, and the day goes on; so does an empty line or a comment. After an error it
-    /// can't: memory was refused, or the firm has said 10^15 lines.
+    /// and the messages that are sent for them are told, in their order. A line at fault
+    /// ([`ProgramFault::Form`], [`ProgramFault::UnknownFirm`], [`ProgramFault::UnknownRoom`] or
+    /// [`ProgramFault::Stream`]) changes nothing, and the day goes on; so does an empty line or a
+    /// comment. After an error it can't: memory was refused, or the firm has said 10^15 lines.
+    pub fn tell(&mut self, alloc: Global, line: usize, text: &[u8]) -> Result<LineTold, Memory>
+        ensures { IfOk result (λ told. (form : LiveForm) (config : Configuration)
+            (taken : Taken) → spec.Goes form config taken self.old
+            → spec.Tells form config taken line text.now self.new told.messages.items
+            told.fault) }
+    {
+        if is_skipped(text) {
+            return Ok(LineTold {
+                messages: Vec::new(alloc),
+                fault: None,
+            });
+        }
+        let spelled = match read_live_line(alloc, &self.config, &mut self.heard, line, text) {
+            Ok(spelled) => spelled,
+            Err(fault) => return refused(alloc, fault),
+        };
+        let messages = done(alloc, &self.config, &mut self.venue, spelled)?;
+        Ok(LineTold {
+            messages,
+            fault: None,
+        })
+    }
+
+    /// The same, and the messages are printed, a line each, and behind them the line's mark where
+    /// the form has marks; of a line at fault its mark alone.
     pub fn answer(&mut self, alloc: Global, line: usize, text: &[u8]) -> Result<LineAnswer, Memory>
         ensures { IfOk result (λ answer. (form : LiveForm) (config : Configuration)
             (taken : Taken) → spec.Goes form config taken self.old
             → spec.Gives form config taken line text.now self.new answer.text.items
             answer.fault) }
     {
-        if is_skipped(text) {
-            let answer = self.marked(Vec::new(alloc), line)?;
-            return Ok(answer);
-        }
-        let spelled = match read_live_line(alloc, &self.config, &mut self.heard, line, text) {
-            Ok(spelled) => spelled,
-            Err(fault) => return refused(alloc, self.form, line, fault),
-        };
-        let frames = self.form.frames;
-        let messages = done(alloc, frames, &self.config, &mut self.venue, spelled)?;
-        let answer = self.marked(messages, line)?;
+        let told = self.tell(alloc, line, text)?;
+        let answer = self.printed(alloc, line, &told)?;
         Ok(answer)
     }
 
-    /// The messages of the line with this number, and its mark behind them.
-    fn marked(&self, messages: Vec<u8>, line: usize) -> Result<LineAnswer, Memory>
-        ensures none { IfOk result (λ answer. answer.fault ≡ None) }
-        ensures text { IfOk result (λ answer. (config : Configuration) (steps : List Step)
-            → IsAt config steps self.now.venue → answer.text.items
-            ≡ messages.items ++ lines.done_mark self.now.form config steps line) }
+    /// The text of what was told of the line with this number.
+    fn printed(&self, alloc: Global, line: usize, told: &LineTold) -> Result<LineAnswer, Memory>
+        ensures fault { IfOk result (λ answer. answer.fault ≡ told.now.fault) }
+        ensures text { IfOk result (λ answer. (steps : List Step)
+            → IsAt self.now.config steps self.now.venue → answer.text.items
+            ≡ lines.told_text self.now.form self.now.config steps line told.now.messages.items
+            told.now.fault) }
     {
-        let mut text = messages;
-        push_done_mark(&mut text, self.form, line, self.venue.next_deadline())?;
-        Ok(LineAnswer { text, fault: None })
+        let Some(fault) = &told.fault else {
+            let mut text = Vec::new(alloc);
+            let messages = told.messages.as_slice();
+            push_sent(&mut text, self.form.frames, &self.config, messages)?;
+            push_done_mark(&mut text, self.form, line, self.venue.next_deadline())?;
+            return Ok(LineAnswer { text, fault: None });
+        };
+        let text = fault_mark(alloc, self.form, line, fault)?;
+        Ok(LineAnswer {
+            text,
+            fault: Some(*fault),
+        })
     }
 }
 
-/// What is printed of a line at fault: its mark alone.
-fn refused(
-    alloc: Global,
-    form: LiveForm,
-    line: usize,
-    fault: ProgramFault,
-) -> Result<LineAnswer, Memory>
-    ensures told { IfOk result (λ answer. answer.fault ≡ Some fault) }
-    ensures text { IfOk result (λ answer. answer.text.items ≡ lines.fault_mark form line fault) }
+/// What is told of a line at fault: nothing is sent.
+fn refused(alloc: Global, fault: ProgramFault) -> Result<LineTold, Memory>
+    ensures told { IfOk result (λ told. told.fault ≡ Some fault) }
+    ensures none { IfOk result (λ told. told.messages.items ≡ []) }
     ensures other { IfOk result (λ _. fault ≢ ProgramFault.Memory) }
 {
     if matches!(fault, ProgramFault::Memory) {
         return Err(AllocError);
     }
-    let text = fault_mark(alloc, form, line, &fault)?;
-    Ok(LineAnswer {
-        text,
+    Ok(LineTold {
+        messages: Vec::new(alloc),
         fault: Some(fault),
     })
 }
@@ -152,87 +180,81 @@ fn read_live_line(
     Ok(spelled)
 }
 
-/// What a line spells is done, and the messages that are sent for it are printed. Its steps name
-/// what the venue has. A sweep of every room looks at those alone that are due.
+/// What a line spells is done, and the messages that are sent for it are told. Its steps name what
+/// the venue has. A sweep of every room looks at those alone that are due.
 fn done(
     alloc: Global,
-    with_frames: bool,
     config: &VenueConfig,
     venue: &mut LiveVenue,
     spelled: Spelled,
-) -> Result<Vec<u8>, Memory>
-    ensures { IfOk result (λ text. (taken : List Step) → IsAt config.now taken venue.old
-        → spec.IsAnswered with_frames config.now taken (steps_in (values_of config.now) spelled)
-        venue.new text.items) }
+) -> Result<Vec<SentTo>, Memory>
+    ensures { IfOk result (λ told. (taken : List Step) → IsAt config.now taken venue.old
+        → spec.AreTold config.now taken (steps_in (values_of config.now) spelled) venue.new
+        told.items) }
 {
     match spelled {
         Spelled::Sweeps(moment) => {
-            let text = swept(alloc, with_frames, config, venue, moment)?;
-            Ok(text)
+            let told = swept(alloc, config, venue, moment)?;
+            Ok(told)
         }
         other => {
-            let text = stepped(alloc, with_frames, config, venue, other)?;
-            Ok(text)
+            let told = stepped(alloc, config, venue, other)?;
+            Ok(told)
         }
     }
 }
 
-/// A sweep of every room is done, and the messages that are sent for it are printed.
+/// A sweep of every room is done.
 fn swept(
     alloc: Global,
-    with_frames: bool,
     config: &VenueConfig,
     venue: &mut LiveVenue,
     moment: Moment,
-) -> Result<Vec<u8>, Memory>
-    ensures { IfOk result (λ text. (taken : List Step) → IsAt config.now taken venue.old
-        → spec.IsAnswered with_frames config.now taken
-        (sweeps_at moment (venue_rooms (values_of config.now))) venue.new text.items) }
+) -> Result<Vec<SentTo>, Memory>
+    ensures { IfOk result (λ told. (taken : List Step) → IsAt config.now taken venue.old
+        → spec.AreTold config.now taken (sweeps_at moment (venue_rooms (values_of config.now)))
+        venue.new told.items) }
 {
+    let _ = config;
     let told = venue.sweep(alloc, moment)?;
-    let mut text = Vec::new(alloc);
-    push_sent(&mut text, with_frames, config, told.as_slice())?;
-    Ok(text)
+    Ok(told)
 }
 
 /// The steps of a line are done, one behind the other.
 fn stepped(
     alloc: Global,
-    with_frames: bool,
     config: &VenueConfig,
     venue: &mut LiveVenue,
     spelled: Spelled,
-) -> Result<Vec<u8>, Memory>
-    ensures { IfOk result (λ text. (taken : List Step) → IsAt config.now taken venue.old
-        → spec.IsAnswered with_frames config.now taken (steps_in (values_of config.now) spelled)
-        venue.new text.items) }
+) -> Result<Vec<SentTo>, Memory>
+    ensures { IfOk result (λ told. (taken : List Step) → IsAt config.now taken venue.old
+        → spec.AreTold config.now taken (steps_in (values_of config.now) spelled) venue.new
+        told.items) }
 {
     let mut steps = Vec::new(alloc);
     push_steps(config, &mut steps, spelled)?;
-    let text = answered(alloc, with_frames, config, venue, steps.as_slice())?;
-    Ok(text)
+    let told = taken_all(alloc, config, venue, steps.as_slice())?;
+    Ok(told)
 }
 
-/// Steps are done, each with all duties that it leaves, and the messages that are sent for them are
-/// the answer. Each step names what the venue has.
-fn answered(
+/// Steps are done, each with all duties that it leaves. Each step names what the venue has.
+fn taken_all(
     alloc: Global,
-    with_frames: bool,
     config: &VenueConfig,
     venue: &mut LiveVenue,
     steps: &[Step],
-) -> Result<Vec<u8>, Memory>
-    ensures { IfOk result (λ text. (taken : List Step) → IsAt config.now taken venue.old
-        → spec.IsAnswered with_frames config.now taken steps.now venue.new text.items) }
+) -> Result<Vec<SentTo>, Memory>
+    ensures { IfOk result (λ told. (taken : List Step) → IsAt config.now taken venue.old
+        → spec.AreTold config.now taken steps.now venue.new told.items) }
 {
-    let mut text = Vec::new(alloc);
+    let mut told = Vec::new(alloc);
     for step in steps {
-        let Ok(sent) = venue.take(alloc, config, step) else {
+        let Ok(mut sent) = venue.take(alloc, config, step) else {
             return Err(AllocError);
         };
-        push_sent(&mut text, with_frames, config, sent.as_slice())?;
+        told.append(&mut sent)?;
     }
-    Ok(text)
+    Ok(told)
 }
 
 /// Puts the lines of messages behind a text.

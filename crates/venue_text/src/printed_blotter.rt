@@ -36,7 +36,7 @@ pub fn blotter_command_text(
 }
 
 /// The blotter of the firm with this number.
-fn lines_text(alloc: Global, world: &World, firm: u16) -> Result<String, Memory>
+pub(crate) fn lines_text(alloc: Global, world: &World, firm: u16) -> Result<String, Memory>
     ensures { IfOk result (λ text. string_bytes text
         ≡ spec.blotter_of (slice_get world.now firm)) }
 {

@@ -39,7 +39,7 @@ pub fn due_command_text(alloc: Global, dealer: &[u8], input: &[u8]) -> Result<Ve
 }
 
 /// Due text of a date, a dealer and a list.
-fn written_text(
+pub(crate) fn written_text(
     alloc: Global,
     date: &Date,
     row: &DealerRow,

@@ -44,7 +44,7 @@ pub fn replay_text(
 }
 
 /// The messages of the firms that are asked for.
-fn days_text(
+pub(crate) fn days_text(
     alloc: Global,
     with_frames: bool,
     venue: &VenueConfig,

@@ -1,0 +1,8 @@
+use Rattle.step_replay.specs.LiveDays.{live_trail}
+use Rattle.step_replay.proofs.WorldLemmas.{days_stand}
+use Rattle.step_replay.proofs.live.LiveVenue.into_world.Goals as goal
+
+pub returns : goal.returns
+returns c config steps at =
+    days_stand config (live_trail config steps).facts c.args.self.replay.floor
+    at.stands.replay_stands.floor_stands

@@ -1,0 +1,166 @@
+//! A day that comes line by line, and of which something is printed at its end.
+ghost use Rattle.std.specs.Prelude.{◌≡◌, ◌≢◌, List, Err, IfOk, IfErr};
+ghost use Rattle.step_replay.specs.LiveStanding.{IsAt};
+ghost use Rattle.step_replay.specs.declared.steps.Step.{Step};
+ghost use Rattle.venue_config.specs.Rows.{Configuration, values_of};
+ghost use Rattle.venue_text.specs.KeptDays as spec;
+ghost use Rattle.venue_text.specs.LiveLines.{Taken};
+
+use crate::asked_days::asked_firms;
+use crate::faults::ProgramFault;
+use crate::live_form::LiveForm;
+use crate::live_lines::LiveDay;
+use crate::printed_blotter::lines_text;
+use crate::printed_due::written_text;
+use crate::printed_replay::days_text;
+use crate::venue_parts::{asked_dealer, asked_firm};
+use fix_fields::Memory;
+use std::alloc::Global;
+use venue_config::VenueConfig;
+
+/// What is asked for at the end of a day.
+#[derive(Clone, Copy)]
+pub enum Wanted<'a> {
+    /// The messages of all firms, or of the firm with this name, as whole frames or as lines.
+    Messages(Option<&'a [u8]>, bool),
+    /// What was due to the dealer with this name, as due text.
+    Due(&'a [u8]),
+    /// The blotter of the firm with this name.
+    Blotter(&'a [u8]),
+}
+
+/// The same, by the numbers of the firms.
+#[derive(Clone, Copy)]
+pub(crate) enum Asked {
+    /// The messages of all firms or of one, as whole frames or as lines.
+    Messages(Option<u16>, bool),
+    /// What was due to a dealer.
+    Due(u16),
+    /// The blotter of a firm.
+    Blotter(u16),
+}
+
+/// A day of a venue, line by line, and what is asked for at its end.
+#[derive(Drop)]
+pub struct KeptDay {
+    pub(crate) day: LiveDay,
+    pub(crate) asked: Asked,
+}
+
+impl KeptDay {
+    /// The day of the venue that a configuration spells, before its first line of steps; or the
+    /// first fault: one of the configuration, or [`ProgramFault::Firm`]. Memory may be refused at
+    /// any point.
+    pub fn open(alloc: Global, wanted: Wanted<'_>, text: &[u8]) -> Result<Self, ProgramFault>
+        ensures ok { IfOk result (spec.OpensKept (spec.meant wanted.entry) text.now) }
+        ensures err { IfErr result (λ fault. fault ≢ ProgramFault.Memory
+            → spec.asked_venue (spec.meant wanted.entry) text.now ≡ Err fault) }
+        ensures unwritten { IfErr result (λ fault. fault ≢ ProgramFault.Write) }
+    {
+        let form = LiveForm {
+            frames: false,
+            marks: false,
+        };
+        let day = LiveDay::open(alloc, form, text)?;
+        let asked = asked_of(&day.config, wanted)?;
+        Ok(KeptDay { day, asked })
+    }
+
+    /// The line with this number comes, and is taken. Its fault is answered, if it has one, and then
+    /// it brings nothing else. After an error the day can't go on.
+    pub fn take(
+        &mut self,
+        alloc: Global,
+        line: usize,
+        text: &[u8],
+    ) -> Result<Option<ProgramFault>, Memory>
+        ensures { IfOk result (λ fault. (config : Configuration) (wanted : spec.Wanted)
+            (taken : Taken) → spec.Keeps wanted config taken self.old
+            → spec.KeepsMore wanted config taken line text.now self.new fault) }
+    {
+        let told = self.day.tell(alloc, line, text)?;
+        Ok(told.fault)
+    }
+
+    /// What is asked for, at the end of the day.
+    pub fn into_text(self, alloc: Global) -> Result<Vec<u8>, Memory>
+        ensures { IfOk result (λ text. (config : Configuration) (wanted : spec.Wanted)
+            (taken : Taken) → spec.Keeps wanted config taken self
+            → text.items ≡ spec.kept_text wanted config taken.steps) }
+    {
+        match self.asked {
+            Asked::Messages(only, frames) => {
+                let text = messages_of(alloc, self.day, only, frames)?;
+                Ok(text)
+            }
+            Asked::Due(dealer) => {
+                let text = due_text_of(alloc, &self.day, dealer)?;
+                Ok(text)
+            }
+            Asked::Blotter(firm) => {
+                let text = blotter_of(alloc, self.day, firm)?;
+                Ok(text)
+            }
+        }
+    }
+}
+
+/// What is asked for in a venue, by the numbers of its firms; or [`ProgramFault::Firm`].
+fn asked_of(config: &VenueConfig, wanted: Wanted<'_>) -> Result<Asked, ProgramFault>
+    ensures is { result ≡ spec.asked_in (spec.meant wanted.entry) (values_of config.now) }
+    ensures unwritten { IfErr result (λ fault. fault ≢ ProgramFault.Write) }
+{
+    match wanted {
+        Wanted::Messages(name, frames) => {
+            let only = asked_firms(config, name)?;
+            Ok(Asked::Messages(only, frames))
+        }
+        Wanted::Due(name) => {
+            let dealer = asked_dealer(config, name)?;
+            Ok(Asked::Due(dealer))
+        }
+        Wanted::Blotter(name) => {
+            let firm = asked_firm(config, name)?;
+            Ok(Asked::Blotter(firm))
+        }
+    }
+}
+
+/// The messages of a day's firms, or of one.
+fn messages_of(
+    alloc: Global,
+    day: LiveDay,
+    only: Option<u16>,
+    frames: bool,
+) -> Result<Vec<u8>, Memory>
+    ensures { IfOk result (λ text. (steps : List Step) → IsAt day.config steps day.venue
+        → text.items ≡ spec.text_of_asked day.config steps (Asked.Messages only frames)) }
+{
+    let LiveDay { config, venue, .. } = day;
+    let world = venue.into_world();
+    let text = days_text(alloc, frames, &config, &world, only)?;
+    Ok(text)
+}
+
+/// What was due to a dealer, as due text: nothing where no dealer has this number.
+fn due_text_of(alloc: Global, day: &LiveDay, dealer: u16) -> Result<Vec<u8>, Memory>
+    ensures { IfOk result (λ text. (steps : List Step) → IsAt day.now.config steps day.now.venue
+        → text.items ≡ spec.text_of_asked day.now.config steps (Asked.Due dealer)) }
+{
+    let Some(row) = day.config.dealer(dealer) else {
+        return Ok(Vec::new(alloc));
+    };
+    let dues = day.venue.due(alloc, dealer)?;
+    let text = written_text(alloc, day.config.date(), row, dues.as_slice())?;
+    Ok(text)
+}
+
+/// The blotter of a firm.
+fn blotter_of(alloc: Global, day: LiveDay, firm: u16) -> Result<Vec<u8>, Memory>
+    ensures { IfOk result (λ text. (steps : List Step) → IsAt day.config steps day.venue
+        → text.items ≡ spec.text_of_asked day.config steps (Asked.Blotter firm)) }
+{
+    let world = day.venue.into_world();
+    let text = lines_text(alloc, &world, firm)?;
+    Ok(text.into_bytes())
+}
