@@ -7,7 +7,7 @@ from dataclasses import dataclass, field
 from pathlib import Path
 
 from frames import SOH, read_fields
-from wait import until
+from wait import LONG, until
 
 SESSION_TAGS = (8, 9, 10, 35, 49, 56, 34, 52, 43, 97, 122)  # of the frame and the session's header
 VENUE_NUMBER, VENUE_MOMENT = 1181, 60
@@ -183,10 +183,10 @@ class Firm:
         self.look()
         return self.is_on
 
-    def wait_on(self, limit: float = 20) -> None:
+    def wait_on(self, limit: float = LONG) -> None:
         until("%s logs on" % self.name, limit, self.logged_on)
 
-    def wait_sent(self, name: str, limit: float = 10) -> int:
+    def wait_sent(self, name: str, limit: float = LONG) -> int:
         def done() -> bool:
             self.look()
             return name in self.sent or name in self.refused
@@ -201,7 +201,7 @@ class Firm:
         self.look()
         self._close()
 
-    def stop(self, limit: float = 20) -> None:
+    def stop(self, limit: float = LONG) -> None:
         self.order("quit")
         self.process.wait(limit)
         self.look()

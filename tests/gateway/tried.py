@@ -1,7 +1,7 @@
 #!/usr/bin/env python3
 """Puts faults in by hand and looks whether what happens is what docs/CONNECTING.md says.
 
-usage: tried.py GATEWAY PLAYER SHIM [--only WORD] [--quick] [--keep FOLDER] [--jobs N] -- VENUE WORDS ..
+usage: tried.py GATEWAY PLAYER SHIM [--only WORD] [--quick] [--sanitized] [--keep FOLDER] [--jobs N] -- VENUE WORDS ..
 """
 
 import argparse
@@ -64,6 +64,7 @@ def read_words() -> argparse.Namespace:
         parser.add_argument(name, type=Path)
     parser.add_argument("--only", default="", help="tests with this word in their names alone")
     parser.add_argument("--quick", action="store_true", help="the disk is full at a few commits alone")
+    parser.add_argument("--sanitized", action="store_true", help="the gateway has a sanitizer: its memory is not measured")
     parser.add_argument("--keep", type=Path, help="where the files of tests that fail are put")
     parser.add_argument("--jobs", type=int, default=1, help="how many tests are done at one time")
     parser.add_argument("venue", nargs="+")
@@ -73,7 +74,7 @@ def read_words() -> argparse.Namespace:
 def main() -> None:
     words = read_words()
     programs = programs_of(words.gateway, words.venue)
-    tools = Tools(programs, words.player.resolve(), DICTIONARIES, words.shim.resolve())
+    tools = Tools(programs, words.player.resolve(), DICTIONARIES, words.shim.resolve(), not words.sanitized)
     tests = tried_log.TRIED + tried_logon.TRIED + tried_messages.TRIED
     tests += tried_disk.QUICK if words.quick else tried_disk.TRIED
     chosen = [test for test in tests if words.only in test.__name__]

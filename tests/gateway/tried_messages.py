@@ -9,10 +9,11 @@ from held import milliseconds
 from ledger import answers
 from market import moment_in
 from stage import DEALER, Stage, check, quiet
-from wait import until
+from wait import LONG, until
 from wire import Fields, Wire, framed, now
 
 TEXT = 58
+SOON = 25  # seconds: less than the gateway waits at most for a firm that fills a gap
 
 
 def logged(stage: Stage, number: int) -> bytes:
@@ -40,11 +41,11 @@ def every_byte_in_text(stage: Stage) -> None:
                 continue
             text = b"a" + bytes([byte]) + b"z"
             number = stage.say(stage.dealer, "Z", cancel + [(TEXT, text)])
-            until("an entry for the byte %d" % byte, 10, lambda: stage.has_entry(stage.dealer, number))
+            until("an entry for the byte %d" % byte, LONG, lambda: stage.has_entry(stage.dealer, number))
             check(text_of(logged(stage, number)) == text, "58 with the byte %d is %r in the log" % (byte, logged(stage, number)))
 
     quiet(stage, [stage.other, stage.investor], send_all)
-    until("255 answers", 10, lambda: stage.dealer.look() is None and len(stage.dealer.received) >= 255)
+    until("255 answers", LONG, lambda: stage.dealer.look() is None and len(stage.dealer.received) >= 255)
     check({message.value(297) for message in stage.dealer.received} == {b"9"}, "one of 255 cancels is answered otherwise")
     stage.whole()
 
@@ -141,8 +142,8 @@ def reject_for_one_away(stage: Stage) -> None:
     stage.open(*stage.firms)
     number = stage.say(stage.dealer, "Z", [(298, b"4")], trader="T9")
     stage.dealer.kill()
-    until("the message is in the log", 10, lambda: stage.entries_of(stage.dealer) == 1)
-    until("the venue has answered", 10, lambda: len(stage.door.ledger().sent.get("DLR1", [])) == 1)
+    until("the message is in the log", LONG, lambda: stage.entries_of(stage.dealer) == 1)
+    until("the venue has answered", LONG, lambda: len(stage.door.ledger().sent.get("DLR1", [])) == 1)
     stage.auction([stage.other])
     stage.log_on(stage.dealer)
     reject = stage.answer(stage.dealer, "a Reject", lambda message: message.kind == b"3")
@@ -170,7 +171,7 @@ def sent_while_away(stage: Stage) -> None:
     for _ in range(20):
         stage.say(stage.dealer, "Z", [(298, b"5"), (117, stage.name("x"))])
     stage.door.start()
-    until("20 answers", 20, lambda: stage.dealer.look() is None and len(stage.dealer.received) >= 20)
+    until("20 answers", LONG, lambda: stage.dealer.look() is None and len(stage.dealer.received) >= 20)
     stage.whole()
 
 
@@ -180,7 +181,7 @@ def gaps_on_both_sides(stage: Stage) -> None:
     stage.auction()
     stage.dealer.kill()
     stage.ask_of([stage.dealer, stage.other])
-    until("the request is in the log", 10, lambda: len(stage.door.ledger().sent.get("DLR1", [])) == 4)
+    until("the request is in the log", LONG, lambda: len(stage.door.ledger().sent.get("DLR1", [])) == 4)
     stage.door.kill()
     stage.dealer.start()
     names = [stage.name("x") for _ in range(5)]
@@ -189,7 +190,7 @@ def gaps_on_both_sides(stage: Stage) -> None:
     stage.door.start()
     stage.dealer.wait_on()
     for name in names:
-        stage.answer(stage.dealer, "what became of a cancel", lambda message: message.value(117) == name, limit=8)
+        stage.answer(stage.dealer, "what became of a cancel", lambda message: message.value(117) == name, limit=SOON)
     stage.answer(stage.dealer, "a request", lambda message: message.kind == b"R" and message.value(131) == b"R2")
     stage.whole()
 
@@ -199,13 +200,13 @@ def deadline_passes(stage: Stage) -> None:
     stage.open(*stage.firms)
     stage.ask(600)
     stage.ask(1.5)
-    end = stage.answer(stage.investor, "that a request expired", lambda message: message.value(297) == b"7", limit=5)
+    end = stage.answer(stage.investor, "that a request expired", lambda message: message.value(297) == b"7")
     for dealer in (stage.dealer, stage.other):
         stage.answer(dealer, "that a request expired", lambda message: message.value(694) == b"3")
     clocks = [entry for entry in stage.door.ledger().entries if entry.is_clock]
     check(len(clocks) == 1, "%d clock lines" % len(clocks))
     before, after = milliseconds(clocks[0].moment) - milliseconds(stage.deadline), milliseconds(end.value(60)[9:].decode())
-    check(0 <= before < 1000, "the clock line is %d ms behind the deadline" % before)
+    check(0 <= before < 1000 * LONG, "the clock line is %d ms behind the deadline" % before)
     check(after == milliseconds(clocks[0].moment), "60 of the end is %r" % end.value(60))
     stage.whole()
 
@@ -215,7 +216,7 @@ def deadline_while_away(stage: Stage) -> None:
     stage.open(*stage.firms)
     stage.ask(1.5)
     stage.door.kill()
-    until("the deadline has passed", 5, lambda: moment_in(0)[9:].decode() > stage.deadline)
+    until("the deadline has passed", LONG, lambda: moment_in(0)[9:].decode() > stage.deadline)
     stage.door.start()
     stage.answer(stage.investor, "that a request expired", lambda message: message.value(297) == b"7")
     stage.whole()
@@ -369,7 +370,7 @@ def faster_than_the_log(stage: Stage) -> None:
         sender = threading.Thread(target=wire.raw, args=(data,))
         sender.start()
         stage.ping(stage.other)
-        check(wire.read_until(lambda message: message.value(117) == b"c%d" % (count - 1), 60) is not None, "the last is not answered")
+        check(wire.read_until(lambda message: message.value(117) == b"c%d" % (count - 1), 2 * LONG) is not None, "the last is not answered")
         sender.join()
         check(stage.memory() - before < 64 * 2**20, "%d bytes of memory more" % (stage.memory() - before))
     check(stage.entries_of(stage.dealer) == count, "%d of %d are in the log" % (stage.entries_of(stage.dealer), count))
@@ -383,7 +384,7 @@ def longer_than_the_limit(stage: Stage) -> None:
         before = stage.memory()
         wire.raw(b"8=FIXT.1.1\x019=900000000\x0135=Z\x0149=DLR1\x01")
         taken = sum(wire.raw(b"z" * 65536) for _ in range(1024) if not wire.closed_within(0))
-        check(taken < 1024 or wire.closed_within(5), "64 MiB are taken")
+        check(taken < 1024 or wire.closed_within(LONG), "64 MiB are taken")
         check(stage.memory() - before < 24 * 2**20, "%d bytes of memory more" % (stage.memory() - before))
     stage.log_on(stage.dealer)
     stage.ping(stage.other)
