@@ -19,6 +19,7 @@ ROOT = HERE.parent.parent
 sys.dont_write_bytecode = True
 sys.path.insert(0, str(ROOT / "tests" / "model"))
 
+import tried_away
 import tried_disk
 import tried_log
 import tried_logon
@@ -75,7 +76,7 @@ def main() -> None:
     words = read_words()
     programs = programs_of(words.gateway, words.venue)
     tools = Tools(programs, words.player.resolve(), DICTIONARIES, words.shim.resolve(), not words.sanitized)
-    tests = tried_log.TRIED + tried_logon.TRIED + tried_messages.TRIED
+    tests = tried_log.TRIED + tried_logon.TRIED + tried_messages.TRIED + tried_away.TRIED
     tests += tried_disk.QUICK if words.quick else tried_disk.TRIED
     chosen = [test for test in tests if words.only in test.__name__]
     with ThreadPoolExecutor(words.jobs) as jobs:
