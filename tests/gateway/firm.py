@@ -101,6 +101,7 @@ class Firm:
     who: Identity
     more: dict[str, str] = field(default_factory=dict)  # settings of the engine beside the usual ones
     tls: bool = False
+    environment: dict[str, str] = field(default_factory=dict)
     received: list[Received] = field(default_factory=list)  # each message that came, also again
     sent: dict[str, int] = field(default_factory=dict)  # the session number under which a named message is in the store
     refused: dict[str, str] = field(default_factory=dict)
@@ -125,7 +126,8 @@ class Firm:
         settings.write_text(settings_text(self.places, self.who, self.more))
         words = [str(self.places.player), str(settings), str(self.file), self.name, self.who.password]
         self.process = subprocess.Popen(words + ["tls"] * self.tls, stdin=subprocess.PIPE, stdout=subprocess.PIPE,
-                                        stderr=(self.places.folder / (self.name + ".told")).open("ab"))
+                                        stderr=(self.places.folder / (self.name + ".told")).open("ab"),
+                                        env={**os.environ, **self.environment})
         os.set_blocking(self.process.stdout.fileno(), False)
         self.is_on, self._printed = False, b""
 

@@ -26,7 +26,8 @@ trap 'rm -rf "$work"' EXIT
 trap 'exit 143' HUP INT TERM
 g++ -std=c++14 -DHAVE_SSL=1 -O1 -Wall -Wextra -Werror -o "$work/player" "$here/player.cpp" \
     -lquickfix -lpthread -lssl -lcrypto
-g++ -std=c++20 -O1 -shared -fPIC -Wall -Wextra -Werror -o "$work/disk.so" "$here/disk.cpp" -ldl
+g++ -std=c++20 -O1 -shared -fPIC -Wall -Wextra -Werror -o "$work/shim.so" "$here/disk.cpp" "$here/clock.cpp" \
+    -ldl
 
 # The shim of the disk is loaded in front of the sanitizer's library.
 export ASAN_OPTIONS=verify_asan_link_order=0
@@ -56,7 +57,7 @@ for build in $builds; do
     gateway=$root/gateway/out/$build/mireseason-gateway
     part "$build-own" own_tests "$build"
     # shellcheck disable=SC2086 # the words of $keep and $venue
-    part "$build-tried" python3 "$here/tried.py" "$gateway" "$work/player" "$work/disk.so" --quick --sanitized $keep \
+    part "$build-tried" python3 "$here/tried.py" "$gateway" "$work/player" "$work/shim.so" --quick --sanitized $keep \
         --jobs 3 -- $venue
     # shellcheck disable=SC2086
     part "$build-day" python3 "$here/play.py" "$gateway" "$work/player" --days 1 --messages 400 --ends 8 \

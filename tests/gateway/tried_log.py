@@ -4,10 +4,13 @@ import os
 import signal
 import sqlite3
 from collections.abc import Callable
+from datetime import datetime, timedelta, timezone
 
-from door import Door, Programs
+from door import Door, Programs, today
 from stage import Stage, check
 from wait import LONG, until
+
+BEFORE_MIDNIGHT = 20  # seconds
 
 
 def ended_day(stage: Stage) -> None:
@@ -157,6 +160,33 @@ def venue_that_says_something(stage: Stage) -> None:
     check("the last words of a venue" in stage.door.last_words(), "it does not tell the venue's last words")
 
 
+def another_date(stage: Stage) -> None:
+    """A configuration of yesterday is none of today."""
+    stage.door.write()
+    file, yesterday = stage.folder / "venue.toml", datetime.now(timezone.utc) - timedelta(days=1)
+    file.write_text(file.read_text().replace(today(), yesterday.strftime("%Y%m%d")))
+    stage.refused("today")
+
+
+def midnight(stage: Stage) -> None:
+    """At midnight in UTC the sessions are logged out, and the gateway ends well."""
+    now = datetime.now(timezone.utc)
+    end = now.replace(hour=0, minute=0, second=0) + timedelta(days=1)
+    ahead = max(0, int((end - now).total_seconds()) - BEFORE_MIDNIGHT)
+    clock = {"LD_PRELOAD": str(stage.tools.shim), "CLOCK_AHEAD": str(ahead)}
+    stage.door.environment = clock
+    for firm in stage.firms:
+        firm.environment = clock
+        firm.more = {"StartTime": "12:00:01", "EndTime": "12:00:00"}  # so that it does not end at midnight by itself
+    stage.open(*stage.firms)
+    stage.ping(stage.dealer)
+    check(stage.door.wait_end(BEFORE_MIDNIGHT + LONG) == 0, "the gateway ended with another status")
+    check("the day is over" in stage.door.last_words(), "it does not say why: %s" % stage.door.last_words())
+    for firm in stage.firms:
+        until("%s is logged off" % firm.name, LONG, lambda: not firm.logged_on())
+        check(any(message.kind == b"5" for message in firm.admin), "%s was not logged out" % firm.name)
+
+
 def asked_to_end(stage: Stage) -> None:
     """SIGTERM logs the sessions out; at the next start the day goes on."""
     ended_day(stage)
@@ -192,4 +222,4 @@ def venue_that_hangs(stage: Stage) -> None:
 
 
 TRIED = [changed_configuration, entry_taken_out, last_entry_taken_out, byte_of_an_entry, byte_of_sent, another_program,
-         another_log_form, two_gateways, venue_that_ends, venue_that_says_something, venue_that_hangs, asked_to_end, ended_at_once]
+         another_log_form, another_date, midnight, two_gateways, venue_that_ends, venue_that_says_something, venue_that_hangs, asked_to_end, ended_at_once]

@@ -95,6 +95,30 @@ def numbers_are_not_reset(stage: Stage) -> None:
     stage.whole()
 
 
+def reset_as_the_first(stage: Stage) -> None:
+    """141=Y in the first message of the day is an ordinary Logon."""
+    stage.open(stage.other)
+    with Wire(stage.door.port) as wire:
+        wire.logon(DEALER.name.encode(), DEALER.password.encode(), more=[(141, b"Y")])
+        check(wire.read_kind(b"A") is not None, "it is not logged on")
+    stage.ping(stage.other)
+
+
+def heartbeats(stage: Stage) -> None:
+    """108 is 1 to 300."""
+    stage.open(stage.other)
+    for interval in (b"0", b"301", b"-1", b"x"):
+        with Wire(stage.door.port) as wire:
+            wire.logon(DEALER.name.encode(), DEALER.password.encode(), heartbeat=interval)
+            message = wire.read_kind(b"5")
+            check(message is not None and message.value(58), "no Logout with a text for %r" % interval)
+            check(wire.closed_within(SLACK), "the connection stays for %r" % interval)
+    with Wire(stage.door.port) as wire:
+        wire.logon(DEALER.name.encode(), DEALER.password.encode(), heartbeat=b"300")
+        check(wire.read_kind(b"A") is not None, "300 is refused")
+    stage.ping(stage.other)
+
+
 def half_a_logon(stage: Stage) -> None:
     """Connections that say nothing, or half a Logon, end at the limit; nobody waits for them."""
     stage.open()
@@ -249,5 +273,6 @@ def plain_to_tls(stage: Stage) -> None:
     check(INVESTOR.name == stage.investor.name and stage.investor.is_on, "another session was disturbed")
 
 
-TRIED = [wrong_password, wrong_words, unknown_firm, second_connection, numbers_are_not_reset, half_a_logon, endless_logon, many_connections,
+TRIED = [wrong_password, wrong_words, unknown_firm, second_connection, numbers_are_not_reset, reset_as_the_first, heartbeats,
+         half_a_logon, endless_logon, many_connections,
          beyond_the_loopback, by_tls, certificate_of_another_firm, certificate_of_another_authority, plain_to_tls]

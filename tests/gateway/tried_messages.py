@@ -195,6 +195,22 @@ def a_while_ago() -> bytes:
     return (datetime.now(timezone.utc) - timedelta(seconds=150)).strftime("%Y%m%d-%H:%M:%S.000").encode()
 
 
+def fields_of_no_use(stage: Stage) -> None:
+    """58, 60 and 1128 are taken, and ignored by the venue; without a trader the venue rejects."""
+    stage.open(stage.other, stage.investor)
+    with on_a_wire(stage) as wire:
+        number = wire.number
+        wire.raw(wire.message(b"Z", b"DLR1", [(1128, b"9"), *cancel(b"one"), (60, now()), (TEXT, b"text")]))
+        check(answered(wire, b"one").value(297) == b"9", "it is not answered as ever")
+        check({58, 60, 1128} <= set(dict(read_frame(logged(stage, number)))), "a field is not in the log")
+        number = wire.number
+        wire.raw(wire.message(b"Z", b"DLR1", [(298, b"4")]))
+        reject = wire.read_kind(b"3")
+        check(reject is not None and reject.value(1181), "no Reject of the venue")
+        check((reject.value(45), reject.value(371), reject.value(373)) == (b"%d" % number, b"50", b"1"), "it is %r" % reject.raw)
+    stage.whole()
+
+
 def no_frames(stage: Stage) -> None:
     """What can't be parsed never reaches the log; the session goes on with the number that was not used."""
     stage.open(stage.other, stage.investor)
@@ -319,5 +335,5 @@ def one_that_does_not_read(stage: Stage) -> None:
 
 
 TRIED = [every_byte_in_text, another_firms_words, five_thousand_bytes, about_the_longest_frame, microseconds,
-         wrong_clock, poss_resend, unknown_trader, poss_dup, no_frames, no_numbers_of_the_venue, resent_as_it_was,
+         wrong_clock, poss_resend, unknown_trader, poss_dup, fields_of_no_use, no_frames, no_numbers_of_the_venue, resent_as_it_was,
          resent_after_a_crash, faster_than_the_log, longer_than_the_limit, one_that_does_not_read]

@@ -54,8 +54,9 @@ class Wire:
         head = [(35, kind), (49, name), (56, b"VENUE"), (34, b"%d" % number), (52, sending or now())]
         return framed(b"".join(b"%d=%s\x01" % item for item in head + fields) + tail)
 
-    def logon(self, name: bytes, password: bytes | None, user: bytes | None = None, more: Fields | None = None) -> bool:
-        self.name, fields = name, [(98, b"0"), (108, b"30"), *(more or [])]
+    def logon(self, name: bytes, password: bytes | None, user: bytes | None = None, more: Fields | None = None,
+              heartbeat: bytes = b"30") -> bool:
+        self.name, fields = name, [(98, b"0"), (108, heartbeat), *(more or [])]
         if password is not None:
             fields += [(553, name if user is None else user), (554, password)]
         return self.raw(self.message(b"A", name, fields + [(1137, b"9")]))
