@@ -34,7 +34,7 @@ trap 'rm -rf "$work"' EXIT
 gateway=${GATEWAY:-}
 if [ -z "$gateway" ]; then
     cmake -S "$root/gateway" -B "$root/gateway/out" >"$work/built" 2>&1 &&
-        cmake --build "$root/gateway/out" -j 2 >>"$work/built" 2>&1 || { tail -50 "$work/built" >&2; exit 1; }
+        cmake --build "$root/gateway/out" -j "$(nproc)" >>"$work/built" 2>&1 || { tail -50 "$work/built" >&2; exit 1; }
     gateway=$root/gateway/out/mireseason-gateway
 fi
 g++ -std=c++14 -DHAVE_SSL=1 -O1 -Wall -Wextra -Werror -o "$work/player" "$here/player.cpp" \
