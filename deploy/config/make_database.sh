@@ -1,6 +1,7 @@
 #!/bin/sh
-# Run by Patroni once, when the cluster is made: the database of the logs, the role of the gateways, which may make
-# schemas in it, and one that reads. The one argument is a connection string of the superuser.
+# Run by Patroni once, when the cluster is made: the database of the logs, the role of the gateways,
+# which may make schemas in it, and one that reads. The one argument is a connection string of the
+# superuser.
 # The words between two @ are replaced: deploy/README.md says by what.
 set -eu
 psql --no-psqlrc -v ON_ERROR_STOP=1 -d "$1" \

@@ -16,7 +16,7 @@ class Cluster:
     @classmethod
     def of(cls, hosts: list[Host], network: Network, folder: Path, images: Path,
            supervisor: Supervisor) -> "Cluster":
-        return cls([DatabaseHost(host, network, folder, images, supervisor) for host in hosts])
+        return cls([DatabaseHost(host, network, folder, supervisor, images) for host in hosts])
 
     def up(self) -> None:
         for database in self.databases:

@@ -1,8 +1,8 @@
-"""A whole installation on one machine: three database hosts, two gateway hosts, and one for firms."""
+"""A whole installation on one machine: three database hosts, two gateway hosts, one for firms."""
 
 import os
 import shutil
-import signal
+from collections.abc import Mapping
 from dataclasses import dataclass, field
 from pathlib import Path
 
@@ -43,11 +43,11 @@ class Machine:
         self.cluster.up()
         self.cluster.wait_ready()
 
-    def up(self, venue: str, credentials: str) -> None:
-        """Starts all, and waits until a gateway speaks."""
+    def up(self, venues: Mapping[str, str], credentials: str) -> None:
+        """Starts all, and waits until a gateway speaks. The venues' configurations, by name."""
         self.bring_up_databases()
         for gateway in self.gateways:
-            gateway.make(DATABASES, venue, credentials)
+            gateway.make(DATABASES, venues, credentials)
             gateway.start()
         until("a gateway speaks", 60, lambda: self.speaking() is not None)
 
@@ -72,28 +72,13 @@ class Machine:
 def remove(prefix: str, folder: Path, images: Path) -> None:
     """Also what was left by one that could not end: nothing of it has to be there."""
     network = Network(prefix, [*DATABASES, *GATEWAYS, FIRMS])
-    supervisor = Supervisor()
-    supervisor.end()
     for host in (*GATEWAYS, FIRMS):
-        end_all(network, host.name)
-    Cluster.of(DATABASES, network, folder, images, supervisor).remove()
+        network.end_all(host.name)
+    Cluster.of(DATABASES, network, folder, images, Supervisor()).remove()
     network.down()
     for host in (*DATABASES, *GATEWAYS):
         shutil.rmtree(folder / host.name, ignore_errors=True)
     tried("rmdir", str(images))
-
-
-def end_all(network: Network, name: str) -> None:
-    def none_left() -> bool:
-        left = network.processes(name)
-        for pid in left:
-            try:
-                os.kill(pid, signal.SIGKILL)
-            except ProcessLookupError:
-                continue
-        return not left
-
-    until("all processes of %s end" % name, 20, none_left)
 
 
 def check_root() -> None:

@@ -3,7 +3,8 @@
 from book import primary
 from parts.machine import Machine
 
-# Tables as they would be without terms: whoever comes may write, as many as there are, and each counts for itself.
+# Tables as they would be without terms: whoever comes may write, as many as there are, and each
+# counts for itself.
 WITHOUT_TERMS = """
 SET search_path TO {schema};
 DROP TRIGGER one_term ON entry;
