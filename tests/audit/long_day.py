@@ -3,9 +3,10 @@
 
 usage: long_day.py LOG FRAMES -- VENUE WORDS ..
 
-Messages are drawn without waiting for an answer: names are counted as the venue counts them, and most messages are
-those that change nothing (cancels of quotes that are gone, prices off the grid, hits of old quotes), as on a long
-day of a market that is quoted by programs. What is sent for them is the venue's program's, in one run of `live`.
+Messages are drawn without waiting for an answer: names are counted as the venue counts them, and
+most messages are those that change nothing (cancels of quotes that are gone, prices off the grid,
+hits of old quotes), as on a long day of a market that is quoted by programs. What is sent for them
+is the venue's program's, in one run of `live`.
 """
 
 import random
@@ -124,7 +125,8 @@ def write(path: Path, frames: int, venue: list[str]) -> None:
             ledger.entry(time_text(moment), firm, number, line)
         day.flush()
         with open(day.name, "rb") as file:
-            run = subprocess.Popen([*venue, "live", "--frames", "--marks"], stdin=file, stdout=subprocess.PIPE)
+            words = [*venue, "live", "--frames", "--marks"]
+            run = subprocess.Popen(words, stdin=file, stdout=subprocess.PIPE)
         assert run.stdout is not None
         place = 1
         for line in run.stdout:

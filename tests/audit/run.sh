@@ -1,14 +1,15 @@
 #!/bin/sh
-# Tries mireseason-audit: its parts, its commands, the pages of a stored day, logs that were changed by hand, a log in
-# PostgreSQL, the gateway's example, and a long day. README.md says what is looked at.
+# Tries mireseason-audit: its parts, its commands, the pages of a stored day, logs that were changed
+# by hand, a log in PostgreSQL, the gateway's example, and a long day. README.md says what is looked
+# at.
 #
 #     apt-get install -y python3 python3-jinja2 python3-psycopg2 openssl sqlite3 chromium postgresql
 #     tests/audit/run.sh [short]
 #
 # VENUE has the words of the venue's program: crates/rfq_venue/out/rfq_venue if it is not set, or
-# "python3 tests/model/program.py", the second implementation. GATEWAY has the gateway, gateway/out/mireseason-gateway
-# if it is not set; without one, its example is left out. CHANGES and SEED: how many logs are changed (500) and by
-# which draw (1). FRAMES: of the long day (300,000).
+# "python3 tests/model/program.py", the second implementation. GATEWAY has the gateway,
+# gateway/out/mireseason-gateway if it is not set; without one, its example is left out. CHANGES and
+# SEED: how many logs are changed (500) and by which draw (1). FRAMES: of the long day (300,000).
 set -eu
 here=$(cd "$(dirname "$0")" && pwd)
 root=$(cd "$here/../.." && pwd)
@@ -20,7 +21,8 @@ if [ "${1:-}" = short ]; then
 fi
 program=${VENUE%% *}
 if ! command -v "$program" >/dev/null; then
-    echo "there is no venue $program: run 'rt run' in crates/rfq_venue first, or name one in VENUE" >&2
+    echo "there is no venue $program: run 'rt run' in crates/rfq_venue first," \
+        "or name one in VENUE" >&2
     exit 2
 fi
 REMEMBERED=$(mktemp -d)

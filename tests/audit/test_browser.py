@@ -15,17 +15,19 @@ from pages import Element, read_page
 WIDTHS = (1280, 400)
 SECONDS = 240
 # Loads each page in a frame of the width that is asked, and writes down what stands where.
-HARNESS = """<!doctype html><meta charset="utf-8"><body style="margin:0"><pre id="found"></pre><script>
+HARNESS = """<!doctype html><meta charset="utf-8"><body style="margin:0"><pre id="found"></pre>
+<script>
 const pages = %s, width = %d, found = [];
 function look(frame, name) {
   const page = frame.contentDocument, root = page.documentElement;
   const wide = [...page.body.querySelectorAll("*")].filter(one => !one.closest(".scroll, pre, svg")
-    && one.getBoundingClientRect().right > width + 0.5).map(one => one.tagName + " " + one.className);
+    && one.getBoundingClientRect().right > width + 0.5)
+    .map(one => one.tagName + " " + one.className);
   const headings = [...page.querySelectorAll("h1, h2")].map(one => one.tagName);
   const bare = [...page.querySelectorAll(".scroll")].filter(one => one.scrollWidth > one.clientWidth
     && getComputedStyle(one).overflowX !== "auto").length;
-  found.push({name, inner: frame.contentWindow.innerWidth, scroll: root.scrollWidth, wide, headings, bare,
-    style: getComputedStyle(page.body).fontSize});
+  found.push({name, inner: frame.contentWindow.innerWidth, scroll: root.scrollWidth, wide,
+    headings, bare, style: getComputedStyle(page.body).fontSize});
 }
 async function all() {
   for (const name of pages) {
@@ -70,9 +72,8 @@ class Browser(unittest.TestCase):
         cls.place = Path(cls.kept.name)
         with tarfile.open(STORED / "pages.tar.xz") as stored:
             stored.extractall(cls.place / "pages")
-        cls.names = sorted(
-            str(path.relative_to(cls.place / "pages")) for path in (cls.place / "pages").rglob("*.html")
-        )
+        pages = cls.place / "pages"
+        cls.names = sorted(str(path.relative_to(pages)) for path in pages.rglob("*.html"))
 
     @classmethod
     def tearDownClass(cls) -> None:
@@ -86,7 +87,8 @@ class Browser(unittest.TestCase):
         harness.unlink()
         self.assertFalse(re.findall(r".*CONSOLE.*", told))
         found = re.search(r'<pre id="found">(.*?)</pre>', dom, re.DOTALL)
-        self.assertTrue(found and found[1], "the browser has not looked at all pages: %s" % told[-500:])
+        fault = "the browser has not looked at all pages: %s" % told[-500:]
+        self.assertTrue(found and found[1], fault)
         return json.loads(found[1].replace("&lt;", "<").replace("&gt;", ">").replace("&amp;", "&"))
 
     def test_nothing_is_wider_than_its_page(self) -> None:
@@ -98,12 +100,10 @@ class Browser(unittest.TestCase):
                 self.assertLessEqual(one["scroll"], width, one)
                 self.assertEqual((one["wide"], one["bare"]), ([], 0), one)
                 self.assertEqual(one["headings"][:1], ["H1"], one)
-                self.assertEqual(one["style"], "15px", "the style sheet of %s is not there" % one["name"])
+                self.assertEqual(one["style"], "15px", "%s has no style sheet" % one["name"])
 
     def test_without_colours(self) -> None:
         """What a colour says, a shape and a word say, too."""
-
-
         for name in self.names:
             page = read_page(self.place / "pages" / name)
             for tag in page.all("span", "tag"):
