@@ -24,9 +24,10 @@ HERE = Path(__file__).resolve().parent
 sys.dont_write_bytecode = True
 sys.path.insert(0, str(HERE))
 
-from parts.gateway import ALONE, PORT, Programs
-from parts.machine import FIRMS, Machine, check_root, remove
+from parts.gateway import PORT
+from parts.machine import FIRMS, Machine, check_root, remove, site_here
 from parts.run import Fault, whole_paths
+from parts.site import ALONE
 
 ROOT = HERE.parent
 LOOK = 0.5  # seconds from one look at who speaks to the next
@@ -61,8 +62,8 @@ def stay(machine: Machine) -> NoReturn:
 
 
 def up(words: argparse.Namespace, images: Path) -> None:
-    programs = Programs(words.gateway.resolve(), whole_paths(words.venue.split()))
-    machine = Machine(words.folder.resolve(), images, programs)
+    site = site_here(whole_paths(words.venue.split()))
+    machine = Machine(words.folder.resolve(), images, words.gateway.resolve(), site)
     try:
         machine.up({ALONE: today((words.day / "venue.toml").read_text())},
                    (words.day / "credentials.toml").read_text())

@@ -7,16 +7,13 @@ from dataclasses import dataclass
 from pathlib import Path
 
 from parts.disk import Disk
-from parts.network import NETWORK, Host
 from parts.place import Place
-from parts.run import Fault, fill_in, run
+from parts.run import Fault, run
 from parts.service import Service
+from parts.site import Folders
 
 DISK_MEGABYTES = 900
 DATABASE = "mireseason"
-CONFIG = Path(__file__).resolve().parent.parent / "config"
-PASSWORDS = {word + "_PASSWORD": "%s-secret" % word.lower()
-             for word in ("GATEWAY", "READER", "REPLICATION", "REWIND")}
 
 
 def as_user(user: str) -> list[str]:
@@ -32,17 +29,15 @@ class DatabaseHost(Place):
         self.disk = Disk(self.images / (self.name + ".img"), self.folder / self.name / "disk",
                          DISK_MEGABYTES)
 
-    def make(self, databases: list[Host]) -> None:
+    def make(self) -> None:
         self.own.mkdir(parents=True, exist_ok=True)
         self.disk.make({"etcd": "etcd", "postgres": "postgres"})
         owner = pwd.getpwnam("postgres")
         os.chown(self.own, owner.pw_uid, owner.pw_gid)
-        words = {"NAME": self.name, "ADDRESS": self.host.address, "DATA": str(self.disk.mount),
-                 "RUN": str(self.own), "CONFIG": str(self.own), "NETWORK": NETWORK, **PASSWORDS}
-        words |= {host.name.upper(): host.address for host in databases}
-        for name in ("etcd.yml", "patroni.yml", "make_database.sh"):
-            fill_in(CONFIG / name, self.own / name, words)
-        (self.own / "make_database.sh").chmod(0o755)
+        folders = Folders(str(self.own), str(self.disk.mount), str(self.own))
+        for name, text in self.site.files(self.name, folders).items():
+            (self.own / name).write_text(text)
+            (self.own / name).chmod(0o755)
 
     def start(self) -> None:
         self.logs.mkdir(exist_ok=True)

@@ -5,6 +5,7 @@ from pathlib import Path
 
 from parts.network import Host, Network
 from parts.service import Supervisor
+from parts.site import Site
 
 
 @dataclass
@@ -13,6 +14,7 @@ class Place:
     network: Network
     folder: Path  # of the whole installation
     supervisor: Supervisor
+    site: Site
 
     @property
     def name(self) -> str:

@@ -53,11 +53,3 @@ def whole_paths(words: Iterable[str]) -> tuple[str, ...]:
     """The words of a program that is started in another folder: those that are files whole."""
     return tuple(str(Path(word).resolve()) if Path(word).exists() else word for word in words)
 
-
-def fill_in(template: Path, target: Path, words: dict[str, str]) -> None:
-    """Writes a configuration with each @WORD@ of it replaced."""
-    text = template.read_text()
-    for word, value in words.items():
-        text = text.replace("@%s@" % word, value)
-    target.write_text(text)
-    target.chmod(0o644)

@@ -20,28 +20,29 @@ ROOT = HERE.parent.parent
 sys.dont_write_bytecode = True
 sys.path.insert(0, str(ROOT / "deploy"))
 
-from parts.database import DATABASE, PASSWORDS
-from parts.gateway import Programs
-from parts.machine import DATABASES, GATEWAYS, Machine
+from parts.database import DATABASE
+from parts.machine import DATABASES, GATEWAYS, Machine, site_here
+from parts.site import Site
 
 LOADS = ((1, 1), (1, 8), (1, 32), (2, 32), (4, 32))  # logs, threads of each
 
 
-def connection() -> str:
+def connection_to(site: Site) -> str:
     return "host=%s dbname=%s user=gateway password=%s target_session_attrs=read-write" % (
-        ",".join(host.address for host in DATABASES), DATABASE, PASSWORDS["GATEWAY_PASSWORD"])
+        ",".join(host.address for host in DATABASES), DATABASE, site.passwords["GATEWAY"])
 
 
-def tried(inside: list[str], out: Path, folder: Path, seconds: int) -> int:
+def tried(machine: Machine, out: Path, seconds: int) -> int:
     """Runs the tests and the measurement; how many tests failed."""
-    failed = 0
-    for test in (["terms_test"], ["log_test", str(folder)]):
-        words = [*inside, str(out / test[0]), *test[1:], connection()]
+    inside = machine.network.words(GATEWAYS[0].name)
+    failed, connection = 0, connection_to(machine.site)
+    for test in (["terms_test"], ["log_test", str(machine.folder)]):
+        words = [*inside, str(out / test[0]), *test[1:], connection]
         status = subprocess.run(words, check=False).returncode
         print("%s: %s" % (test[0], "failed" if status else "passed"), flush=True)
         failed += status != 0
     for logs, threads in LOADS:
-        subprocess.run([*inside, str(out / "log_bench"), connection(), str(logs), str(threads),
+        subprocess.run([*inside, str(out / "log_bench"), connection, str(logs), str(threads),
                         str(seconds)], check=True)
     print("load %.0f" % os.getloadavg()[0])
     return failed
@@ -58,12 +59,11 @@ def main() -> None:
     with tempfile.TemporaryDirectory(prefix="mrt") as name:
         folder = Path(name)
         folder.chmod(0o755)
-        machine = Machine(folder, words.images / folder.name, Programs(Path(), ()),
+        machine = Machine(folder, words.images / folder.name, words.out, site_here(()),
                           "mrt%d" % os.getpid())
         try:
             machine.bring_up_databases()
-            inside = machine.network.words(GATEWAYS[0].name)
-            failed = tried(inside, words.out, folder, words.seconds)
+            failed = tried(machine, words.out, words.seconds)
         finally:
             machine.down()
     print("%d passed, %d failed" % (2 - failed, failed))

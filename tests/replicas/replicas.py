@@ -32,9 +32,10 @@ from damage import Damage, Damages
 from door import today, venue_text
 from figures import Figures
 from held import count_of
-from parts.gateway import ALONE, PORT, Programs, schema_of
-from parts.machine import FIRMS, GATEWAYS, Machine
+from parts.gateway import PORT
+from parts.machine import FIRMS, GATEWAYS, Machine, site_here
 from parts.run import Fault, whole_paths
+from parts.site import ALONE
 from side import Cast, Side, Stage
 from wait import TooLong, until, within
 from watch import Watch
@@ -59,10 +60,10 @@ SETTINGS = {"SocketConnectHost": GATEWAYS[0].address, "SocketConnectPort": str(P
 class Day:
     def __init__(self, words: argparse.Namespace, folder: Path, seed: int) -> None:
         self.words, self.venue = words, list(whole_paths(words.venue))
-        self.names = [ALONE] if words.venues == 1 else list(NAMES[:words.venues])
-        programs = Programs(words.gateway.resolve(), tuple(self.venue))
-        self.machine = Machine(folder, words.images / folder.name, programs,
-                               "mrt%d" % os.getpid(), synchronous_of(words.wrong))
+        self.names = (ALONE,) if words.venues == 1 else NAMES[:words.venues]
+        site = site_here(tuple(self.venue), self.names, synchronous_of(words.wrong))
+        self.machine = Machine(folder, words.images / folder.name, words.gateway.resolve(), site,
+                               "mrt%d" % os.getpid())
         inside = tuple(self.machine.network.words(FIRMS.name))
         stage = Stage(folder, words.player.resolve(), PORT, SETTINGS, inside)
         self.sides = [self.side(stage, name, seed + 1000 * at)
@@ -76,8 +77,7 @@ class Day:
 
     def schema(self, name: str) -> str:
         """Of a venue's log."""
-        text = schema_of(self.names)
-        return text.replace("{venue}", name).replace("{date}", today())
+        return self.machine.site.schema.replace("{venue}", name).replace("{date}", today())
 
     @property
     def sent(self) -> int:

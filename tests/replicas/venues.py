@@ -26,8 +26,8 @@ import parts.gateway
 from door import free_port, venue_text
 from firm import Firm
 from ledger import Ledger, read_ledger
-from parts.gateway import file_of, venues_text
 from parts.run import whole_paths
+from parts.site import file_of, venues_text
 from side import Cast, Side, Stage
 from wait import TooLong, until, within
 
@@ -67,7 +67,7 @@ class TwoVenues:
             self.words.gateway.resolve(),
             [parts.gateway.Firm(who.name, who.name, who.password) for who in CAST.all])
         (self.folder / "credentials.toml").write_text(credentials)
-        text = venues_text(NAMES, self.venue) + REST % self.port
+        text = venues_text(NAMES, tuple(self.venue)) + REST % self.port
         (self.folder / "gateway.toml").write_text(text)
 
     def side(self, name: str, seed: int) -> Side:
