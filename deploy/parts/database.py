@@ -14,6 +14,7 @@ from parts.site import Folders
 
 DISK_MEGABYTES = 900
 DATABASE = "mireseason"
+USERS = {"etcd": "etcd", "postgres": "postgres"}  # folders on the disk, and whose they are
 
 
 def as_user(user: str) -> list[str]:
@@ -31,7 +32,7 @@ class DatabaseHost(Place):
 
     def make(self) -> None:
         self.own.mkdir(parents=True, exist_ok=True)
-        self.disk.make({"etcd": "etcd", "postgres": "postgres"})
+        self.disk.make(USERS)
         owner = pwd.getpwnam("postgres")
         os.chown(self.own, owner.pw_uid, owner.pw_gid)
         folders = Folders(str(self.own), str(self.disk.mount), str(self.own))
@@ -121,12 +122,24 @@ class DatabaseHost(Place):
 
     def power_up(self) -> None:
         self.disk.attach_again()
+        self.start_again()
 
+    def start_again(self) -> None:
         def start() -> None:
             for service in self.services():
                 service.start()
 
         self.supervisor.locked(start)
+
+    def stop(self) -> None:
+        """Ends Patroni, which ends PostgreSQL, and then etcd, as an operator does."""
+        for service in reversed(self.services()):
+            service.stop(60)
+
+    def renew_disk(self) -> None:
+        """An empty disk, where the power is cut and the old one is lost."""
+        self.disk.remove()
+        self.disk.make(USERS)
 
     def remove(self) -> None:
         self.network.end_all(self.name)

@@ -3,12 +3,14 @@
 on the way.
 
 usage: replicas.py GATEWAY PLAYER [--days N] [--messages N] [--faults N] [--seed N] [--venues N]
-                   [--wrong local|terms] [--keep FOLDER] [--images FOLDER] -- VENUE WORDS ..
+                   [--upkeep] [--wrong local|terms] [--keep FOLDER] [--images FOLDER]
+                   -- VENUE WORDS ..
 
 At the end of each day each initiator has the messages of the venue's program over the log that is
 left: none is missing, none is different, none came under two numbers of the session; and each
 message that an initiator's engine had sent is in the log once. A gateway that was cut off from the
-database has ended by itself. With several venues all that is true of each of them.
+database has ended by itself. With several venues all that is true of each of them. With --upkeep an
+operator takes hosts out and in, four times, in the place of drawn damages.
 """
 
 import argparse
@@ -37,6 +39,7 @@ from parts.machine import FIRMS, GATEWAYS, Machine, site_here
 from parts.run import Fault, whole_paths
 from parts.site import ALONE
 from side import Cast, Side, Stage
+from upkeep import Upkeep
 from wait import TooLong, until, within
 from watch import Watch
 from wrong import SET_UPS, spoil, synchronous_of
@@ -68,7 +71,9 @@ class Day:
         stage = Stage(folder, words.player.resolve(), PORT, SETTINGS, inside)
         self.sides = [self.side(stage, name, seed + 1000 * at)
                       for at, name in enumerate(self.names)]
-        self.damages = Damages(self.machine, seed, words.faults)
+        self.damages: Damages | Upkeep = Damages(self.machine, seed, words.faults)
+        if words.upkeep:
+            self.damages = Upkeep(self.machine)
         self.figures, self.problems = Figures(), list[str]()
 
     def side(self, stage: Stage, name: str, seed: int) -> Side:
@@ -224,6 +229,7 @@ def read_words() -> argparse.Namespace:
     for name, usual in (("--days", 3), ("--messages", 2000), ("--faults", 30), ("--seed", 1)):
         parser.add_argument(name, type=int, default=usual)
     parser.add_argument("--venues", type=int, default=1, choices=range(1, len(NAMES) + 1))
+    parser.add_argument("--upkeep", action="store_true", help="what an operator does, four faults")
     parser.add_argument("--wrong", choices=SET_UPS, default="")
     parser.add_argument("--images", type=Path, default=Path("/dev/shm/mireseason"))
     parser.add_argument("--keep", type=Path, help="where the logs of days with a fault are put")

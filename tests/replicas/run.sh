@@ -17,6 +17,7 @@ root=$(cd "$here/../.." && pwd)
 venue=${VENUE:-$root/crates/rfq_venue/out/rfq_venue}
 days="--days 3 --messages 2000 --faults 30"
 several="--days 1 --messages 600 --faults 18"
+upkeep="--upkeep --days 1 --messages 200 --faults 4"
 if [ "${1:-}" = short ]; then
     shift
     days="--days 1 --messages 300 --faults 9"
@@ -48,7 +49,7 @@ part() {
     parts=$((parts + 1))
     "$@" 2>&1 | tee "$work/$parts.part"
 }
-# shellcheck disable=SC2086 # the words of $days, $several and $venue
+# shellcheck disable=SC2086 # the words of $days, $several, $upkeep and $venue
 {
     case " $* " in
     *" --wrong "*) ;; # of a wrong set-up the days alone
@@ -57,6 +58,7 @@ part() {
         part python3 "$here/venues.py" "$gateway" "$work/player" -- $venue
         part python3 "$here/replicas.py" "$gateway" "$work/player" $several --venues 2 \
             --seed 101 -- $venue
+        part python3 "$here/replicas.py" "$gateway" "$work/player" $upkeep --seed 201 -- $venue
         ;;
     esac
     part python3 "$here/replicas.py" "$gateway" "$work/player" $days "$@" -- $venue
