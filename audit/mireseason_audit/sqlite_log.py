@@ -79,7 +79,8 @@ class SqliteLog(SqlLog):
                 line, before, hash_ = as_bytes(line), as_bytes(before), as_bytes(hash_)
             if type(moment) is not str or not (firm is None or type(firm) is str):
                 moment, firm = as_text(moment), None if firm is None else as_text(firm)
-            check_numbers("entry", place, place, term, number)
+            if type(place) is not int or type(term) is not int or type(number) is not int:
+                check_numbers("entry", place, place, term, number)
             yield Entry(place, term, moment, firm, number, line, before, hash_)
 
     def sent(self, firm: str) -> Iterator[Sent]:
@@ -95,7 +96,8 @@ class SqliteLog(SqlLog):
         for name, number, other, data in self.rows(query, firm):
             if type(data) is not bytes:
                 data = self.bytes_of(data)
-            check_numbers(table, number, number, other)
+            if type(number) is not int or type(other) is not int:
+                check_numbers(table, number, number, other)
             yield row(name, number, other, data)
 
     def session_numbers(self, firm: str) -> dict[int, int]:
