@@ -5,7 +5,7 @@ from collections.abc import Iterator
 from dataclasses import dataclass
 from typing import Any
 
-import psycopg2
+import psycopg2  # type: ignore[import]  # Debian has no stubs of it
 from psycopg2 import sql
 
 from .faults import Unreadable
@@ -76,14 +76,18 @@ class PostgresLog(SqlLog):
         return self._entries(" WHERE firm = %s ORDER BY place", firm)
 
     def _entries(self, which: str, *values: object) -> Iterator[Entry]:
-        for *columns, line, before, hash_ in self.rows(ENTRY + which, *values):
-            yield Entry(*columns, bytes(line), bytes(before), bytes(hash_))
+        for row in self.rows(ENTRY + which, *values):
+            place, term, moment, firm, number, line, before, hash_ = row
+            hashes = bytes(before), bytes(hash_)
+            yield Entry(place, term, moment, firm, number, bytes(line), *hashes)
 
     def sent(self, firm: str) -> Iterator[Sent]:
-        return (Sent(*row, bytes(data)) for *row, data in self.rows(SENT, firm))
+        for name, number, place, data in self.rows(SENT, firm):
+            yield Sent(name, number, place, bytes(data))
 
     def outgoing(self, firm: str) -> Iterator[Outgoing]:
-        return (Outgoing(*row, bytes(data)) for *row, data in self.rows(OUTGOING, firm))
+        for name, number, carried, data in self.rows(OUTGOING, firm):
+            yield Outgoing(name, number, carried, bytes(data))
 
     def session_numbers(self, firm: str) -> dict[int, int]:
         return {place: number for place, number in self.rows(REJECTED, firm)}

@@ -111,7 +111,7 @@ class Market:
     def answers(self) -> list[tuple[str, bytes]]:
         """What the venue gives for the last line."""
         assert self.venue.stdout is not None
-        messages = []
+        messages: list[tuple[str, bytes]] = []
         for line in self.venue.stdout:
             word, _, rest = line.decode().rstrip("\n").partition(" ")
             if word in ("done", "fault"):

@@ -115,14 +115,14 @@ def write(path: Path, frames: int, venue: list[str]) -> None:
     answered: list[int | None] = [None]
     with tempfile.NamedTemporaryFile() as day:
         day.write(head + b"%%\n")
-        for firm, moment, line in Writer(random.Random(1), frames).lines():
+        for speaker, moment, line in Writer(random.Random(1), frames).lines():
             day.write(line + b"\n")
             moments.append(moment)
-            if firm is not None:
-                ledger.sessions[firm].came += 1
-            number = None if firm is None else ledger.sessions[firm].came
+            if speaker is not None:
+                ledger.sessions[speaker].came += 1
+            number = None if speaker is None else ledger.sessions[speaker].came
             answered.append(number)
-            ledger.entry(time_text(moment), firm, number, line)
+            ledger.entry(time_text(moment), speaker, number, line)
         day.flush()
         with open(day.name, "rb") as file:
             words = [*venue, "live", "--frames", "--marks"]

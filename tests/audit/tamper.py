@@ -10,6 +10,7 @@ from collections.abc import Callable
 from contextlib import closing
 from dataclasses import dataclass
 from pathlib import Path
+from typing import Any
 
 Row = tuple[int, int, str, str | None, int | None, bytes, bytes, bytes]
 ENTRIES = "SELECT place, term, moment, firm, number, line, before, hash FROM entry ORDER BY place"
@@ -49,7 +50,7 @@ class Tamperer:
         self.connection = sqlite3.connect(path, isolation_level=None)
         self.draw = draw
 
-    def rows(self, query: str, *values: object) -> list[tuple]:
+    def rows(self, query: str, *values: object) -> list[Any]:
         return self.connection.execute(query, values).fetchall()
 
     def do(self, query: str, *values: object) -> None:
@@ -64,7 +65,7 @@ class Tamperer:
 
     def some_entry(self, kinds: bytes = b"") -> Row:
         """An entry behind place 0; with a kind, one whose message has that 35 or that verb."""
-        rows = self.rows(ENTRIES)[1:]
+        rows: list[Row] = self.rows(ENTRIES)[1:]
         fitting = [row for row in rows if not kinds or kinds in row[5]]
         return self.draw.choice(fitting or rows)
 
@@ -89,7 +90,7 @@ class Tamperer:
     def entry_hash(self) -> Change:
         row = self.some_entry()
         column = self.draw.choice(["before", "hash"])
-        value = changed_byte(row[6 if column == "before" else 7], self.draw)
+        value = changed_byte(row[6] if column == "before" else row[7], self.draw)
         self.do("UPDATE entry SET %s = ? WHERE place = ?" % column, value, row[0])
         return Change("%s of entry %d" % (column, row[0]), CHANGED % row[0])
 
@@ -193,7 +194,7 @@ class Tamperer:
 
     # ------------------------------------------------------------ what was sent
 
-    def some_sent(self) -> tuple:
+    def some_sent(self) -> Any:
         """A message of a kind that is drawn."""
         rows = self.rows("SELECT firm, number, place, bytes FROM sent")
         kind = self.draw.choice(SENT_KINDS)
@@ -254,7 +255,7 @@ class Tamperer:
 
     # ------------------------------------------------------------ what sessions carried
 
-    def some_outgoing(self) -> tuple:
+    def some_outgoing(self) -> Any:
         rows = self.rows("SELECT firm, number, sent, bytes FROM outgoing")
         kind = self.draw.choice(OUTGOING_KINDS)
         return self.draw.choice([row for row in rows if kind in row[3]] or rows)

@@ -7,9 +7,11 @@ import shutil
 import subprocess
 import tarfile
 import unittest
+from html import unescape
 from pathlib import Path
+from typing import Any
 
-from common import STORED, folder
+from common import STORED, Folder, folder
 from pages import Element, read_page
 
 WIDTHS = (1280, 400)
@@ -66,6 +68,10 @@ def chromium(place: Path, page: Path, *words: str) -> tuple[str, str]:
 class Browser(unittest.TestCase):
     """All stored pages, each in a frame."""
 
+    kept: Folder
+    place: Path
+    names: list[str]
+
     @classmethod
     def setUpClass(cls) -> None:
         cls.kept = folder()
@@ -79,7 +85,7 @@ class Browser(unittest.TestCase):
     def tearDownClass(cls) -> None:
         cls.kept.cleanup()
 
-    def looked_at(self, width: int) -> list[dict]:
+    def looked_at(self, width: int) -> list[dict[str, Any]]:
         harness = self.place / "pages" / ("harness-%d.html" % width)
         harness.write_text(HARNESS % (json.dumps(self.names), width))
         words = ["--dump-dom", "--virtual-time-budget=100000", "--window-size=1400,900"]
@@ -88,8 +94,9 @@ class Browser(unittest.TestCase):
         self.assertFalse(re.findall(r".*CONSOLE.*", told))
         found = re.search(r'<pre id="found">(.*?)</pre>', dom, re.DOTALL)
         fault = "the browser has not looked at all pages: %s" % told[-500:]
-        self.assertTrue(found and found[1], fault)
-        return json.loads(found[1].replace("&lt;", "<").replace("&gt;", ">").replace("&amp;", "&"))
+        assert found and found[1], fault
+        looked: list[dict[str, Any]] = json.loads(unescape(found[1]))
+        return looked
 
     def test_nothing_is_wider_than_its_page(self) -> None:
         for width in WIDTHS:

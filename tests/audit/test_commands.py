@@ -19,7 +19,8 @@ from witness import Witness
 def day_text(path: Path) -> bytes:
     """The day of a log as `live` reads it."""
     with closing(sqlite3.connect(path)) as connection:
-        lines = [line for line, in connection.execute("SELECT line FROM entry ORDER BY place")]
+        query = "SELECT line FROM entry ORDER BY place"
+        lines: list[bytes] = [line for line, in connection.execute(query)]
     configuration = lines[0].split(b"%%\n", 1)[1]
     return configuration + b"%%\n" + b"".join(line + b"\n" for line in lines[1:])
 
@@ -266,7 +267,8 @@ class Commands(unittest.TestCase):
         self.assertEqual(audit("pair", self.log, "NOBODY").status, 2)
 
     def test_wrong_arguments(self) -> None:
-        for words in ([], ["nothing"], ["check"], ["page", "x"], ["pair", "x"]):
+        wrong: list[list[str]] = [[], ["nothing"], ["check"], ["page", "x"], ["pair", "x"]]
+        for words in wrong:
             done = subprocess.run([str(AUDIT), *words], capture_output=True, check=False)
             self.assertEqual(done.returncode, 2)
 

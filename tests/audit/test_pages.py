@@ -9,7 +9,7 @@ import unittest
 from collections import Counter
 from pathlib import Path
 
-from common import DAY, STORED, audit, folder
+from common import DAY, STORED, Folder, Ran, audit, folder
 from pages import Element, read_page, rows_of, table_behind, walk
 from witness import Asked, Came, Witness, thirty_seconds
 
@@ -24,6 +24,12 @@ def price_pair(text: str) -> str:
 
 class Pages(unittest.TestCase):
     """The stored day, paged once."""
+
+    kept: Folder
+    place: Path
+    ran: Ran
+    witness: Witness
+    index: Element
 
     @classmethod
     def setUpClass(cls) -> None:

@@ -8,6 +8,7 @@ import os
 import unittest
 from collections import Counter
 from pathlib import Path
+from typing import Any
 
 from common import ROOT, folder
 
@@ -138,7 +139,7 @@ class Lines(unittest.TestCase):
             self.assertIsNone(came_of(line), line)
 
 
-def entry(place: int, moment: str, line: bytes, before: bytes, **other: object) -> Entry:
+def entry(place: int, moment: str, line: bytes, before: bytes, **other: Any) -> Entry:
     made = Entry(place, 0, moment, None, None, line, before, b"")._replace(**other)
     return made._replace(hash=hash_of(made))
 
@@ -309,9 +310,11 @@ class Bars(unittest.TestCase):
         def fails(step: object) -> int:
             raise Unreadable("this")
 
+        def ends(step: object) -> int:
+            os._exit(3)
+
         self.assertRaisesRegex(Unreadable, "this", run_jobs, [*jobs, fails], 2, progress)
-        ends = [lambda step: os._exit(3)]
-        self.assertRaisesRegex(Unreadable, "status 3", run_jobs, ends, 1, progress)
+        self.assertRaisesRegex(Unreadable, "status 3", run_jobs, [ends], 1, progress)
 
 
 class Pairs(unittest.TestCase):

@@ -6,9 +6,10 @@ import subprocess
 import unittest
 from contextlib import closing
 from pathlib import Path
+from typing import Any
 
-import psycopg2
-from common import DAY, ROOT, audit, folder
+import psycopg2  # type: ignore[import]  # Debian has no stubs of it
+from common import DAY, ROOT, Folder, audit, folder
 
 SERVERS = sorted(Path("/usr/lib/postgresql").glob("*/bin/initdb"))
 SCHEMA = "day_20261125"
@@ -23,6 +24,12 @@ def as_user(*words: object) -> list[str]:
 
 @unittest.skipUnless(SERVERS, "there is no PostgreSQL")
 class Postgres(unittest.TestCase):
+    kept: Folder
+    place: Path
+    bin: Path
+    stop: list[str]
+    connection: str
+
     @classmethod
     def setUpClass(cls) -> None:
         cls.kept = folder()
@@ -79,7 +86,7 @@ def run(words: list[str]) -> None:
     subprocess.run(words, check=True, stdout=subprocess.DEVNULL, cwd="/")
 
 
-def execute(connection: str, query: str, rows: list[tuple] | None = None) -> None:
+def execute(connection: str, query: str, rows: list[Any] | None = None) -> None:
     with closing(psycopg2.connect(connection)) as opened, opened.cursor() as cursor:
         if rows is None:
             cursor.execute(query)

@@ -12,7 +12,7 @@ from dataclasses import dataclass
 from multiprocessing import get_context
 from pathlib import Path
 
-from common import HERE, audit, folder, keys, venue_words
+from common import HERE, Folder, audit, folder, keys, venue_words
 from tamper import Tamperer
 
 from mireseason_audit.check import report
@@ -96,6 +96,9 @@ class Sealed:
 
 
 class Tampered(unittest.TestCase):
+    kept: Folder
+    sealed: Sealed
+
     @classmethod
     def setUpClass(cls) -> None:
         cls.kept = folder()

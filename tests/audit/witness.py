@@ -98,7 +98,9 @@ class Witness:
             for place, _, firm, line in entries[1:]
             if firm
         }
-        self.sent = [Sent(*row, message_of(data)) for *row, data in sent]
+        self.sent = [
+            Sent(firm, number, place, message_of(data)) for firm, number, place, data in sent
+        ]
         self.at: dict[int, list[Sent]] = defaultdict(list)
         for row in self.sent:
             self.at[row.place].append(row)
