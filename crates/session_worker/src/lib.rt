@@ -3,9 +3,7 @@
 #![tactic(auto)]
 
 mod actors;
-mod at_dealers;
-mod at_investors;
-mod at_rooms;
+mod bringing;
 mod day_checks;
 mod day_rooms;
 mod days;

@@ -18,8 +18,6 @@ use venue_config::VenueConfig;
 /// The place of a dealer.
 #[derive(Drop)]
 pub(crate) struct DealerPlace<J: Naming> {
-    /// The word of its first quote.
-    pub(crate) first_word: u32,
     /// Its desk.
     pub(crate) desk: Mutex<LockedDealer<J>>,
 }
@@ -88,22 +86,6 @@ impl<J: Naming> SharedVenue<J> {
         let index = usize::from(firm).checked_sub(self.dealers.len())?;
         self.investors.get(index)
     }
-
-    /// The word of a quote of a dealer, where the board has it.
-    pub(crate) fn word_of(&self, dealer: u16, quote: u32) -> Option<u32> {
-        let place = self.dealers.get(usize::from(dealer))?;
-        let word = self.word_at(place.first_word, quote)?;
-        Some(word)
-    }
-
-    /// The same of a dealer with this first word.
-    fn word_at(&self, first_word: u32, quote: u32) -> Option<u32> {
-        let word = u64::from(first_word) + u64::from(quote.saturating_sub(1));
-        if word >= u64::from(self.board.len()) {
-            return None;
-        }
-        Some(word as u32)
-    }
 }
 
 /// The dealers' desks without an event, each with the word of its first quote.
@@ -121,10 +103,8 @@ fn dealers_at_start<J: Naming>(
     let mut first_word = 0;
     for row in config.dealers() {
         let desk = LockedDealer::new(alloc, config, firm, row, first_word, seen.again())?;
-        places.push(DealerPlace {
-            first_word,
-            desk: Mutex::new(desk),
-        })?;
+        let desk = Mutex::new(desk);
+        places.push(DealerPlace { desk })?;
         firm += 1;
         first_word += row.quotes;
     }
