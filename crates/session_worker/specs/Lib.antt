@@ -1,4 +1,3 @@
-pub mod Brought
 pub mod DayChecks
 pub mod Inbox
 pub mod KeptDays

@@ -24,7 +24,11 @@ moment_of (duty.Close room moment) = moment
 moment_of (duty.Tell dealer room close moment) = moment
 moment_of (duty.Drop last moment) = moment
 
+-- an action of this kind and moment, which asked this word, if one
+abbrev pub action_of : Kind → ℕ → Option (ℕ × Settled) → Action
+action_of kind moment word = record { kind = kind; moment = moment; word = word }
+
 -- one action more, of this kind and at this moment, whatever word it asked
 pub record IsNoted (kind : Kind) (moment : ℕ) (before after : List Action) : Type 0 where
   pub word : Option (ℕ × Settled)
-  pub one_more : after ≡ before ++ (record { kind = kind; moment = moment; word = word }) ∷ []
+  pub one_more : after ≡ before ++ action_of kind moment word ∷ []

@@ -1,5 +1,5 @@
 //! The sessions of firms and the clock.
-ghost use Rattle.std.specs.Prelude.{◌≡◌, [], ◌++◌, OnOk};
+ghost use Rattle.std.specs.Prelude.{◌≡◌, [], ◌∷◌, ◌++◌, OnOk};
 ghost use Rattle.recorded_days.specs.Kinds.{kind_of};
 ghost use Rattle.session_worker.specs.Shifts as spec;
 
@@ -54,8 +54,8 @@ impl<'v, J: Naming, R: Wait, G: Gate> Shift<'v, J, R, G> {
 
     /// Notes an action that was done, and leaves its duties at the end of the queue.
     fn note(&mut self, kind: Kind, moment: Moment, done: Done) -> Result<(), Memory>
-        ensures actions { OnOk result (spec.IsNoted kind moment self.old.actions.items
-            self.new.actions.items) }
+        ensures actions { OnOk result (self.new.actions.items
+            ≡ self.old.actions.items ++ spec.action_of kind moment done.word ∷ []) }
         ensures queue { OnOk result
             (self.new.queue.items ≡ self.old.queue.items ++ done.duties.items) }
     {

@@ -8,7 +8,7 @@ use crate::naming::Naming;
 use crate::venue::SharedVenue;
 use crate::watched::Acting;
 use fix_fields::{Memory, Moment};
-use market_terms::{Duty, RoomRef};
+use market_terms::{Duty, ResponseRef, RoomRef};
 use std::sync::Wait;
 use step_replay::Actor;
 use venue_places::{Arrival, ForDealer, ForInvestor, ForRoom, placed, swept};
@@ -56,59 +56,100 @@ impl<J: Naming> SharedVenue<J> {
     ) -> Result<Done, Memory>
         requires { acting.now.board.now ≡ J.board }
     {
+        let action = (acting.by, acting.number);
         match arrival {
-            Arrival::Dealer { firm, what } => self.to_dealer(rt, acting, firm, what),
-            Arrival::Investor { firm, what } => self.to_investor(rt, acting, firm, what),
-            Arrival::Room { room, what } => self.to_room(rt, acting, room, what),
+            Arrival::Dealer { firm, what } => self.to_dealer(rt, action, firm, what),
+            Arrival::Drop { firm, last, moment } => self.to_drop(rt, acting, firm, last, moment),
+            Arrival::Investor { firm, what } => self.to_investor(rt, action, firm, what),
+            Arrival::Room { room, what } => self.to_room(rt, action, room, what),
+            Arrival::Hit {
+                room,
+                response,
+                word,
+                moment,
+            } => self.to_hit(rt, acting, room, response, word, moment),
         }
     }
 
     /// The same at a dealer's desk.
-    fn to_dealer<R: Wait, G: Gate>(
+    fn to_dealer<R: Wait>(
+        &self,
+        rt: &R,
+        action: (Actor, u64),
+        firm: u16,
+        what: ForDealer,
+    ) -> Result<Done, Memory> {
+        let Some(place) = self.dealers.get(usize::from(firm)) else {
+            return Ok(Done::nothing());
+        };
+        let done = place.desk.lock(rt).bring(action, what)?;
+        Ok(done)
+    }
+
+    /// The same of a drop.
+    fn to_drop<R: Wait, G: Gate>(
         &self,
         rt: &R,
         acting: &Acting<'_, G>,
         firm: u16,
-        what: ForDealer,
+        last: u32,
+        moment: Moment,
     ) -> Result<Done, Memory>
         requires { acting.now.board.now ≡ J.board }
     {
         let Some(place) = self.dealers.get(usize::from(firm)) else {
             return Ok(Done::nothing());
         };
-        let done = place.desk.lock(rt).bring(acting, what)?;
+        let done = place.desk.lock(rt).drop_next(acting, last, moment)?;
         Ok(done)
     }
 
     /// The same at an investor's desk.
-    fn to_investor<R: Wait, G: Gate>(
+    fn to_investor<R: Wait>(
         &self,
         rt: &R,
-        acting: &Acting<'_, G>,
+        action: (Actor, u64),
         firm: u16,
         what: ForInvestor,
     ) -> Result<Done, Memory> {
         let Some(place) = self.investor(firm) else {
             return Ok(Done::nothing());
         };
-        let done = place.desk.lock(rt).bring(acting, what)?;
+        let done = place.desk.lock(rt).bring(action, what)?;
         Ok(done)
     }
 
     /// The same in a room.
-    fn to_room<R: Wait, G: Gate>(
+    fn to_room<R: Wait>(
+        &self,
+        rt: &R,
+        action: (Actor, u64),
+        room: RoomRef,
+        what: ForRoom,
+    ) -> Result<Done, Memory> {
+        let Some(place) = self.room(room) else {
+            return Ok(Done::nothing());
+        };
+        let done = place.lock(rt).bring(action, what)?;
+        Ok(done)
+    }
+
+    /// The same of a hit.
+    fn to_hit<R: Wait, G: Gate>(
         &self,
         rt: &R,
         acting: &Acting<'_, G>,
         room: RoomRef,
-        what: ForRoom,
+        response: ResponseRef,
+        word: u32,
+        moment: Moment,
     ) -> Result<Done, Memory>
         requires { acting.now.board.now ≡ J.board }
     {
         let Some(place) = self.room(room) else {
             return Ok(Done::nothing());
         };
-        let done = place.lock(rt).bring(acting, what)?;
+        let done = place.lock(rt).hit(acting, response, word, moment)?;
         Ok(done)
     }
 

@@ -3,7 +3,6 @@
 #![tactic(auto)]
 
 mod actors;
-mod bringing;
 mod day_checks;
 mod day_rooms;
 mod days;

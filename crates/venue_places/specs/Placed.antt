@@ -5,6 +5,7 @@ use Rattle.std.specs.Prelude.{ℕ, nat_lt, Bool, Option, Some, None, is_some, op
 use Rattle.std.specs.Prelude.{if◌then◌else◌}
 use Rattle.market_terms.specs.declared.duties.Duty.{Duty}
 use Rattle.market_terms.specs.declared.duties.Duty.TheVariants as duty
+use Rattle.market_terms.specs.declared.rooms.ResponseRef.{ResponseRef}
 use Rattle.market_terms.specs.declared.rooms.RoomRef.{RoomRef}
 use Rattle.step_replay.specs.Actions.{Dealer, acting_dealer, has_word_for, offer_of, word_for}
 use Rattle.step_replay.specs.Actions.{words_of}
@@ -44,6 +45,11 @@ abbrev pub in_room : Configuration → RoomRef → ForRoom → Option Arrival
 in_room config room what =
     where_so (has_room config room.investor room.n) (arrival.Room room what)
 
+-- in a room that is hit
+abbrev pub hit_in : Configuration → RoomRef → ResponseRef → ℕ → ℕ → Option Arrival
+hit_in config room response word moment =
+    where_so (has_room config room.investor room.n) (arrival.Hit room response word moment)
+
 -- The dealer that acts.
 
 -- what a dealer's act is, where a dealer acts
@@ -75,8 +81,8 @@ declined config room moment dealer =
     at_investor config room.investor (to_investor.Declined room.n dealer.row.name moment)
 
 -- a drop of its next quote
-abbrev pub drops : Configuration → ℕ → ℕ → Dealer → Option Arrival
-drops config last moment dealer = at_dealer config dealer.number (to_dealer.Drop last moment)
+abbrev pub drops : ℕ → ℕ → Dealer → Option Arrival
+drops last moment dealer = Some (arrival.Drop dealer.number last moment)
 
 -- The table.
 
@@ -97,8 +103,7 @@ placed config by (duty.Gone room word moment) =
     at_investor config room.investor (to_investor.Gone room.n word moment)
 placed config by (duty.Decline room moment) = by_dealer config by (declines config room moment)
 placed config by (duty.Declined room moment) = by_dealer config by (declined config room moment)
-placed config by (duty.Hit room response word moment) =
-    in_room config room (to_room.Hit response word moment)
+placed config by (duty.Hit room response word moment) = hit_in config room response word moment
 placed config by (duty.Pass room response moment) =
     in_room config room (to_room.Pass response moment)
 placed config by (duty.Answer room response reply moment) =
@@ -107,7 +112,7 @@ placed config by (duty.Close room moment) =
     at_investor config room.investor (to_investor.Close room.n moment)
 placed config by (duty.Tell dealer room close moment) =
     at_dealer config dealer (to_dealer.Tell room close moment)
-placed config by (duty.Drop last moment) = by_dealer config by (drops config last moment)
+placed config by (duty.Drop last moment) = by_dealer config by (drops last moment)
 
 -- where a sweep comes
 abbrev pub swept : Configuration → RoomRef → ℕ → Option Arrival

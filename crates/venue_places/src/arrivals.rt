@@ -3,7 +3,8 @@ use fix_fields::Moment;
 use market_terms::{Ask, AskedDealers, Close, Offer, Reply, ResponseRef, RoomRef};
 use venue_config::Name;
 
-/// What comes to a place of the venue, with the place.
+/// What comes to a place of the venue, with the place. A drop and a hit ask a word there, where one
+/// is to be asked; nothing else does.
 #[derive(Drop)]
 pub enum Arrival {
     /// At a dealer's desk.
@@ -12,6 +13,15 @@ pub enum Arrival {
         firm: u16,
         /// What comes.
         what: ForDealer,
+    },
+    /// At a dealer's desk: the next quote of its cancel of all is dropped.
+    Drop {
+        /// The dealer's number among the firms.
+        firm: u16,
+        /// No later quote than that with this number is dropped.
+        last: u32,
+        /// The moment.
+        moment: Moment,
     },
     /// At an investor's desk.
     Investor {
@@ -27,9 +37,20 @@ pub enum Arrival {
         /// What comes.
         what: ForRoom,
     },
+    /// In the room of a request: its investor hits a quote.
+    Hit {
+        /// Which room.
+        room: RoomRef,
+        /// The response that hits it.
+        response: ResponseRef,
+        /// The quote's word.
+        word: u32,
+        /// The moment.
+        moment: Moment,
+    },
 }
 
-/// What comes to a dealer's desk for a duty.
+/// What comes to a dealer's desk for a duty, and asks no word.
 #[derive(Drop)]
 pub enum ForDealer {
     /// It is shown a request.
@@ -47,13 +68,6 @@ pub enum ForDealer {
         room: RoomRef,
         /// How it ended for this dealer.
         close: Close,
-        /// The moment.
-        moment: Moment,
-    },
-    /// The next quote of its cancel of all is dropped.
-    Drop {
-        /// No later quote than that with this number is dropped.
-        last: u32,
         /// The moment.
         moment: Moment,
     },
@@ -109,7 +123,7 @@ pub enum ForInvestor {
     },
 }
 
-/// What comes to the room of a request for a duty or a sweep.
+/// What comes to the room of a request for a duty or a sweep, and asks no word.
 #[derive(Drop)]
 pub enum ForRoom {
     /// It is opened.
@@ -148,15 +162,6 @@ pub enum ForRoom {
     Decline {
         /// The dealer's number among the firms.
         dealer: u16,
-        /// The moment.
-        moment: Moment,
-    },
-    /// The investor hits a quote.
-    Hit {
-        /// The response that hits it.
-        response: ResponseRef,
-        /// The quote's word.
-        word: u32,
         /// The moment.
         moment: Moment,
     },

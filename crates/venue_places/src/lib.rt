@@ -12,12 +12,16 @@
 //! ```
 //!
 //! Whoever runs a day takes the place that is named, by its index or by its lock, and brings it what
-//! comes: no other code names a duty.
+//! comes: no other code names a duty. [`bring_to_dealer`], [`bring_to_investor`] and
+//! [`bring_to_room`] do the step of `venue_steps` that has its name; a drop and a hit, which ask a
+//! word, are brought by `do_drop` and `do_hit` themselves.
 #![tactic(auto)]
 
 mod arrivals;
+mod bringing;
 mod table;
 mod words;
 
 pub use arrivals::{Arrival, ForDealer, ForInvestor, ForRoom};
+pub use bringing::{bring_to_dealer, bring_to_investor, bring_to_room};
 pub use table::{placed, swept};

@@ -7,7 +7,7 @@ use crate::arrivals::{Arrival, ForDealer, ForInvestor, ForRoom};
 use crate::words::word_of;
 use bond_prices::Ticks;
 use fix_fields::Moment;
-use market_terms::{Duty, Offer, RoomRef};
+use market_terms::{Duty, Offer, ResponseRef, RoomRef};
 use step_replay::Actor;
 use venue_config::VenueConfig;
 
@@ -84,15 +84,7 @@ pub fn placed(config: &VenueConfig, by: Actor, duty: Duty) -> Option<Arrival>
             response,
             word,
             moment,
-        } => in_room(
-            config,
-            room,
-            ForRoom::Hit {
-                response,
-                word,
-                moment,
-            },
-        ),
+        } => hit_in(config, room, response, word, moment),
         Duty::Pass {
             room,
             response,
@@ -174,6 +166,27 @@ fn in_room(config: &VenueConfig, room: RoomRef, what: ForRoom) -> Option<Arrival
         return None;
     }
     Some(Arrival::Room { room, what })
+}
+
+/// In a room that is hit.
+fn hit_in(
+    config: &VenueConfig,
+    room: RoomRef,
+    response: ResponseRef,
+    word: u32,
+    moment: Moment,
+) -> Option<Arrival>
+    ensures { result ≡ spec.hit_in config.now room response word moment }
+{
+    if !config.has_room(room.investor, room.n) {
+        return None;
+    }
+    Some(Arrival::Hit {
+        room,
+        response,
+        word,
+        moment,
+    })
 }
 
 /// A post of the acting dealer's quote.
@@ -266,11 +279,15 @@ fn declined(config: &VenueConfig, by: Actor, room: RoomRef, moment: Moment) -> O
 
 /// A drop of the acting dealer's next quote.
 fn drops(config: &VenueConfig, by: Actor, last: u32, moment: Moment) -> Option<Arrival>
-    ensures { result ≡ spec.by_dealer config.now by (spec.drops config.now last moment) }
+    ensures { result ≡ spec.by_dealer config.now by (spec.drops last moment) }
 {
     let Actor::Firm(dealer) = by else {
         return None;
     };
     let _row = config.dealer(dealer)?;
-    at_dealer(config, dealer, ForDealer::Drop { last, moment })
+    Some(Arrival::Drop {
+        firm: dealer,
+        last,
+        moment,
+    })
 }

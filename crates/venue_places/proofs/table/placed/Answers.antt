@@ -50,7 +50,7 @@ returns-in-Declined c =
 pub returns-in-Hit : goal.returns-in-Hit
 unfolding placed
 returns-in-Hit c =
-    c.in_room-in-Hit.ensures ∙ sym (ap (placed c.args.config.now c.args.by) c.in-Hit.is)
+    c.hit_in.ensures ∙ sym (ap (placed c.args.config.now c.args.by) c.in-Hit.is)
 
 pub returns-in-Pass : goal.returns-in-Pass
 unfolding placed

@@ -1,40 +1,14 @@
-use Rattle.std.proofs.Common.{◌≡◌, sym, subst}
-use Rattle.std.specs.Prelude.{IfOk, OnOk}
-use Rattle.session_worker.specs.Brought.{desk_with, duties_at_dealer}
+use Rattle.session_worker.proofs.BroughtLemmas.{dealer_brought}
+use Rattle.session_worker.proofs.DealerLockLemmas.{DeskLaws}
 use Rattle.session_worker.proofs.dealers.LockedDealer.bring.Goals as goal
 
-pub returns-in-Show-clause-desk : goal.returns-in-Show-clause-desk
-unfolding desk_with
-returns-in-Show-clause-desk g c =
-    subst (λ what. OnOk c.show.result (c.show.new.self.desk ≡ desk_with _ _ _ _ what))
-    (sym c.in-Show.is) c.show.ensures.desk
-
-pub returns-in-Show-clause-duties : goal.returns-in-Show-clause-duties
-unfolding duties_at_dealer
-returns-in-Show-clause-duties g c =
-    subst (λ what. IfOk c.show.result (λ done. done.duties.items ≡ duties_at_dealer _ _ _ _ what))
-    (sym c.in-Show.is) c.show.ensures.duties
-
-pub returns-in-Tell-clause-desk : goal.returns-in-Tell-clause-desk
-unfolding desk_with
-returns-in-Tell-clause-desk g c =
-    subst (λ what. OnOk c.tell.result (c.tell.new.self.desk ≡ desk_with _ _ _ _ what))
-    (sym c.in-Tell.is) c.tell.ensures.desk
-
-pub returns-in-Tell-clause-duties : goal.returns-in-Tell-clause-duties
-unfolding duties_at_dealer
-returns-in-Tell-clause-duties g c =
-    subst (λ what. IfOk c.tell.result (λ done. done.duties.items ≡ duties_at_dealer _ _ _ _ what))
-    (sym c.in-Tell.is) c.tell.ensures.duties
-
-pub returns-in-Drop-clause-desk : goal.returns-in-Drop-clause-desk
-unfolding desk_with
-returns-in-Drop-clause-desk g c =
-    subst (λ what. OnOk c.drop_next.result (c.drop_next.new.self.desk ≡ desk_with _ _ _ _ what))
-    (sym c.in-Drop.is) c.drop_next.ensures.desk
-
-pub returns-in-Drop-clause-duties : goal.returns-in-Drop-clause-duties
-unfolding duties_at_dealer
-returns-in-Drop-clause-duties g c =
-    subst (λ what. IfOk c.drop_next.result (λ done. done.duties.items ≡ duties_at_dealer _ _ _ _ what))
-    (sym c.in-Drop.is) c.drop_next.ensures.duties
+-- no word is asked
+pub invariant_of-self-2 : goal.invariant_of-self-2
+invariant_of-self-2 g c =
+    let laws : DeskLaws = record {
+      asks = c.words_are_asked_event_by_event.ensures;
+      answered = c.events_are_answered_one_by_one.ensures.more;
+    } in
+    dealer_brought laws g.J.Naming.board g.J.Naming.config c.self.inside.firm
+    c.self.inside.first_word c.self.inside.desk c.bring_to_dealer.new.desk c.self.inside.seen
+    c.args.what c.self.invariant c.in_ok-duties.ensures.ok
