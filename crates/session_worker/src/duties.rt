@@ -79,7 +79,7 @@ impl<J: Naming> SharedVenue<J> {
         firm: u16,
         what: ForDealer,
     ) -> Result<Done, Memory> {
-        let Some(place) = self.dealers.get(usize::from(firm)) else {
+        let Some(place) = self.dealer(firm) else {
             return Ok(Done::nothing());
         };
         let done = place.desk.lock(rt).bring(action, what)?;
@@ -97,7 +97,7 @@ impl<J: Naming> SharedVenue<J> {
     ) -> Result<Done, Memory>
         requires { acting.now.board.now ≡ J.board }
     {
-        let Some(place) = self.dealers.get(usize::from(firm)) else {
+        let Some(place) = self.dealer(firm) else {
             return Ok(Done::nothing());
         };
         let done = place.desk.lock(rt).drop_next(acting, last, moment)?;
@@ -166,7 +166,7 @@ impl<J: Naming> SharedVenue<J> {
         let Actor::Firm(firm) = acting.by else {
             return Ok(Done::nothing());
         };
-        let Some(place) = self.dealers.get(usize::from(firm)) else {
+        let Some(place) = self.dealer(firm) else {
             let done = self.investor_says(rt, acting, firm, moment, bytes)?;
             return Ok(done);
         };

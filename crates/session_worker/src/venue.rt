@@ -1,6 +1,9 @@
 //! The venue that threads share.
-ghost use Rattle.std.specs.Prelude.{◌≡◌, ◌<◌, ◌^◌, length, map, IfOk};
+ghost use Rattle.std.specs.Prelude.{◌≡◌, ◌<◌, ◌^◌, length, map, slice_get, IfOk};
+ghost use Rattle.std.specs.Prelude.{option_and_then};
+ghost use Rattle.std.specs.Option.{option_copied};
 ghost use Rattle.session_worker.specs.KeptDays.{requests_of};
+ghost use Rattle.session_worker.specs.Locks.{numbered_from};
 ghost use Rattle.step_replay.specs.Actions.{words_of};
 
 use crate::dealers::LockedDealer;
@@ -74,17 +77,32 @@ impl<J: Naming> SharedVenue<J> {
         })
     }
 
-    /// The lock of a room, where the venue has it.
-    pub(crate) fn room(&self, room: RoomRef) -> Option<&Mutex<LockedRoom<J>>> {
-        let investor = self.investor(room.investor)?;
-        let index = (room.n as usize).checked_sub(1)?;
-        investor.rooms.get(index)
+    /// The place of the dealer with this number among the firms.
+    pub(crate) fn dealer(&self, firm: u16) -> Option<&DealerPlace<J>>
+        ensures { option_copied result ≡ slice_get self.now.dealers.items firm }
+    {
+        self.dealers.get(usize::from(firm))
     }
 
     /// The place of the investor with this number among the firms.
-    pub(crate) fn investor(&self, firm: u16) -> Option<&InvestorPlace<J>> {
+    pub(crate) fn investor(&self, firm: u16) -> Option<&InvestorPlace<J>>
+        ensures { option_copied result
+            ≡ numbered_from (length self.now.dealers.items) self.now.investors.items firm }
+    {
         let index = usize::from(firm).checked_sub(self.dealers.len())?;
         self.investors.get(index)
+    }
+
+    /// The lock of a room, where the venue has it.
+    pub(crate) fn room(&self, room: RoomRef) -> Option<&Mutex<LockedRoom<J>>>
+        ensures { option_copied result
+            ≡ option_and_then (λ place. numbered_from 1 place.rooms.items room.n)
+            (numbered_from (length self.now.dealers.items) self.now.investors.items
+            room.investor) }
+    {
+        let investor = self.investor(room.investor)?;
+        let index = (room.n as usize).checked_sub(1)?;
+        investor.rooms.get(index)
     }
 }
 
