@@ -65,9 +65,9 @@ beside() {
         failed=$((failed + 1))
         return
     fi
-    form pages 60 python3 's/^\([0-9]*\) passed, 0 failed$/\1/p' \
+    form pages 600 python3 's/^\([0-9]*\) passed, 0 failed$/\1/p' \
         python3 tests/pages.py --venue "$program"
-    form page_checks 30 python3 's/^Ran \([0-9]*\) tests in .*/\1/p' \
+    form page_checks 300 python3 's/^Ran \([0-9]*\) tests in .*/\1/p' \
         env PYTHONPATH=tests python3 -m unittest page_checks.test_checks
     form engines 120 "g++ libquickfix-dev" '$s/.*/1/p' tests/engines/run.sh "$program"
     form model 45 python3 's/^\([0-9]*\) inputs, .*: no difference$/\1/p' \
