@@ -119,8 +119,10 @@ beside() {
         supervised="/usr/bin/python3 $root/tests/model/program.py"
         without_live=--without-live
     fi
-    form pages 300 python3 's/^\([0-9]*\) passed, 0 failed$/\1/p' \
+    form pages 600 python3 's/^\([0-9]*\) passed, 0 failed$/\1/p' \
         python3 tests/pages.py --venue "$program"
+    form page_checks 300 python3 's/^Ran \([0-9]*\) tests in .*/\1/p' \
+        env PYTHONPATH=tests python3 -m unittest page_checks.test_checks
     form engines 900 "g++ libquickfix-dev" '$s/.*/1/p' tests/engines/run.sh "$program"
     # shellcheck disable=SC2086 # a word or none
     form model 600 python3 's/^\([0-9]*\) inputs, .*: no difference$/\1/p' \
