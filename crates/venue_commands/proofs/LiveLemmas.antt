@@ -1,5 +1,5 @@
 -- A run of `live`: what it has answered so far, and how a fault ends it.
-use Rattle.std.proofs.Common.{◌≡◌, ◌⊎◌, ℕ, ◌+◌, ◌<◌, ◌≤◌, ◌==◌, Bool, true, false, List, [], ◌∷◌, ◌++◌, length, Option, Some, None}
+use Rattle.std.proofs.Common.{◌≡◌, ◌≢◌, ◌⊎◌, ℕ, ◌+◌, ◌<◌, ◌≤◌, ◌==◌, Bool, true, false, List, [], ◌∷◌, ◌++◌, length, Option, Some, None}
 use Rattle.std.proofs.Common.{Result, Ok, Err, refl, sym, ap, subst, ◌∙◌, arith, inl, inr, append_assoc, nat_lt, take, drop}
 use Rattle.std.specs.Io.KnownBytes.{Appends, Consumes, IsAtEnd, Keeps}
 use Rattle.std.specs.List.{list_any}
@@ -18,23 +18,33 @@ use Rattle.venue_config.specs.declared.faults.ConfigFault.{ConfigFault}
 use Rattle.venue_config.specs.declared.faults.ConfigFault.TheVariants.{Toml}
 use Rattle.venue_text.specs.Faults.{told_line}
 use Rattle.venue_text.specs.Lines.{lines_of}
+use Rattle.venue_text.specs.AskedDays.{dealer_by, firm_by, firms_by}
+use Rattle.venue_text.specs.KeptDays as kept_days
+use Rattle.venue_text.specs.KeptDays.{KeepsMore, OpensKept, Wanted, asked_in, asked_venue, dues, kept_text, messages}
 use Rattle.venue_text.specs.LiveAnswers.{Gives, Goes, Opens}
 use Rattle.venue_text.specs.LiveInput.{are_divided, configuration_in, taken_in, text_in}
 use Rattle.venue_text.specs.LiveLines.{Taken}
+use Rattle.venue_text.specs.ResultSteps.{◌>>=◌}
+use Rattle.venue_text.specs.StepLines.{asked, dealer_named, firm_named}
 use Rattle.venue_text.specs.VenueParts.{is_divider, or_config_fault, venue_of}
 use Rattle.venue_text.specs.declared.faults.ProgramFault.{ProgramFault}
 use Rattle.venue_text.specs.declared.faults.ProgramFault.TheVariants.{Input, Config, Day, Firm, Form, Memory, Parts, Read as NotRead}
 use Rattle.venue_text.specs.declared.faults.ProgramFault.TheVariants.{Stream, UnknownFirm, UnknownRoom, Weave, Write}
+use Rattle.venue_text.specs.declared.kept_days.Asked.{Asked}
+use Rattle.venue_text.specs.declared.kept_days.Asked.TheVariants as asked_for
+use Rattle.venue_text.specs.declared.kept_days.KeptDay.{KeptDay}
 use Rattle.venue_text.specs.declared.lines.TheConstants.{MOST_INPUT}
 use Rattle.venue_text.specs.declared.live_form.LiveForm.{LiveForm}
 use Rattle.venue_text.specs.declared.live_lines.LiveDay.{LiveDay}
+use Rattle.venue_commands.specs.Arguments.{LineForm, answered, kept_for, meant_form}
 use Rattle.venue_commands.specs.LiveRuns.{EndsWith, EndsDay, EndsInAnswers, EndsInLive, GainsFaults, HasAnswered}
-use Rattle.venue_commands.specs.LiveRuns.{ended_lines}
-use Rattle.venue_commands.specs.LiveStages.{AwaitsDay, DayGoes, IsBad, IsConfiguration, IsCut, IsDay, StageIs, StandsAt, Start}
-use Rattle.venue_commands.specs.LiveStages.{OfConfig, OfLength, OfMemory, err_new, err_old, out_new, out_old}
-use Rattle.venue_commands.specs.LiveStages.{AnswersAll, DayFails, DayTakes, EndFails, Ends, FailsIn, FeedFails, Feeds, IsNext}
-use Rattle.venue_commands.specs.LiveStages.{LineFails, LineTakes, StageFails, StageTakes, StandsFirst}
+use Rattle.venue_commands.specs.LiveRuns.{TakesDay, ended_lines, fault_if, name_fault, whole_text}
+use Rattle.venue_commands.specs.LiveStages.{AwaitsDay, DayGoes, IsBad, IsCut, KeptGoes, StageIs, StandsAt, Start}
+use Rattle.venue_commands.specs.LiveStages.{OfConfig, OfFirm, OfLength, OfMemory, OpensNone, OpensStage, err_new, err_old, out_new, out_old}
+use Rattle.venue_commands.specs.LiveStages.{AnswersAll, CloseFails, Closes, DayFails, DayTakes, EndFails, Ends, FailsIn, FeedFails, Feeds}
+use Rattle.venue_commands.specs.LiveStages.{IsNext, KeptTakes, LineFails, LineTakes, StageFails, StageTakes, StandsFirst}
 use Rattle.venue_commands.specs.Written.{Gains, GainsPart, Written}
+use Rattle.venue_commands.specs.declared.command.LineForm.{LineForm as RustForm}
 use Rattle.venue_commands.specs.declared.live.LiveRun.{LiveRun}
 use Rattle.venue_commands.specs.declared.live.Stage.{Stage}
 use Rattle.venue_commands.specs.declared.live.Stage.TheVariants as stage
@@ -159,6 +169,7 @@ module _ (form : LiveForm) (lines : List (List ℕ)) (number : ℕ) (line answer
     answers = record {
       divided = divided_still;
       spelled = spelled_still;
+      asked = refl;
       printed = subst (λ (t : List ℕ). Appends start new t) (sym next.printed) (appends_both start old new _ answer had.answers.printed gained);
       told = told_more;
     };
@@ -168,9 +179,9 @@ module _ (form : LiveForm) (lines : List (List ℕ)) (number : ℕ) (line answer
   -- or a part of it
   pub day_unprinted : (more : List (List ℕ)) (write : ProgramFault) → write ≡ Write
       → GainsPart answer (record { before = old; after = new })
-      → EndsDay form write ((lines ++ line ∷ []) ++ more) (record { before = start; after = new }) (record { before = told; after = err' })
+      → EndsDay (answered form) write ((lines ++ line ∷ []) ++ more) (record { before = start; after = new }) (record { before = told; after = err' })
   day_unprinted more write is part =
-      subst (λ (f : ProgramFault). EndsDay form f ((lines ++ line ∷ []) ++ more) (record { before = start; after = new })
+      subst (λ (f : ProgramFault). EndsDay (answered form) f ((lines ++ line ∷ []) ++ more) (record { before = start; after = new })
       (record { before = told; after = err' })) (sym is)
       (record {
         is_fault = tt;
@@ -182,6 +193,7 @@ module _ (form : LiveForm) (lines : List (List ℕ)) (number : ℕ) (line answer
           record {
             divided = divided_still;
             spelled = spelled_still;
+            asked = refl;
             printed = subst (λ (t : List ℕ). GainsPart t (record { before = start; after = new })) (sym next.printed)
                 (more_part start old new _ answer had.answers.printed part);
             told = told_more;
@@ -192,9 +204,9 @@ module _ (form : LiveForm) (lines : List (List ℕ)) (number : ℕ) (line answer
 -- memory was refused
 pub day_out_of_memory : (form : LiveForm) (lines : List (List ℕ)) (line : List ℕ) (day : LiveDay) (out : Written) (told old new : Option (List ℕ))
     (more : List (List ℕ)) (fault : ProgramFault) → fault ≡ Memory → DayGoes form lines day out (record { before = told; after = old })
-    → Keeps old new → EndsDay form fault ((lines ++ line ∷ []) ++ more) out (record { before = told; after = new })
+    → Keeps old new → EndsDay (answered form) fault ((lines ++ line ∷ []) ++ more) out (record { before = told; after = new })
 day_out_of_memory form lines line day out told old new more fault is goes kept =
-    subst (λ (f : ProgramFault). EndsDay form f ((lines ++ line ∷ []) ++ more) out (record { before = told; after = new })) (sym is)
+    subst (λ (f : ProgramFault). EndsDay (answered form) f ((lines ++ line ∷ []) ++ more) out (record { before = told; after = new })) (sym is)
     (record {
       is_fault = tt;
       lines = lines;
@@ -205,11 +217,56 @@ day_out_of_memory form lines line day out told old new more fault is goes kept =
         record {
           divided = goes.answers.divided;
           spelled = goes.answers.spelled;
+          asked = refl;
           printed = goes.answers.printed;
           told = faults_kept (taken_in goes.config lines).faults told old new goes.answers.told kept;
         },
       );
     })
+
+-- A line of steps that is taken, of a day of which something is printed at its end.
+
+-- what a line brings, wherever the day stood
+abbrev pub KeepsAnywhere : ℕ → List ℕ → KeptDay → KeptDay → Option ProgramFault → Type 0
+KeepsAnywhere number line before after fault = (config : Configuration) (wanted : Wanted) (taken : Taken)
+    → kept_days.Keeps wanted config taken before → KeepsMore wanted config taken number line after fault
+
+module _ (number : ℕ) (line : List ℕ) (fault : Option ProgramFault) (before after : KeptDay)
+    (keeps : KeepsAnywhere number line before after fault) where
+  pub kept_taken : (out : Option (List ℕ)) (err err' : Option (List ℕ))
+      → GainsFaults (option_to_list fault) (record { before = err; after = err' })
+      → KeptTakes number line before after (record { before = out; after = out }) (record { before = err; after = err' })
+  kept_taken out err err' tells wanted lines start at had =
+      let config = had.config in
+      let divided = had.answers.divided in
+      let same = taken_any config lines line divided in
+      let more = subst (λ (n : ℕ). KeepsMore wanted config (taken_in config lines) n line after fault) at
+      (keeps config wanted (taken_in config lines) had.keeps) in
+      let faults : (taken_in config (lines ++ line ∷ [])).faults ≡ (taken_in config lines).faults ++ option_to_list fault =
+      ap (λ (t : Taken). t.faults) same ∙ more.told in
+      record {
+        config = config;
+        answers = record {
+          divided = (parts_stay is_divider lines (line ∷ []) divided).any;
+          spelled = ap venue_of (configuration_stays lines (line ∷ []) divided) ∙ had.answers.spelled;
+          asked = had.answers.asked;
+          printed = had.answers.printed;
+          told = subst (λ (f : List ProgramFault). GainsFaults f (record { before = start.err; after = err' })) (sym faults)
+              (faults_more (taken_in config lines).faults (option_to_list fault) start.err err err' had.answers.told tells);
+        };
+        keeps = subst (λ (t : Taken). kept_days.Keeps wanted config t after) (sym same) more.keeps;
+      }
+
+-- memory was refused: what was taken before stays, and nothing is printed
+kept_memory : (wanted : Wanted) (lines rest : List (List ℕ)) (day : KeptDay) (out err : Written) → KeptGoes wanted lines day out err
+    → EndsDay (kept_for wanted) Memory (lines ++ rest) out err
+kept_memory wanted lines rest day out err had = record {
+  is_fault = tt;
+  lines = lines;
+  rest = rest;
+  split = refl;
+  left = inr (had.config, had.answers);
+}
 
 -- A line of the configuration.
 
@@ -224,23 +281,55 @@ config_goes_on lines line text after out err had other is = record {
   text_is = is ∙ ap (λ (t : List ℕ). t ++ line ++ 10 ∷ []) had.text_is ∙ sym (text_grows lines line);
 }
 
-pub config_opens : (form : LiveForm) (lines : List (List ℕ)) (line text : List ℕ) (day : LiveDay) (out err : Written) → AwaitsDay lines text out err
-    → is_divider line ≡ true → Opens form text day → DayGoes form (lines ++ line ∷ []) day out err
-config_opens form lines line text day out err had here opens =
-    let undivided = had.nothing.undivided in
-    let config = opens.config in
-    let same = nothing_behind lines line undivided here config in
-    record {
-      config = config;
-      answers = record {
-        divided = now_divided lines line undivided here;
-        spelled = ap venue_of (configuration_is lines line undivided here ∙ sym had.text_is) ∙ opens.spelled;
-        printed = subst (λ (t : List ℕ). Gains t out) (sym (nothing_printed lines line undivided here form config))
-            (gains_nothing out.before out.after had.nothing.left);
-        told = subst (λ (t : Taken). GainsFaults t.faults err) (sym same) had.nothing.untold;
-      };
-      goes = subst (λ (t : Taken). Goes form config t day) (sym same) opens.goes;
-    }
+-- the lines so far are of a configuration, and this one ends it
+module _ (lines : List (List ℕ)) (line text : List ℕ) (out err : Written) (had : AwaitsDay lines text out err) (here : is_divider line ≡ true) where
+  spelled_here : (config : Configuration) → venue_of text ≡ Ok (values_of config) → venue_of (configuration_in (lines ++ line ∷ [])) ≡ Ok (values_of config)
+  spelled_here config spelled = ap venue_of (configuration_is lines line had.nothing.undivided here ∙ sym had.text_is) ∙ spelled
+
+  nothing_taken_here : (config : Configuration) → taken_in config (lines ++ line ∷ []) ≡ nothing_taken (values_of config)
+  nothing_taken_here config = nothing_behind lines line had.nothing.undivided here config
+
+  untold_here : (config : Configuration) → GainsFaults (taken_in config (lines ++ line ∷ [])).faults err
+  untold_here config = subst (λ (t : Taken). GainsFaults t.faults err) (sym (nothing_taken_here config)) had.nothing.untold
+
+  pub config_opens : (form : LiveForm) (day : LiveDay) → Opens form text day → DayGoes form (lines ++ line ∷ []) day out err
+  config_opens form day opens =
+      let config = opens.config in
+      record {
+        config = config;
+        answers = record {
+          divided = now_divided lines line had.nothing.undivided here;
+          spelled = spelled_here config opens.spelled;
+          asked = refl;
+          printed = subst (λ (t : List ℕ). Gains t out) (sym (nothing_printed lines line had.nothing.undivided here form config))
+              (gains_nothing out.before out.after had.nothing.left);
+          told = untold_here config;
+        };
+        goes = subst (λ (t : Taken). Goes form config t day) (sym (nothing_taken_here config)) opens.goes;
+      }
+
+  pub config_keeps : (wanted : Wanted) (day : KeptDay) → OpensKept wanted text day → KeptGoes wanted (lines ++ line ∷ []) day out err
+  config_keeps wanted day opens =
+      let config = opens.config in
+      record {
+        config = config;
+        answers = record {
+          divided = now_divided lines line had.nothing.undivided here;
+          spelled = spelled_here config opens.spelled;
+          asked = ap (λ (r : Result Asked ProgramFault). fault_if r) opens.keeps.asked_is;
+          printed = gains_nothing out.before out.after had.nothing.left;
+          told = untold_here config;
+        };
+        keeps = subst (λ (t : Taken). kept_days.Keeps wanted config t day) (sym (nothing_taken_here config)) opens.keeps;
+      }
+
+  pub stage_opened : (form : LineForm) (next : Stage) → OpensStage form text next → StageIs form (lines ++ line ∷ []) next out err
+  stage_opened (answered form) (stage.Configuration t) opens = absurd opens
+  stage_opened (answered form) (stage.Day day) opens = config_opens form day opens
+  stage_opened (answered form) (stage.Kept day) opens = absurd opens
+  stage_opened (kept_for wanted) (stage.Configuration t) opens = absurd opens
+  stage_opened (kept_for wanted) (stage.Day day) opens = absurd opens
+  stage_opened (kept_for wanted) (stage.Kept day) opens = config_keeps wanted day opens
 
 -- a fault of what a configuration spells is one of its own
 config_fault : (text : List ℕ) (fault : ProgramFault) → venue_of text ≡ Err fault → (f : ConfigFault) × (fault ≡ Config f)
@@ -252,19 +341,81 @@ config_fault text fault is = by_text (is_utf8 text) (config_of text) is
     by_text true (Err f) e = (f, cc)
     by_text false read e = (Toml, cc)
 
-module _ (form : LiveForm) (lines : List (List ℕ)) (line text : List ℕ) (out err : Written) (had : AwaitsDay lines text out err)
+-- a fault of a name is that no firm has it
+only_firm : {A : Type 0} (found : Option ℕ) (next : ℕ → A) (fault : ProgramFault) → fault_if (asked found >>= (λ n. Ok (next n))) ≡ Some fault → fault ≡ Firm
+only_firm None next fault e = cc
+only_firm (Some n) next fault e = cc
+
+firm_alone : (form : LineForm) (config : ConfigValues) (fault : ProgramFault) → name_fault form config ≡ Some fault → fault ≡ Firm
+firm_alone (answered form) config fault e = cc
+firm_alone (kept_for (messages None frames)) config fault e = cc
+firm_alone (kept_for (messages (Some name) frames)) config fault e = go (firm_named config name) e
+  where
+    go : (found : Option ℕ) → fault_if ((asked found >>= (λ n. Ok (Some n))) >>= (λ only. Ok (asked_for.Messages only frames))) ≡ Some fault → fault ≡ Firm
+    go None e = cc
+    go (Some n) e = cc
+firm_alone (kept_for (dues name)) config fault e = only_firm (dealer_named config name) (λ n. asked_for.Due n) fault e
+firm_alone (kept_for (kept_days.blotter name)) config fault e = only_firm (firm_named config name) (λ n. asked_for.Blotter n) fault e
+
+-- why a configuration opens no day
+pub opens_none : (wanted : Wanted) (text : List ℕ) (fault : ProgramFault) → asked_venue wanted text ≡ Err fault → OpensNone (kept_for wanted) text fault
+opens_none wanted text fault is = go (venue_of text) refl is
+  where
+    go : (read : Result ConfigValues ProgramFault) → venue_of text ≡ read → (read >>= asked_in wanted) ≡ Err fault → OpensNone (kept_for wanted) text fault
+    go (Ok config) spelled e = inr (config, spelled, ap (λ (r : Result Asked ProgramFault). fault_if r) e)
+    go (Err f) spelled e = let same : f ≡ fault = cc in inl (spelled ∙ ap (λ (x : ProgramFault). Err x) same)
+
+-- a line that ends no configuration, by why it opens no day
+pub bad_by : (form : LineForm) (line text : List ℕ) (fault : ProgramFault) → is_divider line ≡ true
+    → (fault ≢ Memory → OpensNone form text fault) → IsBad form line text fault
+bad_by form line text fault here why = go fault why
+  where
+    by : (f : ProgramFault) → OpensNone form text f → IsBad form line text f
+    by f (inl is) = OfConfig here is
+    by f (inr is) = OfFirm here is.0 is.1 is.2
+    go : (f : ProgramFault) → (f ≢ Memory → OpensNone form text f) → IsBad form line text f
+    go Memory none = OfMemory refl
+    go NotRead none = by NotRead (none (λ e. cc))
+    go Input none = by Input (none (λ e. cc))
+    go Parts none = by Parts (none (λ e. cc))
+    go (Config f) none = by (Config f) (none (λ e. cc))
+    go Firm none = by Firm (none (λ e. cc))
+    go (Form k) none = by (Form k) (none (λ e. cc))
+    go (UnknownFirm k) none = by (UnknownFirm k) (none (λ e. cc))
+    go (UnknownRoom k) none = by (UnknownRoom k) (none (λ e. cc))
+    go (Stream k) none = by (Stream k) (none (λ e. cc))
+    go (Day what) none = by (Day what) (none (λ e. cc))
+    go (Weave why) none = by (Weave why) (none (λ e. cc))
+    go Write none = by Write (none (λ e. cc))
+
+module _ (form : LineForm) (lines : List (List ℕ)) (line text : List ℕ) (out err : Written) (had : AwaitsDay lines text out err)
     (more : List (List ℕ)) where
   abbrev Fails : ProgramFault → Type 0
   Fails fault = EndsDay form fault ((lines ++ line ∷ []) ++ more) out err
 
+  whole_configuration : is_divider line ≡ true → configuration_in ((lines ++ line ∷ []) ++ more) ≡ text
+  whole_configuration here =
+      let undivided = had.nothing.undivided in
+      configuration_stays (lines ++ line ∷ []) more (now_divided lines line undivided here)
+      ∙ configuration_is lines line undivided here ∙ sym had.text_is
+
   config_lawless : (fault : ProgramFault) → is_divider line ≡ true → venue_of text ≡ Err fault → Fails fault
   config_lawless fault here is =
       let of = config_fault text fault is in
-      let undivided = had.nothing.undivided in
-      let whole = configuration_stays (lines ++ line ∷ []) more (now_divided lines line undivided here)
-      ∙ configuration_is lines line undivided here ∙ sym had.text_is in
       subst Fails (sym of.1) (record {
-        is_fault = ap venue_of whole ∙ is ∙ ap (λ (f : ProgramFault). Err f) of.1;
+        is_fault = ap venue_of (whole_configuration here) ∙ is ∙ ap (λ (f : ProgramFault). Err f) of.1;
+        lines = lines;
+        rest = line ∷ more;
+        split = append_assoc lines (line ∷ []) more;
+        left = (had.nothing.left, had.nothing.untold);
+      })
+
+  config_nameless : (fault : ProgramFault) (config : ConfigValues) → is_divider line ≡ true → venue_of text ≡ Ok config
+      → name_fault form config ≡ Some fault → Fails fault
+  config_nameless fault config here spelled is =
+      let of = firm_alone form config fault is in
+      subst Fails (sym of) (record {
+        is_fault = (config, ap venue_of (whole_configuration here) ∙ spelled, is ∙ ap (λ (f : ProgramFault). Some f) of);
         lines = lines;
         rest = line ∷ more;
         split = append_assoc lines (line ∷ []) more;
@@ -292,9 +443,10 @@ module _ (form : LiveForm) (lines : List (List ℕ)) (line text : List ℕ) (out
     left = inl had.nothing;
   }
 
-  pub config_bad : (fault : ProgramFault) → IsBad line text fault → Fails fault
+  pub config_bad : (fault : ProgramFault) → IsBad form line text fault → Fails fault
   config_bad fault (OfMemory is) = subst Fails (sym is) config_memory
   config_bad fault (OfConfig here is) = config_lawless fault here is
+  config_bad fault (OfFirm here config spelled is) = config_nameless fault config here spelled is
   config_bad fault (OfLength is other long) = subst Fails (sym is) (config_long other long)
 
 -- A line at a stage.
@@ -303,7 +455,7 @@ module _ (form : LiveForm) (lines : List (List ℕ)) (line text : List ℕ) (out
 abbrev pub still : Option (List ℕ) → Written
 still known = record { before = known; after = known }
 
-module _ (form : LiveForm) (number : ℕ) (line : List ℕ) (before : Stage) where
+module _ (form : LineForm) (number : ℕ) (line : List ℕ) (before : Stage) where
   pub stage_waits : (after : Stage) (t u : Vec ℕ Global) (o e : Option (List ℕ)) → before ≡ stage.Configuration t → after ≡ stage.Configuration u
       → IsNext form line t.items u.items None → StageTakes form number line before after (still o) (still e)
   stage_waits after t u o e was is next lines start at had =
@@ -311,54 +463,96 @@ module _ (form : LiveForm) (number : ℕ) (line : List ℕ) (before : Stage) whe
       (config_goes_on lines line t.items u.items _ _
       (subst (λ (s : Stage). StageIs form lines s (out_old start (still o)) (err_old start (still e))) was had) next.0 next.1)
 
-  pub stage_opens : (after : Stage) (t : Vec ℕ Global) (now : List ℕ) (day : LiveDay) (o e : Option (List ℕ)) → before ≡ stage.Configuration t
-      → after ≡ stage.Day day → IsNext form line t.items now (Some day) → StageTakes form number line before after (still o) (still e)
-  stage_opens after t now day o e was is next lines start at had =
-      subst (λ (s : Stage). StageIs form (lines ++ line ∷ []) s (out_new start (still o)) (err_new start (still e))) (sym is)
-      (config_opens form lines line t.items day _ _
-      (subst (λ (s : Stage). StageIs form lines s (out_old start (still o)) (err_old start (still e))) was had) next.0 next.1)
+  pub stage_opens : (after : Stage) (t : Vec ℕ Global) (now : List ℕ) (o e : Option (List ℕ)) → before ≡ stage.Configuration t
+      → IsNext form line t.items now (Some after) → StageTakes form number line before after (still o) (still e)
+  stage_opens after t now o e was next lines start at had =
+      stage_opened lines line t.items (out_new start (still o)) (err_new start (still e))
+      (subst (λ (s : Stage). StageIs form lines s (out_old start (still o)) (err_old start (still e))) was had) next.0 form after next.1
 
-  pub stage_goes : (after : Stage) (d d' : LiveDay) (out err : Written) → before ≡ stage.Day d → after ≡ stage.Day d'
-      → DayTakes number line d d' out err → StageTakes form number line before after out err
-  stage_goes after d d' out err was is takes lines start at had =
-      subst (λ (s : Stage). StageIs form (lines ++ line ∷ []) s (out_new start out) (err_new start err)) (sym is)
-      (takes form lines start at (subst (λ (s : Stage). StageIs form lines s (out_old start out) (err_old start err)) was had))
-
-  pub stage_bad : (t : Vec ℕ Global) (fault : ProgramFault) (o e : Option (List ℕ)) → before ≡ stage.Configuration t → IsBad line t.items fault
+  pub stage_bad : (t : Vec ℕ Global) (fault : ProgramFault) (o e : Option (List ℕ)) → before ≡ stage.Configuration t → IsBad form line t.items fault
       → StageFails form number line before fault (still o) (still e)
   stage_bad t fault o e was bad lines start at had more =
       config_bad form lines line t.items _ _
       (subst (λ (s : Stage). StageIs form lines s (out_old start (still o)) (err_old start (still e))) was had) more fault bad
 
+day_goes : (form : LineForm) (number : ℕ) (line : List ℕ) (d d' : LiveDay) (out err : Written) → DayTakes number line d d' out err
+    → StageTakes form number line (stage.Day d) (stage.Day d') out err
+day_goes (answered form) number line d d' out err takes lines start at had = takes form lines start at had
+day_goes (kept_for wanted) number line d d' out err takes lines start at had = absurd had
+
+day_fails : (form : LineForm) (number : ℕ) (line : List ℕ) (d : LiveDay) (fault : ProgramFault) (out err : Written) → DayFails number line d fault out err
+    → StageFails form number line (stage.Day d) fault out err
+day_fails (answered form) number line d fault out err fails lines start at had more = fails form lines start at had more
+day_fails (kept_for wanted) number line d fault out err fails lines start at had more = absurd had
+
+kept_goes : (form : LineForm) (number : ℕ) (line : List ℕ) (d d' : KeptDay) (out err : Written) → KeptTakes number line d d' out err
+    → StageTakes form number line (stage.Kept d) (stage.Kept d') out err
+kept_goes (answered form) number line d d' out err takes lines start at had = absurd had
+kept_goes (kept_for wanted) number line d d' out err takes lines start at had = takes wanted lines start at had
+
+kept_refused : (form : LineForm) (number : ℕ) (line : List ℕ) (d : KeptDay) (fault : ProgramFault) (o e : Option (List ℕ)) → fault ≡ Memory
+    → StageFails form number line (stage.Kept d) fault (still o) (still e)
+kept_refused (answered form) number line d fault o e is lines start at had more = absurd had
+kept_refused (kept_for wanted) number line d fault o e is lines start at had more =
+    subst (λ (f : ProgramFault). EndsDay (kept_for wanted) f ((lines ++ line ∷ []) ++ more) (out_new start (still o)) (err_new start (still e))) (sym is)
+    (subst (λ (l : List (List ℕ)). EndsDay (kept_for wanted) Memory l (out_new start (still o)) (err_new start (still e)))
+    (sym (append_assoc lines (line ∷ []) more))
+    (kept_memory wanted lines (line ∷ more) d (out_new start (still o)) (err_new start (still e)) had))
+
+module _ (form : LineForm) (number : ℕ) (line : List ℕ) (before : Stage) where
+  pub stage_goes : (after : Stage) (d d' : LiveDay) (out err : Written) → before ≡ stage.Day d → after ≡ stage.Day d'
+      → DayTakes number line d d' out err → StageTakes form number line before after out err
+  stage_goes after d d' out err was is takes =
+      subst (λ (s : Stage). StageTakes form number line s after out err) (sym was)
+      (subst (λ (s : Stage). StageTakes form number line (stage.Day d) s out err) (sym is) (day_goes form number line d d' out err takes))
+
   pub stage_fails : (d : LiveDay) (fault : ProgramFault) (out err : Written) → before ≡ stage.Day d → DayFails number line d fault out err
       → StageFails form number line before fault out err
-  stage_fails d fault out err was fails lines start at had more =
-      fails form lines start at (subst (λ (s : Stage). StageIs form lines s (out_old start out) (err_old start err)) was had) more
+  stage_fails d fault out err was fails =
+      subst (λ (s : Stage). StageFails form number line s fault out err) (sym was) (day_fails form number line d fault out err fails)
+
+  pub stage_keeps : (after : Stage) (d d' : KeptDay) (fault : Option ProgramFault) (out err err' : Option (List ℕ)) → before ≡ stage.Kept d
+      → after ≡ stage.Kept d' → KeepsAnywhere number line d d' fault
+      → GainsFaults (option_to_list fault) (record { before = err; after = err' })
+      → StageTakes form number line before after (still out) (record { before = err; after = err' })
+  stage_keeps after d d' fault out err err' was is keeps tells =
+      let took = kept_goes form number line d d' (still out) (record { before = err; after = err' })
+      (kept_taken number line fault d d' keeps out err err' tells) in
+      subst (λ (s : Stage). StageTakes form number line s after (still out) (record { before = err; after = err' })) (sym was)
+      (subst (λ (s : Stage). StageTakes form number line (stage.Kept d) s (still out) (record { before = err; after = err' })) (sym is) took)
+
+  pub stage_refused : (d : KeptDay) (fault : ProgramFault) (o e : Option (List ℕ)) → before ≡ stage.Kept d → fault ≡ Memory
+      → StageFails form number line before fault (still o) (still e)
+  stage_refused d fault o e was is =
+      subst (λ (s : Stage). StageFails form number line s fault (still o) (still e)) (sym was) (kept_refused form number line d fault o e is)
 
 -- The line that has begun is whole.
 
-answered_by : (form : LiveForm) (lines : List (List ℕ)) (s : Stage) (out err : Written) → StageIs form lines s out err
+answered_by : (form : LineForm) (lines : List (List ℕ)) (s : Stage) (out err : Written) → StageIs form lines s out err
     → HasAnswered form lines out err
 answered_by form lines (stage.Configuration t) out err is = inl is.nothing
-answered_by form lines (stage.Day d) out err is = inr (is.config, is.answers)
+answered_by (answered form) lines (stage.Day d) out err is = inr (is.config, is.answers)
+answered_by (answered form) lines (stage.Kept d) out err is = absurd is
+answered_by (kept_for wanted) lines (stage.Day d) out err is = absurd is
+answered_by (kept_for wanted) lines (stage.Kept d) out err is = inr (is.config, is.answers)
 
 pub line_takes : (before after : LiveRun) (out err : Written)
-    → StageTakes before.form before.number before.line.items before.stage after.stage out err
+    → StageTakes (meant_form before.form) before.number before.line.items before.stage after.stage out err
     → after.number ≡ before.number + 1 → after.form ≡ before.form → LineTakes before after out err
 line_takes before after out err takes number form_same form lines start come = record {
   number_is = number ∙ ap (λ n. n + 1) (come.number_is ∙ sym (length-append lines (before.line.items ∷ [])));
-  form_is = form_same ∙ come.form_is;
-  stage_is = subst (λ (f : LiveForm). StageIs f (lines ++ before.line.items ∷ []) after.stage (out_new start out) (err_new start err)) come.form_is
+  form_is = ap (λ (f : RustForm). meant_form f) form_same ∙ come.form_is;
+  stage_is = subst (λ (f : LineForm). StageIs f (lines ++ before.line.items ∷ []) after.stage (out_new start out) (err_new start err)) come.form_is
       (takes lines start come.number_is
-      (subst (λ (f : LiveForm). StageIs f lines before.stage (out_old start out) (err_old start err)) (sym come.form_is) come.stage_is));
+      (subst (λ (f : LineForm). StageIs f lines before.stage (out_old start out) (err_old start err)) (sym come.form_is) come.stage_is));
 }
 
 pub line_fails : (before : LiveRun) (fault : ProgramFault) (out err : Written)
-    → StageFails before.form before.number before.line.items before.stage fault out err → LineFails before fault out err
+    → StageFails (meant_form before.form) before.number before.line.items before.stage fault out err → LineFails before fault out err
 line_fails before fault out err fails form lines start come more =
-    subst (λ (f : LiveForm). EndsDay f fault ((lines ++ before.line.items ∷ []) ++ more) (out_new start out) (err_new start err)) come.form_is
+    subst (λ (f : LineForm). EndsDay f fault ((lines ++ before.line.items ∷ []) ++ more) (out_new start out) (err_new start err)) come.form_is
     (fails lines start come.number_is
-    (subst (λ (f : LiveForm). StageIs f lines before.stage (out_old start out) (err_old start err)) (sym come.form_is) come.stage_is) more)
+    (subst (λ (f : LineForm). StageIs f lines before.stage (out_old start out) (err_old start err)) (sym come.form_is) come.stage_is) more)
 
 pub line_past : (before : LiveRun) (o e : Option (List ℕ)) → MOST_LINES < before.number → LineFails before Input (still o) (still e)
 line_past before o e past form lines start come more =
@@ -419,7 +613,7 @@ take_more before after c o e goes number form_same same line form read start sta
   cut = subst (IsCut (read ++ c ∷ []) stands.lines) (sym line) (cut_more read stands.lines before.line.items c goes stands.cut);
   come = record {
     number_is = number ∙ stands.come.number_is;
-    form_is = form_same ∙ stands.come.form_is;
+    form_is = ap (λ (f : RustForm). meant_form f) form_same ∙ stands.come.form_is;
     stage_is = subst (λ (s : Stage). StageIs form stands.lines s (out_new start (still o)) (err_new start (still e))) (sym same)
         stands.come.stage_is;
   };
@@ -507,56 +701,120 @@ last_line read lines (c ∷ begun) cut some =
     ap lines_of (sym (append-nil read)) ∙ cut.closed [] ∙ ap (λ (t : List ℕ). lines ++ lines_of t) (append-nil (c ∷ begun))
     ∙ ap (λ (l : List (List ℕ)). lines ++ l) (line_last c begun cut.goes_on)
 
-in_answers : (form : LiveForm) (lines : List (List ℕ)) (s : Stage) (out err : Written) → StageIs form lines s out err → IsDay s
-    → EndsInAnswers form lines out err
-in_answers form lines (stage.Configuration t) out err is day = absurd day
-in_answers form lines (stage.Day d) out err is day = (is.config, is.answers)
-
-in_parts : (form : LiveForm) (lines : List (List ℕ)) (s : Stage) (out err : Written) → StageIs form lines s out err → IsConfiguration s
-    → EndsDay form Parts lines out err
-in_parts form lines (stage.Configuration t) out err is none = record {
-  is_fault = is.nothing.undivided;
-  lines = lines;
-  rest = [];
-  split = sym (append-nil lines);
-  left = (is.nothing.left, is.nothing.untold);
-}
-in_parts form lines (stage.Day d) out err is none = absurd none
-
-module _ (before : LiveRun) (o e : Option (List ℕ)) (empty : before.line.items ≡ []) where
-  pub end_here : IsDay before.stage → Ends before (still o) (still e)
-  end_here day form read start stands =
-      subst (λ (l : List (List ℕ)). EndsInAnswers form l (out_new start (still o)) (err_new start (still e)))
+module _ (before : LiveRun) (o o' e : Option (List ℕ)) (empty : before.line.items ≡ []) (last : Stage) (was : last ≡ before.stage) where
+  pub end_here : Closes last (record { before = o; after = o' }) → Ends before (record { before = o; after = o' }) (still e)
+  end_here closes form read start stands =
+      subst (λ (l : List (List ℕ)). EndsInAnswers form l (record { before = start.out; after = o' }) (err_new start (still e)))
       (sym (whole_lines read stands.lines before.line.items stands.cut empty))
-      (in_answers form stands.lines before.stage _ _ stands.come.stage_is day)
+      (closes form stands.lines start.out (err_new start (still e))
+      (subst (λ (s : Stage). StageIs form stands.lines s (record { before = start.out; after = o }) (err_new start (still e))) (sym was) stands.come.stage_is))
 
-  pub end_bare : (fault : ProgramFault) → (fault ≡ Parts) × IsConfiguration before.stage → EndFails before fault (still o) (still e)
-  end_bare fault is form read start stands =
-      subst (λ (l : List (List ℕ)). EndsDay form fault l (out_new start (still o)) (err_new start (still e)))
+  pub end_bare : (fault : ProgramFault) → CloseFails last fault (record { before = o; after = o' })
+      → EndFails before fault (record { before = o; after = o' }) (still e)
+  end_bare fault fails form read start stands =
+      subst (λ (l : List (List ℕ)). EndsDay form fault l (record { before = start.out; after = o' }) (err_new start (still e)))
       (sym (whole_lines read stands.lines before.line.items stands.cut empty))
-      (subst (λ (f : ProgramFault). EndsDay form f stands.lines (out_new start (still o)) (err_new start (still e))) (sym is.0)
-      (in_parts form stands.lines before.stage _ _ stands.come.stage_is is.1))
+      (fails form stands.lines start.out (err_new start (still e))
+      (subst (λ (s : Stage). StageIs form stands.lines s (record { before = start.out; after = o }) (err_new start (still e))) (sym was) stands.come.stage_is))
 
-module _ (before : LiveRun) (out err : Written) (some : (length before.line.items == 0) ≡ false) where
-  pub end_last : (after : LiveRun) → LineTakes before after out err → IsDay after.stage → Ends before out err
-  end_last after takes day form read start stands =
-      subst (λ (l : List (List ℕ)). EndsInAnswers form l (out_new start out) (err_new start err))
-      (sym (last_line read stands.lines before.line.items stands.cut some))
-      (in_answers form (stands.lines ++ before.line.items ∷ []) after.stage _ _ (takes form stands.lines start stands.come).stage_is day)
+module _ (before : LiveRun) (some : (length before.line.items == 0) ≡ false) where
+  module _ (after : LiveRun) (o o' o'' e e' : Option (List ℕ))
+      (takes : LineTakes before after (record { before = o; after = o' }) (record { before = e; after = e' }))
+      (last : Stage) (was : last ≡ after.stage) where
+    pub end_last : Closes last (record { before = o'; after = o'' }) → Ends before (record { before = o; after = o'' }) (record { before = e; after = e' })
+    end_last closes form read start stands =
+        subst (λ (l : List (List ℕ)). EndsInAnswers form l (record { before = start.out; after = o'' }) (record { before = start.err; after = e' }))
+        (sym (last_line read stands.lines before.line.items stands.cut some))
+        (closes form (stands.lines ++ before.line.items ∷ []) start.out (record { before = start.err; after = e' })
+        (subst (λ (s : Stage). StageIs form (stands.lines ++ before.line.items ∷ []) s (record { before = start.out; after = o' })
+        (record { before = start.err; after = e' })) (sym was) (takes form stands.lines start stands.come).stage_is))
 
-  pub end_last_bare : (after : LiveRun) (fault : ProgramFault) → LineTakes before after out err → (fault ≡ Parts) × IsConfiguration after.stage
-      → EndFails before fault out err
-  end_last_bare after fault takes is form read start stands =
-      subst (λ (l : List (List ℕ)). EndsDay form fault l (out_new start out) (err_new start err))
-      (sym (last_line read stands.lines before.line.items stands.cut some))
-      (subst (λ (f : ProgramFault). EndsDay form f (stands.lines ++ before.line.items ∷ []) (out_new start out) (err_new start err)) (sym is.0)
-      (in_parts form (stands.lines ++ before.line.items ∷ []) after.stage _ _ (takes form stands.lines start stands.come).stage_is is.1))
+    pub end_last_bare : (fault : ProgramFault) → CloseFails last fault (record { before = o'; after = o'' })
+        → EndFails before fault (record { before = o; after = o'' }) (record { before = e; after = e' })
+    end_last_bare fault fails form read start stands =
+        subst (λ (l : List (List ℕ)). EndsDay form fault l (record { before = start.out; after = o'' }) (record { before = start.err; after = e' }))
+        (sym (last_line read stands.lines before.line.items stands.cut some))
+        (fails form (stands.lines ++ before.line.items ∷ []) start.out (record { before = start.err; after = e' })
+        (subst (λ (s : Stage). StageIs form (stands.lines ++ before.line.items ∷ []) s (record { before = start.out; after = o' })
+        (record { before = start.err; after = e' })) (sym was) (takes form stands.lines start stands.come).stage_is))
 
-  pub end_fails : (fault : ProgramFault) → LineFails before fault out err → EndFails before fault out err
-  end_fails fault fails form read start stands =
+  pub end_fails : (fault : ProgramFault) (out err : Written) → LineFails before fault out err → EndFails before fault out err
+  end_fails fault out err fails form read start stands =
       subst (λ (l : List (List ℕ)). EndsDay form fault l (out_new start out) (err_new start err))
       (append-nil (stands.lines ++ before.line.items ∷ []) ∙ sym (last_line read stands.lines before.line.items stands.cut some))
       (fails form stands.lines start stands.come [])
+
+-- The input ends at a stage.
+
+-- there is no day
+pub closes_bare : (t : Vec ℕ Global) (fault : ProgramFault) (o : Option (List ℕ)) → fault ≡ Parts
+    → CloseFails (stage.Configuration t) fault (still o)
+closes_bare t fault o none form lines start err is =
+    subst (λ (f : ProgramFault). EndsDay form f lines (record { before = start; after = o }) err) (sym none)
+    (record {
+      is_fault = is.nothing.undivided;
+      lines = lines;
+      rest = [];
+      split = sym (append-nil lines);
+      left = (is.nothing.left, is.nothing.untold);
+    })
+
+-- each line was answered
+pub closes_answered : (day : LiveDay) (o : Option (List ℕ)) → Closes (stage.Day day) (still o)
+closes_answered day o (answered form) lines start err is = (is.config, is.answers)
+closes_answered day o (kept_for wanted) lines start err is = absurd is
+
+-- what is asked for is what the lines have brought
+abbrev pub TextAnywhere : KeptDay → List ℕ → Type 0
+TextAnywhere day text = (config : Configuration) (wanted : Wanted) (taken : Taken) → kept_days.Keeps wanted config taken day
+    → text ≡ kept_text wanted config taken.steps
+
+module _ (day : KeptDay) (o o' : Option (List ℕ)) where
+  pub closes_kept : (text : List ℕ) → TextAnywhere day text → Appends o o' text → Closes (stage.Kept day) (record { before = o; after = o' })
+  closes_kept text texts gained (answered form) lines start err is = absurd is
+  closes_kept text texts gained (kept_for wanted) lines start err is =
+      let text_is = texts is.config wanted (taken_in is.config lines) is.keeps in
+      (
+        is.config,
+        record {
+          divided = is.answers.divided;
+          spelled = is.answers.spelled;
+          asked = is.answers.asked;
+          printed = subst (λ (t : List ℕ). Appends start o' t) text_is (appends_both start o o' [] text is.answers.printed gained);
+          told = is.answers.told;
+        },
+      )
+
+  pub closes_unprinted : (text : List ℕ) (fault : ProgramFault) → fault ≡ Write → TextAnywhere day text
+      → GainsPart text (record { before = o; after = o' }) → CloseFails (stage.Kept day) fault (record { before = o; after = o' })
+  closes_unprinted text fault write texts part (answered form) lines start err is = absurd is
+  closes_unprinted text fault write texts part (kept_for wanted) lines start err is =
+      let text_is = texts is.config wanted (taken_in is.config lines) is.keeps in
+      subst (λ (f : ProgramFault). EndsDay (kept_for wanted) f lines (record { before = start; after = o' }) err) (sym write)
+      (record {
+        is_fault = tt;
+        lines = lines;
+        rest = [];
+        split = sym (append-nil lines);
+        left = (
+          is.config,
+          record {
+            divided = is.answers.divided;
+            spelled = is.answers.spelled;
+            asked = is.answers.asked;
+            printed = subst (λ (t : List ℕ). GainsPart t (record { before = start; after = o' })) text_is
+                (more_part start o o' [] text is.answers.printed part);
+            told = is.answers.told;
+          },
+        );
+      })
+
+pub closes_in_memory : (day : KeptDay) (fault : ProgramFault) (o : Option (List ℕ)) → fault ≡ Memory → CloseFails (stage.Kept day) fault (still o)
+closes_in_memory day fault o none (answered form) lines start err is = absurd is
+closes_in_memory day fault o none (kept_for wanted) lines start err is =
+    subst (λ (f : ProgramFault). EndsDay (kept_for wanted) f lines (record { before = start; after = o }) err) (sym none)
+    (subst (λ (l : List (List ℕ)). EndsDay (kept_for wanted) Memory l (record { before = start; after = o }) err) (append-nil lines)
+    (kept_memory wanted lines [] day (record { before = start; after = o }) err is))
 
 -- the lines that came whole are those that have their line feed
 ended_is : (read : List ℕ) (lines : List (List ℕ)) (begun : List ℕ) → IsCut read lines begun → ended_lines read ≡ lines
@@ -568,7 +826,7 @@ ended_is read lines begun cut =
 -- All of the input.
 
 -- a fault of lines
-ends_with : (fault : ProgramFault) (form : LiveForm) (input : List ℕ) (left : Option (List ℕ)) (out err : Written)
+ends_with : (fault : ProgramFault) (form : LineForm) (input : List ℕ) (left : Option (List ℕ)) (out err : Written)
     → EndsDay form fault (lines_of input) out err → EndsWith form fault input left out err
 ends_with NotRead form input left out err ends = absurd ends.is_fault
 ends_with Input form input left out err ends = ends
@@ -660,15 +918,15 @@ consumes_end known mid now bytes more count one two none =
 
 -- How the run ends.
 
-pub first_stands : (form : LiveForm) (run : LiveRun) → run.number ≡ 1 → run.form ≡ form → run.line.items ≡ [] → (t : Vec ℕ Global)
-    → run.stage ≡ stage.Configuration t → t.items ≡ [] → StandsFirst form run
+pub first_stands : (form : RustForm) (run : LiveRun) → run.number ≡ 1 → run.form ≡ form → run.line.items ≡ [] → (t : Vec ℕ Global)
+    → run.stage ≡ stage.Configuration t → t.items ≡ [] → StandsFirst (meant_form form) run
 first_stands form run number form_same line t at empty start = record {
   lines = [];
   cut = record { count = refl; closed = λ tail. ap (λ (l : List ℕ). lines_of (l ++ tail)) (sym line); goes_on = ap (list_any (λ (c : ℕ). c == 10)) line };
   come = record {
     number_is = number;
-    form_is = form_same;
-    stage_is = subst (λ (s : Stage). StageIs form [] s (still start.out) (still start.err)) (sym at)
+    form_is = ap (λ (f : RustForm). meant_form f) form_same;
+    stage_is = subst (λ (s : Stage). StageIs (meant_form form) [] s (still start.out) (still start.err)) (sym at)
         (record {
           nothing = record { undivided = refl; left = keeps_same start.out; untold = keeps_same start.err };
           text_is = empty;
@@ -676,25 +934,25 @@ first_stands form run number form_same line t at empty start = record {
   };
 }
 
-pub run_answered : (form : LiveForm) (run : LiveRun) (known left : Option (List ℕ)) (out err : Written) → StandsFirst form run
+pub run_answered : (form : LineForm) (word : List ℕ) (run : LiveRun) (known left : Option (List ℕ)) (out err : Written) → StandsFirst form run
     → IfSome known (λ all. AnswersAll all run out err)
-    → EndsInLive form 0 (record { input = known; left = left; out = out; err = err })
-run_answered form run None left out err first answers = (inl refl, tt)
-run_answered form run (Some all) left out err first answers =
+    → EndsInLive form word 0 (record { input = known; left = left; out = out; err = err })
+run_answered form word run None left out err first answers = (inl refl, tt)
+run_answered form word run (Some all) left out err first answers =
     let start : Start = record { out = out.before; err = err.before } in
     (inl refl, inl (refl, answers form [] start (first start)))
 
-pub run_failed : (form : LiveForm) (run : LiveRun) (known left o o' e e' e'' : Option (List ℕ)) (fault : ProgramFault) (status : ℕ)
+pub run_failed : (form : LineForm) (word : List ℕ) (run : LiveRun) (known left o o' e e' e'' : Option (List ℕ)) (fault : ProgramFault) (status : ℕ)
     → StandsFirst form run
     → IfSome known (λ all. FailsIn all left fault run (record { before = o; after = o' }) (record { before = e; after = e' }))
-    → status ≡ 1 → GainsPart (told_line [] fault) (record { before = e'; after = e'' })
-    → EndsInLive form status (record {
+    → status ≡ 1 → GainsPart (told_line word fault) (record { before = e'; after = e'' })
+    → EndsInLive form word status (record {
       input = known;
       left = left;
       out = record { before = o; after = o' };
       err = record { before = e; after = e'' };
     })
-run_failed form run None left o o' e e' e'' fault status first fails one told = (inr one, tt)
-run_failed form run (Some all) left o o' e e' e'' fault status first fails one told =
+run_failed form word run None left o o' e e' e'' fault status first fails one told = (inr one, tt)
+run_failed form word run (Some all) left o o' e e' e'' fault status first fails one told =
     let start : Start = record { out = o; err = e } in
     (inr one, inr (one, record { fault = fault; mid = e'; ends = fails form [] start (first start); told = told }))

@@ -97,9 +97,8 @@ IsLiveFault form Write lines = Unit {0}
 IsLiveFault form Input lines = ArePastLimits lines
 IsLiveFault form Parts lines = are_divided lines ≡ false
 IsLiveFault form (Config fault) lines = venue_of (configuration_in lines) ≡ Err (Config fault)
-IsLiveFault form Firm lines = (config : Configuration)
-    × (venue_of (configuration_in lines) ≡ Ok (values_of config))
-    × (name_fault form (values_of config) ≡ Some Firm)
+IsLiveFault form Firm lines = (config : ConfigValues)
+    × (venue_of (configuration_in lines) ≡ Ok config) × (name_fault form config ≡ Some Firm)
 IsLiveFault form fault lines = ⊥
 
 -- A fault ends the day behind whole lines, which were answered.

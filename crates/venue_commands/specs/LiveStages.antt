@@ -1,8 +1,8 @@
 -- How far a run of `live` has come: words of private functions alone.
-use Rattle.std.specs.Prelude.{◌≡◌, ◌<◌, ℕ, ◌+◌, ◌==◌, true, false, List, [], ◌∷◌, ◌++◌}
+use Rattle.std.specs.Prelude.{◌≡◌, ◌<◌, ◌⊎◌, ℕ, ◌+◌, ◌==◌, true, false, List, [], ◌∷◌, ◌++◌}
 use Rattle.std.specs.Prelude.{length, Option, Some, None, Ok, Err}
 use Rattle.std.specs.List.{count_by, list_any}
-use Rattle.venue_config.specs.Rows.{Configuration, values_of}
+use Rattle.venue_config.specs.Rows.{ConfigValues, Configuration}
 use Rattle.venue_text.specs.KeptDays.{Keeps, OpensKept, Wanted}
 use Rattle.venue_text.specs.Lines.{lines_of}
 use Rattle.venue_text.specs.LiveAnswers.{Goes, Opens}
@@ -165,6 +165,11 @@ OpensStage (answered form) text (stage.Day day) = Opens form text day
 OpensStage (kept_for wanted) text (stage.Kept day) = OpensKept wanted text day
 OpensStage form text _ = ⊥
 
+-- why a configuration opens none: its own fault, or that of a name
+abbrev pub OpensNone : LineForm → List ℕ → ProgramFault → Type 0
+OpensNone form text fault = (venue_of text ≡ Err fault)
+    ⊎ ((config : ConfigValues) × (venue_of text ≡ Ok config) × (name_fault form config ≡ Some fault))
+
 abbrev pub IsNext : LineForm → List ℕ → List ℕ → List ℕ → Option Stage → Type 0
 IsNext form line before after None =
     (is_divider line ≡ false) × (after ≡ before ++ line ++ 10 ∷ [])
@@ -175,21 +180,10 @@ IsNext form line before after (Some next) =
 pub data IsBad (form : LineForm) (line before : List ℕ) (fault : ProgramFault) : Type 0 where
   OfMemory : fault ≡ program.Memory → IsBad form line before fault
   OfConfig : is_divider line ≡ true → venue_of before ≡ Err fault → IsBad form line before fault
-  OfFirm : is_divider line ≡ true → (config : Configuration)
-      → venue_of before ≡ Ok (values_of config) → name_fault form (values_of config) ≡ Some fault
-      → IsBad form line before fault
+  OfFirm : is_divider line ≡ true → (config : ConfigValues) → venue_of before ≡ Ok config
+      → name_fault form config ≡ Some fault → IsBad form line before fault
   OfLength : fault ≡ program.Input → is_divider line ≡ false
       → MOST_INPUT < length (before ++ line ++ 10 ∷ []) → IsBad form line before fault
-
-abbrev pub IsDay : Stage → Type 0
-IsDay (stage.Configuration text) = ⊥
-IsDay (stage.Day day) = Unit {0}
-IsDay (stage.Kept day) = Unit {0}
-
-abbrev pub IsConfiguration : Stage → Type 0
-IsConfiguration (stage.Configuration text) = Unit {0}
-IsConfiguration (stage.Day day) = ⊥
-IsConfiguration (stage.Kept day) = ⊥
 
 -- The input ends at a stage: all that is still to be printed was.
 abbrev pub Closes : Stage → Written → Type 0

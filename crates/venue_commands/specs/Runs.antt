@@ -16,10 +16,9 @@ use Rattle.venue_text.specs.ReplayText.{IsReplayed}
 use Rattle.venue_text.specs.declared.faults.ProgramFault.{ProgramFault}
 use Rattle.venue_text.specs.declared.faults.ProgramFault.TheVariants.{Read, Memory, Write}
 use Rattle.venue_text.specs.declared.lines.TheConstants.{MOST_INPUT}
-use Rattle.venue_text.specs.declared.line_form.LiveForm.{LiveForm}
-use Rattle.venue_commands.specs.Arguments.{Command, LineForm, alone, arguments_fault, blotter, command_of, kept}
-use Rattle.venue_commands.specs.Arguments.{compare, day, due, live, line_form, may_be_help}
-use Rattle.venue_commands.specs.Arguments.{may_be_mistake, replay}
+use Rattle.venue_commands.specs.Arguments.{Command, LineForm, alone, arguments_fault, blotter}
+use Rattle.venue_commands.specs.Arguments.{command_of, compare, day, due, kept, live, line_form}
+use Rattle.venue_commands.specs.Arguments.{may_be_help, may_be_mistake, replay}
 use Rattle.venue_commands.specs.LiveRuns.{EndsInLive}
 use Rattle.venue_commands.specs.ThreadedDays.{IsDay, IsDayFault}
 use Rattle.venue_commands.specs.Written.{Streams, Written, Gains, GainsPart, IsUntouched}

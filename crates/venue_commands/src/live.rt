@@ -1,12 +1,9 @@
 //! The commands that take a day line by line: `live`, which answers each line as it comes, and
 //! `replay --live`, which prints the messages of the firms at the end.
-ghost use Rattle.std.specs.Prelude.{◌≡◌, ◌≢◌, ◌==◌, ◌<◌, ◌≤◌, ◌+◌, ◌++◌, ◌⊎◌, [], ◌∷◌, length, Ok, Err, Some};
+ghost use Rattle.std.specs.Prelude.{◌≡◌, ◌≢◌, ◌==◌, ◌<◌, ◌≤◌, ◌++◌, ◌⊎◌, [], ◌∷◌, length};
 ghost use Rattle.std.specs.Prelude.{IfOk, IfErr, IfSome, OnOk, OnErr};
 ghost use Rattle.std.specs.Io.KnownBytes.{Appends};
 ghost use Rattle.std.specs.Option.{option_to_list};
-ghost use Rattle.venue_config.specs.Rows.{Configuration, values_of};
-ghost use Rattle.venue_text.specs.Lines.{lines_of};
-ghost use Rattle.venue_text.specs.VenueParts.{venue_of};
 ghost use Rattle.venue_commands.specs.Arguments.{meant_form};
 ghost use Rattle.venue_commands.specs.LiveRuns as spec;
 ghost use Rattle.venue_commands.specs.LiveStages as stages;
@@ -304,9 +301,7 @@ fn next_stage(
 fn open_stage(alloc: Global, form: LineForm<'_>, text: &[u8]) -> Result<Stage, ProgramFault>
     ensures ok { IfOk result (stages.OpensStage (meant_form form) text.now) }
     ensures err { IfErr result (λ fault. fault ≢ ProgramFault.Memory
-        → (venue_of text.now ≡ Err fault) ⊎ ((config : Configuration)
-        × (venue_of text.now ≡ Ok (values_of config))
-        × (spec.name_fault (meant_form form) (values_of config) ≡ Some fault))) }
+        → stages.OpensNone (meant_form form) text.now fault) }
 {
     match form {
         LineForm::Answered(form) => {
