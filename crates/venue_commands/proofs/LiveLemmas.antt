@@ -23,7 +23,7 @@ use Rattle.venue_text.specs.KeptDays as kept_days
 use Rattle.venue_text.specs.KeptDays.{KeepsMore, OpensKept, Wanted, asked_in, asked_venue, dues, kept_text, messages}
 use Rattle.venue_text.specs.LiveAnswers.{Gives, Goes, Opens}
 use Rattle.venue_text.specs.LiveInput.{are_divided, configuration_in, taken_in, text_in}
-use Rattle.venue_text.specs.LiveLines.{Taken}
+use Rattle.venue_text.specs.LiveLines.{Taken, nothing_taken}
 use Rattle.venue_text.specs.ResultSteps.{◌>>=◌}
 use Rattle.venue_text.specs.StepLines.{asked, dealer_named, firm_named}
 use Rattle.venue_text.specs.VenueParts.{is_divider, or_config_fault, venue_of}
