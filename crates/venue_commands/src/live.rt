@@ -56,7 +56,7 @@ pub(crate) fn run_live<R: Read, W: Write, E: Write>(
     out: &mut W,
     err: &mut E,
 ) -> u8
-    ensures { spec.EndsInLive (meant_form form) word.now result (record {
+    ensures { spec.EndsInLive (meant_form form.entry) word.now result (record {
       input = R.remaining input.old;
       left = R.remaining input.new;
       out = record { before = W.contents out.old; after = W.contents out.new };
@@ -104,7 +104,7 @@ fn answer_all<R: Read, W: Write, E: Write>(
 impl<'a> LiveRun<'a> {
     /// Nothing was read.
     fn new(alloc: Global, form: LineForm<'a>) -> Self
-        ensures first { stages.StandsFirst (meant_form form) result }
+        ensures first { stages.StandsFirst (meant_form form.entry) result }
     {
         LiveRun {
             alloc,
@@ -251,11 +251,12 @@ fn answer_at<W: Write, E: Write>(
     out: &mut W,
     err: &mut E,
 ) -> Result<(), ProgramFault>
-    ensures ok { OnOk result (stages.StageTakes (meant_form form) number line.now stage.old stage.new
+    ensures ok { OnOk result (stages.StageTakes (meant_form form.entry) number line.now
+        stage.old stage.new
         (record { before = W.contents out.old; after = W.contents out.new })
         (record { before = E.contents err.old; after = E.contents err.new })) }
     ensures err { IfErr result (λ fault.
-        stages.StageFails (meant_form form) number line.now stage.old fault
+        stages.StageFails (meant_form form.entry) number line.now stage.old fault
         (record { before = W.contents out.old; after = W.contents out.new })
         (record { before = E.contents err.old; after = E.contents err.new })) }
 {
@@ -286,8 +287,9 @@ fn next_stage(
     text: &mut Vec<u8>,
     line: &[u8],
 ) -> Result<Option<Stage>, ProgramFault>
-    ensures ok { IfOk result (stages.IsNext (meant_form form) line.now text.old.items text.new.items) }
-    ensures err { IfErr result (stages.IsBad (meant_form form) line.now text.old.items) }
+    ensures ok { IfOk result (stages.IsNext (meant_form form.entry) line.now text.old.items
+        text.new.items) }
+    ensures err { IfErr result (stages.IsBad (meant_form form.entry) line.now text.old.items) }
 {
     if !same_text(line, b"%%") {
         put_line(text, line)?;
@@ -299,9 +301,9 @@ fn next_stage(
 
 /// The day that a configuration opens.
 fn open_stage(alloc: Global, form: LineForm<'_>, text: &[u8]) -> Result<Stage, ProgramFault>
-    ensures ok { IfOk result (stages.OpensStage (meant_form form) text.now) }
+    ensures ok { IfOk result (stages.OpensStage (meant_form form.entry) text.now) }
     ensures err { IfErr result (λ fault. fault ≢ ProgramFault.Memory
-        → stages.OpensNone (meant_form form) text.now fault) }
+        → stages.OpensNone (meant_form form.entry) text.now fault) }
 {
     match form {
         LineForm::Answered(form) => {

@@ -56,7 +56,7 @@ pub(crate) fn word_bytes(word: Option<&str>) -> Option<&[u8]>
 
 /// The word in what is asked for at the end of a day.
 fn wanted_word<'a>(wanted: Wanted<'a>) -> &'a [u8]
-    ensures { result.now ≡ spec.word_in (kept.meant wanted) }
+    ensures { result.now ≡ spec.word_in (kept.meant wanted.entry) }
 {
     match wanted {
         Wanted::Messages(firm, _) => firm.unwrap_or(b""),
