@@ -8,7 +8,7 @@ use Rattle.std.proofs.lemmas.List.{append-nil, take-append-drop, take_all, lengt
 use Rattle.std.proofs.lemmas.List.{length-append}
 use Rattle.std.proofs.Math.Seq.{take-append_seam}
 use Rattle.venue_text.specs.declared.lines.TheConstants.{MOST_INPUT}
-use Rattle.venue_commands.specs.Arguments.{Command, alone, blotter, compare, day, due, kept, live, replay}
+use Rattle.venue_commands.specs.Arguments.{Command, alone, blotter, compare, compared, day, due, kept, live, replay}
 use Rattle.venue_commands.specs.Runs.{FaultLeaves, HasPrinted, HasPrintedPart, IsFaultOf, IsReadOf, IsTextOf}
 use Rattle.venue_commands.specs.Written.{Gains, GainsPart, Written}
 use Rattle.venue_text.specs.declared.faults.ProgramFault.{ProgramFault}
@@ -74,6 +74,7 @@ long_fault (day with_frames woven) input fault long (inr (inl unkept)) = let law
 long_fault (day with_frames woven) input fault long (inr (inr unwoven)) = let same = unwoven.recorded.spelled in cc (rw long at same)
 long_fault (live form) input fault long is = absurd is
 long_fault (kept wanted) input fault long is = absurd is
+long_fault (compared dealer) input fault long is = absurd is
 long_fault (due dealer) input fault long is = let same : Err Input ≡ Err fault = rw long at is in cc
 long_fault (compare dealer) input fault long is = let same : Err Input ≡ Err fault = rw long at is in cc
 long_fault (blotter firm) input fault long is = let same : Err Input ≡ Err fault = rw long at is in cc
@@ -85,6 +86,7 @@ too_long (replay firm with_frames) input bytes fault long is = rw long refl
 too_long (day with_frames woven) input bytes fault long is = inl (rw long refl)
 too_long (live form) input bytes fault long is = absurd is
 too_long (kept wanted) input bytes fault long is = absurd is
+too_long (compared dealer) input bytes fault long is = absurd is
 too_long (due dealer) input bytes fault long is = rw long refl
 too_long (compare dealer) input bytes fault long is = rw long refl
 too_long (blotter firm) input bytes fault long is = rw long refl
@@ -96,6 +98,7 @@ no_text (replay firm with_frames) input text long is = let same = is.spelled in 
 no_text (day with_frames woven) input text long is = let same = is.recorded.spelled in cc (rw long at same)
 no_text (live form) input text long is = absurd is
 no_text (kept wanted) input text long is = absurd is
+no_text (compared dealer) input text long is = absurd is
 no_text (due dealer) input text long is = let same = is.spelled in cc (rw long at same)
 no_text (compare dealer) input text long is = let same = is.spelled in cc (rw long at same)
 no_text (blotter firm) input text long is = let same = is.spelled in cc (rw long at same)
