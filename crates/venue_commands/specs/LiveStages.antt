@@ -1,22 +1,24 @@
 -- How far a run of `live` has come: words of private functions alone.
-use Rattle.std.specs.Prelude.{◌≡◌, ◌<◌, ◌⊎◌, ℕ, ◌+◌, ◌==◌, true, false, List, [], ◌∷◌, ◌++◌}
+use Rattle.std.specs.Prelude.{◌≡◌, ◌<◌, ◌⊎◌, ℕ, ◌+◌, ◌==◌, Bool, true, false, List, [], ◌∷◌, ◌++◌}
 use Rattle.std.specs.Prelude.{length, Option, Some, None, Ok, Err}
 use Rattle.std.specs.List.{count_by, list_any}
 use Rattle.venue_config.specs.Rows.{ConfigValues, Configuration}
-use Rattle.venue_text.specs.KeptDays.{Keeps, OpensKept, Wanted}
+use Rattle.venue_text.specs.KeptDays.{Keeps, KeepsMore, OpensKept, Wanted, dues}
 use Rattle.venue_text.specs.Lines.{lines_of}
 use Rattle.venue_text.specs.LiveAnswers.{Goes, Opens}
-use Rattle.venue_text.specs.LiveInput.{taken_in, text_in}
-use Rattle.venue_text.specs.VenueParts.{is_divider, text_of_lines, venue_of}
+use Rattle.venue_text.specs.LiveInput.{are_divided, configuration_in, taken_in, taken_of, text_in}
+use Rattle.venue_text.specs.LiveLines.{Taken}
+use Rattle.venue_text.specs.VenueParts.{is_divided, is_divider, part_behind, spoken_in, text_of_lines}
+use Rattle.venue_text.specs.VenueParts.{venue_of}
 use Rattle.venue_text.specs.declared.faults.ProgramFault.{ProgramFault}
 use Rattle.venue_text.specs.declared.faults.ProgramFault.TheVariants as program
 use Rattle.venue_text.specs.declared.kept_days.KeptDay.{KeptDay}
 use Rattle.venue_text.specs.declared.lines.TheConstants.{MOST_INPUT}
 use Rattle.venue_text.specs.declared.live_form.LiveForm.{LiveForm}
 use Rattle.venue_text.specs.declared.live_lines.LiveDay.{LiveDay}
-use Rattle.venue_commands.specs.Arguments.{LineForm, answered, kept_for, meant_form}
+use Rattle.venue_commands.specs.Arguments.{LineForm, answered, compared_for, kept_for, meant_form}
 use Rattle.venue_commands.specs.LiveRuns.{AnswersNothing, EndsWith, EndsDay, EndsInAnswers}
-use Rattle.venue_commands.specs.LiveRuns.{TakesDay, name_fault}
+use Rattle.venue_commands.specs.LiveRuns.{GainsFaults, TakesDay, behind_one, name_fault}
 use Rattle.venue_commands.specs.Written.{Written}
 use Rattle.venue_commands.specs.declared.live.LiveRun.{LiveRun}
 use Rattle.venue_commands.specs.declared.live.Stage.{Stage}
@@ -41,12 +43,66 @@ pub record KeptGoes (wanted : Wanted) (lines : List (List ℕ)) (day : KeptDay)
   pub answers : TakesDay (kept_for wanted) config lines [] out err
   pub keeps : Keeps wanted config (taken_in config lines) day
 
+-- The stages of two days.
+
+-- the first of them goes on
+pub record FirstGoes (dealer : List ℕ) (lines : List (List ℕ)) (day : KeptDay)
+    (out err : Written) : Type 0 where
+  pub goes : KeptGoes (dues dealer) lines day out err
+  pub alone : is_divided (behind_one lines) ≡ false
+
+-- lines of which one divides the two days
+pub record AreTwo (lines first : List (List ℕ)) (divider : List ℕ) (behind : List (List ℕ))
+    : Type 0 where
+  pub split : lines ≡ first ++ divider ∷ behind
+  pub divides : is_divider divider ≡ true
+
+-- the configuration of the second goes on, whose text this is
+pub record AwaitsSecond (dealer : List ℕ) (lines : List (List ℕ)) (day : KeptDay)
+    (text : List ℕ) (out err : Written) : Type 0 where
+  pub first : List (List ℕ)
+  pub divider : List ℕ
+  pub behind : List (List ℕ)
+  pub two : AreTwo lines first divider behind
+  pub goes : FirstGoes dealer first day out err
+  pub undivided : are_divided behind ≡ false
+  pub text_is : text ≡ text_of_lines behind
+
+-- what lines behind a configuration have brought, where the first line has number k
+abbrev pub taken_at : Configuration → ℕ → List (List ℕ) → Taken
+taken_at config k lines =
+    taken_of (values_of config) (spoken_in (part_behind (record { first = k; lines = lines })))
+
+-- the second goes on
+pub record SecondGoes (dealer : List ℕ) (k : ℕ) (lines : List (List ℕ)) (day : KeptDay)
+    (err : Written) : Type 0 where
+  pub config : Configuration
+  pub divided : are_divided lines ≡ true
+  pub spelled : venue_of (configuration_in lines) ≡ Ok (values_of config)
+  pub keeps : Keeps (dues dealer) config (taken_at config k lines) day
+  pub told : GainsFaults (taken_at config k lines).faults err
+
+pub record BothGo (dealer : List ℕ) (lines : List (List ℕ)) (one other : KeptDay)
+    (out err : Written) : Type 0 where
+  pub first : List (List ℕ)
+  pub divider : List ℕ
+  pub behind : List (List ℕ)
+  pub two : AreTwo lines first divider behind
+  pub mid : Option (List ℕ)
+  pub goes : FirstGoes dealer first one out (record { before = err.before; after = mid })
+  pub second : SecondGoes dealer (length first + 2) behind other
+      (record { before = mid; after = err.after })
+
 abbrev pub StageIs : LineForm → List (List ℕ) → Stage → Written → Written → Type 0
 StageIs form lines (stage.Configuration text) out err = AwaitsDay lines text.items out err
 StageIs (answered form) lines (stage.Day day) out err = DayGoes form lines day out err
 StageIs (kept_for wanted) lines (stage.Kept day) out err = KeptGoes wanted lines day out err
-StageIs (answered form) lines (stage.Kept day) out err = ⊥
-StageIs (kept_for wanted) lines (stage.Day day) out err = ⊥
+StageIs (compared_for dealer) lines (stage.Kept day) out err = FirstGoes dealer lines day out err
+StageIs (compared_for dealer) lines (stage.Between day text) out err =
+    AwaitsSecond dealer lines day text.items out err
+StageIs (compared_for dealer) lines (stage.Both one other) out err =
+    BothGo dealer lines one other out err
+StageIs form lines _ out err = ⊥
 
 -- a run has answered these lines
 pub record HasCome (form : LineForm) (lines : List (List ℕ)) (run : LiveRun)
@@ -163,6 +219,7 @@ EndFails before fault out err = (form : LineForm) (read : List ℕ) (start : Sta
 abbrev pub OpensStage : LineForm → List ℕ → Stage → Type 0
 OpensStage (answered form) text (stage.Day day) = Opens form text day
 OpensStage (kept_for wanted) text (stage.Kept day) = OpensKept wanted text day
+OpensStage (compared_for dealer) text (stage.Kept day) = OpensKept (dues dealer) text day
 OpensStage form text _ = ⊥
 
 -- why a configuration opens none: its own fault, or that of a name
@@ -195,6 +252,28 @@ abbrev pub CloseFails : Stage → ProgramFault → Written → Type 0
 CloseFails before fault out = (form : LineForm) (lines : List (List ℕ)) (start : Option (List ℕ))
     (err : Written) → StageIs form lines before (record { before = start; after = out.before }) err
     → EndsDay form fault lines (record { before = start; after = out.after }) err
+
+-- A line `%%` behind the first of two days, or behind the configuration of the second.
+abbrev pub is_turn : LineForm → Stage → List ℕ → Bool
+is_turn (compared_for dealer) (stage.Kept day) line = is_divider line
+is_turn (compared_for dealer) (stage.Between day text) line = is_divider line
+is_turn form _ line = false
+
+abbrev pub Turns : LineForm → Stage → Stage → Type 0
+Turns (compared_for dealer) (stage.Kept day) (stage.Between same text) =
+    (same ≡ day) × (text.items ≡ [])
+Turns (compared_for dealer) (stage.Between day text) (stage.Both same other) =
+    (same ≡ day) × OpensKept (dues dealer) text.items other
+Turns (compared_for dealer) (stage.Kept day) _ = ⊥
+Turns (compared_for dealer) (stage.Between day text) _ = ⊥
+Turns form before after = Unit {0}
+
+-- why it opens no second day
+abbrev pub TurnFails : LineForm → Stage → ProgramFault → Type 0
+TurnFails (compared_for dealer) (stage.Kept day) fault = ⊥
+TurnFails (compared_for dealer) (stage.Between day text) fault =
+    (fault ≡ program.Memory) ⊎ OpensNone (compared_for dealer) text.items fault
+TurnFails form before fault = Unit {0}
 
 -- A run that has read nothing, whatever the streams held.
 abbrev pub StandsFirst : LineForm → LiveRun → Type 0

@@ -14,7 +14,7 @@ use crate::program::{print_text, report};
 use std::alloc::Global;
 use std::io::{Read, Write};
 use std::mem;
-use venue_text::{KeptDay, LiveDay, MOST_INPUT, ProgramFault, same_text};
+use venue_text::{KeptDay, LiveDay, MOST_INPUT, ProgramFault, Wanted, compared_text, same_text};
 
 /// How many lines a day that goes on may have.
 pub const MOST_LINES: usize = 1_000_000_000_000_000;
@@ -31,6 +31,10 @@ enum Stage {
     Day(LiveDay),
     /// The day goes on, and its messages are kept.
     Kept(KeptDay),
+    /// The first of two days has ended, and these are the lines of the second's configuration.
+    Between(KeptDay, Vec<u8>),
+    /// The second of two days goes on.
+    Both(KeptDay, KeptDay),
 }
 
 /// A run of `live`: what was read so far.
@@ -238,6 +242,12 @@ fn close<W: Write>(alloc: Global, stage: Stage, out: &mut W) -> Result<(), Progr
             print_text(out, text.as_slice())?;
             Ok(())
         }
+        Stage::Between(_, _) => Err(ProgramFault::Parts),
+        Stage::Both(one, other) => {
+            let text = compared_text(alloc, one, other)?;
+            print_text(out, text.as_slice())?;
+            Ok(())
+        }
     }
 }
 
@@ -260,6 +270,10 @@ fn answer_at<W: Write, E: Write>(
         (record { before = W.contents out.old; after = W.contents out.new })
         (record { before = E.contents err.old; after = E.contents err.new })) }
 {
+    if is_turn(form, stage, line) {
+        turn(alloc, form, stage)?;
+        return Ok(());
+    }
     match stage {
         Stage::Configuration(text) => {
             let Some(next) = next_stage(alloc, form, text, line)? else {
@@ -277,6 +291,59 @@ fn answer_at<W: Write, E: Write>(
             tell_fault(err, &fault);
             Ok(())
         }
+        Stage::Between(_, text) => {
+            put_line(text, line)?;
+            Ok(())
+        }
+        Stage::Both(_, day) => {
+            let fault = day.take(alloc, number, line)?;
+            tell_fault(err, &fault);
+            Ok(())
+        }
+    }
+}
+
+/// Whether a line ends the first of two days, or the configuration of the second.
+fn is_turn(form: LineForm<'_>, stage: &Stage, line: &[u8]) -> bool
+    ensures { result ≡ stages.is_turn (meant_form form.entry) stage.now line.now }
+{
+    let LineForm::Compared(_) = form else {
+        return false;
+    };
+    match stage {
+        Stage::Kept(_) => same_text(line, b"%%"),
+        Stage::Between(_, _) => same_text(line, b"%%"),
+        Stage::Configuration(_) => false,
+        Stage::Day(_) => false,
+        Stage::Both(_, _) => false,
+    }
+}
+
+/// The line that divides two days came, or the one behind the configuration of the second.
+fn turn(alloc: Global, form: LineForm<'_>, stage: &mut Stage) -> Result<(), ProgramFault>
+    ensures ok { OnOk result (stages.Turns (meant_form form.entry) stage.old stage.new) }
+    ensures err { IfErr result (stages.TurnFails (meant_form form.entry) stage.old) }
+{
+    let before = mem::replace(stage, Stage::Configuration(Vec::new(alloc)));
+    *stage = turned(alloc, form, before)?;
+    Ok(())
+}
+
+/// The stage behind such a line.
+fn turned(alloc: Global, form: LineForm<'_>, before: Stage) -> Result<Stage, ProgramFault>
+    ensures ok { IfOk result (stages.Turns (meant_form form.entry) before) }
+    ensures err { IfErr result (stages.TurnFails (meant_form form.entry) before) }
+{
+    let LineForm::Compared(dealer) = form else {
+        return Ok(before);
+    };
+    match before {
+        Stage::Kept(day) => Ok(Stage::Between(day, Vec::new(alloc))),
+        Stage::Between(one, text) => {
+            let other = KeptDay::open(alloc, Wanted::Due(dealer), text.as_slice())?;
+            Ok(Stage::Both(one, other))
+        }
+        other => Ok(other),
     }
 }
 
@@ -312,6 +379,10 @@ fn open_stage(alloc: Global, form: LineForm<'_>, text: &[u8]) -> Result<Stage, P
         }
         LineForm::Kept(wanted) => {
             let day = KeptDay::open(alloc, wanted, text)?;
+            Ok(Stage::Kept(day))
+        }
+        LineForm::Compared(dealer) => {
+            let day = KeptDay::open(alloc, Wanted::Due(dealer), text)?;
             Ok(Stage::Kept(day))
         }
     }
