@@ -268,6 +268,220 @@ kept_memory wanted lines rest day out err had = record {
   left = inr (had.config, had.answers);
 }
 
+-- By the form.
+
+answers_nothing : (form : LineForm) (lines : List (List ℕ)) (out err : Written) → AnswersNothing lines out err → HasAnswered form lines out err
+answers_nothing (answered form) lines out err nothing = inl nothing
+answers_nothing (kept_for wanted) lines out err nothing = inl nothing
+answers_nothing (compared_for dealer) lines out err nothing = inl nothing
+
+no_day : (form : LineForm) (lines : List (List ℕ)) (out err : Written) → AnswersNothing lines out err → HasNoDay form lines out err
+no_day (answered form) lines out err nothing = (nothing.left, nothing.untold)
+no_day (kept_for wanted) lines out err nothing = (nothing.left, nothing.untold)
+no_day (compared_for dealer) lines out err nothing = inl nothing
+
+first_text : (form : LineForm) (lines : List (List ℕ)) → IsConfigurationIn form lines (configuration_in lines)
+first_text (answered form) lines = refl
+first_text (kept_for wanted) lines = refl
+first_text (compared_for dealer) lines = inl refl
+
+not_whole : (form : LineForm) (lines : List (List ℕ)) → are_divided lines ≡ false → are_whole form lines ≡ false
+not_whole (answered form) lines undivided = undivided
+not_whole (kept_for wanted) lines undivided = undivided
+not_whole (compared_for dealer) lines undivided = undivided_alone lines undivided
+
+-- Two days.
+
+keeps_of : (old new : Option (List ℕ)) → Appends old new [] → Keeps old new
+keeps_of None new gained = tt
+keeps_of (Some xs) None gained = absurd gained
+keeps_of (Some xs) (Some ys) gained = gained ∙ append-nil xs
+
+one_taken : (dealer : List ℕ) (lines : List (List ℕ)) (day : KeptDay) (out err : Written) → (goes : FirstGoes dealer lines day out err)
+    → TakesOne dealer goes.goes.config lines out err
+one_taken dealer lines day out err first = record {
+  alone = first_alone lines first.alone;
+  spelled = first.goes.answers.spelled;
+  asked = first.goes.answers.asked;
+  left = keeps_of out.before out.after first.goes.answers.printed;
+  told = subst (λ (t : Taken). GainsFaults t.faults err) (sym (first_taken_alone first.goes.config lines first.alone)) first.goes.answers.told;
+}
+
+module _ (dealer : List ℕ) (lines first : List (List ℕ)) (divider : List ℕ) (behind : List (List ℕ)) (two : AreTwo lines first divider behind)
+    (day : KeptDay) (out err : Written) (goes : FirstGoes dealer first day out err) where
+  abbrev whole_lines_are : List (List ℕ)
+  whole_lines_are = first ++ divider ∷ behind
+
+  same_lines : whole_lines_are ≡ lines
+  same_lines = sym two.split
+
+  first_spelled : venue_of (configuration_in lines) ≡ Ok (values_of goes.goes.config)
+  first_spelled =
+      ap (λ l. venue_of (configuration_in l)) two.split
+      ∙ ap venue_of (configuration_stays first (divider ∷ behind) goes.goes.answers.divided) ∙ goes.goes.answers.spelled
+
+  four_are : are_four lines ≡ are_divided behind
+  four_are = ap are_four two.split ∙ four_is first divider behind goes.goes.answers.divided goes.alone two.divides
+
+  second_text : second_configuration lines ≡ configuration_in behind
+  second_text =
+      ap second_configuration two.split ∙ second_configuration_is first divider behind goes.goes.answers.divided goes.alone two.divides
+
+  first_brought : (config : Configuration) → first_taken config lines ≡ taken_in config first
+  first_brought config =
+      ap (first_taken config) two.split ∙ first_taken_is first divider behind goes.goes.answers.divided goes.alone two.divides config
+
+  second_brought : (config : Configuration) → second_taken config lines ≡ taken_at config (length first + 2) behind
+  second_brought config =
+      ap (second_taken config) two.split ∙ second_taken_is first divider behind goes.goes.answers.divided goes.alone two.divides config
+
+  first_told : GainsFaults (first_taken goes.goes.config lines).faults err
+  first_told = subst (λ (t : Taken). GainsFaults t.faults err) (sym (first_brought goes.goes.config)) goes.goes.answers.told
+
+  between_taken : are_divided behind ≡ false → TakesOne dealer goes.goes.config lines out err
+  between_taken undivided = record {
+    alone = four_are ∙ undivided;
+    spelled = first_spelled;
+    asked = goes.goes.answers.asked;
+    left = keeps_of out.before out.after goes.goes.answers.printed;
+    told = first_told;
+  }
+
+awaiting_taken : (dealer : List ℕ) (lines : List (List ℕ)) (day : KeptDay) (text : List ℕ) (out err : Written)
+    → (awaits : AwaitsSecond dealer lines day text out err) → TakesOne dealer awaits.goes.goes.config lines out err
+awaiting_taken dealer lines day text out err awaits =
+    between_taken dealer lines awaits.first awaits.divider awaits.behind awaits.two day out err awaits.goes awaits.undivided
+
+both_taken : (dealer : List ℕ) (lines : List (List ℕ)) (one other : KeptDay) (out err : Written) → (both : BothGo dealer lines one other out err)
+    → TakesBoth dealer both.goes.goes.config both.second.config lines err
+both_taken dealer lines one other out err both =
+    let mid : Written = record { before = err.before; after = both.mid } in
+    let second = both.second in
+    record {
+      both = four_are dealer lines both.first both.divider both.behind both.two one out mid both.goes ∙ second.divided;
+      spelled = first_spelled dealer lines both.first both.divider both.behind both.two one out mid both.goes;
+      asked = both.goes.goes.answers.asked;
+      other_spelled = ap venue_of (second_text dealer lines both.first both.divider both.behind both.two one out mid both.goes) ∙ second.spelled;
+      other_asked = ap (λ (r : Result Asked ProgramFault). fault_if r) second.keeps.asked_is;
+      told = faults_more _ _ err.before both.mid err.after
+          (first_told dealer lines both.first both.divider both.behind both.two one out mid both.goes)
+          (subst (λ (t : Taken). GainsFaults t.faults (record { before = both.mid; after = err.after }))
+          (sym (second_brought dealer lines both.first both.divider both.behind both.two one out mid both.goes second.config)) second.told);
+    }
+
+both_untouched : (dealer : List ℕ) (lines : List (List ℕ)) (one other : KeptDay) (out err : Written) → BothGo dealer lines one other out err
+    → IsUntouched out
+both_untouched dealer lines one other out err both = keeps_of out.before out.after both.goes.goes.answers.printed
+
+-- what two days have taken was answered
+both_answered : (dealer : List ℕ) (lines : List (List ℕ)) (one other : KeptDay) (out err : Written) → BothGo dealer lines one other out err
+    → HasAnswered (compared_for dealer) lines out err
+both_answered dealer lines one other out err both =
+    inr (inr (both_untouched dealer lines one other out err both, (both.goes.goes.config, (both.second.config, both_taken dealer lines one other out err both))))
+
+-- a line more of the first
+first_more : (dealer : List ℕ) (number : ℕ) (line : List ℕ) (before after : KeptDay) (out err : Written) → is_divider line ≡ false
+    → KeptTakes number line before after out err → (lines : List (List ℕ)) (start : Start) → number ≡ length lines + 1
+    → FirstGoes dealer lines before (out_old start out) (err_old start err)
+    → FirstGoes dealer (lines ++ line ∷ []) after (out_new start out) (err_new start err)
+first_more dealer number line before after out err other takes lines start at had = record {
+  goes = takes (dues dealer) lines start at had.goes;
+  alone = alone_still lines line had.goes.answers.divided had.alone other;
+}
+
+-- its end
+first_ends : (dealer : List ℕ) (lines : List (List ℕ)) (line text : List ℕ) (day : KeptDay) (out err : Written) → is_divider line ≡ true
+    → text ≡ [] → FirstGoes dealer lines day out err → AwaitsSecond dealer (lines ++ line ∷ []) day text out err
+first_ends dealer lines line text day out err here empty had = record {
+  first = lines;
+  divider = line;
+  behind = [];
+  two = record { split = refl; divides = here };
+  goes = had;
+  undivided = refl;
+  text_is = empty;
+}
+
+two_more : (lines first : List (List ℕ)) (divider : List ℕ) (behind : List (List ℕ)) (line : List ℕ) → AreTwo lines first divider behind
+    → AreTwo (lines ++ line ∷ []) first divider (behind ++ line ∷ [])
+two_more lines first divider behind line two = record {
+  split = ap (λ (l : List (List ℕ)). l ++ line ∷ []) two.split ∙ append_assoc first (divider ∷ behind) (line ∷ []);
+  divides = two.divides;
+}
+
+-- a line of the second configuration
+awaiting_more : (dealer : List ℕ) (lines : List (List ℕ)) (line text after : List ℕ) (day : KeptDay) (out err : Written) → is_divider line ≡ false
+    → after ≡ text ++ line ++ 10 ∷ [] → AwaitsSecond dealer lines day text out err → AwaitsSecond dealer (lines ++ line ∷ []) day after out err
+awaiting_more dealer lines line text after day out err other is had = record {
+  first = had.first;
+  divider = had.divider;
+  behind = had.behind ++ line ∷ [];
+  two = two_more lines had.first had.divider had.behind line had.two;
+  goes = had.goes;
+  undivided = still_undivided had.behind line had.undivided other;
+  text_is = is ∙ ap (λ (t : List ℕ). t ++ line ++ 10 ∷ []) had.text_is ∙ sym (text_grows had.behind line);
+}
+
+-- its end
+second_opens : (dealer : List ℕ) (lines : List (List ℕ)) (line text : List ℕ) (one other : KeptDay) (out err : Written) → is_divider line ≡ true
+    → OpensKept (dues dealer) text other → AwaitsSecond dealer lines one text out err → BothGo dealer (lines ++ line ∷ []) one other out err
+second_opens dealer lines line text one other out err here opens had =
+    let nothing = nothing_at opens.config (length had.first + 2) had.behind line had.undivided here in
+    record {
+      first = had.first;
+      divider = had.divider;
+      behind = had.behind ++ line ∷ [];
+      two = two_more lines had.first had.divider had.behind line had.two;
+      mid = err.after;
+      goes = had.goes;
+      second = record {
+        config = opens.config;
+        divided = now_divided had.behind line had.undivided here;
+        spelled = ap venue_of (configuration_is had.behind line had.undivided here ∙ sym had.text_is) ∙ opens.spelled;
+        keeps = subst (λ (t : Taken). kept_days.Keeps (dues dealer) opens.config t other) (sym nothing) opens.keeps;
+        told = subst (λ (t : Taken). GainsFaults t.faults (record { before = err.after; after = err.after })) (sym nothing) (keeps_same err.after);
+      };
+    }
+
+-- a line more of the second
+both_more : (dealer : List ℕ) (number : ℕ) (line : List ℕ) (fault : Option ProgramFault) (one before after : KeptDay)
+    → KeepsAnywhere number line before after fault → (o e e' : Option (List ℕ))
+    → GainsFaults (option_to_list fault) (record { before = e; after = e' }) → (lines : List (List ℕ)) (start : Start) → number ≡ length lines + 1
+    → BothGo dealer lines one before (record { before = start.out; after = o }) (record { before = start.err; after = e })
+    → BothGo dealer (lines ++ line ∷ []) one after (record { before = start.out; after = o }) (record { before = start.err; after = e' })
+both_more dealer number line fault one before after keeps o e e' tells lines start at had =
+    let second = had.second in
+    let k = length had.first + 2 in
+    let count = ap (λ (l : List (List ℕ)). length l) had.two.split ∙ length-append had.first (had.divider ∷ had.behind) in
+    let place : number ≡ k + length had.behind = omega (arith, at, count) in
+    let same = taken_any_at second.config k had.behind line second.divided in
+    let more = subst (λ (n : ℕ). KeepsMore (dues dealer) second.config (taken_at second.config k had.behind) n line after fault) place
+    (keeps second.config (dues dealer) (taken_at second.config k had.behind) second.keeps) in
+    let faults : (taken_at second.config k (had.behind ++ line ∷ [])).faults
+        ≡ (taken_at second.config k had.behind).faults ++ option_to_list fault =
+    ap (λ (t : Taken). t.faults) same ∙ more.told in
+    record {
+      first = had.first;
+      divider = had.divider;
+      behind = had.behind ++ line ∷ [];
+      two = two_more lines had.first had.divider had.behind line had.two;
+      mid = had.mid;
+      goes = had.goes;
+      second = record {
+        config = second.config;
+        divided = (parts_stay is_divider had.behind (line ∷ []) second.divided).any;
+        spelled = ap venue_of (configuration_stays had.behind (line ∷ []) second.divided) ∙ second.spelled;
+        keeps = subst (λ (t : Taken). kept_days.Keeps (dues dealer) second.config t after) (sym same) more.keeps;
+        told = subst (λ (f : List ProgramFault). GainsFaults f (record { before = had.mid; after = e' })) (sym faults)
+            (faults_more (taken_at second.config k had.behind).faults (option_to_list fault) had.mid e e' second.told tells);
+      };
+    }
+
+-- a fault behind lines that were taken
+in_days : (dealer : List ℕ) (lines rest : List (List ℕ)) (out err : Written) → HasAnswered (compared_for dealer) lines out err
+    → EndsDay (compared_for dealer) Memory (lines ++ rest) out err
+in_days dealer lines rest out err answers = record { is_fault = tt; lines = lines; rest = rest; split = refl; left = answers }
+
 -- A line of the configuration.
 
 pub config_goes_on : (lines : List (List ℕ)) (line text after : List ℕ) (out err : Written) → AwaitsDay lines text out err → is_divider line ≡ false
@@ -330,6 +544,16 @@ module _ (lines : List (List ℕ)) (line text : List ℕ) (out err : Written) (h
   stage_opened (kept_for wanted) (stage.Configuration t) opens = absurd opens
   stage_opened (kept_for wanted) (stage.Day day) opens = absurd opens
   stage_opened (kept_for wanted) (stage.Kept day) opens = config_keeps wanted day opens
+  stage_opened (compared_for dealer) (stage.Kept day) opens =
+      record { goes = config_keeps (dues dealer) day opens; alone = none_behind lines line had.nothing.undivided here }
+  stage_opened (compared_for dealer) (stage.Configuration t) opens = absurd opens
+  stage_opened (compared_for dealer) (stage.Day day) opens = absurd opens
+  stage_opened (compared_for dealer) (stage.Between day t) opens = absurd opens
+  stage_opened (compared_for dealer) (stage.Both one other) opens = absurd opens
+  stage_opened (answered form) (stage.Between day t) opens = absurd opens
+  stage_opened (answered form) (stage.Both one other) opens = absurd opens
+  stage_opened (kept_for wanted) (stage.Between day t) opens = absurd opens
+  stage_opened (kept_for wanted) (stage.Both one other) opens = absurd opens
 
 -- a fault of what a configuration spells is one of its own
 config_fault : (text : List ℕ) (fault : ProgramFault) → venue_of text ≡ Err fault → (f : ConfigFault) × (fault ≡ Config f)
@@ -354,6 +578,7 @@ firm_alone (kept_for (messages (Some name) frames)) config fault e = go (firm_na
     go : (found : Option ℕ) → fault_if ((asked found >>= (λ n. Ok (Some n))) >>= (λ only. Ok (asked_for.Messages only frames))) ≡ Some fault → fault ≡ Firm
     go None e = cc
     go (Some n) e = cc
+firm_alone (compared_for name) config fault e = only_firm (dealer_named config name) (λ n. asked_for.Due n) fault e
 firm_alone (kept_for (dues name)) config fault e = only_firm (dealer_named config name) (λ n. asked_for.Due n) fault e
 firm_alone (kept_for (kept_days.blotter name)) config fault e = only_firm (firm_named config name) (λ n. asked_for.Blotter n) fault e
 
@@ -403,11 +628,17 @@ module _ (form : LineForm) (lines : List (List ℕ)) (line text : List ℕ) (out
   config_lawless fault here is =
       let of = config_fault text fault is in
       subst Fails (sym of.1) (record {
-        is_fault = ap venue_of (whole_configuration here) ∙ is ∙ ap (λ (f : ProgramFault). Err f) of.1;
+        is_fault = (
+          configuration_in ((lines ++ line ∷ []) ++ more),
+          (
+            first_text form ((lines ++ line ∷ []) ++ more),
+            ap venue_of (whole_configuration here) ∙ is ∙ ap (λ (f : ProgramFault). Err f) of.1,
+          ),
+        );
         lines = lines;
         rest = line ∷ more;
         split = append_assoc lines (line ∷ []) more;
-        left = (had.nothing.left, had.nothing.untold);
+        left = no_day form lines out err had.nothing;
       })
 
   config_nameless : (fault : ProgramFault) (config : ConfigValues) → is_divider line ≡ true → venue_of text ≡ Ok config
@@ -415,11 +646,17 @@ module _ (form : LineForm) (lines : List (List ℕ)) (line text : List ℕ) (out
   config_nameless fault config here spelled is =
       let of = firm_alone form config fault is in
       subst Fails (sym of) (record {
-        is_fault = (config, ap venue_of (whole_configuration here) ∙ spelled, is ∙ ap (λ (f : ProgramFault). Some f) of);
+        is_fault = (
+          configuration_in ((lines ++ line ∷ []) ++ more),
+          (
+            first_text form ((lines ++ line ∷ []) ++ more),
+            (config, (ap venue_of (whole_configuration here) ∙ spelled, is ∙ ap (λ (f : ProgramFault). Some f) of)),
+          ),
+        );
         lines = lines;
         rest = line ∷ more;
         split = append_assoc lines (line ∷ []) more;
-        left = (had.nothing.left, had.nothing.untold);
+        left = no_day form lines out err had.nothing;
       })
 
   config_long : is_divider line ≡ false → MOST_INPUT < length (text ++ line ++ 10 ∷ []) → Fails Input
@@ -427,11 +664,14 @@ module _ (form : LineForm) (lines : List (List ℕ)) (line text : List ℕ) (out
       let grown = configuration_grows (lines ++ line ∷ []) more (still_undivided lines line had.nothing.undivided other) in
       let same = ap length (ap (λ (t : List ℕ). t ++ line ++ 10 ∷ []) had.text_is ∙ sym (text_grows lines line)) in
       record {
-        is_fault = inr (inl (omega (arith, grown, same, long)));
+        is_fault = inr (inl (
+          configuration_in ((lines ++ line ∷ []) ++ more),
+          (first_text form ((lines ++ line ∷ []) ++ more), omega (arith, grown, same, long)),
+        ));
         lines = lines;
         rest = line ∷ more;
         split = append_assoc lines (line ∷ []) more;
-        left = inl had.nothing;
+        left = answers_nothing form lines out err had.nothing;
       }
 
   config_memory : Fails Memory
@@ -440,7 +680,7 @@ module _ (form : LineForm) (lines : List (List ℕ)) (line text : List ℕ) (out
     lines = lines;
     rest = line ∷ more;
     split = append_assoc lines (line ∷ []) more;
-    left = inl had.nothing;
+    left = answers_nothing form lines out err had.nothing;
   }
 
   pub config_bad : (fault : ProgramFault) → IsBad form line text fault → Fails fault
@@ -479,20 +719,30 @@ day_goes : (form : LineForm) (number : ℕ) (line : List ℕ) (d d' : LiveDay) (
     → StageTakes form number line (stage.Day d) (stage.Day d') out err
 day_goes (answered form) number line d d' out err takes lines start at had = takes form lines start at had
 day_goes (kept_for wanted) number line d d' out err takes lines start at had = absurd had
+day_goes (compared_for dealer) number line d d' out err takes lines start at had = absurd had
 
 day_fails : (form : LineForm) (number : ℕ) (line : List ℕ) (d : LiveDay) (fault : ProgramFault) (out err : Written) → DayFails number line d fault out err
     → StageFails form number line (stage.Day d) fault out err
 day_fails (answered form) number line d fault out err fails lines start at had more = fails form lines start at had more
 day_fails (kept_for wanted) number line d fault out err fails lines start at had more = absurd had
+day_fails (compared_for dealer) number line d fault out err fails lines start at had more = absurd had
 
-kept_goes : (form : LineForm) (number : ℕ) (line : List ℕ) (d d' : KeptDay) (out err : Written) → KeptTakes number line d d' out err
-    → StageTakes form number line (stage.Kept d) (stage.Kept d') out err
-kept_goes (answered form) number line d d' out err takes lines start at had = absurd had
-kept_goes (kept_for wanted) number line d d' out err takes lines start at had = takes wanted lines start at had
+kept_goes : (form : LineForm) (number : ℕ) (line : List ℕ) (d d' : KeptDay) (out err : Written) → is_turn form (stage.Kept d) line ≡ false
+    → KeptTakes number line d d' out err → StageTakes form number line (stage.Kept d) (stage.Kept d') out err
+kept_goes (answered form) number line d d' out err other takes lines start at had = absurd had
+kept_goes (kept_for wanted) number line d d' out err other takes lines start at had = takes wanted lines start at had
+kept_goes (compared_for dealer) number line d d' out err other takes lines start at had =
+    first_more dealer number line d d' out err other takes lines start at had
 
 kept_refused : (form : LineForm) (number : ℕ) (line : List ℕ) (d : KeptDay) (fault : ProgramFault) (o e : Option (List ℕ)) → fault ≡ Memory
     → StageFails form number line (stage.Kept d) fault (still o) (still e)
 kept_refused (answered form) number line d fault o e is lines start at had more = absurd had
+kept_refused (compared_for dealer) number line d fault o e is lines start at had more =
+    subst (λ (f : ProgramFault). EndsDay (compared_for dealer) f ((lines ++ line ∷ []) ++ more) (out_new start (still o)) (err_new start (still e))) (sym is)
+    (subst (λ (l : List (List ℕ)). EndsDay (compared_for dealer) Memory l (out_new start (still o)) (err_new start (still e)))
+    (sym (append_assoc lines (line ∷ []) more))
+    (in_days dealer lines (line ∷ more) (out_new start (still o)) (err_new start (still e))
+    (inr (inl (had.goes.config, one_taken dealer lines d (out_new start (still o)) (err_new start (still e)) had)))))
 kept_refused (kept_for wanted) number line d fault o e is lines start at had more =
     subst (λ (f : ProgramFault). EndsDay (kept_for wanted) f ((lines ++ line ∷ []) ++ more) (out_new start (still o)) (err_new start (still e))) (sym is)
     (subst (λ (l : List (List ℕ)). EndsDay (kept_for wanted) Memory l (out_new start (still o)) (err_new start (still e)))
@@ -512,11 +762,12 @@ module _ (form : LineForm) (number : ℕ) (line : List ℕ) (before : Stage) whe
       subst (λ (s : Stage). StageFails form number line s fault out err) (sym was) (day_fails form number line d fault out err fails)
 
   pub stage_keeps : (after : Stage) (d d' : KeptDay) (fault : Option ProgramFault) (out err err' : Option (List ℕ)) → before ≡ stage.Kept d
-      → after ≡ stage.Kept d' → KeepsAnywhere number line d d' fault
+      → is_turn form before line ≡ false → after ≡ stage.Kept d' → KeepsAnywhere number line d d' fault
       → GainsFaults (option_to_list fault) (record { before = err; after = err' })
       → StageTakes form number line before after (still out) (record { before = err; after = err' })
-  stage_keeps after d d' fault out err err' was is keeps tells =
-      let took = kept_goes form number line d d' (still out) (record { before = err; after = err' })
+  stage_keeps after d d' fault out err err' was other is keeps tells =
+      let stays = subst (λ (s : Stage). is_turn form s line ≡ false) was other in
+      let took = kept_goes form number line d d' (still out) (record { before = err; after = err' }) stays
       (kept_taken number line fault d d' keeps out err err' tells) in
       subst (λ (s : Stage). StageTakes form number line s after (still out) (record { before = err; after = err' })) (sym was)
       (subst (λ (s : Stage). StageTakes form number line (stage.Kept d) s (still out) (record { before = err; after = err' })) (sym is) took)
@@ -530,11 +781,20 @@ module _ (form : LineForm) (number : ℕ) (line : List ℕ) (before : Stage) whe
 
 answered_by : (form : LineForm) (lines : List (List ℕ)) (s : Stage) (out err : Written) → StageIs form lines s out err
     → HasAnswered form lines out err
-answered_by form lines (stage.Configuration t) out err is = inl is.nothing
+answered_by form lines (stage.Configuration t) out err is = answers_nothing form lines out err is.nothing
 answered_by (answered form) lines (stage.Day d) out err is = inr (is.config, is.answers)
 answered_by (answered form) lines (stage.Kept d) out err is = absurd is
 answered_by (kept_for wanted) lines (stage.Day d) out err is = absurd is
 answered_by (kept_for wanted) lines (stage.Kept d) out err is = inr (is.config, is.answers)
+answered_by (compared_for dealer) lines (stage.Day d) out err is = absurd is
+answered_by (compared_for dealer) lines (stage.Kept d) out err is = inr (inl (is.goes.config, one_taken dealer lines d out err is))
+answered_by (compared_for dealer) lines (stage.Between d t) out err is =
+    inr (inl (is.goes.goes.config, awaiting_taken dealer lines d t.items out err is))
+answered_by (compared_for dealer) lines (stage.Both d d') out err is = both_answered dealer lines d d' out err is
+answered_by (answered form) lines (stage.Between d t) out err is = absurd is
+answered_by (answered form) lines (stage.Both d d') out err is = absurd is
+answered_by (kept_for wanted) lines (stage.Between d t) out err is = absurd is
+answered_by (kept_for wanted) lines (stage.Both d d') out err is = absurd is
 
 pub line_takes : (before after : LiveRun) (out err : Written)
     → StageTakes (meant_form before.form) before.number before.line.items before.stage after.stage out err
@@ -752,17 +1012,18 @@ pub closes_bare : (t : Vec ℕ Global) (fault : ProgramFault) (o : Option (List 
 closes_bare t fault o none form lines start err is =
     subst (λ (f : ProgramFault). EndsDay form f lines (record { before = start; after = o }) err) (sym none)
     (record {
-      is_fault = is.nothing.undivided;
+      is_fault = not_whole form lines is.nothing.undivided;
       lines = lines;
       rest = [];
       split = sym (append-nil lines);
-      left = (is.nothing.left, is.nothing.untold);
+      left = no_day form lines (record { before = start; after = o }) err is.nothing;
     })
 
 -- each line was answered
 pub closes_answered : (day : LiveDay) (o : Option (List ℕ)) → Closes (stage.Day day) (still o)
 closes_answered day o (answered form) lines start err is = (is.config, is.answers)
 closes_answered day o (kept_for wanted) lines start err is = absurd is
+closes_answered day o (compared_for dealer) lines start err is = absurd is
 
 -- what is asked for is what the lines have brought
 abbrev pub TextAnywhere : KeptDay → List ℕ → Type 0
