@@ -538,22 +538,25 @@ module _ (lines : List (List ℕ)) (line text : List ℕ) (out err : Written) (h
       }
 
   pub stage_opened : (form : LineForm) (next : Stage) → OpensStage form text next → StageIs form (lines ++ line ∷ []) next out err
-  stage_opened (answered form) (stage.Configuration t) opens = absurd opens
   stage_opened (answered form) (stage.Day day) opens = config_opens form day opens
-  stage_opened (answered form) (stage.Kept day) opens = absurd opens
-  stage_opened (kept_for wanted) (stage.Configuration t) opens = absurd opens
-  stage_opened (kept_for wanted) (stage.Day day) opens = absurd opens
   stage_opened (kept_for wanted) (stage.Kept day) opens = config_keeps wanted day opens
-  stage_opened (compared_for dealer) (stage.Kept day) opens =
+  stage_opened (compared_for dealer) (stage.First day) opens =
       record { goes = config_keeps (dues dealer) day opens; alone = none_behind lines line had.nothing.undivided here }
-  stage_opened (compared_for dealer) (stage.Configuration t) opens = absurd opens
-  stage_opened (compared_for dealer) (stage.Day day) opens = absurd opens
-  stage_opened (compared_for dealer) (stage.Between day t) opens = absurd opens
-  stage_opened (compared_for dealer) (stage.Both one other) opens = absurd opens
+  stage_opened (answered form) (stage.Configuration t) opens = absurd opens
+  stage_opened (answered form) (stage.Kept day) opens = absurd opens
+  stage_opened (answered form) (stage.First day) opens = absurd opens
   stage_opened (answered form) (stage.Between day t) opens = absurd opens
   stage_opened (answered form) (stage.Both one other) opens = absurd opens
+  stage_opened (kept_for wanted) (stage.Configuration t) opens = absurd opens
+  stage_opened (kept_for wanted) (stage.Day day) opens = absurd opens
+  stage_opened (kept_for wanted) (stage.First day) opens = absurd opens
   stage_opened (kept_for wanted) (stage.Between day t) opens = absurd opens
   stage_opened (kept_for wanted) (stage.Both one other) opens = absurd opens
+  stage_opened (compared_for dealer) (stage.Configuration t) opens = absurd opens
+  stage_opened (compared_for dealer) (stage.Day day) opens = absurd opens
+  stage_opened (compared_for dealer) (stage.Kept day) opens = absurd opens
+  stage_opened (compared_for dealer) (stage.Between day t) opens = absurd opens
+  stage_opened (compared_for dealer) (stage.Both one other) opens = absurd opens
 
 -- a fault of what a configuration spells is one of its own
 config_fault : (text : List ℕ) (fault : ProgramFault) → venue_of text ≡ Err fault → (f : ConfigFault) × (fault ≡ Config f)
@@ -715,6 +718,26 @@ module _ (form : LineForm) (number : ℕ) (line : List ℕ) (before : Stage) whe
       config_bad form lines line t.items _ _
       (subst (λ (s : Stage). StageIs form lines s (out_old start (still o)) (err_old start (still e))) was had) more fault bad
 
+answered_by : (form : LineForm) (lines : List (List ℕ)) (s : Stage) (out err : Written) → StageIs form lines s out err
+    → HasAnswered form lines out err
+answered_by form lines (stage.Configuration t) out err is = answers_nothing form lines out err is.nothing
+answered_by (answered form) lines (stage.Day d) out err is = inr (is.config, is.answers)
+answered_by (answered form) lines (stage.Kept d) out err is = absurd is
+answered_by (kept_for wanted) lines (stage.Day d) out err is = absurd is
+answered_by (kept_for wanted) lines (stage.Kept d) out err is = inr (is.config, is.answers)
+answered_by (compared_for dealer) lines (stage.Day d) out err is = absurd is
+answered_by (compared_for dealer) lines (stage.First d) out err is = inr (inl (is.goes.config, one_taken dealer lines d out err is))
+answered_by (compared_for dealer) lines (stage.Kept d) out err is = absurd is
+answered_by (answered form) lines (stage.First d) out err is = absurd is
+answered_by (kept_for wanted) lines (stage.First d) out err is = absurd is
+answered_by (compared_for dealer) lines (stage.Between d t) out err is =
+    inr (inl (is.goes.goes.config, awaiting_taken dealer lines d t.items out err is))
+answered_by (compared_for dealer) lines (stage.Both d d') out err is = both_answered dealer lines d d' out err is
+answered_by (answered form) lines (stage.Between d t) out err is = absurd is
+answered_by (answered form) lines (stage.Both d d') out err is = absurd is
+answered_by (kept_for wanted) lines (stage.Between d t) out err is = absurd is
+answered_by (kept_for wanted) lines (stage.Both d d') out err is = absurd is
+
 day_goes : (form : LineForm) (number : ℕ) (line : List ℕ) (d d' : LiveDay) (out err : Written) → DayTakes number line d d' out err
     → StageTakes form number line (stage.Day d) (stage.Day d') out err
 day_goes (answered form) number line d d' out err takes lines start at had = takes form lines start at had
@@ -727,27 +750,46 @@ day_fails (answered form) number line d fault out err fails lines start at had m
 day_fails (kept_for wanted) number line d fault out err fails lines start at had more = absurd had
 day_fails (compared_for dealer) number line d fault out err fails lines start at had more = absurd had
 
-kept_goes : (form : LineForm) (number : ℕ) (line : List ℕ) (d d' : KeptDay) (out err : Written) → is_turn form (stage.Kept d) line ≡ false
-    → KeptTakes number line d d' out err → StageTakes form number line (stage.Kept d) (stage.Kept d') out err
-kept_goes (answered form) number line d d' out err other takes lines start at had = absurd had
-kept_goes (kept_for wanted) number line d d' out err other takes lines start at had = takes wanted lines start at had
-kept_goes (compared_for dealer) number line d d' out err other takes lines start at had =
+kept_goes : (form : LineForm) (number : ℕ) (line : List ℕ) (d d' : KeptDay) (out err : Written) → KeptTakes number line d d' out err
+    → StageTakes form number line (stage.Kept d) (stage.Kept d') out err
+kept_goes (answered form) number line d d' out err takes lines start at had = absurd had
+kept_goes (kept_for wanted) number line d d' out err takes lines start at had = takes wanted lines start at had
+kept_goes (compared_for dealer) number line d d' out err takes lines start at had = absurd had
+
+first_goes : (form : LineForm) (number : ℕ) (line : List ℕ) (d d' : KeptDay) (out err : Written) → is_divider line ≡ false
+    → KeptTakes number line d d' out err → StageTakes form number line (stage.First d) (stage.First d') out err
+first_goes (answered form) number line d d' out err other takes lines start at had = absurd had
+first_goes (kept_for wanted) number line d d' out err other takes lines start at had = absurd had
+first_goes (compared_for dealer) number line d d' out err other takes lines start at had =
     first_more dealer number line d d' out err other takes lines start at had
 
-kept_refused : (form : LineForm) (number : ℕ) (line : List ℕ) (d : KeptDay) (fault : ProgramFault) (o e : Option (List ℕ)) → fault ≡ Memory
-    → StageFails form number line (stage.Kept d) fault (still o) (still e)
-kept_refused (answered form) number line d fault o e is lines start at had more = absurd had
-kept_refused (compared_for dealer) number line d fault o e is lines start at had more =
-    subst (λ (f : ProgramFault). EndsDay (compared_for dealer) f ((lines ++ line ∷ []) ++ more) (out_new start (still o)) (err_new start (still e))) (sym is)
-    (subst (λ (l : List (List ℕ)). EndsDay (compared_for dealer) Memory l (out_new start (still o)) (err_new start (still e)))
-    (sym (append_assoc lines (line ∷ []) more))
-    (in_days dealer lines (line ∷ more) (out_new start (still o)) (err_new start (still e))
-    (inr (inl (had.goes.config, one_taken dealer lines d (out_new start (still o)) (err_new start (still e)) had)))))
-kept_refused (kept_for wanted) number line d fault o e is lines start at had more =
-    subst (λ (f : ProgramFault). EndsDay (kept_for wanted) f ((lines ++ line ∷ []) ++ more) (out_new start (still o)) (err_new start (still e))) (sym is)
-    (subst (λ (l : List (List ℕ)). EndsDay (kept_for wanted) Memory l (out_new start (still o)) (err_new start (still e)))
-    (sym (append_assoc lines (line ∷ []) more))
-    (kept_memory wanted lines (line ∷ more) d (out_new start (still o)) (err_new start (still e)) had))
+between_goes : (form : LineForm) (number : ℕ) (line : List ℕ) (d : KeptDay) (t u : Vec ℕ Global) (o e : Option (List ℕ)) → is_divider line ≡ false
+    → u.items ≡ t.items ++ line ++ 10 ∷ [] → StageTakes form number line (stage.Between d t) (stage.Between d u) (still o) (still e)
+between_goes (answered form) number line d t u o e other is lines start at had = absurd had
+between_goes (kept_for wanted) number line d t u o e other is lines start at had = absurd had
+between_goes (compared_for dealer) number line d t u o e other is lines start at had =
+    awaiting_more dealer lines line t.items u.items d (out_new start (still o)) (err_new start (still e)) other is had
+
+both_go : (form : LineForm) (number : ℕ) (line : List ℕ) (fault : Option ProgramFault) (one d d' : KeptDay) (o e e' : Option (List ℕ))
+    → KeepsAnywhere number line d d' fault → GainsFaults (option_to_list fault) (record { before = e; after = e' })
+    → StageTakes form number line (stage.Both one d) (stage.Both one d') (still o) (record { before = e; after = e' })
+both_go (answered form) number line fault one d d' o e e' keeps tells lines start at had = absurd had
+both_go (kept_for wanted) number line fault one d d' o e e' keeps tells lines start at had = absurd had
+both_go (compared_for dealer) number line fault one d d' o e e' keeps tells lines start at had =
+    both_more dealer number line fault one d d' keeps o e e' tells lines start at had
+
+-- memory was refused, or a line of the second configuration is too long
+refused_behind : (form : LineForm) (number : ℕ) (line : List ℕ) (before : Stage) (fault : ProgramFault) (o e : Option (List ℕ)) → fault ≡ Memory
+    → StageFails form number line before fault (still o) (still e)
+refused_behind form number line before fault o e is lines start at had more =
+    subst (λ (f : ProgramFault). EndsDay form f ((lines ++ line ∷ []) ++ more) (out_new start (still o)) (err_new start (still e))) (sym is)
+    (record {
+      is_fault = tt;
+      lines = lines;
+      rest = line ∷ more;
+      split = append_assoc lines (line ∷ []) more;
+      left = answered_by form lines before (out_new start (still o)) (err_new start (still e)) had;
+    })
 
 module _ (form : LineForm) (number : ℕ) (line : List ℕ) (before : Stage) where
   pub stage_goes : (after : Stage) (d d' : LiveDay) (out err : Written) → before ≡ stage.Day d → after ≡ stage.Day d'
@@ -762,39 +804,194 @@ module _ (form : LineForm) (number : ℕ) (line : List ℕ) (before : Stage) whe
       subst (λ (s : Stage). StageFails form number line s fault out err) (sym was) (day_fails form number line d fault out err fails)
 
   pub stage_keeps : (after : Stage) (d d' : KeptDay) (fault : Option ProgramFault) (out err err' : Option (List ℕ)) → before ≡ stage.Kept d
-      → is_turn form before line ≡ false → after ≡ stage.Kept d' → KeepsAnywhere number line d d' fault
+      → after ≡ stage.Kept d' → KeepsAnywhere number line d d' fault
       → GainsFaults (option_to_list fault) (record { before = err; after = err' })
       → StageTakes form number line before after (still out) (record { before = err; after = err' })
-  stage_keeps after d d' fault out err err' was other is keeps tells =
-      let stays = subst (λ (s : Stage). is_turn form s line ≡ false) was other in
-      let took = kept_goes form number line d d' (still out) (record { before = err; after = err' }) stays
+  stage_keeps after d d' fault out err err' was is keeps tells =
+      let took = kept_goes form number line d d' (still out) (record { before = err; after = err' })
       (kept_taken number line fault d d' keeps out err err' tells) in
       subst (λ (s : Stage). StageTakes form number line s after (still out) (record { before = err; after = err' })) (sym was)
       (subst (λ (s : Stage). StageTakes form number line (stage.Kept d) s (still out) (record { before = err; after = err' })) (sym is) took)
 
-  pub stage_refused : (d : KeptDay) (fault : ProgramFault) (o e : Option (List ℕ)) → before ≡ stage.Kept d → fault ≡ Memory
-      → StageFails form number line before fault (still o) (still e)
-  stage_refused d fault o e was is =
-      subst (λ (s : Stage). StageFails form number line s fault (still o) (still e)) (sym was) (kept_refused form number line d fault o e is)
+  pub stage_of_first : (after : Stage) (d d' : KeptDay) (fault : Option ProgramFault) (out err err' : Option (List ℕ)) → before ≡ stage.First d
+      → is_turn before line ≡ false → after ≡ stage.First d' → KeepsAnywhere number line d d' fault
+      → GainsFaults (option_to_list fault) (record { before = err; after = err' })
+      → StageTakes form number line before after (still out) (record { before = err; after = err' })
+  stage_of_first after d d' fault out err err' was other is keeps tells =
+      let stays = subst (λ (s : Stage). is_turn s line ≡ false) was other in
+      let took = first_goes form number line d d' (still out) (record { before = err; after = err' }) stays
+      (kept_taken number line fault d d' keeps out err err' tells) in
+      subst (λ (s : Stage). StageTakes form number line s after (still out) (record { before = err; after = err' })) (sym was)
+      (subst (λ (s : Stage). StageTakes form number line (stage.First d) s (still out) (record { before = err; after = err' })) (sym is) took)
+
+  pub stage_between : (after : Stage) (d : KeptDay) (t u : Vec ℕ Global) (o e : Option (List ℕ)) → before ≡ stage.Between d t
+      → is_turn before line ≡ false → after ≡ stage.Between d u → u.items ≡ t.items ++ line ++ 10 ∷ []
+      → StageTakes form number line before after (still o) (still e)
+  stage_between after d t u o e was other is text_is =
+      let stays = subst (λ (s : Stage). is_turn s line ≡ false) was other in
+      subst (λ (s : Stage). StageTakes form number line s after (still o) (still e)) (sym was)
+      (subst (λ (s : Stage). StageTakes form number line (stage.Between d t) s (still o) (still e)) (sym is)
+      (between_goes form number line d t u o e stays text_is))
+
+  pub stage_of_both : (after : Stage) (one d d' : KeptDay) (fault : Option ProgramFault) (out err err' : Option (List ℕ)) → before ≡ stage.Both one d
+      → after ≡ stage.Both one d' → KeepsAnywhere number line d d' fault
+      → GainsFaults (option_to_list fault) (record { before = err; after = err' })
+      → StageTakes form number line before after (still out) (record { before = err; after = err' })
+  stage_of_both after one d d' fault out err err' was is keeps tells =
+      subst (λ (s : Stage). StageTakes form number line s after (still out) (record { before = err; after = err' })) (sym was)
+      (subst (λ (s : Stage). StageTakes form number line (stage.Both one d) s (still out) (record { before = err; after = err' })) (sym is)
+      (both_go form number line fault one d d' out err err' keeps tells))
+
+  pub stage_refused : (fault : ProgramFault) (o e : Option (List ℕ)) → fault ≡ Memory → StageFails form number line before fault (still o) (still e)
+  stage_refused fault o e is = refused_behind form number line before fault o e is
+
+-- A line that ends the first of two days, or the configuration of the second.
+
+turns : (form : LineForm) (number : ℕ) (line : List ℕ) (before after : Stage) (o e : Option (List ℕ)) → is_turn before line ≡ true
+    → Turns form before after → StageTakes form number line before after (still o) (still e)
+turns (answered form) number line (stage.First d) after o e here is lines start at had = absurd had
+turns (answered form) number line (stage.Between d t) after o e here is lines start at had = absurd had
+turns (kept_for wanted) number line (stage.First d) after o e here is lines start at had = absurd had
+turns (kept_for wanted) number line (stage.Between d t) after o e here is lines start at had = absurd had
+turns (compared_for dealer) number line (stage.First d) (stage.Between d' t) o e here is lines start at had =
+    subst (λ (x : KeptDay). AwaitsSecond dealer (lines ++ line ∷ []) x t.items (out_new start (still o)) (err_new start (still e))) (sym is.0)
+    (first_ends dealer lines line t.items d (out_new start (still o)) (err_new start (still e)) here is.1 had)
+turns (compared_for dealer) number line (stage.Between d t) (stage.Both d' other) o e here is lines start at had =
+    subst (λ (x : KeptDay). BothGo dealer (lines ++ line ∷ []) x other (out_new start (still o)) (err_new start (still e))) (sym is.0)
+    (second_opens dealer lines line t.items d other (out_new start (still o)) (err_new start (still e)) here is.1 had)
+turns (compared_for dealer) number line (stage.First d) (stage.Configuration t) o e here is lines start at had = absurd is
+turns (compared_for dealer) number line (stage.First d) (stage.Day day) o e here is lines start at had = absurd is
+turns (compared_for dealer) number line (stage.First d) (stage.Kept day) o e here is lines start at had = absurd is
+turns (compared_for dealer) number line (stage.First d) (stage.First day) o e here is lines start at had = absurd is
+turns (compared_for dealer) number line (stage.First d) (stage.Both one other) o e here is lines start at had = absurd is
+turns (compared_for dealer) number line (stage.Between d t) (stage.Configuration u) o e here is lines start at had = absurd is
+turns (compared_for dealer) number line (stage.Between d t) (stage.Day day) o e here is lines start at had = absurd is
+turns (compared_for dealer) number line (stage.Between d t) (stage.Kept day) o e here is lines start at had = absurd is
+turns (compared_for dealer) number line (stage.Between d t) (stage.First day) o e here is lines start at had = absurd is
+turns (compared_for dealer) number line (stage.Between d t) (stage.Between day u) o e here is lines start at had = absurd is
+turns form number line (stage.Configuration t) after o e here is lines start at had = absurd (false≢true here)
+turns form number line (stage.Day d) after o e here is lines start at had = absurd (false≢true here)
+turns form number line (stage.Kept d) after o e here is lines start at had = absurd (false≢true here)
+turns form number line (stage.Both one other) after o e here is lines start at had = absurd (false≢true here)
+
+pub stage_turns : (form : LineForm) (number : ℕ) (line : List ℕ) (before after : Stage) (o e : Option (List ℕ)) → is_turn before line ≡ true
+    → Turns form before after → StageTakes form number line before after (still o) (still e)
+stage_turns = turns
+
+-- why it opens no second day
+module _ (dealer : List ℕ) (lines : List (List ℕ)) (line text : List ℕ) (day : KeptDay) (out err : Written)
+    (had : AwaitsSecond dealer lines day text out err) (more : List (List ℕ)) where
+  abbrev Second : ProgramFault → Type 0
+  Second fault = EndsDay (compared_for dealer) fault ((lines ++ line ∷ []) ++ more) out err
+
+  all_two : AreTwo ((lines ++ line ∷ []) ++ more) had.first had.divider (had.behind ++ line ∷ more)
+  all_two = record {
+    split = append_assoc lines (line ∷ []) more ∙ ap (λ (l : List (List ℕ)). l ++ line ∷ more) had.two.split
+        ∙ append_assoc had.first (had.divider ∷ had.behind) (line ∷ more);
+    divides = had.two.divides;
+  }
+
+  second_text_is : second_configuration ((lines ++ line ∷ []) ++ more) ≡ configuration_in (had.behind ++ line ∷ more)
+  second_text_is = second_text dealer ((lines ++ line ∷ []) ++ more) had.first had.divider (had.behind ++ line ∷ more) all_two day out err had.goes
+
+  so_far : HasAnswered (compared_for dealer) lines out err
+  so_far = inr (inl (had.goes.goes.config, awaiting_taken dealer lines day text out err had))
+
+  second_whole : is_divider line ≡ true → second_configuration ((lines ++ line ∷ []) ++ more) ≡ text
+  second_whole here =
+      second_text_is ∙ ap configuration_in (sym (append_assoc had.behind (line ∷ []) more))
+      ∙ configuration_stays (had.behind ++ line ∷ []) more (now_divided had.behind line had.undivided here)
+      ∙ configuration_is had.behind line had.undivided here ∙ sym had.text_is
+
+  second_memory : Second Memory
+  second_memory = record {
+    is_fault = tt; lines = lines; rest = line ∷ more; split = append_assoc lines (line ∷ []) more; left = so_far;
+  }
+
+  second_lawless : (fault : ProgramFault) → is_divider line ≡ true → venue_of text ≡ Err fault → Second fault
+  second_lawless fault here is =
+      let of = config_fault text fault is in
+      subst Second (sym of.1) (record {
+        is_fault = (text, (inr (sym (second_whole here)), is ∙ ap (λ (f : ProgramFault). Err f) of.1));
+        lines = lines;
+        rest = line ∷ more;
+        split = append_assoc lines (line ∷ []) more;
+        left = so_far;
+      })
+
+  second_nameless : (fault : ProgramFault) (config : ConfigValues) → is_divider line ≡ true → venue_of text ≡ Ok config
+      → name_fault (compared_for dealer) config ≡ Some fault → Second fault
+  second_nameless fault config here spelled is =
+      let of = firm_alone (compared_for dealer) config fault is in
+      subst Second (sym of) (record {
+        is_fault = (text, (inr (sym (second_whole here)), (config, (spelled, is ∙ ap (λ (f : ProgramFault). Some f) of))));
+        lines = lines;
+        rest = line ∷ more;
+        split = append_assoc lines (line ∷ []) more;
+        left = so_far;
+      })
+
+  second_long : is_divider line ≡ false → MOST_INPUT < length (text ++ line ++ 10 ∷ []) → Second Input
+  second_long other long =
+      let grown = configuration_grows (had.behind ++ line ∷ []) more (still_undivided had.behind line had.undivided other) in
+      let same = ap length (ap (λ (t : List ℕ). t ++ line ++ 10 ∷ []) had.text_is ∙ sym (text_grows had.behind line)) in
+      let whole = ap length (second_text_is ∙ ap configuration_in (sym (append_assoc had.behind (line ∷ []) more))) in
+      record {
+        is_fault = inr (inl (
+          second_configuration ((lines ++ line ∷ []) ++ more),
+          (inr refl, omega (arith, grown, same, whole, long)),
+        ));
+        lines = lines;
+        rest = line ∷ more;
+        split = append_assoc lines (line ∷ []) more;
+        left = so_far;
+      }
+
+turn_fails : (form : LineForm) (number : ℕ) (line : List ℕ) (before : Stage) (fault : ProgramFault) (o e : Option (List ℕ))
+    → is_turn before line ≡ true → TurnFails form before fault → StageFails form number line before fault (still o) (still e)
+turn_fails (answered form) number line (stage.First d) fault o e here is lines start at had more = absurd had
+turn_fails (answered form) number line (stage.Between d t) fault o e here is lines start at had more = absurd had
+turn_fails (kept_for wanted) number line (stage.First d) fault o e here is lines start at had more = absurd had
+turn_fails (kept_for wanted) number line (stage.Between d t) fault o e here is lines start at had more = absurd had
+turn_fails (compared_for dealer) number line (stage.First d) fault o e here is lines start at had more = absurd is
+turn_fails (compared_for dealer) number line (stage.Between d t) fault o e here (inl is) lines start at had more =
+    subst (λ (f : ProgramFault). EndsDay (compared_for dealer) f ((lines ++ line ∷ []) ++ more) (out_new start (still o)) (err_new start (still e))) (sym is)
+    (second_memory dealer lines line t.items d (out_new start (still o)) (err_new start (still e)) had more)
+turn_fails (compared_for dealer) number line (stage.Between d t) fault o e here (inr (inl is)) lines start at had more =
+    second_lawless dealer lines line t.items d (out_new start (still o)) (err_new start (still e)) had more fault here is
+turn_fails (compared_for dealer) number line (stage.Between d t) fault o e here (inr (inr is)) lines start at had more =
+    second_nameless dealer lines line t.items d (out_new start (still o)) (err_new start (still e)) had more fault is.0 here is.1 is.2
+turn_fails form number line (stage.Configuration t) fault o e here is lines start at had more = absurd (false≢true here)
+turn_fails form number line (stage.Day d) fault o e here is lines start at had more = absurd (false≢true here)
+turn_fails form number line (stage.Kept d) fault o e here is lines start at had more = absurd (false≢true here)
+turn_fails form number line (stage.Both one other) fault o e here is lines start at had more = absurd (false≢true here)
+
+pub stage_turn_fails : (form : LineForm) (number : ℕ) (line : List ℕ) (before : Stage) (fault : ProgramFault) (o e : Option (List ℕ))
+    → is_turn before line ≡ true → TurnFails form before fault → StageFails form number line before fault (still o) (still e)
+stage_turn_fails = turn_fails
+
+long_between : (form : LineForm) (number : ℕ) (line : List ℕ) (d : KeptDay) (t : Vec ℕ Global) (fault : ProgramFault) (o e : Option (List ℕ))
+    → is_divider line ≡ false → (fault ≡ Memory) ⊎ ((fault ≡ Input) × MOST_INPUT < length (t.items ++ line ++ 10 ∷ []))
+    → StageFails form number line (stage.Between d t) fault (still o) (still e)
+long_between (answered form) number line d t fault o e other is lines start at had more = absurd had
+long_between (kept_for wanted) number line d t fault o e other is lines start at had more = absurd had
+long_between (compared_for dealer) number line d t fault o e other (inl is) lines start at had more =
+    subst (λ (f : ProgramFault). EndsDay (compared_for dealer) f ((lines ++ line ∷ []) ++ more) (out_new start (still o)) (err_new start (still e))) (sym is)
+    (second_memory dealer lines line t.items d (out_new start (still o)) (err_new start (still e)) had more)
+long_between (compared_for dealer) number line d t fault o e other (inr is) lines start at had more =
+    subst (λ (f : ProgramFault). EndsDay (compared_for dealer) f ((lines ++ line ∷ []) ++ more) (out_new start (still o)) (err_new start (still e))) (sym is.0)
+    (second_long dealer lines line t.items d (out_new start (still o)) (err_new start (still e)) had more other is.1)
+
+pub stage_long_between : (form : LineForm) (number : ℕ) (line : List ℕ) (before : Stage) (d : KeptDay) (t : Vec ℕ Global) (fault : ProgramFault)
+    (o e : Option (List ℕ)) → before ≡ stage.Between d t → is_turn before line ≡ false
+    → (fault ≡ Memory) ⊎ ((fault ≡ Input) × MOST_INPUT < length (t.items ++ line ++ 10 ∷ []))
+    → StageFails form number line before fault (still o) (still e)
+stage_long_between form number line before d t fault o e was other is =
+    let stays = subst (λ (s : Stage). is_turn s line ≡ false) was other in
+    subst (λ (s : Stage). StageFails form number line s fault (still o) (still e)) (sym was)
+    (long_between form number line d t fault o e stays is)
 
 -- The line that has begun is whole.
-
-answered_by : (form : LineForm) (lines : List (List ℕ)) (s : Stage) (out err : Written) → StageIs form lines s out err
-    → HasAnswered form lines out err
-answered_by form lines (stage.Configuration t) out err is = answers_nothing form lines out err is.nothing
-answered_by (answered form) lines (stage.Day d) out err is = inr (is.config, is.answers)
-answered_by (answered form) lines (stage.Kept d) out err is = absurd is
-answered_by (kept_for wanted) lines (stage.Day d) out err is = absurd is
-answered_by (kept_for wanted) lines (stage.Kept d) out err is = inr (is.config, is.answers)
-answered_by (compared_for dealer) lines (stage.Day d) out err is = absurd is
-answered_by (compared_for dealer) lines (stage.Kept d) out err is = inr (inl (is.goes.config, one_taken dealer lines d out err is))
-answered_by (compared_for dealer) lines (stage.Between d t) out err is =
-    inr (inl (is.goes.goes.config, awaiting_taken dealer lines d t.items out err is))
-answered_by (compared_for dealer) lines (stage.Both d d') out err is = both_answered dealer lines d d' out err is
-answered_by (answered form) lines (stage.Between d t) out err is = absurd is
-answered_by (answered form) lines (stage.Both d d') out err is = absurd is
-answered_by (kept_for wanted) lines (stage.Between d t) out err is = absurd is
-answered_by (kept_for wanted) lines (stage.Both d d') out err is = absurd is
 
 pub line_takes : (before after : LiveRun) (out err : Written)
     → StageTakes (meant_form before.form) before.number before.line.items before.stage after.stage out err

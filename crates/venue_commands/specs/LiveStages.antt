@@ -97,7 +97,7 @@ abbrev pub StageIs : LineForm → List (List ℕ) → Stage → Written → Writ
 StageIs form lines (stage.Configuration text) out err = AwaitsDay lines text.items out err
 StageIs (answered form) lines (stage.Day day) out err = DayGoes form lines day out err
 StageIs (kept_for wanted) lines (stage.Kept day) out err = KeptGoes wanted lines day out err
-StageIs (compared_for dealer) lines (stage.Kept day) out err = FirstGoes dealer lines day out err
+StageIs (compared_for dealer) lines (stage.First day) out err = FirstGoes dealer lines day out err
 StageIs (compared_for dealer) lines (stage.Between day text) out err =
     AwaitsSecond dealer lines day text.items out err
 StageIs (compared_for dealer) lines (stage.Both one other) out err =
@@ -219,7 +219,7 @@ EndFails before fault out err = (form : LineForm) (read : List ℕ) (start : Sta
 abbrev pub OpensStage : LineForm → List ℕ → Stage → Type 0
 OpensStage (answered form) text (stage.Day day) = Opens form text day
 OpensStage (kept_for wanted) text (stage.Kept day) = OpensKept wanted text day
-OpensStage (compared_for dealer) text (stage.Kept day) = OpensKept (dues dealer) text day
+OpensStage (compared_for dealer) text (stage.First day) = OpensKept (dues dealer) text day
 OpensStage form text _ = ⊥
 
 -- why a configuration opens none: its own fault, or that of a name
@@ -254,23 +254,23 @@ CloseFails before fault out = (form : LineForm) (lines : List (List ℕ)) (start
     → EndsDay form fault lines (record { before = start; after = out.after }) err
 
 -- A line `%%` behind the first of two days, or behind the configuration of the second.
-abbrev pub is_turn : LineForm → Stage → List ℕ → Bool
-is_turn (compared_for dealer) (stage.Kept day) line = is_divider line
-is_turn (compared_for dealer) (stage.Between day text) line = is_divider line
-is_turn form _ line = false
+abbrev pub is_turn : Stage → List ℕ → Bool
+is_turn (stage.First day) line = is_divider line
+is_turn (stage.Between day text) line = is_divider line
+is_turn _ line = false
 
 abbrev pub Turns : LineForm → Stage → Stage → Type 0
-Turns (compared_for dealer) (stage.Kept day) (stage.Between same text) =
+Turns (compared_for dealer) (stage.First day) (stage.Between same text) =
     (same ≡ day) × (text.items ≡ [])
 Turns (compared_for dealer) (stage.Between day text) (stage.Both same other) =
     (same ≡ day) × OpensKept (dues dealer) text.items other
-Turns (compared_for dealer) (stage.Kept day) _ = ⊥
+Turns (compared_for dealer) (stage.First day) _ = ⊥
 Turns (compared_for dealer) (stage.Between day text) _ = ⊥
 Turns form before after = Unit {0}
 
 -- why it opens no second day
 abbrev pub TurnFails : LineForm → Stage → ProgramFault → Type 0
-TurnFails (compared_for dealer) (stage.Kept day) fault = ⊥
+TurnFails (compared_for dealer) (stage.First day) fault = ⊥
 TurnFails (compared_for dealer) (stage.Between day text) fault =
     (fault ≡ program.Memory) ⊎ OpensNone (compared_for dealer) text.items fault
 TurnFails form before fault = Unit {0}

@@ -31,6 +31,8 @@ enum Stage {
     Day(LiveDay),
     /// The day goes on, and its messages are kept.
     Kept(KeptDay),
+    /// The first of two days goes on.
+    First(KeptDay),
     /// The first of two days has ended, and these are the lines of the second's configuration.
     Between(KeptDay, Vec<u8>),
     /// The second of two days goes on.
@@ -242,6 +244,7 @@ fn close<W: Write>(alloc: Global, stage: Stage, out: &mut W) -> Result<(), Progr
             print_text(out, text.as_slice())?;
             Ok(())
         }
+        Stage::First(_) => Err(ProgramFault::Parts),
         Stage::Between(_, _) => Err(ProgramFault::Parts),
         Stage::Both(one, other) => {
             let text = compared_text(alloc, one, other)?;
@@ -270,7 +273,7 @@ fn answer_at<W: Write, E: Write>(
         (record { before = W.contents out.old; after = W.contents out.new })
         (record { before = E.contents err.old; after = E.contents err.new })) }
 {
-    if is_turn(form, stage, line) {
+    if is_turn(stage, line) {
         turn(alloc, form, stage)?;
         return Ok(());
     }
@@ -291,6 +294,11 @@ fn answer_at<W: Write, E: Write>(
             tell_fault(err, &fault);
             Ok(())
         }
+        Stage::First(day) => {
+            let fault = day.take(alloc, number, line)?;
+            tell_fault(err, &fault);
+            Ok(())
+        }
         Stage::Between(_, text) => {
             put_line(text, line)?;
             Ok(())
@@ -304,17 +312,15 @@ fn answer_at<W: Write, E: Write>(
 }
 
 /// Whether a line ends the first of two days, or the configuration of the second.
-fn is_turn(form: LineForm<'_>, stage: &Stage, line: &[u8]) -> bool
-    ensures { result ≡ stages.is_turn (meant_form form.entry) stage.now line.now }
+fn is_turn(stage: &Stage, line: &[u8]) -> bool
+    ensures { result ≡ stages.is_turn stage.now line.now }
 {
-    let LineForm::Compared(_) = form else {
-        return false;
-    };
     match stage {
-        Stage::Kept(_) => same_text(line, b"%%"),
+        Stage::First(_) => same_text(line, b"%%"),
         Stage::Between(_, _) => same_text(line, b"%%"),
         Stage::Configuration(_) => false,
         Stage::Day(_) => false,
+        Stage::Kept(_) => false,
         Stage::Both(_, _) => false,
     }
 }
@@ -338,7 +344,7 @@ fn turned(alloc: Global, form: LineForm<'_>, before: Stage) -> Result<Stage, Pro
         return Ok(before);
     };
     match before {
-        Stage::Kept(day) => Ok(Stage::Between(day, Vec::new(alloc))),
+        Stage::First(day) => Ok(Stage::Between(day, Vec::new(alloc))),
         Stage::Between(one, text) => {
             let other = KeptDay::open(alloc, Wanted::Due(dealer), text.as_slice())?;
             Ok(Stage::Both(one, other))
@@ -383,7 +389,7 @@ fn open_stage(alloc: Global, form: LineForm<'_>, text: &[u8]) -> Result<Stage, P
         }
         LineForm::Compared(dealer) => {
             let day = KeptDay::open(alloc, Wanted::Due(dealer), text)?;
-            Ok(Stage::Kept(day))
+            Ok(Stage::First(day))
         }
     }
 }
