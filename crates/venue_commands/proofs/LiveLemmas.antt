@@ -19,6 +19,7 @@ use Rattle.venue_config.specs.declared.faults.ConfigFault.TheVariants.{Toml}
 use Rattle.venue_text.specs.Faults.{told_line}
 use Rattle.venue_text.specs.Lines.{lines_of}
 use Rattle.venue_text.specs.AskedDays.{dealer_by, firm_by, firms_by}
+use Rattle.venue_text.specs.KeptComparison.{IsKeptComparison}
 use Rattle.venue_text.specs.KeptDays as kept_days
 use Rattle.venue_text.specs.KeptDays.{KeepsMore, OpensKept, Wanted, asked_in, asked_venue, dues, kept_text, messages}
 use Rattle.venue_text.specs.LiveAnswers.{Gives, Goes, Opens}
@@ -36,20 +37,24 @@ use Rattle.venue_text.specs.declared.kept_days.KeptDay.{KeptDay}
 use Rattle.venue_text.specs.declared.lines.TheConstants.{MOST_INPUT}
 use Rattle.venue_text.specs.declared.live_form.LiveForm.{LiveForm}
 use Rattle.venue_text.specs.declared.live_lines.LiveDay.{LiveDay}
-use Rattle.venue_commands.specs.Arguments.{LineForm, answered, kept_for, meant_form}
+use Rattle.venue_commands.specs.Arguments.{LineForm, answered, compared_for, kept_for, meant_form}
 use Rattle.venue_commands.specs.LiveRuns.{EndsWith, EndsDay, EndsInAnswers, EndsInLive, GainsFaults, HasAnswered}
-use Rattle.venue_commands.specs.LiveRuns.{TakesDay, ended_lines, fault_if, name_fault, whole_text}
-use Rattle.venue_commands.specs.LiveStages.{AwaitsDay, DayGoes, IsBad, IsCut, KeptGoes, StageIs, StandsAt, Start}
+use Rattle.venue_commands.specs.LiveRuns.{AnswersNothing, HasCompared, HasNoDay, IsConfigurationIn, TakesBoth, TakesOne, are_four, are_whole, behind_one}
+use Rattle.venue_commands.specs.LiveRuns.{ended_lines, fault_if, first_taken, name_fault, second_configuration, second_taken}
+use Rattle.venue_commands.specs.LiveStages.{AreTwo, AwaitsDay, AwaitsSecond, BothGo, DayGoes, FirstGoes, IsBad, IsCut, KeptGoes, StageIs, StandsAt, Start}
+use Rattle.venue_commands.specs.LiveStages.{TurnFails, Turns, is_turn, taken_at}
 use Rattle.venue_commands.specs.LiveStages.{OfConfig, OfFirm, OfLength, OfMemory, OpensNone, OpensStage, err_new, err_old, out_new, out_old}
 use Rattle.venue_commands.specs.LiveStages.{AnswersAll, CloseFails, Closes, DayFails, DayTakes, EndFails, Ends, FailsIn, FeedFails, Feeds}
 use Rattle.venue_commands.specs.LiveStages.{IsNext, KeptTakes, LineFails, LineTakes, StageFails, StageTakes, StandsFirst}
-use Rattle.venue_commands.specs.Written.{Gains, GainsPart, Written}
+use Rattle.venue_commands.specs.Written.{Gains, GainsPart, IsUntouched, Written}
 use Rattle.venue_commands.specs.declared.command.LineForm.{LineForm as RustForm}
 use Rattle.venue_commands.specs.declared.live.LiveRun.{LiveRun}
 use Rattle.venue_commands.specs.declared.live.Stage.{Stage}
 use Rattle.venue_commands.specs.declared.live.Stage.TheVariants as stage
 use Rattle.venue_commands.specs.declared.live.TheConstants.{MOST_LINES}
 use Rattle.venue_commands.proofs.LineLemmas.{configuration_grows, configuration_is, configuration_stays, line_closed, line_goes_on, line_last}
+use Rattle.venue_commands.proofs.LineLemmas.{alone_still, first_alone, first_taken_alone, first_taken_is, four_is, none_behind, nothing_at, second_configuration_is}
+use Rattle.venue_commands.proofs.LineLemmas.{second_taken_is, taken_any_at, undivided_alone}
 use Rattle.venue_commands.proofs.LineLemmas.{feeds_end, feeds_stay, nothing_behind, nothing_printed, now_divided, parts_stay, still_undivided, taken_any, text_grows, text_more}
 use Rattle.venue_commands.proofs.StreamLemmas.{appends_both, keeps_same, more_part}
 
@@ -256,17 +261,6 @@ module _ (number : ℕ) (line : List ℕ) (fault : Option ProgramFault) (before 
         };
         keeps = subst (λ (t : Taken). kept_days.Keeps wanted config t after) (sym same) more.keeps;
       }
-
--- memory was refused: what was taken before stays, and nothing is printed
-kept_memory : (wanted : Wanted) (lines rest : List (List ℕ)) (day : KeptDay) (out err : Written) → KeptGoes wanted lines day out err
-    → EndsDay (kept_for wanted) Memory (lines ++ rest) out err
-kept_memory wanted lines rest day out err had = record {
-  is_fault = tt;
-  lines = lines;
-  rest = rest;
-  split = refl;
-  left = inr (had.config, had.answers);
-}
 
 -- By the form.
 
@@ -476,11 +470,6 @@ both_more dealer number line fault one before after keeps o e e' tells lines sta
             (faults_more (taken_at second.config k had.behind).faults (option_to_list fault) had.mid e e' second.told tells);
       };
     }
-
--- a fault behind lines that were taken
-in_days : (dealer : List ℕ) (lines rest : List (List ℕ)) (out err : Written) → HasAnswered (compared_for dealer) lines out err
-    → EndsDay (compared_for dealer) Memory (lines ++ rest) out err
-in_days dealer lines rest out err answers = record { is_fault = tt; lines = lines; rest = rest; split = refl; left = answers }
 
 -- A line of the configuration.
 
@@ -1230,6 +1219,7 @@ TextAnywhere day text = (config : Configuration) (wanted : Wanted) (taken : Take
 module _ (day : KeptDay) (o o' : Option (List ℕ)) where
   pub closes_kept : (text : List ℕ) → TextAnywhere day text → Appends o o' text → Closes (stage.Kept day) (record { before = o; after = o' })
   closes_kept text texts gained (answered form) lines start err is = absurd is
+  closes_kept text texts gained (compared_for dealer) lines start err is = absurd is
   closes_kept text texts gained (kept_for wanted) lines start err is =
       let text_is = texts is.config wanted (taken_in is.config lines) is.keeps in
       (
@@ -1246,6 +1236,7 @@ module _ (day : KeptDay) (o o' : Option (List ℕ)) where
   pub closes_unprinted : (text : List ℕ) (fault : ProgramFault) → fault ≡ Write → TextAnywhere day text
       → GainsPart text (record { before = o; after = o' }) → CloseFails (stage.Kept day) fault (record { before = o; after = o' })
   closes_unprinted text fault write texts part (answered form) lines start err is = absurd is
+  closes_unprinted text fault write texts part (compared_for dealer) lines start err is = absurd is
   closes_unprinted text fault write texts part (kept_for wanted) lines start err is =
       let text_is = texts is.config wanted (taken_in is.config lines) is.keeps in
       subst (λ (f : ProgramFault). EndsDay (kept_for wanted) f lines (record { before = start; after = o' }) err) (sym write)
@@ -1267,12 +1258,94 @@ module _ (day : KeptDay) (o o' : Option (List ℕ)) where
         );
       })
 
-pub closes_in_memory : (day : KeptDay) (fault : ProgramFault) (o : Option (List ℕ)) → fault ≡ Memory → CloseFails (stage.Kept day) fault (still o)
-closes_in_memory day fault o none (answered form) lines start err is = absurd is
-closes_in_memory day fault o none (kept_for wanted) lines start err is =
-    subst (λ (f : ProgramFault). EndsDay (kept_for wanted) f lines (record { before = start; after = o }) err) (sym none)
-    (subst (λ (l : List (List ℕ)). EndsDay (kept_for wanted) Memory l (record { before = start; after = o }) err) (append-nil lines)
-    (kept_memory wanted lines [] day (record { before = start; after = o }) err is))
+-- memory was refused
+pub closes_in_memory : (last : Stage) (fault : ProgramFault) (o : Option (List ℕ)) → fault ≡ Memory → CloseFails last fault (still o)
+closes_in_memory last fault o none form lines start err is =
+    subst (λ (f : ProgramFault). EndsDay form f lines (record { before = start; after = o }) err) (sym none)
+    (record {
+      is_fault = tt;
+      lines = lines;
+      rest = [];
+      split = sym (append-nil lines);
+      left = answered_by form lines last (record { before = start; after = o }) err is;
+    })
+
+-- there is no second day
+in_one_day : (dealer : List ℕ) (fault : ProgramFault) (lines : List (List ℕ)) (config : Configuration) (out err : Written) → fault ≡ Parts
+    → TakesOne dealer config lines out err → EndsDay (compared_for dealer) fault lines out err
+in_one_day dealer fault lines config out err none takes =
+    subst (λ (f : ProgramFault). EndsDay (compared_for dealer) f lines out err) (sym none)
+    (record { is_fault = takes.alone; lines = lines; rest = []; split = sym (append-nil lines); left = inr (inl (config, takes)) })
+
+pub closes_first : (day : KeptDay) (fault : ProgramFault) (o : Option (List ℕ)) → fault ≡ Parts → CloseFails (stage.First day) fault (still o)
+closes_first day fault o none (answered form) lines start err is = absurd is
+closes_first day fault o none (kept_for wanted) lines start err is = absurd is
+closes_first day fault o none (compared_for dealer) lines start err is =
+    in_one_day dealer fault lines is.goes.config _ err none (one_taken dealer lines day _ err is)
+
+pub closes_between : (day : KeptDay) (t : Vec ℕ Global) (fault : ProgramFault) (o : Option (List ℕ)) → fault ≡ Parts
+    → CloseFails (stage.Between day t) fault (still o)
+closes_between day t fault o none (answered form) lines start err is = absurd is
+closes_between day t fault o none (kept_for wanted) lines start err is = absurd is
+closes_between day t fault o none (compared_for dealer) lines start err is =
+    in_one_day dealer fault lines is.goes.goes.config _ err none (awaiting_taken dealer lines day t.items _ err is)
+
+-- what differs between the two days
+abbrev pub ComparesAnywhere : KeptDay → KeptDay → List ℕ → Type 0
+ComparesAnywhere one other text = (name : List ℕ) (config other_config : Configuration) (taken other_taken : Taken)
+    → kept_days.Keeps (dues name) config taken one → kept_days.Keeps (dues name) other_config other_taken other
+    → IsKeptComparison name config taken.steps other_config other_taken.steps text
+
+has_compared : (dealer : List ℕ) (lines : List (List ℕ)) (one other : KeptDay) (text : List ℕ) (out err : Written) → ComparesAnywhere one other text
+    → BothGo dealer lines one other out err → HasCompared dealer lines text err
+has_compared dealer lines one other text out err compares both =
+    let mid : Written = record { before = err.before; after = both.mid } in
+    let config = both.goes.goes.config in
+    let other_config = both.second.config in
+    let first = first_brought dealer lines both.first both.divider both.behind both.two one out mid both.goes config in
+    let second = second_brought dealer lines both.first both.divider both.behind both.two one out mid both.goes other_config in
+    record {
+      one = config;
+      other = other_config;
+      takes = both_taken dealer lines one other out err both;
+      compared = subst (λ (t : Taken). IsKeptComparison dealer config t.steps other_config (second_taken other_config lines).steps text) (sym first)
+          (subst (λ (t : Taken). IsKeptComparison dealer config (taken_in config both.first).steps other_config t.steps text) (sym second)
+          (compares dealer config other_config (taken_in config both.first) (taken_at other_config (length both.first + 2) both.behind)
+          both.goes.goes.keeps both.second.keeps));
+    }
+
+module _ (one other : KeptDay) (o o' : Option (List ℕ)) (text : List ℕ) (compares : ComparesAnywhere one other text) where
+  pub closes_both : Appends o o' text → Closes (stage.Both one other) (record { before = o; after = o' })
+  closes_both gained (answered form) lines start err is = absurd is
+  closes_both gained (kept_for wanted) lines start err is = absurd is
+  closes_both gained (compared_for dealer) lines start err is =
+      (
+        text,
+        (
+          has_compared dealer lines one other text (record { before = start; after = o }) err compares is,
+          appends_both start o o' [] text is.goes.goes.answers.printed gained,
+        ),
+      )
+
+  pub closes_both_unprinted : (fault : ProgramFault) → fault ≡ Write → GainsPart text (record { before = o; after = o' })
+      → CloseFails (stage.Both one other) fault (record { before = o; after = o' })
+  closes_both_unprinted fault write part (answered form) lines start err is = absurd is
+  closes_both_unprinted fault write part (kept_for wanted) lines start err is = absurd is
+  closes_both_unprinted fault write part (compared_for dealer) lines start err is =
+      subst (λ (f : ProgramFault). EndsDay (compared_for dealer) f lines (record { before = start; after = o' }) err) (sym write)
+      (record {
+        is_fault = tt;
+        lines = lines;
+        rest = [];
+        split = sym (append-nil lines);
+        left = (
+          text,
+          (
+            has_compared dealer lines one other text (record { before = start; after = o }) err compares is,
+            more_part start o o' [] text is.goes.goes.answers.printed part,
+          ),
+        );
+      })
 
 -- the lines that came whole are those that have their line feed
 ended_is : (read : List ℕ) (lines : List (List ℕ)) (begun : List ℕ) → IsCut read lines begun → ended_lines read ≡ lines
