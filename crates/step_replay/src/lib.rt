@@ -46,7 +46,8 @@
 //! - [`LiveVenue`]: a venue that answers step by step. After each step it stands as the audit trail
 //!   of the steps so far, each followed by turns of its actor that leave it none, and what it tells
 //!   are the messages that these added, in their order. [`LiveVenue::sweep`] is a sweep of every
-//!   room, one behind the other, at the cost of those that end.
+//!   room, one behind the other, at the cost of those that end. At the end of the day it is the
+//!   [`World`] of these steps ([`LiveVenue::into_world`]).
 //!
 //! What follows from the definition stands as laws:
 //!

@@ -44,10 +44,10 @@ place_behind byte i text before here =
 place_skip : (byte c : ℕ) (text : List ℕ) → (c == byte) ≡ false → position_or_len (λ (d : ℕ). d == byte) (c ∷ text) ≡ suc (position_or_len (λ (d : ℕ). d == byte) text)
 place_skip byte c text other = rw other (add_comm 1 (position_or_len (λ (d : ℕ). d == byte) text) ∙ add-one (position_or_len (λ (d : ℕ). d == byte) text))
 
-before_skip : (byte c : ℕ) (text : List ℕ) → (c == byte) ≡ false → before_first (λ (d : ℕ). d == byte) (c ∷ text) ≡ c ∷ before_first (λ (d : ℕ). d == byte) text
+pub before_skip : (byte c : ℕ) (text : List ℕ) → (c == byte) ≡ false → before_first (λ (d : ℕ). d == byte) (c ∷ text) ≡ c ∷ before_first (λ (d : ℕ). d == byte) text
 before_skip byte c text other = ap (λ n. take n (c ∷ text)) (place_skip byte c text other)
 
-after_skip : (byte c : ℕ) (text : List ℕ) → (c == byte) ≡ false → after_first (λ (d : ℕ). d == byte) (c ∷ text) ≡ after_first (λ (d : ℕ). d == byte) text
+pub after_skip : (byte c : ℕ) (text : List ℕ) → (c == byte) ≡ false → after_first (λ (d : ℕ). d == byte) (c ∷ text) ≡ after_first (λ (d : ℕ). d == byte) text
 after_skip byte c text other =
     let n = position_or_len (λ (d : ℕ). d == byte) text in
     let place : position_or_len (λ (d : ℕ). d == byte) (c ∷ text) + 1 ≡ suc (n + 1) = ap (λ m. m + 1) (place_skip byte c text other) ∙ omega arith in

@@ -4,10 +4,16 @@ pub mod CompareLemmas
 pub mod CutLemmas
 pub mod DayLemmas
 pub mod FirmLemmas
+pub mod FirmLineLemmas
+pub mod KeptLemmas
 pub mod LiveGrowth
 pub mod LiveInputLemmas
 pub mod LiveLemmas
 pub mod PartLemmas
+pub mod ReadBackItems
+pub mod ReadBackLists
+pub mod ReadBackParts
+pub mod ReadBackShown
 pub mod RoomLemmas
 pub mod SpellLemmas
 pub mod StepFaultLemmas

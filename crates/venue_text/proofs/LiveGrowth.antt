@@ -58,6 +58,10 @@ messages_grow config taken more =
     )
 
 -- before the first step there is no message
+pub no_messages : (config : Configuration) → live_messages config [] ≡ []
+unfolding audit_trail messages_in
+no_messages config = refl
+
 pub no_text : (with_frames : Bool) (config : Configuration) → live_text with_frames config [] ≡ []
 unfolding audit_trail messages_in
 no_text with_frames config = refl

@@ -216,7 +216,7 @@ module _ (form : LiveForm) (config : Configuration) (taken : Taken) (k : ℕ) (l
       (gained_is config taken.steps read.0))
   read_told (Err fault) told = refl
 
-  text_told : live_messages config (with_any_line (values_of config) taken (k, line)).steps
+  pub text_told : live_messages config (with_any_line (values_of config) taken (k, line)).steps
       ≡ live_messages config taken.steps ++ messages
       → told_text form config (with_any_line (values_of config) taken (k, line)).steps k messages
       (line_fault (values_of config) taken (k, line)) ≡ line_text form config taken k line
@@ -295,7 +295,7 @@ all_ok (Err e) P Q R S p q r f = tt
 -- All lines.
 
 -- lines that are skipped bring nothing
-any_lines : (config : ConfigValues) (taken : Taken) (k : ℕ) (lines : List (List ℕ))
+pub any_lines : (config : ConfigValues) (taken : Taken) (k : ℕ) (lines : List (List ℕ))
     → fold (with_any_line config) taken (numbered_from k lines)
     ≡ fold (with_line config) taken (spoken_from k lines)
 any_lines config taken k [] = refl

@@ -11,13 +11,16 @@ pub mod DueText
 pub mod Faults
 pub mod Lines
 pub mod KeptComparison
+pub mod FirmLines
 pub mod KeptDays
+pub mod Lines
 pub mod LiveAnswers
 pub mod LiveInput
 pub mod LiveLines
 pub mod MessageLines
 pub mod OptionSteps
 pub mod PartReading
+pub mod ReadBack
 pub mod RecordText
 pub mod ReplayText
 pub mod ResultSteps

@@ -1,10 +1,12 @@
 //! A day that comes line by line, and of which something is printed at its end.
-ghost use Rattle.std.specs.Prelude.{◌≡◌, ◌≢◌, ℕ, Err, IfOk, IfErr, IsSome};
-ghost use Rattle.venue_config.specs.Rows.{Configuration, dealer_numbered, values_of};
+ghost use Rattle.std.specs.Prelude.{◌≡◌, ◌≢◌, List, Err, IfOk, IfErr};
+ghost use Rattle.step_replay.specs.LiveStanding.{IsAt};
+ghost use Rattle.step_replay.specs.declared.steps.Step.{Step};
+ghost use Rattle.venue_config.specs.Rows.{Configuration, values_of};
 ghost use Rattle.venue_text.specs.KeptDays as spec;
 ghost use Rattle.venue_text.specs.LiveLines.{Taken};
 
-use crate::asked_days::{asked_firms, dealer_row};
+use crate::asked_days::asked_firms;
 use crate::faults::ProgramFault;
 use crate::live_form::LiveForm;
 use crate::live_lines::LiveDay;
@@ -50,9 +52,9 @@ impl KeptDay {
     /// first fault: one of the configuration, or [`ProgramFault::Firm`]. Memory may be refused at
     /// any point.
     pub fn open(alloc: Global, wanted: Wanted<'_>, text: &[u8]) -> Result<Self, ProgramFault>
-        ensures ok { IfOk result (spec.OpensKept (spec.meant wanted) text.now) }
+        ensures ok { IfOk result (spec.OpensKept (spec.meant wanted.entry) text.now) }
         ensures err { IfErr result (λ fault. fault ≢ ProgramFault.Memory
-            → spec.asked_venue (spec.meant wanted) text.now ≡ Err fault) }
+            → spec.asked_venue (spec.meant wanted.entry) text.now ≡ Err fault) }
         ensures unwritten { IfErr result (λ fault. fault ≢ ProgramFault.Write) }
     {
         let form = LiveForm {
@@ -87,16 +89,26 @@ impl KeptDay {
             → text.items ≡ spec.kept_text wanted config taken.steps) }
     {
         match self.asked {
-            Asked::Messages(only, frames) => messages_of(alloc, self.day, only, frames),
-            Asked::Due(dealer) => due_text_of(alloc, &self.day, dealer),
-            Asked::Blotter(firm) => blotter_of(alloc, self.day, firm),
+            Asked::Messages(only, frames) => {
+                let text = messages_of(alloc, self.day, only, frames)?;
+                Ok(text)
+            }
+            Asked::Due(dealer) => {
+                let text = due_text_of(alloc, &self.day, dealer)?;
+                Ok(text)
+            }
+            Asked::Blotter(firm) => {
+                let text = blotter_of(alloc, self.day, firm)?;
+                Ok(text)
+            }
         }
     }
 }
 
 /// What is asked for in a venue, by the numbers of its firms; or [`ProgramFault::Firm`].
 fn asked_of(config: &VenueConfig, wanted: Wanted<'_>) -> Result<Asked, ProgramFault>
-    ensures { result ≡ spec.asked_in (spec.meant wanted) (values_of config.now) }
+    ensures is { result ≡ spec.asked_in (spec.meant wanted.entry) (values_of config.now) }
+    ensures unwritten { IfErr result (λ fault. fault ≢ ProgramFault.Write) }
 {
     match wanted {
         Wanted::Messages(name, frames) => {
@@ -120,25 +132,34 @@ fn messages_of(
     day: LiveDay,
     only: Option<u16>,
     frames: bool,
-) -> Result<Vec<u8>, Memory> {
+) -> Result<Vec<u8>, Memory>
+    ensures { IfOk result (λ text. (steps : List Step) → IsAt day.config steps day.venue
+        → text.items ≡ spec.text_of_asked day.config steps (Asked.Messages only frames)) }
+{
     let LiveDay { config, venue, .. } = day;
     let world = venue.into_world();
     let text = days_text(alloc, frames, &config, &world, only)?;
     Ok(text)
 }
 
-/// What was due to a dealer, as due text.
+/// What was due to a dealer, as due text: nothing where no dealer has this number.
 fn due_text_of(alloc: Global, day: &LiveDay, dealer: u16) -> Result<Vec<u8>, Memory>
-    requires { IsSome (dealer_numbered day.now.config dealer) }
+    ensures { IfOk result (λ text. (steps : List Step) → IsAt day.now.config steps day.now.venue
+        → text.items ≡ spec.text_of_asked day.now.config steps (Asked.Due dealer)) }
 {
+    let Some(row) = day.config.dealer(dealer) else {
+        return Ok(Vec::new(alloc));
+    };
     let dues = day.venue.due(alloc, dealer)?;
-    let row = dealer_row(&day.config, dealer);
     let text = written_text(alloc, day.config.date(), row, dues.as_slice())?;
     Ok(text)
 }
 
 /// The blotter of a firm.
-fn blotter_of(alloc: Global, day: LiveDay, firm: u16) -> Result<Vec<u8>, Memory> {
+fn blotter_of(alloc: Global, day: LiveDay, firm: u16) -> Result<Vec<u8>, Memory>
+    ensures { IfOk result (λ text. (steps : List Step) → IsAt day.config steps day.venue
+        → text.items ≡ spec.text_of_asked day.config steps (Asked.Blotter firm)) }
+{
     let world = day.venue.into_world();
     let text = lines_text(alloc, &world, firm)?;
     Ok(text.into_bytes())

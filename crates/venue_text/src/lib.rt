@@ -32,6 +32,9 @@
 //!   configuration that one spells, [`asked_firm`] and [`asked_dealer`] whom an argument names.
 //! - [`LiveDay`] answers a day line by line: each answer is exactly the messages that the line's steps
 //!   bring, and behind them its mark where the [`LiveForm`] has marks.
+//! - [`KeptDay`] takes the lines of such a day, and at its end gives what is asked for.
+//!   [`a_firm_is_printed_what_live_prints_of_it`]: of a firm that is what was printed of it.
+//! - [`what_was_due_is_read_back`]: a list that is written as due text is read as that list.
 //! - [`messages_text`] and [`due_lines`] are the lines of their definitions, byte by byte.
 //! - [`Said`] and [`read_received`] read what a firm sends as lines of steps and of due text
 //!   share it, [`SpokenLines`], [`Parts`], [`read_time`] and [`read_side`] what is in a line.
@@ -65,6 +68,7 @@ mod printed_comparison;
 mod printed_due;
 mod printed_record;
 mod printed_replay;
+mod read_back;
 mod received;
 mod said;
 mod same_dues;
@@ -83,7 +87,10 @@ pub use kept_comparison::compared_text;
 pub use kept_days::{KeptDay, Wanted};
 pub use lines::{MOST_INPUT, Parts, SpokenLines, has_divider, one_past};
 pub use live_form::LiveForm;
-pub use live_laws::{lines_bring_the_same_however_they_come, without_marks_a_day_is_its_messages};
+pub use live_laws::{
+    a_firm_is_printed_what_live_prints_of_it, lines_bring_the_same_however_they_come,
+    without_marks_a_day_is_its_messages,
+};
 pub use live_lines::{LineAnswer, LineTold, LiveDay};
 pub use message_lines::messages_text;
 pub use parts::{cut_part, read_side, read_time, same_text};
@@ -93,6 +100,7 @@ pub use printed_comparison::compare_text;
 pub use printed_due::due_command_text;
 pub use printed_record::{record_text, woven_line};
 pub use printed_replay::replay_text;
+pub use read_back::what_was_due_is_read_back;
 pub use received::read_received;
 pub use said::Said;
 pub use step_lines::MOST_TURNS;
