@@ -9,9 +9,8 @@ pub mod DueCuts
 pub mod DueLines
 pub mod DueText
 pub mod Faults
-pub mod Lines
-pub mod KeptComparison
 pub mod FirmLines
+pub mod KeptComparison
 pub mod KeptDays
 pub mod Lines
 pub mod LiveAnswers
