@@ -42,7 +42,7 @@ use Rattle.venue_commands.specs.LiveRuns.{EndsWith, EndsDay, EndsInAnswers, Ends
 use Rattle.venue_commands.specs.LiveRuns.{AnswersNothing, HasCompared, HasNoDay, IsConfigurationIn, TakesBoth, TakesOne, are_four, are_whole, behind_one}
 use Rattle.venue_commands.specs.LiveRuns.{ended_lines, fault_if, first_taken, name_fault, second_configuration, second_taken}
 use Rattle.venue_commands.specs.LiveStages.{AreTwo, AwaitsDay, AwaitsSecond, BothGo, DayGoes, FirstGoes, IsBad, IsCut, KeptGoes, StageIs, StandsAt, Start}
-use Rattle.venue_commands.specs.LiveStages.{TurnFails, Turns, is_turn, taken_at}
+use Rattle.venue_commands.specs.LiveStages.{KeepsAnywhere, KeepsStep, TurnFails, Turns, is_turn, taken_at}
 use Rattle.venue_commands.specs.LiveStages.{OfConfig, OfFirm, OfLength, OfMemory, OpensNone, OpensStage, err_new, err_old, out_new, out_old}
 use Rattle.venue_commands.specs.LiveStages.{AnswersAll, CloseFails, Closes, DayFails, DayTakes, EndFails, Ends, FailsIn, FeedFails, Feeds}
 use Rattle.venue_commands.specs.LiveStages.{IsNext, KeptTakes, LineFails, LineTakes, StageFails, StageTakes, StandsFirst}
@@ -230,11 +230,6 @@ day_out_of_memory form lines line day out told old new more fault is goes kept =
     })
 
 -- A line of steps that is taken, of a day of which something is printed at its end.
-
--- what a line brings, wherever the day stood
-abbrev pub KeepsAnywhere : ℕ → List ℕ → KeptDay → KeptDay → Option ProgramFault → Type 0
-KeepsAnywhere number line before after fault = (config : Configuration) (wanted : Wanted) (taken : Taken)
-    → kept_days.Keeps wanted config taken before → KeepsMore wanted config taken number line after fault
 
 module _ (number : ℕ) (line : List ℕ) (fault : Option ProgramFault) (before after : KeptDay)
     (keeps : KeepsAnywhere number line before after fault) where
@@ -792,24 +787,22 @@ module _ (form : LineForm) (number : ℕ) (line : List ℕ) (before : Stage) whe
   stage_fails d fault out err was fails =
       subst (λ (s : Stage). StageFails form number line s fault out err) (sym was) (day_fails form number line d fault out err fails)
 
-  pub stage_keeps : (after : Stage) (d d' : KeptDay) (fault : Option ProgramFault) (out err err' : Option (List ℕ)) → before ≡ stage.Kept d
-      → after ≡ stage.Kept d' → KeepsAnywhere number line d d' fault
-      → GainsFaults (option_to_list fault) (record { before = err; after = err' })
+  pub stage_keeps : (after : Stage) (d d' : KeptDay) (out err err' : Option (List ℕ)) → before ≡ stage.Kept d
+      → after ≡ stage.Kept d' → KeepsStep number line d d' (record { before = err; after = err' })
       → StageTakes form number line before after (still out) (record { before = err; after = err' })
-  stage_keeps after d d' fault out err err' was is keeps tells =
+  stage_keeps after d d' out err err' was is step =
       let took = kept_goes form number line d d' (still out) (record { before = err; after = err' })
-      (kept_taken number line fault d d' keeps out err err' tells) in
+      (kept_taken number line step.fault d d' step.keeps out err err' step.told) in
       subst (λ (s : Stage). StageTakes form number line s after (still out) (record { before = err; after = err' })) (sym was)
       (subst (λ (s : Stage). StageTakes form number line (stage.Kept d) s (still out) (record { before = err; after = err' })) (sym is) took)
 
-  pub stage_of_first : (after : Stage) (d d' : KeptDay) (fault : Option ProgramFault) (out err err' : Option (List ℕ)) → before ≡ stage.First d
-      → is_turn before line ≡ false → after ≡ stage.First d' → KeepsAnywhere number line d d' fault
-      → GainsFaults (option_to_list fault) (record { before = err; after = err' })
+  pub stage_of_first : (after : Stage) (d d' : KeptDay) (out err err' : Option (List ℕ)) → before ≡ stage.First d
+      → is_turn before line ≡ false → after ≡ stage.First d' → KeepsStep number line d d' (record { before = err; after = err' })
       → StageTakes form number line before after (still out) (record { before = err; after = err' })
-  stage_of_first after d d' fault out err err' was other is keeps tells =
+  stage_of_first after d d' out err err' was other is step =
       let stays = subst (λ (s : Stage). is_turn s line ≡ false) was other in
       let took = first_goes form number line d d' (still out) (record { before = err; after = err' }) stays
-      (kept_taken number line fault d d' keeps out err err' tells) in
+      (kept_taken number line step.fault d d' step.keeps out err err' step.told) in
       subst (λ (s : Stage). StageTakes form number line s after (still out) (record { before = err; after = err' })) (sym was)
       (subst (λ (s : Stage). StageTakes form number line (stage.First d) s (still out) (record { before = err; after = err' })) (sym is) took)
 
@@ -822,14 +815,13 @@ module _ (form : LineForm) (number : ℕ) (line : List ℕ) (before : Stage) whe
       (subst (λ (s : Stage). StageTakes form number line (stage.Between d t) s (still o) (still e)) (sym is)
       (between_goes form number line d t u o e stays text_is))
 
-  pub stage_of_both : (after : Stage) (one d d' : KeptDay) (fault : Option ProgramFault) (out err err' : Option (List ℕ)) → before ≡ stage.Both one d
-      → after ≡ stage.Both one d' → KeepsAnywhere number line d d' fault
-      → GainsFaults (option_to_list fault) (record { before = err; after = err' })
+  pub stage_of_both : (after : Stage) (one d d' : KeptDay) (out err err' : Option (List ℕ)) → before ≡ stage.Both one d
+      → after ≡ stage.Both one d' → KeepsStep number line d d' (record { before = err; after = err' })
       → StageTakes form number line before after (still out) (record { before = err; after = err' })
-  stage_of_both after one d d' fault out err err' was is keeps tells =
+  stage_of_both after one d d' out err err' was is step =
       subst (λ (s : Stage). StageTakes form number line s after (still out) (record { before = err; after = err' })) (sym was)
       (subst (λ (s : Stage). StageTakes form number line (stage.Both one d) s (still out) (record { before = err; after = err' })) (sym is)
-      (both_go form number line fault one d d' out err err' keeps tells))
+      (both_go form number line step.fault one d d' out err err' step.keeps step.told))
 
   pub stage_refused : (fault : ProgramFault) (o e : Option (List ℕ)) → fault ≡ Memory → StageFails form number line before fault (still o) (still e)
   stage_refused fault o e is = refused_behind form number line before fault o e is

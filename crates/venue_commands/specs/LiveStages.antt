@@ -2,6 +2,7 @@
 use Rattle.std.specs.Prelude.{◌≡◌, ◌<◌, ◌⊎◌, ℕ, ◌+◌, ◌==◌, Bool, true, false, List, [], ◌∷◌, ◌++◌}
 use Rattle.std.specs.Prelude.{length, Option, Some, None, Ok, Err}
 use Rattle.std.specs.List.{count_by, list_any}
+use Rattle.std.specs.Option.{option_to_list}
 use Rattle.venue_config.specs.Rows.{ConfigValues, Configuration}
 use Rattle.venue_text.specs.KeptDays.{Keeps, KeepsMore, OpensKept, Wanted, dues}
 use Rattle.venue_text.specs.Lines.{lines_of}
@@ -156,6 +157,19 @@ DayFails number line before fault out err = (form : LiveForm) (lines : List (Lis
     → DayGoes form lines before (out_old start out) (err_old start err)
     → (more : List (List ℕ)) → EndsDay (answered form) fault ((lines ++ line ∷ []) ++ more)
     (out_new start out) (err_new start err)
+
+-- what a line brings to a day that is kept, wherever it stood
+abbrev pub KeepsAnywhere : ℕ → List ℕ → KeptDay → KeptDay → Option ProgramFault → Type 0
+KeepsAnywhere number line before after fault = (config : Configuration) (wanted : Wanted)
+    (taken : Taken) → Keeps wanted config taken before
+    → KeepsMore wanted config taken number line after fault
+
+-- it is taken, and its fault told, if it has one
+pub record KeepsStep (number : ℕ) (line : List ℕ) (before after : KeptDay) (err : Written)
+    : Type 0 where
+  pub fault : Option ProgramFault
+  pub keeps : KeepsAnywhere number line before after fault
+  pub told : GainsFaults (option_to_list fault) err
 
 -- The same where the messages are kept: nothing is printed.
 abbrev pub KeptTakes : ℕ → List ℕ → KeptDay → KeptDay → Written → Written → Type 0

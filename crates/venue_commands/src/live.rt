@@ -290,13 +290,11 @@ fn answer_at<W: Write, E: Write>(
             Ok(())
         }
         Stage::Kept(day) => {
-            let fault = day.take(alloc, number, line)?;
-            tell_fault(err, &fault);
+            keep_step(alloc, number, day, line, err)?;
             Ok(())
         }
         Stage::First(day) => {
-            let fault = day.take(alloc, number, line)?;
-            tell_fault(err, &fault);
+            keep_step(alloc, number, day, line, err)?;
             Ok(())
         }
         Stage::Between(_, text) => {
@@ -304,8 +302,7 @@ fn answer_at<W: Write, E: Write>(
             Ok(())
         }
         Stage::Both(_, day) => {
-            let fault = day.take(alloc, number, line)?;
-            tell_fault(err, &fault);
+            keep_step(alloc, number, day, line, err)?;
             Ok(())
         }
     }
@@ -428,6 +425,24 @@ fn answer_step<W: Write, E: Write>(
     let answer = day.answer(alloc, number, line)?;
     tell_fault(err, &answer.fault);
     print_answer(out, answer.text.as_slice())?;
+    Ok(())
+}
+
+/// A line of steps of a day that is kept is taken, and its fault told, if it has one.
+fn keep_step<E: Write>(
+    alloc: Global,
+    number: usize,
+    day: &mut KeptDay,
+    line: &[u8],
+    err: &mut E,
+) -> Result<(), ProgramFault>
+    ensures ok { OnOk result (stages.KeepsStep number line.now day.old day.new
+        (record { before = E.contents err.old; after = E.contents err.new })) }
+    ensures err { IfErr result (λ fault. (fault ≡ ProgramFault.Memory)
+        × (E.contents err.new ≡ E.contents err.old)) }
+{
+    let fault = day.take(alloc, number, line)?;
+    tell_fault(err, &fault);
     Ok(())
 }
 
