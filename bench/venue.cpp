@@ -1,6 +1,11 @@
 // A venue's day of auctions: an investor asks two dealers, each quotes and quotes again in the place of its first quote, and
-// the investor hits the second dealer's last quote. Printed as a configuration and step lines for `replay`, or the frames of
-// the same messages parsed by QuickFIX, with its checks of length and sum; and of what the venue sent for them, if it is given.
+// the investor hits the second dealer's last quote.
+//
+//     venue day AUCTIONS                   prints it, as a configuration and step lines for `replay`
+//     venue parse AUCTIONS ROUNDS [SENT]   QuickFIX parses the frames of its messages, with its checks of length and sum, and
+//                                          those that the venue sent for them, where a file of them is given
+//     venue serve AUCTIONS ROUNDS SENT     QuickFIX parses the frames that come, and builds and writes those that were sent:
+//                                          what no venue on QuickFIX goes below
 #include "frames.h"
 
 #include <quickfix/Message.h>
@@ -9,6 +14,7 @@
 #include <cstdlib>
 #include <fstream>
 #include <string>
+#include <utility>
 #include <vector>
 
 // A message of a firm: its type, its sender and trader, its number, and the fields behind the header.
@@ -64,34 +70,95 @@ static std::string frame(const Sent& one) {
 }
 
 // The frames that `replay --frames` printed: each behind the name of its firm and a space, with bars for SOH.
-static void add_printed(const char* path, std::vector<std::string>& frames) {
+static std::vector<std::string> printed(const char* path) {
+    std::vector<std::string> frames;
     std::ifstream lines(path);
     for (std::string line; std::getline(lines, line);) {
         std::string bytes = line.substr(line.find(' ') + 1);
         std::replace(bytes.begin(), bytes.end(), '|', '\x01');
         frames.push_back(bytes);
     }
+    return frames;
 }
 
 static volatile bool sink;
 
+static void parse(const std::vector<std::string>& frames) {
+    for (const std::string& bytes : frames) {
+        FIX::Message message(bytes, true);
+        sink = message.getHeader().isSetField(49);
+    }
+}
+
+// The fields of a message to be sent, those of its header first; length and sum are the library's own.
+struct Fields {
+    std::vector<std::pair<int, std::string>> header, body;
+};
+
+static bool is_of_header(int tag) {
+    for (int one : {35, 49, 56, 34, 52, 50, 57})
+        if (tag == one) return true;
+    return false;
+}
+
+static Fields fields_of(const std::string& frame) {
+    Fields fields;
+    for (std::size_t at = 0; at < frame.size();) {
+        const std::size_t equals = frame.find('=', at), end = frame.find('\x01', equals);
+        const int tag = std::atoi(frame.c_str() + at);
+        std::string value = frame.substr(equals + 1, end - equals - 1);
+        at = end + 1;
+        if (tag == 8 || tag == 9 || tag == 10) continue;
+        (is_of_header(tag) ? fields.header : fields.body).emplace_back(tag, std::move(value));
+    }
+    return fields;
+}
+
+static std::string written(const Fields& fields) {
+    FIX::Message message;
+    message.getHeader().setField(8, "FIXT.1.1");
+    for (const auto& field : fields.header) message.getHeader().setField(field.first, field.second);
+    // A field of a repeating group stands more than once: it is added, not written over.
+    for (const auto& field : fields.body) message.setField(FIX::FieldBase(field.first, field.second), false);
+    return message.toString();
+}
+
+static void write(const std::vector<Fields>& messages) {
+    for (const Fields& fields : messages) sink = written(fields).empty();
+}
+
+// What the library writes is the frame that was sent, but for the order of the fields of a body, which it sorts by their tags.
+static bool is_written_back(const std::vector<std::string>& frames, const std::vector<Fields>& messages) {
+    for (std::size_t at = 0; at < frames.size(); ++at)
+        if (written(messages[at]).size() != frames[at].size()) return false;
+    return true;
+}
+
+static int serve(int rounds, const std::vector<std::string>& come, const std::vector<std::string>& sent) {
+    std::vector<Fields> messages;
+    for (const std::string& frame : sent) messages.push_back(fields_of(frame));
+    if (!is_written_back(sent, messages)) return 1;
+    for (int round = 1; round < rounds; ++round) {
+        parse(come);
+        write(messages);
+    }
+    return 0;
+}
+
 int main(int count, char** words) {
-    if (count != 3 && count != 4) return 2;
-    // AUCTIONS ROUNDS [FRAMES]: how many there are, how often QuickFIX parses their messages (0 prints the day), and a file of the
-    // frames that the venue sent for them
-    const int auctions = std::atoi(words[1]), rounds = std::atoi(words[2]);
-    if (rounds == 0) {
+    const std::string what = count > 2 ? words[1] : "";
+    const int auctions = count > 2 ? std::atoi(words[2]) : 0, rounds = count > 3 ? std::atoi(words[3]) : 0;
+    if (what == "day" && count == 3) {
         print(auctions);
         return 0;
     }
     std::vector<std::string> frames;
     for (int number = 1; number <= auctions; ++number)
         for (const Sent& one : auction(number, "\x01")) frames.push_back(frame(one));
-    if (count == 4) add_printed(words[3], frames);
-    for (int round = 1; round < rounds; ++round)
-        for (const std::string& bytes : frames) {
-            FIX::Message message(bytes, true);
-            sink = message.getHeader().isSetField(49);
-        }
+    if (what == "serve" && count == 5) return serve(rounds, frames, printed(words[4]));
+    if (what != "parse" || count < 4 || count > 5) return 2;
+    if (count == 5)
+        for (std::string& one : printed(words[4])) frames.push_back(std::move(one));
+    for (int round = 1; round < rounds; ++round) parse(frames);
     return 0;
 }

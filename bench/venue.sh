@@ -1,7 +1,8 @@
 #!/bin/bash
 # Instructions and time a message of `replay` on days of 10 to 1,000 auctions, 22 steps each, from the line that is read to
-# the answers that are printed, and of QuickFIX, which parses the frames of the same messages, or of these and of all that the
-# venue sends for them, and checks their length and sum alone. Needs g++, libquickfix-dev, valgrind and rt.
+# the answers that are printed; of `live` on the same messages; and of QuickFIX, which parses the frames of the same messages,
+# or of these and of all that the venue sends for them, with its checks of length and sum, or parses the former and builds and
+# writes the latter. Needs g++, libquickfix-dev, valgrind and rt.
 #
 #     bench/venue.sh [PROGRAM]
 set -e
@@ -22,29 +23,37 @@ best() {  # the best time of nine runs, in microseconds
         echo $((($(date +%s%N) - from) / 1000))
     done | sort -n | head -1
 }
-"$make/venue" 0 0 > "$make/none"
+"$make/venue" day 0 > "$make/none"
 none=$(instructions "$program" replay < "$make/none")
+none_live=$(instructions "$program" live < "$make/none")
+each_round() {  # the instructions of one round of what QuickFIX does
+    what=$1 auctions=$2
+    shift 2
+    once=$(instructions "$make/venue" "$what" "$auctions" 1 "$@")
+    twice=$(instructions "$make/venue" "$what" "$auctions" 2 "$@")
+    echo $((twice - once))
+}
 for auctions in 10 100 1000; do
     messages=$((6 * auctions))
-    "$make/venue" $auctions 0 > "$make/text"
+    "$make/venue" day $auctions > "$make/text"
+    grep -v '^turn ' "$make/text" > "$make/lines"
     day=$(($(instructions "$program" replay < "$make/text") - none))
-    "$program" replay --frames < "$make/text" > "$make/frames"
-    sent=$(wc -l < "$make/frames")
-    parsed() {  # the instructions in which QuickFIX parses the frames of one round
-        once=$(instructions "$make/venue" $auctions 1 "$@")
-        twice=$(instructions "$make/venue" $auctions 2 "$@")
-        echo $((twice - once))
-    }
-    quickfix=$(parsed)
-    echo "$auctions auctions, $messages messages: replay $((day / messages)) each, QuickFIX $((quickfix / messages))," \
+    live=$(($(instructions "$program" live < "$make/lines") - none_live))
+    "$program" replay --frames < "$make/text" > "$make/sent"
+    sent=$(wc -l < "$make/sent")
+    quickfix=$(each_round parse $auctions)
+    echo "$auctions auctions, $messages messages: replay $((day / messages)) each, QuickFIX's parse $((quickfix / messages))," \
         "$((day * 100 / quickfix)) of 100"
-    quickfix=$(parsed "$make/frames")
+    quickfix=$(each_round parse $auctions "$make/sent")
     echo "    and the $sent that are sent for them: replay $((day / (messages + sent))) each," \
-        "QuickFIX $((quickfix / (messages + sent))), $((day * 100 / quickfix)) of 100"
+        "QuickFIX's parse $((quickfix / (messages + sent))), $((day * 100 / quickfix)) of 100"
+    floor=$(each_round serve $auctions "$make/sent")
+    echo "    QuickFIX's parse of these and its writing of those: $((floor / 1000)) thousand, replay $((day / 1000)) thousand," \
+        "$((day * 100 / floor)) of 100; live $((live / messages)) a line, $((live * 100 / day)) of 100 of replay"
 done
-"$make/venue" 1000 0 > "$make/text"
+"$make/venue" day 1000 > "$make/text"
 replayed() { "$program" replay < "$make/text"; }
 took=$(best replayed)
-one=$(best "$make/venue" 1000 2)
-eleven=$(best "$make/venue" 1000 12)
-echo "6000 messages: replay $((6000000000 / took)) a second, QuickFIX $((60000000000 / (eleven - one))) a second"
+one=$(best "$make/venue" parse 1000 2)
+eleven=$(best "$make/venue" parse 1000 12)
+echo "6000 messages: replay $((6000000000 / took)) a second, QuickFIX's parse $((60000000000 / (eleven - one))) a second"

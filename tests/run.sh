@@ -65,6 +65,8 @@ beside() {
         failed=$((failed + 1))
         return
     fi
+    form pages 60 python3 's/^\([0-9]*\) passed, 0 failed$/\1/p' \
+        python3 tests/pages.py --venue "$program"
     form engines 120 "g++ libquickfix-dev" '$s/.*/1/p' tests/engines/run.sh "$program"
     form model 45 python3 's/^\([0-9]*\) inputs, .*: no difference$/\1/p' \
         python3 tests/model/compare.py --without-live "$program" 1000 "$seed" "$jobs"

@@ -18,7 +18,7 @@ use Rattle.step_replay.specs.RoomPlaces.{word_within, word_at, word_by, name_at,
 use Rattle.step_replay.specs.declared.floor.DealerPlace.{DealerPlace}
 use Rattle.step_replay.specs.Standing.{Stands, word_is}
 use Rattle.step_replay.specs.declared.floor.Floor.{Floor}
-use Rattle.step_replay.proofs.OwnerLemmas.{same_value}
+use Rattle.step_replay.specs.OwnerLemmas.{same_value}
 use Rattle.step_replay.proofs.FloorLemmas.{Found, dealer_found}
 
 -- the word of a quote that the venue has

@@ -32,9 +32,9 @@ use Rattle.step_replay.specs.RowOfWords.{word_if}
 use Rattle.step_replay.specs.Standing.{WordsStand, Stands, word_is, Does}
 use Rattle.step_replay.specs.declared.floor.DealerPlace.{DealerPlace}
 use Rattle.step_replay.specs.declared.floor.Floor.{Floor}
-use Rattle.step_replay.proofs.OwnerLemmas.{same_value, owner_among, quote_at}
-use Rattle.step_replay.proofs.SeenLemmas.{facts_grown, lifted_grown}
-use Rattle.step_replay.proofs.PlaceLemmas.{dealer_grown, own_trail, other_trail}
+use Rattle.step_replay.specs.OwnerLemmas.{same_value, owner_among, quote_at}
+use Rattle.step_replay.specs.SeenLemmas.{facts_grown, lifted_grown}
+use Rattle.step_replay.specs.PlaceLemmas.{dealer_grown, own_trail, other_trail}
 use Rattle.step_replay.proofs.FloorLemmas.{Found, event_stands, at_dealer_stands, idle_stands}
 use Rattle.step_replay.proofs.FloorLemmas.{unasked_stands}
 use Rattle.step_replay.proofs.LiftingLemmas.{IsDueSo}

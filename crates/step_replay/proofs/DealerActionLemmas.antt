@@ -44,7 +44,7 @@ use Rattle.step_replay.proofs.FloorLemmas.{Found, dealer_found, by_found, idle_s
 use Rattle.step_replay.proofs.FloorLemmas.{unasked_stands, event_stands, leaving}
 use Rattle.step_replay.proofs.AskLemmas.{asks_does, withdraws_by}
 use Rattle.step_replay.proofs.LiftingLemmas.{IsDueSo}
-use Rattle.step_replay.proofs.SeenLemmas.{settled_undue, verdict_undue}
+use Rattle.step_replay.specs.SeenLemmas.{settled_undue, verdict_undue}
 
 -- A desk that stands.
 

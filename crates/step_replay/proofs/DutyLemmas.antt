@@ -11,7 +11,7 @@ use Rattle.investor_desk.specs.InvestorOutput.{market_for}
 use Rattle.step_replay.specs.Standing.{Acts, ActsOnce, Does, Stands}
 use Rattle.step_replay.specs.declared.floor.Floor.{Floor}
 use Rattle.step_replay.specs.declared.steps.Actor.{Actor}
-use Rattle.step_replay.proofs.PlaceLemmas.{not_lent}
+use Rattle.step_replay.specs.PlaceLemmas.{not_lent}
 
 -- what follows where a call succeeded
 pub where_ok : {A E : Type 0} (P Q : A → Type 0) (result : Result A E) → ((x : A) → P x → Q x)

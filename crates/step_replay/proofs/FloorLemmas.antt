@@ -42,13 +42,13 @@ use Rattle.investor_desk.specs.InvestorOutput as investor_output
 use Rattle.step_replay.specs.InvestorTrail as investor_trail
 use Rattle.request_room.specs.RoomFacts.{RoomFact}
 use Rattle.request_room.specs.declared.events.RoomEvent.{RoomEvent}
-use Rattle.step_replay.proofs.OwnerLemmas.{same_value}
-use Rattle.step_replay.proofs.SeenLemmas.{both, desk_push, sent_is, facts_grown, sent_grown}
-use Rattle.step_replay.proofs.SeenLemmas.{rooms_grown, lifted_grown}
+use Rattle.step_replay.specs.OwnerLemmas.{same_value}
+use Rattle.step_replay.specs.SeenLemmas.{both, desk_push, sent_is, facts_grown, sent_grown}
+use Rattle.step_replay.specs.SeenLemmas.{rooms_grown, lifted_grown}
 use Rattle.step_replay.proofs.LiftingLemmas.{IsDueSo, dues_after_event, within_after_event}
-use Rattle.step_replay.proofs.PlaceLemmas.{get_set_same, get_set_other, get_within, get_beyond}
-use Rattle.step_replay.proofs.PlaceLemmas.{dealer_grown, room_grown, investor_grown, own_trail}
-use Rattle.step_replay.proofs.PlaceLemmas.{other_trail, room_at_dealer, investor_at_dealer}
+use Rattle.step_replay.specs.PlaceLemmas.{get_set_same, get_set_other, get_within, get_beyond}
+use Rattle.step_replay.specs.PlaceLemmas.{dealer_grown, room_grown, investor_grown, own_trail}
+use Rattle.step_replay.specs.PlaceLemmas.{other_trail, room_at_dealer, investor_at_dealer}
 
 -- Small facts.
 

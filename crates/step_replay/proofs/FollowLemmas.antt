@@ -18,11 +18,11 @@ use Rattle.step_replay.specs.Following.{ReplayStands, duties_in, index_in}
 use Rattle.step_replay.specs.declared.floor.Floor.{Floor}
 use Rattle.step_replay.specs.declared.replay.Replay.{Replay}
 use Rattle.step_replay.specs.declared.steps.Actor.{Actor}
-use Rattle.step_replay.proofs.StepLemmas.{duty_keeps, message_keeps, sweep_keeps}
-use Rattle.step_replay.proofs.WordLemmas.{IsOneOf, one_is_kept}
+use Rattle.step_replay.specs.StepLemmas.{duty_keeps, message_keeps, sweep_keeps}
+use Rattle.step_replay.specs.WordLemmas.{IsOneOf, one_is_kept}
 use Rattle.std.proofs.lemmas.List.{length-map}
 use Rattle.step_replay.proofs.LiftLemmas.{set_same}
-use Rattle.step_replay.proofs.QueueLemmas.{turned}
+use Rattle.step_replay.specs.QueueLemmas.{turned}
 use Rattle.step_replay.proofs.TurnLemmas.{index_is, queue_pending, turn_queues, step_queues}
 
 -- no duty lifts a quote that is withdrawn, nor withdraws one that is lifted

@@ -41,8 +41,8 @@ use Rattle.step_replay.specs.declared.floor.DealerPlace.{DealerPlace}
 use Rattle.step_replay.specs.declared.floor.InvestorPlace.{InvestorPlace}
 use Rattle.step_replay.specs.declared.floor.Floor.{Floor}
 use Rattle.step_replay.proofs.LiftLemmas.{lift_answer, lift_stands, lifted_floor, refused_stands}
-use Rattle.step_replay.proofs.OwnerLemmas.{owned_by, has_owner, quote_at}
-use Rattle.step_replay.proofs.PlaceLemmas.{room_grown}
+use Rattle.step_replay.specs.OwnerLemmas.{owned_by, has_owner, quote_at}
+use Rattle.step_replay.specs.PlaceLemmas.{room_grown}
 use Rattle.step_replay.proofs.FloorLemmas.{leaving}
 use Rattle.step_replay.proofs.RoomPlaceLemmas.{found_by_code, no_room}
 use Rattle.step_replay.proofs.RoomActionLemmas.{in_room_stands, room_push}

@@ -36,8 +36,8 @@ use Rattle.step_replay.specs.declared.floor.InvestorPlace.{InvestorPlace}
 use Rattle.step_replay.specs.declared.floor.Floor.{Floor}
 use Rattle.step_replay.specs.declared.steps.Actor.{Actor}
 use Rattle.step_replay.specs.declared.steps.Actor.TheVariants as actor
-use Rattle.step_replay.proofs.OwnerLemmas.{same_value}
-use Rattle.step_replay.proofs.PlaceLemmas.{lent, not_lent}
+use Rattle.step_replay.specs.OwnerLemmas.{same_value}
+use Rattle.step_replay.specs.PlaceLemmas.{lent, not_lent}
 use Rattle.step_replay.proofs.FloorLemmas.{dealer_found}
 use Rattle.step_replay.proofs.FloorLemmas.{by_found, by_number}
 use Rattle.step_replay.proofs.InvestorPlaceLemmas.{InvestorFound, investor_found, no_investor}

@@ -20,7 +20,7 @@ use Rattle.step_replay.specs.VenueFacts.{of_investor, of_room}
 use Rattle.step_replay.specs.declared.floor.InvestorPlace.{InvestorPlace}
 use Rattle.step_replay.proofs.InvestorPlaceLemmas.{numbered_at}
 use Rattle.step_replay.proofs.ListEnds.{get_before, get_last}
-use Rattle.step_replay.proofs.OwnerLemmas.{same_value}
+use Rattle.step_replay.specs.OwnerLemmas.{same_value}
 
 vacant : (many : ℕ) (at : ℕ) → at < many
     → slice_get (replicate {A = List RoomEvent} many []) at ≡ Some []

@@ -27,11 +27,11 @@ use Rattle.step_replay.specs.Standing.{DealerStandsIn, InvestorStands, InvestorS
 use Rattle.step_replay.specs.Standing.{Stands, word_is}
 use Rattle.step_replay.specs.declared.floor.InvestorPlace.{InvestorPlace}
 use Rattle.step_replay.specs.declared.floor.Floor.{Floor}
-use Rattle.step_replay.proofs.OwnerLemmas.{same_value}
-use Rattle.step_replay.proofs.PlaceLemmas.{get_set_same, get_set_other, get_within, get_beyond}
-use Rattle.step_replay.proofs.PlaceLemmas.{dealer_grown, room_grown, investor_grown}
-use Rattle.step_replay.proofs.PlaceLemmas.{own_investor, other_investor, trail_at_investor}
-use Rattle.step_replay.proofs.PlaceLemmas.{room_at_investor}
+use Rattle.step_replay.specs.OwnerLemmas.{same_value}
+use Rattle.step_replay.specs.PlaceLemmas.{get_set_same, get_set_other, get_within, get_beyond}
+use Rattle.step_replay.specs.PlaceLemmas.{dealer_grown, room_grown, investor_grown}
+use Rattle.step_replay.specs.PlaceLemmas.{own_investor, other_investor, trail_at_investor}
+use Rattle.step_replay.specs.PlaceLemmas.{room_at_investor}
 use Rattle.step_replay.proofs.FloorLemmas.{room_kept, investor_kept, words_kept}
 
 -- What an event adds to an investor's trail.

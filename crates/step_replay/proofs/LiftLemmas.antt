@@ -32,9 +32,9 @@ use Rattle.step_replay.specs.declared.floor.Floor.{Floor}
 use Rattle.step_replay.proofs.AskLemmas.{words_apart}
 use Rattle.step_replay.proofs.FloorLemmas.{at_dealer_stands}
 use Rattle.step_replay.proofs.LiftingLemmas.{dues_after_lifting, within_after_lifting}
-use Rattle.step_replay.proofs.OwnerLemmas.{same_value}
-use Rattle.step_replay.proofs.PlaceLemmas.{dealer_grown, own_trail, other_trail}
-use Rattle.step_replay.proofs.SeenLemmas.{both}
+use Rattle.step_replay.specs.OwnerLemmas.{same_value}
+use Rattle.step_replay.specs.PlaceLemmas.{dealer_grown, own_trail, other_trail}
+use Rattle.step_replay.specs.SeenLemmas.{both}
 
 -- Lists.
 

@@ -46,7 +46,7 @@ use Rattle.step_replay.specs.declared.steps.Actor.TheVariants as actor
 use Rattle.step_replay.specs.declared.steps.Step.{Step}
 use Rattle.step_replay.specs.declared.steps.Step.TheVariants as step
 use Rattle.step_replay.proofs.InvestorPlaceLemmas.{behind_dealers, numbered_at}
-use Rattle.step_replay.proofs.PlaceLemmas.{get_within, nothing_of, own_trail, own_investor}
+use Rattle.step_replay.specs.PlaceLemmas.{get_within, nothing_of, own_trail, own_investor}
 use Rattle.step_replay.proofs.RoomEffects.{AreOf, duty_there, message_there, nothing_there}
 use Rattle.step_replay.proofs.RoomEffects.{sweep_there}
 

@@ -44,7 +44,7 @@ use Rattle.step_replay.specs.declared.steps.Step.TheVariants as step
 use Rattle.step_replay.specs.declared.steps.TheConstants.{MOST_TURNS_BEHIND}
 use Rattle.step_replay.proofs.FollowLemmas.{has_queue}
 use Rattle.step_replay.proofs.LiveEffects.{SendAt, messages_both, own, quiet, step_adds, to}
-use Rattle.step_replay.proofs.PlaceLemmas.{get_beyond}
+use Rattle.step_replay.specs.PlaceLemmas.{get_beyond}
 use Rattle.step_replay.proofs.StartLemmas.{known_actor}
 use Rattle.step_replay.proofs.TurnLemmas.{index_is, queue_pending}
 use Rattle.step_replay.proofs.WorldLemmas.{days_stand, get_first, get_second}

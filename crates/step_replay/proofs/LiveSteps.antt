@@ -23,7 +23,7 @@ use Rattle.step_replay.specs.declared.steps.TheConstants.{MOST_TURNS_BEHIND}
 use Rattle.step_replay.proofs.LiveEffects.{step_adds}
 use Rattle.step_replay.proofs.LiveLemmas.{live_begins, live_more, next_is, no_turn, turns_more}
 use Rattle.step_replay.proofs.OpenRoomStands.{rooms_begin, rooms_kept, rooms_noted}
-use Rattle.step_replay.proofs.QueueLemmas.{other_pending, other_turned}
+use Rattle.step_replay.specs.QueueLemmas.{other_pending, other_turned}
 use Rattle.step_replay.proofs.RoomEffects.{AreOf}
 use Rattle.step_replay.proofs.StartLemmas.{said, turned}
 

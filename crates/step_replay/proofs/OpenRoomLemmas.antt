@@ -17,7 +17,7 @@ use Rattle.dealer_desk.specs.DealerOutput.{is_same_room}
 use Rattle.step_replay.specs.OpenRooms.{AreDue, Entry, IsFirst, any_due, entry_cmp}
 use Rattle.step_replay.specs.OpenRooms.{holds, is_due_in, room_cmp}
 use Rattle.step_replay.specs.declared.open_rooms.OpenRooms.{OpenRooms}
-use Rattle.step_replay.proofs.GrowthLemmas.{same_room}
+use Rattle.step_replay.specs.GrowthLemmas.{same_room}
 
 -- Orders.
 

@@ -18,9 +18,9 @@ use Rattle.step_replay.specs.VenueRooms.{rooms_of}
 use Rattle.step_replay.specs.declared.floor.Floor.{Floor}
 use Rattle.step_replay.specs.declared.floor.InvestorPlace.{InvestorPlace}
 use Rattle.step_replay.specs.declared.open_rooms.OpenRooms.{OpenRooms}
-use Rattle.step_replay.proofs.GrowthLemmas.{same_room}
+use Rattle.step_replay.specs.GrowthLemmas.{same_room}
 use Rattle.step_replay.proofs.OpenRoomLemmas.{due_found, found_due, own_room}
-use Rattle.step_replay.proofs.PlaceLemmas.{room_grown}
+use Rattle.step_replay.specs.PlaceLemmas.{room_grown}
 use Rattle.step_replay.proofs.RoomEffects.{AreOf, is_there}
 use Rattle.step_replay.proofs.RoomOrder.{is_among, rooms_are}
 use Rattle.step_replay.proofs.RoomPlaceLemmas.{FoundRoom}

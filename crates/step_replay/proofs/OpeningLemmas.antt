@@ -29,8 +29,8 @@ use Rattle.step_replay.specs.declared.floor.Lifting.{Lifting}
 use Rattle.step_replay.proofs.InvestorOpeningLemmas.{investor_begins_in}
 use Rattle.step_replay.proofs.InvestorPlaceLemmas.{behind_dealers, numbered_at}
 use Rattle.step_replay.proofs.ListEnds.{get_before, get_last}
-use Rattle.step_replay.proofs.OwnerLemmas.{same_value}
-use Rattle.step_replay.proofs.PlaceLemmas.{get_within}
+use Rattle.step_replay.specs.OwnerLemmas.{same_value}
+use Rattle.step_replay.specs.PlaceLemmas.{get_within}
 
 -- The owners of words.
 

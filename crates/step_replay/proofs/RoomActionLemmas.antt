@@ -38,9 +38,9 @@ use Rattle.step_replay.specs.declared.floor.InvestorPlace.{InvestorPlace}
 use Rattle.step_replay.specs.declared.floor.Floor.{Floor}
 use Rattle.step_replay.specs.InvestorTrail as investor_trail
 use Rattle.investor_desk.specs.InvestorOutput as investor_output
-use Rattle.step_replay.proofs.OwnerLemmas.{same_value}
+use Rattle.step_replay.specs.OwnerLemmas.{same_value}
 use Rattle.step_replay.proofs.FloorLemmas.{room_kept, investor_kept, words_kept}
-use Rattle.step_replay.proofs.PlaceLemmas.{get_set_same, get_set_other, get_within}
+use Rattle.step_replay.specs.PlaceLemmas.{get_set_same, get_set_other, get_within}
 use Rattle.step_replay.proofs.RoomPlaceLemmas.{now, dealer_now, investor_now, own_now, other_now}
 use Rattle.step_replay.proofs.RoomPlaceLemmas.{other_number, other_owner, investor_from}
 use Rattle.step_replay.proofs.RoomPlaceLemmas.{FoundRoom, no_room}

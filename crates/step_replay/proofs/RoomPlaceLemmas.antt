@@ -21,10 +21,10 @@ use Rattle.step_replay.specs.Standing.{InvestorStands, InvestorStandsIn}
 use Rattle.step_replay.specs.Standing.{RoomStandsIn, Stands}
 use Rattle.step_replay.specs.declared.floor.InvestorPlace.{InvestorPlace}
 use Rattle.step_replay.specs.declared.floor.Floor.{Floor}
-use Rattle.step_replay.proofs.OwnerLemmas.{same_value}
-use Rattle.step_replay.proofs.PlaceLemmas.{get_within, get_beyond, lent}
-use Rattle.step_replay.proofs.PlaceLemmas.{dealer_grown, room_grown, investor_grown, own_room}
-use Rattle.step_replay.proofs.PlaceLemmas.{other_room, trail_in_room, investor_in_room}
+use Rattle.step_replay.specs.OwnerLemmas.{same_value}
+use Rattle.step_replay.specs.PlaceLemmas.{get_within, get_beyond, lent}
+use Rattle.step_replay.specs.PlaceLemmas.{dealer_grown, room_grown, investor_grown, own_room}
+use Rattle.step_replay.specs.PlaceLemmas.{other_room, trail_in_room, investor_in_room}
 
 -- The facts after some more in one room.
 

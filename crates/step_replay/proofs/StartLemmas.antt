@@ -27,7 +27,7 @@ use Rattle.step_replay.specs.declared.steps.Actor.TheVariants as actor
 use Rattle.step_replay.specs.declared.steps.Step.{Step}
 use Rattle.step_replay.specs.declared.steps.Step.TheVariants as step
 use Rattle.step_replay.proofs.OpeningLemmas.{all_begin}
-use Rattle.step_replay.proofs.OwnerLemmas.{same_value}
+use Rattle.step_replay.specs.OwnerLemmas.{same_value}
 
 -- Before the first step.
 

@@ -30,10 +30,10 @@ use Rattle.step_replay.specs.declared.steps.Actor.{Actor}
 use Rattle.step_replay.specs.declared.steps.Actor.TheVariants as actor
 use Rattle.step_replay.specs.declared.steps.Step.TheVariants as step
 use Rattle.step_replay.specs.declared.steps.TheConstants.{MOST_TURNS_BEHIND}
-use Rattle.step_replay.proofs.GrowthLemmas.{same_room}
+use Rattle.step_replay.specs.GrowthLemmas.{same_room}
 use Rattle.step_replay.proofs.LiveLemmas.{idle_turns, no_turn}
-use Rattle.step_replay.proofs.PlaceLemmas.{room_grown}
-use Rattle.step_replay.proofs.QueueLemmas.{own_pending, own_turned}
+use Rattle.step_replay.specs.PlaceLemmas.{room_grown}
+use Rattle.step_replay.specs.QueueLemmas.{own_pending, own_turned}
 use Rattle.step_replay.proofs.RoomEffects.{AreOf, duty_there, sweep_there}
 use Rattle.step_replay.proofs.StartLemmas.{swept, turned}
 

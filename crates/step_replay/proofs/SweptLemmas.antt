@@ -31,7 +31,7 @@ use Rattle.step_replay.specs.declared.open_rooms.OpenRooms.{OpenRooms}
 use Rattle.step_replay.specs.declared.steps.Actor.TheVariants as actor
 use Rattle.step_replay.specs.declared.steps.Step.{Step}
 use Rattle.step_replay.specs.declared.steps.Step.TheVariants as step
-use Rattle.step_replay.proofs.GrowthLemmas.{same_room}
+use Rattle.step_replay.specs.GrowthLemmas.{same_room}
 use Rattle.step_replay.proofs.LiveLemmas.{live_more}
 use Rattle.step_replay.proofs.OpenRoomLemmas.{own_room, room_total, tied_rooms}
 use Rattle.step_replay.proofs.OpenRoomStands.{due_is, has_come}

@@ -15,11 +15,11 @@ use Rattle.step_replay.specs.StepFaults.{firms_of}
 use Rattle.step_replay.specs.Following.{index_in}
 use Rattle.step_replay.specs.declared.steps.Actor.{Actor}
 use Rattle.step_replay.specs.declared.steps.Actor.TheVariants as actor
-use Rattle.step_replay.proofs.OwnerLemmas.{same_value}
-use Rattle.step_replay.proofs.PlaceLemmas.{get_set_same, get_set_other, get_within}
-use Rattle.step_replay.proofs.QueueLemmas.{turned, own_turned, other_turned}
-use Rattle.step_replay.proofs.QueueLemmas.{own_within, other_within, own_pending, other_pending}
-use Rattle.step_replay.proofs.QueueLemmas.{grown_within}
+use Rattle.step_replay.specs.OwnerLemmas.{same_value}
+use Rattle.step_replay.specs.PlaceLemmas.{get_set_same, get_set_other, get_within}
+use Rattle.step_replay.specs.QueueLemmas.{turned, own_turned, other_turned}
+use Rattle.step_replay.specs.QueueLemmas.{own_within, other_within, own_pending, other_pending}
+use Rattle.step_replay.specs.QueueLemmas.{grown_within}
 
 -- Actors and their queues.
 

@@ -58,22 +58,14 @@
 //! - [`firms_are_sent_one_list`], [`dealers_are_given_their_view`]: what a replay gives of a firm,
 //!   what it was sent by the audit trail, and what a venue tells it that answers as steps come, are
 //!   one list, and of a dealer its view.
-//! - [`price_law`]: where two days are one but for the prices of other dealers, what was due to a
-//!   dealer is one in both, but that Cover may stand against Done Away.
 //! - [`no_quote_is_lifted_and_withdrawn`].
-//! - [`words_are_answered_as_the_view_says`]: a message or a drop that asks a quote's word is
-//!   answered as the dealer view answers it.
-//! - [`notices_come_once_after_their_requests`], [`each_named_dealer_is_told_once`]: a closing
-//!   notice comes after its request was shown, and at most once; where no duty is left and a room
-//!   has ended, each dealer that its request names was told once, as the end says for it.
-//! - [`a_hit_notice_names_the_lifted_quote`]: a notice of a hit names the quote that was lifted.
 //! - [`sweeps_of_rooms_that_are_not_due_do_nothing`]: a sweep of a room that is not open, or whose
 //!   deadline has not come, changes nothing.
-//! - [`steps_meet_their_tests`]: a duty's test never fails. The duty that stands first in a queue
-//!   meets the test of its action, and a dealer's message asks a word that the venue has.
+//!
+//! More laws of the definition stand in the crate `venue_laws`; what they need of the proofs here is
+//! in `specs`, in the files named `..Lemmas`.
 #![tactic(auto)]
 
-mod condition_laws;
 mod deadlines;
 mod dealer_actions;
 mod dealer_view;
@@ -86,10 +78,8 @@ mod hits;
 mod investor_actions;
 mod laws;
 mod live;
-mod notice_laws;
 mod open_rooms;
 mod opening;
-mod prices;
 mod queues;
 mod replay;
 mod room_actions;
@@ -98,7 +88,6 @@ mod steps;
 mod sweep_laws;
 mod world;
 
-pub use condition_laws::steps_meet_their_tests;
 pub use dealer_view::{alone, equal_lists_have_equal_views};
 pub use dues::Due;
 pub use faults::ReplayFault;
@@ -107,11 +96,6 @@ pub use laws::{
     firms_are_sent_one_list, no_quote_is_lifted_and_withdrawn,
 };
 pub use live::LiveVenue;
-pub use notice_laws::{
-    a_hit_notice_names_the_lifted_quote, each_named_dealer_is_told_once,
-    notices_come_once_after_their_requests, words_are_answered_as_the_view_says,
-};
-pub use prices::price_law;
 pub use sent_to::SentTo;
 pub use steps::{Actor, MOST_TURNS_BEHIND, Step};
 pub use sweep_laws::sweeps_of_rooms_that_are_not_due_do_nothing;

@@ -1,6 +1,6 @@
 //! Two worked days that are one but for the price of another dealer.
 ghost use Rattle.std.specs.Prelude.{◌≡◌};
-ghost use Rattle.step_replay.specs.PriceAlike.{IsPriceAlike};
+ghost use Rattle.venue_laws.specs.PriceAlike.{IsPriceAlike};
 ghost use Rattle.venue_tests.specs.PricedDays as days;
 ghost use Rattle.venue_tests.specs.WorkedDays.{venue};
 

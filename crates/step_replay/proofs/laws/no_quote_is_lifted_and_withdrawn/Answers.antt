@@ -1,4 +1,4 @@
-use Rattle.step_replay.proofs.WordLemmas.{is_one_of}
+use Rattle.step_replay.specs.WordLemmas.{is_one_of}
 use Rattle.step_replay.proofs.laws.no_quote_is_lifted_and_withdrawn.Goals as goal
 
 pub returns : goal.returns

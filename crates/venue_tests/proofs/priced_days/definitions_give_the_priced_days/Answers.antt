@@ -25,7 +25,7 @@ use Rattle.step_replay.specs.DealerTrail as dealer_trail
 use Rattle.step_replay.specs.InvestorTrail as investor_trail
 use Rattle.step_replay.specs.VenueFacts as facts
 use Rattle.fix_fields.specs.Frame.{Field}
-use Rattle.step_replay.specs.PriceAlike.{DiffersInPrices, IsPricedByAnother}
+use Rattle.venue_laws.specs.PriceAlike.{DiffersInPrices, IsPricedByAnother}
 use Rattle.step_replay.specs.declared.steps.Step.TheVariants as step
 use Rattle.venue_tests.specs.PricedDays.{dear, cheap}
 use Rattle.venue_tests.specs.WorkedDays.{venue, dlr2, with_soh, message, moment}

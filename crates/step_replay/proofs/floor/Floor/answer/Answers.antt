@@ -1,7 +1,7 @@
 use Rattle.std.proofs.Common.{◌≡◌, ◌<◌, [], arith, length, rules}
 use Rattle.std.proofs.lemmas.Bool.Decides.{nat_tests}
 use Rattle.step_replay.specs.Actions.{answered_by}
-use Rattle.step_replay.proofs.PlaceLemmas.{lent, not_lent}
+use Rattle.step_replay.specs.PlaceLemmas.{lent, not_lent}
 use Rattle.step_replay.proofs.FloorLemmas.{leaving}
 use Rattle.step_replay.proofs.InvestorActionLemmas.{answer_does, no_investor_does, placed}
 use Rattle.step_replay.proofs.floor.Floor.answer.Goals as goal

@@ -2,7 +2,7 @@ use Rattle.std.proofs.Common.{◌≡◌, ◌<◌, None, [], arith, length, rules
 use Rattle.std.proofs.lemmas.Bool.Decides.{nat_tests}
 use Rattle.investor_desk.specs.declared.events.InvestorEvent.TheVariants as event
 use Rattle.step_replay.specs.Actions.{where_known}
-use Rattle.step_replay.proofs.PlaceLemmas.{lent, not_lent}
+use Rattle.step_replay.specs.PlaceLemmas.{lent, not_lent}
 use Rattle.step_replay.proofs.FloorLemmas.{leaving}
 use Rattle.step_replay.proofs.InvestorActionLemmas.{known_does, no_investor_does, placed}
 use Rattle.step_replay.proofs.floor.Floor.close.Goals as goal

@@ -3,7 +3,7 @@ use Rattle.std.proofs.lemmas.Bool.Decides.{nat_tests}
 use Rattle.venue_config.specs.declared.dealer_rows.DealerRow.{DealerRow}
 use Rattle.investor_desk.specs.declared.events.InvestorEvent.TheVariants as event
 use Rattle.step_replay.specs.Actions.{where_known}
-use Rattle.step_replay.proofs.PlaceLemmas.{lent, not_lent}
+use Rattle.step_replay.specs.PlaceLemmas.{lent, not_lent}
 use Rattle.step_replay.proofs.FloorLemmas.{leaving, no_dealer_does}
 use Rattle.step_replay.proofs.InvestorActionLemmas.{by_actor, declined_to, declined_does}
 use Rattle.step_replay.proofs.InvestorActionLemmas.{known_does, no_investor_does, placed}

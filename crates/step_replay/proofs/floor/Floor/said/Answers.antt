@@ -2,7 +2,7 @@ use Rattle.std.proofs.Common.{◌≡◌, ◌<◌, [], arith, length, rules}
 use Rattle.std.proofs.lemmas.Bool.Decides.{nat_tests}
 use Rattle.step_replay.specs.Actions.{said_by_investor}
 use Rattle.venue_steps.specs.InvestorSteps.{duties_of_own}
-use Rattle.step_replay.proofs.PlaceLemmas.{lent, not_lent}
+use Rattle.step_replay.specs.PlaceLemmas.{lent, not_lent}
 use Rattle.step_replay.proofs.FloorLemmas.{leaving}
 use Rattle.step_replay.proofs.InvestorActionLemmas.{said_does, no_investor_does, placed}
 use Rattle.step_replay.proofs.floor.Floor.said.Goals as goal

@@ -2,7 +2,7 @@ use Rattle.std.proofs.Common.{◌<◌, length, map, slice_set, arith, refl, ap, 
 use Rattle.std.proofs.lemmas.Bool.Decides.{nat_tests}
 use Rattle.step_replay.specs.Actions.{sweep_effect}
 use Rattle.step_replay.specs.declared.steps.Actor.TheVariants as actor
-use Rattle.step_replay.proofs.PlaceLemmas.{lent}
+use Rattle.step_replay.specs.PlaceLemmas.{lent}
 use Rattle.step_replay.proofs.TurnLemmas.{map_set, map_get}
 use Rattle.step_replay.proofs.FollowLemmas.{step_follows, sweep_one, found_here}
 use Rattle.step_replay.proofs.replay.Replay.sweep.Goals as goal

@@ -1,7 +1,7 @@
 use Rattle.std.proofs.Common.{◌<◌, ◌++◌, length, map, slice_set, arith, sym, ap, refl, ◌∙◌}
 use Rattle.std.proofs.lemmas.Bool.Decides.{nat_tests}
-use Rattle.step_replay.proofs.OwnerLemmas.{same_value}
-use Rattle.step_replay.proofs.PlaceLemmas.{lent, get_set_same}
+use Rattle.step_replay.specs.OwnerLemmas.{same_value}
+use Rattle.step_replay.specs.PlaceLemmas.{lent, get_set_same}
 use Rattle.step_replay.proofs.TurnLemmas.{map_set, map_get, set_twice}
 use Rattle.step_replay.proofs.FollowLemmas.{full_turn, idle_turn, found_here, none_left}
 use Rattle.step_replay.proofs.replay.Replay.turn.Goals as goal

@@ -1,0 +1,342 @@
+-- The trail of a dealer without prices, and what an event adds to it.
+use Rattle.std.proofs.Common.{◌≡◌, ℕ, Bool, true, false, List, [], ◌∷◌, ◌++◌}
+use Rattle.std.proofs.Common.{map, Option, Some, None, option_map, is_some, refl, sym}
+use Rattle.std.proofs.Common.{ap, ◌∙◌, if◌then◌else◌}
+use Rattle.std.specs.List.{list_any}
+use Rattle.std.specs.Option.{option_to_list}
+use Rattle.std.proofs.lemmas.List.{map-append}
+use Rattle.market_terms.specs.declared.asks.Ask.{Ask}
+use Rattle.market_terms.specs.declared.closes.Close.{Close}
+use Rattle.market_terms.specs.declared.closes.Close.TheVariants as closes
+use Rattle.market_terms.specs.declared.rooms.RoomRef.{RoomRef}
+use Rattle.quote_messages.specs.declared.out_messages.OutMessage.{OutMessage}
+use Rattle.quote_word.specs.declared.settled.Settled.{Settled}
+use Rattle.quote_word.specs.declared.settled.Settled.TheVariants as settled
+use Rattle.venue_config.specs.declared.dealer_rows.DealerRow.{DealerRow}
+use Rattle.dealer_desk.specs.DealerFacts.{DealerFact, DealerBook, Came, Quoted, Withdrawn, Told}
+use Rattle.dealer_desk.specs.DealerFacts.{Dropped, book_of, quote_to_drop}
+use Rattle.dealer_desk.specs.DealerRules.{dealer_verdict}
+use Rattle.dealer_desk.specs.DealerOutput.{word_asked, uses_number, verdict_facts, settled_facts}
+use Rattle.dealer_desk.specs.DealerOutput.{answer_facts, goes_through, came, verdict_message}
+use Rattle.dealer_desk.specs.DealerOutput.{event_facts, event_message, moment_of, next_message}
+use Rattle.dealer_desk.specs.DealerOutput.{shown_room, verdict_duty, closable, notice_of, room_of}
+use Rattle.dealer_desk.specs.DealerOutput.{drop_message, post_of}
+use Rattle.dealer_desk.specs.DeskLaws.{withdraws}
+use Rattle.dealer_desk.specs.declared.accepted.AcceptedQuote.{AcceptedQuote}
+use Rattle.dealer_desk.specs.declared.standing.StandingQuote.{StandingQuote}
+use Rattle.dealer_desk.specs.declared.standing.Withdrawal.{Withdrawal}
+use Rattle.dealer_desk.specs.declared.standing.Withdrawal.TheVariants as by
+use Rattle.dealer_desk.specs.declared.events.DealerEvent.{DealerEvent}
+use Rattle.dealer_desk.specs.declared.events.DealerEvent.TheVariants as event
+use Rattle.dealer_desk.specs.declared.verdicts.DealerVerdict.{DealerVerdict}
+use Rattle.dealer_desk.specs.declared.verdicts.DealerVerdict.TheVariants as verdict
+use Rattle.step_replay.specs.DealerTrail.{DealerEntry, AtDesk, ShownIn, Sent, fact_in}
+use Rattle.step_replay.specs.DealerTrail.{room_in, lifts, facts_of, book_by, rooms_by, sent_by}
+use Rattle.step_replay.specs.DealerTrail.{was_lifted, was_withdrawn, answer_to_dealer}
+use Rattle.step_replay.specs.DealerTrail.{answer_to_investor, message_by, entries_of}
+use Rattle.venue_laws.proofs.Erasing.{erase_close, erase_quote, erase_fact, erase_entry}
+use Rattle.venue_laws.proofs.Erasing.{erase_book, erase_verdict, erase_duty}
+use Rattle.venue_laws.proofs.ErasedLists.{any_erased, filter_map_erased, filter_map_same, map_map}
+use Rattle.venue_laws.proofs.ErasedLists.{map_swap, some_map}
+use Rattle.venue_laws.proofs.ErasedBook.{book_same, verdict_same, to_drop, number_to_drop_same}
+use Rattle.venue_laws.proofs.ErasedBook.{closable_same}
+
+-- What the trail says.
+
+fact_same : (own : Bool) (entry : DealerEntry)
+    → fact_in (erase_entry own entry) ≡ option_map (erase_fact own) (fact_in entry)
+fact_same own (AtDesk fact) = refl
+fact_same own (Sent message) = refl
+fact_same own entry = refl
+
+room_same : (own : Bool) (entry : DealerEntry) → room_in (erase_entry own entry) ≡ room_in entry
+room_same own (AtDesk fact) = refl
+room_same own (Sent message) = refl
+room_same own entry = refl
+
+lifts_same : (own : Bool) (quote : ℕ) (entry : DealerEntry)
+    → lifts quote (erase_entry own entry) ≡ lifts quote entry
+lifts_same own quote (AtDesk fact) = refl
+lifts_same own quote (Sent message) = refl
+lifts_same own quote entry = refl
+
+withdraws_same : (own : Bool) (quote : ℕ) (fact : DealerFact)
+    → withdraws quote (erase_fact own fact) ≡ withdraws quote fact
+withdraws_same own quote (Withdrawn number how) = refl
+withdraws_same own quote fact = refl
+
+module _ (own : Bool) (trail : List DealerEntry) where
+  -- the trail without prices
+  abbrev erased : List DealerEntry
+  erased = map (erase_entry own) trail
+
+  facts_same : facts_of erased ≡ map (erase_fact own) (facts_of trail)
+  facts_same =
+      filter_map_erased (erase_entry own) fact_in fact_in (erase_fact own) (fact_same own) trail
+
+  pub rooms_same : rooms_by erased ≡ rooms_by trail
+  rooms_same = filter_map_same (erase_entry own) room_in room_in (room_same own) trail
+
+  pub book_by_same : book_by erased ≡ erase_book (book_by trail)
+  book_by_same = ap book_of facts_same ∙ book_same own (facts_of trail)
+
+  was_lifted_same : (quote : ℕ) → was_lifted erased quote ≡ was_lifted trail quote
+  was_lifted_same quote =
+      any_erased (erase_entry own) (lifts quote) (lifts quote) (lifts_same own quote) trail
+
+  was_withdrawn_same : (quote : ℕ) → was_withdrawn erased quote ≡ was_withdrawn trail quote
+  was_withdrawn_same quote =
+      ap (list_any (withdraws quote)) facts_same
+      ∙ any_erased (erase_fact own) (withdraws quote) (withdraws quote)
+      (withdraws_same own quote) (facts_of trail)
+
+  pub answer_same : (quote : ℕ) → answer_to_dealer erased quote ≡ answer_to_dealer trail quote
+  answer_same quote =
+      ap (λ (b : Bool). if b then settled.Lifted else settled.Withdrawn) (was_lifted_same quote)
+
+  pub hit_answer_same : (quote : ℕ)
+      → answer_to_investor erased quote ≡ answer_to_investor trail quote
+  hit_answer_same quote =
+      ap (λ (b : Bool). if b then settled.Withdrawn else settled.Lifted) (was_withdrawn_same quote)
+
+  -- the answer to the word that is asked, where one is
+  pub answers_same : (asked : Option ℕ)
+      → option_map (answer_to_dealer erased) asked ≡ option_map (answer_to_dealer trail) asked
+  answers_same None = refl
+  answers_same (Some quote) = ap (λ (s : Settled). Some s) (answer_same quote)
+
+-- What a verdict says, whatever its price.
+
+pub asked_same : (v : DealerVerdict) → word_asked (erase_verdict v) ≡ word_asked v
+asked_same (verdict.QuoteAccepted request id quote replaced) = refl
+asked_same other = refl
+
+uses_same : (v : DealerVerdict) → uses_number (erase_verdict v) ≡ uses_number v
+uses_same (verdict.QuoteAccepted request id quote replaced) = refl
+uses_same other = refl
+
+answers_fact_same : (own : Bool) (quote : ℕ) (how : Withdrawal) (answer : Option Settled)
+    → map (erase_fact own) (answer_facts quote how answer) ≡ answer_facts quote how answer
+answers_fact_same own quote how None = refl
+answers_fact_same own quote how (Some settled.Withdrawn) = refl
+answers_fact_same own quote how (Some settled.Lifted) = refl
+
+settled_same : (own : Bool) (asked : Option ℕ) (how : Withdrawal) (answer : Option Settled)
+    → map (erase_fact own) (settled_facts asked how answer) ≡ settled_facts asked how answer
+settled_same own None how answer = refl
+settled_same own (Some quote) how answer = answers_fact_same own quote how answer
+
+quoted_same : (own b : Bool) (quote : AcceptedQuote)
+    → map (erase_fact own) (if b then Quoted (erase_quote quote) ∷ [] else [])
+    ≡ map (erase_fact own) (if b then Quoted quote ∷ [] else [])
+quoted_same own true quote = refl
+quoted_same own false quote = refl
+
+verdict_facts_same : (own : Bool) (v : DealerVerdict) (answer : Option Settled)
+    → map (erase_fact own) (verdict_facts (erase_verdict v) answer)
+    ≡ map (erase_fact own) (verdict_facts v answer)
+verdict_facts_same own (verdict.QuoteAccepted request id quote replaced) answer =
+    let settled = settled_facts replaced by.Replacement answer in
+    map-append (erase_fact own) settled
+    (if goes_through replaced answer then Quoted (erase_quote quote) ∷ [] else [])
+    ∙ ap (λ l. map (erase_fact own) settled ++ l)
+    (quoted_same own (goes_through replaced answer) quote)
+    ∙ sym (map-append (erase_fact own) settled
+    (if goes_through replaced answer then Quoted quote ∷ [] else []))
+verdict_facts_same own other answer = refl
+
+message_same : (v : DealerVerdict) (answer : Option Settled)
+    → verdict_message (erase_verdict v) answer ≡ verdict_message v answer
+message_same (verdict.QuoteAccepted request id quote replaced) answer = refl
+message_same other answer = refl
+
+posted_same : (b : Bool) (quote : AcceptedQuote) (room : Option RoomRef)
+    → option_map erase_duty (if b then option_map (post_of (erase_quote quote)) room else None)
+    ≡ option_map erase_duty (if b then option_map (post_of quote) room else None)
+posted_same true quote None = refl
+posted_same true quote (Some room) = refl
+posted_same false quote room = refl
+
+pub verdict_duty_same : (rooms : List RoomRef) (moment : ℕ) (v : DealerVerdict)
+    (answer : Option Settled)
+    → option_map erase_duty (verdict_duty rooms moment (erase_verdict v) answer)
+    ≡ option_map erase_duty (verdict_duty rooms moment v answer)
+verdict_duty_same rooms moment (verdict.QuoteAccepted request id quote replaced) answer =
+    posted_same (goes_through replaced answer) quote (room_of rooms quote.request)
+verdict_duty_same rooms moment other answer = refl
+
+-- Two verdicts that are one but for the price.
+
+module _ (v w : DealerVerdict) (alike : erase_verdict v ≡ erase_verdict w) where
+  pub asked_alike : word_asked v ≡ word_asked w
+  asked_alike = sym (asked_same v) ∙ ap word_asked alike ∙ asked_same w
+
+  pub duty_alike : (rooms : List RoomRef) (moment : ℕ) (answer : Option Settled)
+      → option_map erase_duty (verdict_duty rooms moment v answer)
+      ≡ option_map erase_duty (verdict_duty rooms moment w answer)
+  duty_alike rooms moment answer =
+      sym (verdict_duty_same rooms moment v answer)
+      ∙ ap (λ (u : DealerVerdict). option_map erase_duty (verdict_duty rooms moment u answer)) alike
+      ∙ verdict_duty_same rooms moment w answer
+
+  message_alike : (answer : Option Settled) → verdict_message v answer ≡ verdict_message w answer
+  message_alike answer =
+      sym (message_same v answer) ∙ ap (λ (u : DealerVerdict). verdict_message u answer) alike
+      ∙ message_same w answer
+
+  facts_alike : (own : Bool) (answer : Option Settled)
+      → map (erase_fact own) (verdict_facts v answer)
+      ≡ map (erase_fact own) (verdict_facts w answer)
+  facts_alike own answer =
+      sym (verdict_facts_same own v answer)
+      ∙ ap (λ (u : DealerVerdict). map (erase_fact own) (verdict_facts u answer)) alike
+      ∙ verdict_facts_same own w answer
+
+  came_alike : (own : Bool) (moment : ℕ) (bytes others : List ℕ) (answer : Option Settled)
+      → (if own then bytes else []) ≡ (if own then others else [])
+      → map (erase_fact own) (came moment bytes v answer)
+      ≡ map (erase_fact own) (came moment others w answer)
+  came_alike own moment bytes others answer same =
+      ap (λ (kept : List ℕ). Came moment kept (uses_number v)
+      ∷ map (erase_fact own) (verdict_facts v answer)) same
+      ∙ ap (λ (used : Bool). Came moment (if own then others else []) used
+      ∷ map (erase_fact own) (verdict_facts v answer))
+      (sym (uses_same v) ∙ ap uses_number alike ∙ uses_same w)
+      ∙ ap (λ l. Came moment (if own then others else []) (uses_number w) ∷ l)
+      (facts_alike own answer)
+
+-- What an event adds.
+
+map_as : {A : Type 0} (own : Bool) (f g : A → DealerEntry)
+    → ((x : A) → erase_entry own (f x) ≡ g x) → (xs : List A)
+    → map (erase_entry own) (map f xs) ≡ map g xs
+map_as own f g same xs = map_map f (erase_entry own) g same xs
+
+-- whatever the message is
+sent_as : (own : Bool) (write : OutMessage → List ℕ) (message : Option OutMessage)
+    → map (erase_entry own) (map Sent (option_to_list (option_map write message)))
+    ≡ (if is_some message then Sent [] ∷ [] else [])
+sent_as own write None = refl
+sent_as own write (Some message) = refl
+
+module _ (own : Bool) (date : List ℕ) (row : DealerRow) (trail : List DealerEntry) where
+  added_is : (known : List DealerEntry) (more : DealerEvent)
+      → map (erase_entry own) (entries_of date row known more)
+      ≡ map AtDesk (map (erase_fact own) (event_facts date row (book_by known) more))
+      ++ map ShownIn (option_to_list (shown_room more))
+      ++ (if is_some (event_message date row (book_by known) more) then Sent [] ∷ [] else [])
+  unfolding entries_of
+  added_is known more =
+      let facts = event_facts date row (book_by known) more in
+      let shown = map ShownIn (option_to_list (shown_room more)) in
+      let sent = map Sent (option_to_list (message_by date row known more)) in
+      map-append (erase_entry own) (map AtDesk facts ++ shown) sent
+      ∙ ap (λ l. l ++ map (erase_entry own) sent)
+      (map-append (erase_entry own) (map AtDesk facts) shown)
+      ∙ ap (λ l. (l ++ map (erase_entry own) shown) ++ map (erase_entry own) sent)
+      (map_swap AtDesk (erase_entry own) (erase_fact own) AtDesk (λ fact. refl) facts)
+      ∙ ap (λ l. (map AtDesk (map (erase_fact own) facts) ++ l) ++ map (erase_entry own) sent)
+      (map_as own ShownIn ShownIn (λ room. refl) (option_to_list (shown_room more)))
+      ∙ ap (λ l. (map AtDesk (map (erase_fact own) facts) ++ shown) ++ l)
+      (sent_as own (next_message date row (sent_by known) (moment_of more))
+      (event_message date row (book_by known) more))
+
+  -- an event adds the same without prices where its facts are the same, and it sends a message
+  -- where the other does
+  abbrev book : DealerBook
+  book = book_by trail
+
+  added_same : (more other : DealerEvent)
+      → map (erase_fact own) (event_facts date row book more)
+      ≡ map (erase_fact own) (event_facts date row (erase_book book) other)
+      → shown_room more ≡ shown_room other
+      → is_some (event_message date row book more)
+      ≡ is_some (event_message date row (erase_book book) other)
+      → map (erase_entry own) (entries_of date row trail more)
+      ≡ map (erase_entry own) (entries_of date row (map (erase_entry own) trail) other)
+  added_same more other facts rooms sends =
+      let known = erase_book book in
+      let facts_too = map (erase_fact own) (event_facts date row known other) in
+      let shown = map ShownIn (option_to_list (shown_room other)) in
+      added_is trail more
+      ∙ ap (λ (l : List DealerFact).
+      map AtDesk l ++ map ShownIn (option_to_list (shown_room more))
+      ++ (if is_some (event_message date row book more) then Sent [] ∷ [] else [])) facts
+      ∙ ap (λ (r : Option RoomRef). map AtDesk facts_too ++ map ShownIn (option_to_list r)
+      ++ (if is_some (event_message date row book more) then Sent [] ∷ [] else [])) rooms
+      ∙ ap (λ (b : Bool). map AtDesk facts_too ++ shown ++ (if b then Sent [] ∷ [] else [])) sends
+      ∙ ap (λ (b : DealerBook).
+      map AtDesk (map (erase_fact own) (event_facts date row b other)) ++ shown
+      ++ (if is_some (event_message date row b other) then Sent [] ∷ [] else []))
+      (sym (book_by_same own trail))
+      ∙ sym (added_is (map (erase_entry own) trail) other)
+
+  pub own_same : (moment : ℕ) (bytes others : List ℕ) (answer : Option Settled)
+      → erase_verdict (dealer_verdict date row book moment bytes)
+      ≡ erase_verdict (dealer_verdict date row book moment others)
+      → (if own then bytes else []) ≡ (if own then others else [])
+      → map (erase_entry own) (entries_of date row trail (event.Own moment bytes answer))
+      ≡ map (erase_entry own) (entries_of date row (map (erase_entry own) trail)
+      (event.Own moment others answer))
+  unfolding event_facts event_message
+  own_same moment bytes others answer alike same =
+      let v = dealer_verdict date row book moment bytes in
+      let w = dealer_verdict date row book moment others in
+      let w_is = sym (verdict_same book date row moment others) in
+      added_same (event.Own moment bytes answer) (event.Own moment others answer)
+      (came_alike v w alike own moment bytes others answer same
+      ∙ ap (λ (u : DealerVerdict). map (erase_fact own) (came moment others u answer)) w_is)
+      refl
+      (ap (λ (m : Option OutMessage). is_some m) (message_alike v w alike answer)
+      ∙ ap (λ (u : DealerVerdict). is_some (verdict_message u answer)) w_is)
+
+  pub shown_same : (room : RoomRef) (ask : Ask) (moment : ℕ)
+      → map (erase_entry own) (entries_of date row trail (event.Shown room ask moment))
+      ≡ map (erase_entry own) (entries_of date row (map (erase_entry own) trail)
+      (event.Shown room ask moment))
+  unfolding event_facts event_message
+  shown_same room ask moment =
+      added_same (event.Shown room ask moment) (event.Shown room ask moment) refl refl refl
+
+  told_fact : (b : Bool) (request : ℕ) (close : Close) (moment : ℕ)
+      → map (erase_fact own) (if b then Told request close moment ∷ [] else [])
+      ≡ map (erase_fact own) (if b then Told request (erase_close close) moment ∷ [] else [])
+  told_fact true request close moment = ap (λ (c : Close). Told request c moment ∷ []) (twice close)
+    where
+      twice : (close : Close) → erase_close close ≡ erase_close (erase_close close)
+      twice closes.Cover = refl
+      twice other = refl
+  told_fact false request close moment = refl
+
+  pub told_same : (request : ℕ) (close : Close) (moment : ℕ)
+      → map (erase_entry own) (entries_of date row trail (event.Told request close moment))
+      ≡ map (erase_entry own) (entries_of date row (map (erase_entry own) trail)
+      (event.Told request (erase_close close) moment))
+  unfolding event_facts event_message
+  told_same request close moment =
+      added_same (event.Told request close moment) (event.Told request (erase_close close) moment)
+      (told_fact (is_some (closable book request)) request close moment
+      ∙ ap (λ o. map (erase_fact own)
+      (if is_some o then Told request (erase_close close) moment ∷ [] else []))
+      (sym (closable_same book request)))
+      refl
+      (some_map (notice_of book close) (closable book request)
+      ∙ ap (λ o. is_some o) (sym (closable_same book request))
+      ∙ sym (some_map (notice_of (erase_book book) (erase_close close))
+      (closable (erase_book book) request)))
+
+  pub drop_same : (last moment : ℕ) (answer : Option Settled)
+      → map (erase_entry own) (entries_of date row trail (event.Drop last moment answer))
+      ≡ map (erase_entry own) (entries_of date row (map (erase_entry own) trail)
+      (event.Drop last moment answer))
+  unfolding event_facts event_message
+  drop_same last moment answer =
+      added_same (event.Drop last moment answer) (event.Drop last moment answer)
+      (ap (λ (q : Option ℕ). map (erase_fact own)
+      (Dropped last moment ∷ settled_facts q by.Cancel answer))
+      (sym (number_to_drop_same book last)))
+      refl
+      (some_map (drop_message answer) (quote_to_drop book last)
+      ∙ sym (some_map (drop_message answer) (quote_to_drop (erase_book book) last)
+      ∙ ap (λ (o : Option StandingQuote). is_some o) (to_drop book last)
+      ∙ some_map _ (quote_to_drop book last)))

@@ -1,0 +1,294 @@
+-- Every duty, message and sweep, without prices, is that of the day without prices: one line a
+-- duty.
+use Rattle.std.proofs.Common.{◌≡◌, ℕ, Bool, true, false, ◌&&◌, List, [], map, Option}
+use Rattle.std.proofs.Common.{None, option_map, is_some, refl, sym, ap, ◌∙◌, subst}
+use Rattle.std.proofs.Common.{if◌then◌else◌}
+use Rattle.std.specs.Option.{option_to_list}
+use Rattle.market_terms.specs.declared.closes.Reply.{Reply}
+use Rattle.market_terms.specs.declared.duties.Duty.{Duty}
+use Rattle.market_terms.specs.declared.duties.Duty.TheVariants as duty
+use Rattle.market_terms.specs.declared.rooms.ResponseRef.{ResponseRef}
+use Rattle.market_terms.specs.declared.rooms.RoomRef.{RoomRef}
+use Rattle.quote_word.specs.declared.settled.Settled.{Settled}
+use Rattle.venue_config.specs.Rows.{Configuration, dealer_numbered}
+use Rattle.dealer_desk.specs.DealerFacts.{DealerBook}
+use Rattle.dealer_desk.specs.DealerRules.{dealer_verdict}
+use Rattle.dealer_desk.specs.DealerOutput as dealer_output
+use Rattle.dealer_desk.specs.DealerOutput.{word_asked}
+use Rattle.dealer_desk.specs.declared.events.DealerEvent.TheVariants as at_desk
+use Rattle.dealer_desk.specs.declared.verdicts.DealerVerdict.{DealerVerdict}
+use Rattle.investor_desk.specs.InvestorFacts.{InvestorBook}
+use Rattle.investor_desk.specs.InvestorRules.{InvestorMarket, investor_verdict}
+use Rattle.investor_desk.specs.InvestorOutput as investor_output
+use Rattle.investor_desk.specs.declared.events.InvestorEvent.TheVariants as at_investor
+use Rattle.investor_desk.specs.declared.verdicts.InvestorVerdict.{InvestorVerdict}
+use Rattle.request_room.specs.RoomFacts.{RoomFact, hears}
+use Rattle.request_room.specs.declared.events.RoomEvent.{RoomEvent}
+use Rattle.request_room.specs.declared.events.RoomEvent.TheVariants as at_room
+use Rattle.venue_steps.specs.InvestorSteps.{answers}
+use Rattle.venue_steps.specs.RoomSteps.{duties_of_open, duties_of_post, duties_of_unpost}
+use Rattle.venue_steps.specs.RoomSteps.{duties_of_decline, duties_of_pass, duties_of_expire}
+use Rattle.venue_steps.specs.Words.{has_word}
+use Rattle.step_replay.specs.DealerTrail.{DealerEntry, book_by, rooms_by, answer_to_dealer}
+use Rattle.step_replay.specs.DealerTrail.{entries_of}
+use Rattle.step_replay.specs.InvestorTrail as investor_trail
+use Rattle.step_replay.specs.InvestorTrail.{InvestorEntry}
+use Rattle.step_replay.specs.VenueFacts.{Fact, of_dealer, of_room, of_investor}
+use Rattle.step_replay.specs.Actions.{Effect, Dealer, dealer_at, acting_dealer}
+use Rattle.step_replay.specs.Actions.{in_room, words_of, word_for, has_word_for, offer_of}
+use Rattle.step_replay.specs.Actions.{answer_of, left_by, dealer_says, verdict_on, said_by_dealer}
+use Rattle.step_replay.specs.Actions.{posted_by, unposted_by, declined_by, said_by_investor}
+use Rattle.step_replay.specs.Actions.{left_by_investor, answered_by, duty_effect}
+use Rattle.step_replay.specs.Actions.{sweep_effect, message_effect}
+use Rattle.step_replay.specs.declared.steps.Actor.{Actor}
+use Rattle.venue_laws.proofs.Erasing.{erase_entry, erase_verdict, erase_duty}
+use Rattle.venue_laws.proofs.Erasing.{erase_room_fact}
+use Rattle.venue_laws.proofs.ErasedLists.{list_of}
+use Rattle.venue_laws.proofs.ErasedBook as book
+use Rattle.venue_laws.proofs.ErasedEntries as entries
+use Rattle.venue_laws.proofs.ErasedRoom.{hears_same, happens_same, post_happens}
+use Rattle.venue_laws.proofs.ErasedDuties.{open_left, post_left, unpost_left, decline_left}
+use Rattle.venue_laws.proofs.ErasedDuties.{pass_left}
+use Rattle.venue_laws.proofs.ErasedDuties.{expire_left}
+use Rattle.venue_laws.proofs.ErasedInvestor as investor
+use Rattle.venue_laws.proofs.ErasedShown as shown
+use Rattle.venue_laws.proofs.ErasedActions.{AreAlike, erased, is_own, dealer_same, room_same}
+use Rattle.venue_laws.proofs.ErasedActions.{investor_same, if_alike, done_alike}
+use Rattle.venue_laws.proofs.ErasedActions.{market_alike, desk_alike, room_alike, investor_alike}
+use Rattle.venue_laws.proofs.ErasedActions.{known_alike, rooms_known, book_known, shown_alike}
+use Rattle.venue_laws.proofs.ErasedActions.{told_alike}
+use Rattle.venue_laws.proofs.ErasedDrops.{dropped_alike, hit_alike}
+
+module _ (config : Configuration) (own : ℕ) (facts : List Fact) where
+  -- the facts without prices
+  abbrev known : List Fact
+  known = erased config own facts
+
+  -- In a room.
+
+  -- the duties that an event leaves there, by the room's facts
+  same_there : (room : RoomRef) (left : List RoomFact → List Duty) (one : List Duty)
+      → one ≡ map erase_duty (left (map erase_room_fact (of_room room facts)))
+      → one ≡ map erase_duty (left (of_room room known))
+  same_there room left one same =
+      same ∙ ap (λ (l : List RoomFact). map erase_duty (left l))
+      (sym (room_same config own facts room))
+
+  heard_same : (room : RoomRef) (dealer : ℕ) (may : Bool)
+      → (may && hears (of_room room facts) dealer) ≡ (may && hears (of_room room known) dealer)
+  heard_same room dealer may =
+      sym (ap (λ (l : List RoomFact). may && hears l dealer) (room_same config own facts room)
+      ∙ ap (λ (b : Bool). may && b) (hears_same (of_room room facts) dealer))
+
+  -- an event in a room, where it leaves the same
+  event_alike : (room : RoomRef) (may may_too : Bool) (event : RoomEvent)
+      (left : List RoomFact → List Duty) → may ≡ may_too
+      → map erase_duty (left (of_room room facts))
+      ≡ map erase_duty (left (map erase_room_fact (of_room room facts)))
+      → AreAlike own (in_room config facts room may event
+      (left (of_room room facts)))
+      (in_room config known room may_too event
+      (left (of_room room known)))
+  event_alike room may may_too event left tests same =
+      room_alike config own facts room may may_too event event (left (of_room room facts))
+      (left (of_room room known)) tests (happens_same (of_room room facts) event)
+      (same_there room left (map erase_duty (left (of_room room facts))) same)
+
+  posted_alike : (room : RoomRef) (quote price : ℕ) (until : Option ℕ) (moment : ℕ)
+      (dealer : Dealer)
+      → AreAlike own (posted_by config facts room quote price until moment dealer)
+      (posted_by config known room quote 0 until moment dealer)
+  posted_alike room quote price until moment dealer =
+      room_alike config own facts room _ _ _ _ _ _
+      (heard_same room dealer.number (has_word_for config dealer quote))
+      (post_happens (of_room room facts) dealer.number (word_for config dealer quote) price 0 until)
+      (same_there room
+      (λ l. duties_of_post l room dealer.number (offer_of config dealer quote 0 until) moment) _
+      (post_left (of_room room facts) room dealer.number
+      (offer_of config dealer quote price until) (offer_of config dealer quote 0 until) moment
+      refl))
+
+  unposted_alike : (room : RoomRef) (quote moment : ℕ) (dealer : Dealer)
+      → AreAlike own (unposted_by config facts room quote moment dealer)
+      (unposted_by config known room quote moment dealer)
+  unposted_alike room quote moment dealer =
+      event_alike room _ _ (at_room.Unpost dealer.number (word_for config dealer quote))
+      (λ l. duties_of_unpost l room dealer.number (word_for config dealer quote) moment)
+      (heard_same room dealer.number (has_word_for config dealer quote))
+      (unpost_left (of_room room facts) room dealer.number (word_for config dealer quote) moment)
+
+  declined_alike : (room : RoomRef) (moment : ℕ) (dealer : Dealer)
+      → AreAlike own (declined_by config facts room moment dealer)
+      (declined_by config known room moment dealer)
+  declined_alike room moment dealer =
+      event_alike room _ _ (at_room.Decline dealer.number)
+      (λ l. duties_of_decline l room dealer.number moment)
+      (heard_same room dealer.number true)
+      (decline_left (of_room room facts) room dealer.number moment)
+
+  -- At an investor.
+
+  answered_alike : (room : RoomRef) (response : ResponseRef) (reply : Reply) (moment : ℕ)
+      (market : InvestorMarket)
+      → AreAlike own (answered_by facts room response reply moment market)
+      (answered_by known room response reply moment market)
+  answered_alike room response reply moment market =
+      if_alike config own facts (answers response.k reply) (answers response.k reply) _ _ refl
+      (known_alike config own facts room.n response.k
+      (at_investor.Answered room.n response reply moment) market)
+
+  said_to_investor : (moment : ℕ) (bytes : List ℕ) (market : InvestorMarket)
+      → AreAlike own (said_by_investor facts moment bytes market)
+      (said_by_investor known moment bytes market)
+  said_to_investor moment bytes market =
+      investor_alike config own facts market (at_investor.Own moment bytes)
+      (left_by_investor facts moment bytes market) (left_by_investor known moment bytes market)
+      (ap (λ (v : InvestorVerdict).
+      map erase_duty (option_to_list (investor_output.verdict_duty market moment v)))
+      (sym (ap (λ (l : List InvestorEntry).
+      investor_verdict market (investor_trail.book_by l) moment bytes)
+      (investor_same config own facts market.firm)
+      ∙ ap (λ (b : InvestorBook). investor_verdict market b moment bytes)
+      (shown.book_by_same (of_investor market.firm facts))
+      ∙ investor.verdict_same (investor_trail.book_by (of_investor market.firm facts)) market
+      moment bytes)))
+
+  -- All duties, line by line.
+
+  pub duty_alike : (by : Actor) (more : Duty)
+      → AreAlike own (duty_effect config facts by more)
+      (duty_effect config known by (erase_duty more))
+  unfolding duty_effect
+  duty_alike by (duty.Open room ask dealers moment) =
+      event_alike room true true _ (λ l. duties_of_open l room ask dealers moment) refl
+      (ap (map erase_duty) (open_left (of_room room facts) room ask dealers moment))
+  duty_alike by (duty.Show dealer room ask moment) =
+      done_alike config own facts (dealer_at config dealer) _ _
+      (shown_alike config own facts room ask moment)
+  duty_alike by (duty.Ready room moment) =
+      event_alike room true true at_room.Ready (λ l. []) refl refl
+  duty_alike by (duty.Post room quote price valid_until moment) =
+      done_alike config own facts (acting_dealer config by) _ _
+      (posted_alike room quote price valid_until moment)
+  duty_alike by (duty.Relay room offer moment) =
+      market_alike config own facts (investor_output.market_for config room.investor) _ _
+      (known_alike config own facts room.n None (at_investor.QuoteCame room.n offer moment))
+  duty_alike by (duty.Unpost room quote moment) =
+      done_alike config own facts (acting_dealer config by) _ _ (unposted_alike room quote moment)
+  duty_alike by (duty.Gone room word moment) =
+      market_alike config own facts (investor_output.market_for config room.investor) _ _
+      (known_alike config own facts room.n None (at_investor.QuoteGone room.n word moment))
+  duty_alike by (duty.Decline room moment) =
+      done_alike config own facts (acting_dealer config by) _ _ (declined_alike room moment)
+  duty_alike by (duty.Declined room moment) =
+      done_alike config own facts (acting_dealer config by) _ _
+      (λ dealer. market_alike config own facts (investor_output.market_for config room.investor) _ _
+      (known_alike config own facts room.n None
+      (at_investor.DealerDeclined room.n dealer.row.name moment)))
+  duty_alike by (duty.Hit room response word moment) =
+      hit_alike config own facts room response word moment
+  duty_alike by (duty.Pass room response moment) =
+      event_alike room true true (at_room.Pass moment) (λ l. duties_of_pass l room response moment)
+      refl (ap (map erase_duty) (pass_left (of_room room facts) room response moment))
+  duty_alike by (duty.Answer room response reply moment) =
+      market_alike config own facts (investor_output.market_for config room.investor) _ _
+      (answered_alike room response reply moment)
+  duty_alike by (duty.Close room moment) =
+      market_alike config own facts (investor_output.market_for config room.investor) _ _
+      (known_alike config own facts room.n None (at_investor.Closed room.n moment))
+  duty_alike by (duty.Tell dealer room close moment) =
+      done_alike config own facts (dealer_at config dealer) _ _
+      (told_alike config own facts room close moment)
+  duty_alike by (duty.Drop last moment) =
+      done_alike config own facts (acting_dealer config by) _ _
+      (λ dealer. dropped_alike config own facts dealer last moment)
+
+  pub sweep_alike : (room : RoomRef) (moment : ℕ)
+      → AreAlike own (sweep_effect config facts room moment) (sweep_effect config known room moment)
+  unfolding sweep_effect
+  sweep_alike room moment =
+      event_alike room true true (at_room.Expire moment) (λ l. duties_of_expire l room moment)
+      refl (ap (map erase_duty) (expire_left (of_room room facts) room moment))
+
+  -- A message of a dealer: another message may stand in its place, where the verdicts on both are
+  -- one but for the price.
+
+  module _ (moment : ℕ) (bytes others : List ℕ) (dealer : Dealer)
+      (alike : erase_verdict (verdict_on config facts moment bytes dealer)
+      ≡ erase_verdict (verdict_on config facts moment others dealer))
+      (kept : (if is_own config own facts dealer.number then bytes else [])
+      ≡ (if is_own config own facts dealer.number then others else [])) where
+    abbrev trail : List DealerEntry
+    trail = of_dealer dealer.number facts
+
+    abbrev after : List DealerEntry
+    after = of_dealer dealer.number known
+
+    abbrev v : DealerVerdict
+    v = verdict_on config facts moment bytes dealer
+
+    abbrev w : DealerVerdict
+    w = verdict_on config facts moment others dealer
+
+    verdict_is : verdict_on config known moment others dealer ≡ w
+    verdict_is =
+        ap (λ (b : DealerBook). dealer_verdict config.date dealer.row b moment others)
+        (book_known config own facts dealer.number)
+        ∙ book.verdict_same (book_by trail) config.date dealer.row moment others
+
+    answer_is : answer_of trail v ≡ answer_of after w
+    answer_is =
+        ap (option_map (answer_to_dealer trail)) (entries.asked_alike v w alike)
+        ∙ sym (ap (λ (l : List DealerEntry). option_map (answer_to_dealer l) (word_asked w))
+        (dealer_same config own facts dealer.number)
+        ∙ entries.answers_same (is_own config own facts dealer.number) trail (word_asked w))
+
+    left_is : map erase_duty (left_by trail moment v) ≡ map erase_duty (left_by after moment w)
+    left_is =
+        list_of erase_duty _
+        ∙ ap (λ (d : Option Duty). option_to_list d)
+        (entries.duty_alike v w alike (rooms_by trail) moment (answer_of trail v)
+        ∙ ap (λ (answer : Option Settled). option_map erase_duty
+        (dealer_output.verdict_duty (rooms_by trail) moment w answer)) answer_is
+        ∙ ap (λ (rooms : List RoomRef). option_map erase_duty
+        (dealer_output.verdict_duty rooms moment w (answer_of after w)))
+        (sym (rooms_known config own facts dealer.number)))
+        ∙ sym (list_of erase_duty _)
+
+    pub said_alike : AreAlike own (said_by_dealer config facts moment bytes dealer)
+        (said_by_dealer config known moment others dealer)
+    said_alike =
+        subst (λ (u : DealerVerdict). AreAlike own (dealer_says config facts dealer moment bytes v)
+        (dealer_says config known dealer moment others u)) (sym verdict_is)
+        (if_alike config own facts _ _ _ _
+        (ap (λ (q : Option ℕ). has_word (words_of config) (option_map (word_for config dealer) q))
+        (entries.asked_alike v w alike))
+        (desk_alike config own facts dealer
+        (at_desk.Own moment bytes (answer_of trail v))
+        (at_desk.Own moment others (answer_of after w))
+        (left_by trail moment v) (left_by after moment w)
+        (entries.own_same (is_own config own facts dealer.number) config.date dealer.row trail
+        moment bytes others (answer_of trail v) alike kept
+        ∙ ap (λ (answer : Option Settled).
+        map (erase_entry (is_own config own facts dealer.number)) (entries_of config.date dealer.row
+        (map (erase_entry (is_own config own facts dealer.number)) trail)
+        (at_desk.Own moment others answer))) answer_is)
+        left_is))
+
+  either_alike : (b : Bool) (one other one_too other_too : Effect) → AreAlike own one one_too
+      → AreAlike own other other_too
+      → AreAlike own (if b then one else other) (if b then one_too else other_too)
+  either_alike true one other one_too other_too first second = first
+  either_alike false one other one_too other_too first second = second
+
+  -- the same message
+  pub message_alike : (firm moment : ℕ) (bytes : List ℕ)
+      → AreAlike own (message_effect config facts firm moment bytes)
+      (message_effect config known firm moment bytes)
+  unfolding message_effect
+  message_alike firm moment bytes =
+      either_alike (is_some (dealer_numbered config firm)) _ _ _ _
+      (done_alike config own facts (dealer_at config firm) _ _
+      (λ dealer. said_alike moment bytes bytes dealer refl refl))
+      (market_alike config own facts (investor_output.market_for config firm) _ _
+      (said_to_investor moment bytes))

@@ -1,0 +1,348 @@
+-- Blindness to prices: two days that are one but for the prices of other dealers stay one without
+-- prices, step by step.
+use Rattle.std.proofs.Common.{◌≡◌, ℕ, ◌==◌, Bool, true, false, List, [], ◌∷◌, ◌++◌, map, filter_map}
+use Rattle.std.proofs.Common.{drop, count_by, fold, Option, Some, None, option_map, is_some}
+use Rattle.std.proofs.Common.{refl, sym, ap, ◌∙◌, subst, if◌then◌else◌, ◌⊎◌, inl, inr, eq-eqb}
+use Rattle.std.proofs.lemmas.List.{map-append, drop-map}
+use Rattle.market_terms.specs.declared.closes.Close.{Close}
+use Rattle.market_terms.specs.declared.closes.Close.TheVariants as closes
+use Rattle.market_terms.specs.declared.duties.Duty.{Duty}
+use Rattle.fix_fields.specs.Frame.{Field, IsFrame, frame_of}
+use Rattle.venue_config.specs.Rows.{Configuration, dealer_numbered}
+use Rattle.venue_config.specs.declared.dealer_rows.DealerRow.{DealerRow}
+use Rattle.dealer_desk.specs.DealerFacts.{Came, Shown, Told, Dropped}
+use Rattle.investor_desk.specs.InvestorOutput.{market_for}
+use Rattle.step_replay.specs.DealerTrail.{DealerEntry, AtDesk, Lifted, book_by}
+use Rattle.step_replay.specs.DueList.{due_by, due_list}
+use Rattle.step_replay.specs.VenueFacts.{Fact, of_dealer}
+use Rattle.step_replay.specs.Actions.{Effect, dealer_of, done_by, done_for, said_by_dealer}
+use Rattle.step_replay.specs.Actions.{said_by_investor, duty_effect, message_effect, sweep_effect}
+use Rattle.step_replay.specs.AuditTrail.{AuditTrail, Caused, no_steps, duty_of, is_same_actor}
+use Rattle.step_replay.specs.AuditTrail.{pending, with_effect, after_turn, after_step, audit_trail}
+use Rattle.step_replay.specs.AuditTrail.{due_to}
+use Rattle.venue_laws.specs.PriceAlike.{DiffersInPrices, IsPricedByAnother, IsPriceAlike}
+use Rattle.venue_laws.specs.PriceAlike.{IsCoverAgainstDoneAway, IsOneButForCover}
+use Rattle.step_replay.specs.declared.dues.Due.{Due}
+use Rattle.step_replay.specs.declared.dues.Due.TheVariants as due
+use Rattle.step_replay.specs.declared.steps.Actor.{Actor}
+use Rattle.step_replay.specs.declared.steps.Actor.TheVariants as actor
+use Rattle.step_replay.specs.declared.steps.Step.{Step}
+use Rattle.step_replay.specs.declared.steps.Step.TheVariants as step
+use Rattle.venue_laws.proofs.Erasing.{erase, erase_close, erase_entry, erase_duty, erase_caused}
+use Rattle.venue_laws.proofs.Erasing.{erase_due}
+use Rattle.venue_laws.proofs.ErasedLists.{filter_map_erased, map_swap, map_cond}
+use Rattle.venue_laws.proofs.ErasedActions.{AreAlike, dealer_same}
+use Rattle.venue_laws.proofs.ErasedSteps.{duty_alike, message_alike, sweep_alike, said_alike}
+use Rattle.venue_laws.proofs.AskedGrids.{book_bears}
+use Rattle.venue_laws.proofs.AskedDays.{DayBears, step_bears}
+use Rattle.venue_laws.proofs.PricedMessages.{verdicts_alike}
+
+-- two days so far are one without prices
+pub record AreDays (own : ℕ) (one other : AuditTrail) : Type 0 where
+  pub facts_are : map (erase own) one.facts ≡ map (erase own) other.facts
+  pub caused_are : map erase_caused one.caused ≡ map erase_caused other.caused
+  pub done_are : one.done ≡ other.done
+
+module _ (config : Configuration) (own : ℕ) where
+  -- Effects.
+
+  -- what is alike to the same, is alike
+  through : (one two other two_too : Effect) → AreAlike own one two → AreAlike own other two_too
+      → two ≡ two_too → AreAlike own one other
+  through one two other two_too first second same = record {
+    facts_are = first.facts_are ∙ ap (λ (e : Effect). map (erase own) e.facts) same
+        ∙ sym second.facts_are;
+    duties_are = first.duties_are ∙ ap (λ (e : Effect). map erase_duty e.duties) same
+        ∙ sym second.duties_are;
+  }
+
+  by_actor : (by : Actor) (duties : List Duty)
+      → map erase_caused (map (λ duty. record { by = by; duty = duty }) duties)
+      ≡ map (λ duty. record { by = by; duty = duty }) (map erase_duty duties)
+  by_actor by duties =
+      map_swap (λ (duty : Duty). record { by = by; duty = duty }) erase_caused erase_duty
+      (λ (duty : Duty). record { by = by; duty = duty }) (λ duty. refl) duties
+
+  after_effects : (by : Actor) (one other : AuditTrail) (effect effect_too : Effect)
+      → AreDays own one other → AreAlike own effect effect_too
+      → AreDays own (with_effect by one effect) (with_effect by other effect_too)
+  after_effects by one other effect effect_too before alike = record {
+    facts_are =
+        map-append (erase own) one.facts effect.facts
+        ∙ ap (λ (l : List Fact). l ++ map (erase own) effect.facts) before.facts_are
+        ∙ ap (λ (l : List Fact). map (erase own) other.facts ++ l) alike.facts_are
+        ∙ sym (map-append (erase own) other.facts effect_too.facts);
+    caused_are =
+        map-append erase_caused one.caused
+        (map (λ duty. record { by = by; duty = duty }) effect.duties)
+        ∙ ap (λ (l : List Caused). l ++ map erase_caused
+        (map (λ duty. record { by = by; duty = duty }) effect.duties)) before.caused_are
+        ∙ ap (λ (l : List Caused). map erase_caused other.caused ++ l)
+        (by_actor by effect.duties
+        ∙ ap (map (λ (duty : Duty). record { by = by; duty = duty })) alike.duties_are
+        ∙ sym (by_actor by effect_too.duties))
+        ∙ sym (map-append erase_caused other.caused
+        (map (λ duty. record { by = by; duty = duty }) effect_too.duties));
+    done_are = before.done_are;
+  }
+
+  -- Turns.
+
+  duty_of_same : (by : Actor) (caused : Caused)
+      → duty_of by (erase_caused caused) ≡ option_map erase_duty (duty_of by caused)
+  duty_of_same by caused = map_cond erase_duty (is_same_actor caused.by by) caused.duty None
+
+  pending_is : (by : Actor) (trail : AuditTrail)
+      → map erase_duty (pending by trail)
+      ≡ drop (count_by (is_same_actor by) trail.done)
+      (filter_map (duty_of by) (map erase_caused trail.caused))
+  pending_is by trail =
+      let count = count_by (is_same_actor by) trail.done in
+      sym (drop-map erase_duty count (filter_map (duty_of by) trail.caused))
+      ∙ ap (drop count)
+      (sym (filter_map_erased erase_caused (duty_of by) (duty_of by) erase_duty (duty_of_same by)
+      trail.caused))
+
+  pending_same : (by : Actor) (one other : AuditTrail) → AreDays own one other
+      → map erase_duty (pending by one) ≡ map erase_duty (pending by other)
+  pending_same by one other before =
+      pending_is by one
+      ∙ ap (λ (done : List Actor). drop (count_by (is_same_actor by) done)
+      (filter_map (duty_of by) (map erase_caused one.caused))) before.done_are
+      ∙ ap (λ (caused : List Caused).
+      drop (count_by (is_same_actor by) other.done) (filter_map (duty_of by) caused))
+      before.caused_are
+      ∙ sym (pending_is by other)
+
+  duties_same : (by : Actor) (one other : List Fact) (more more_too : Duty)
+      → map (erase own) one ≡ map (erase own) other → erase_duty more ≡ erase_duty more_too
+      → AreAlike own (duty_effect config one by more) (duty_effect config other by more_too)
+  duties_same by one other more more_too facts same =
+      through (duty_effect config one by more)
+      (duty_effect config (map (erase own) one) by (erase_duty more))
+      (duty_effect config other by more_too)
+      (duty_effect config (map (erase own) other) by (erase_duty more_too))
+      (duty_alike config own one by more) (duty_alike config own other by more_too)
+      (ap (λ (l : List Fact). duty_effect config l by (erase_duty more)) facts
+      ∙ ap (duty_effect config (map (erase own) other) by) same)
+
+  turns_same : (by : Actor) (one other : AuditTrail) (duties duties_too : List Duty)
+      → AreDays own one other → map erase_duty duties ≡ map erase_duty duties_too
+      → AreDays own (after_turn config by one duties) (after_turn config by other duties_too)
+  turns_same by one other [] [] before same = before
+  turns_same by one other [] (more ∷ later) before same = cc
+  turns_same by one other (more ∷ later) [] before same = cc
+  turns_same by one other (more ∷ later) (more_too ∷ later_too) before same =
+      let first : erase_duty more ≡ erase_duty more_too = cc in
+      after_effects by (record one { done = one.done ++ by ∷ [] })
+      (record other { done = other.done ++ by ∷ [] })
+      (duty_effect config one.facts by more) (duty_effect config other.facts by more_too)
+      (record {
+        facts_are = before.facts_are;
+        caused_are = before.caused_are;
+        done_are = ap (λ (l : List Actor). l ++ by ∷ []) before.done_are;
+      })
+      (duties_same by one.facts other.facts more more_too before.facts_are first)
+
+  -- Messages.
+
+  messages_same : (firm moment : ℕ) (bytes : List ℕ) (one other : List Fact)
+      → map (erase own) one ≡ map (erase own) other
+      → AreAlike own (message_effect config one firm moment bytes)
+      (message_effect config other firm moment bytes)
+  messages_same firm moment bytes one other facts =
+      through (message_effect config one firm moment bytes)
+      (message_effect config (map (erase own) one) firm moment bytes)
+      (message_effect config other firm moment bytes)
+      (message_effect config (map (erase own) other) firm moment bytes)
+      (message_alike config own one firm moment bytes)
+      (message_alike config own other firm moment bytes)
+      (ap (λ (l : List Fact). message_effect config l firm moment bytes) facts)
+
+  message_is : (facts : List Fact) (firm moment : ℕ) (bytes : List ℕ) (row : DealerRow)
+      → dealer_numbered config firm ≡ Some row
+      → message_effect config facts firm moment bytes
+      ≡ said_by_dealer config facts moment bytes (dealer_of firm row)
+  unfolding message_effect
+  message_is facts firm moment bytes row is =
+      ap (λ (o : Option DealerRow). if is_some o
+      then done_by (option_map (dealer_of firm) o) (said_by_dealer config facts moment bytes)
+      else done_for (market_for config firm) (said_by_investor facts moment bytes)) is
+
+  -- that frames are read
+  module _ (reads : (bytes : List ℕ) (fields : List Field) → IsFrame bytes fields
+      → frame_of bytes ≡ Some fields) where
+    priced_same : (one : AuditTrail) (other : List Fact) (firm moment : ℕ) (row : DealerRow)
+        (bytes others : List ℕ) → DayBears config one
+        → map (erase own) one.facts ≡ map (erase own) other
+        → dealer_numbered config firm ≡ Some row → (firm == own) ≡ false
+        → DiffersInPrices config bytes others
+        → AreAlike own (message_effect config one.facts firm moment bytes)
+        (message_effect config other firm moment others)
+    priced_same one other firm moment row bytes others bears facts is another prices =
+        let known = map (erase own) one.facts in
+        through (message_effect config one.facts firm moment bytes)
+        (message_effect config known firm moment others)
+        (message_effect config other firm moment others)
+        (message_effect config (map (erase own) other) firm moment others)
+        (subst (λ (e : Effect). AreAlike own e (message_effect config known firm moment others))
+        (sym (message_is one.facts firm moment bytes row is))
+        (subst (λ (e : Effect). AreAlike own
+        (said_by_dealer config one.facts moment bytes (dealer_of firm row)) e)
+        (sym (message_is known firm moment others row is))
+        (said_alike config own one.facts moment bytes others (dealer_of firm row)
+        (verdicts_alike config config.date row (book_by (of_dealer firm one.facts)) moment
+        (book_bears config firm one.facts bears.facts_bear) prices.fields prices.others
+        prices.fields_are bytes others (reads bytes prices.fields prices.one_is)
+        (reads others prices.others prices.other_is))
+        (rw another refl))))
+        (message_alike config own other firm moment others)
+        (ap (λ (l : List Fact). message_effect config l firm moment others) facts)
+
+    -- Steps.
+
+    step_same : (one other : AuditTrail) (more : Step) → AreDays own one other
+        → AreDays own (after_step config one more) (after_step config other more)
+    unfolding after_step
+    step_same one other (step.In firm moment bytes) before =
+        after_effects (actor.Firm firm) one other _ _ before
+        (messages_same firm moment bytes one.facts other.facts before.facts_are)
+    step_same one other (step.Turn by) before =
+        turns_same by one other (pending by one) (pending by other) before
+        (pending_same by one other before)
+    step_same one other (step.Expire room moment) before =
+        after_effects actor.Clock one other _ _ before
+        (through (sweep_effect config one.facts room moment)
+        (sweep_effect config (map (erase own) one.facts) room moment)
+        (sweep_effect config other.facts room moment)
+        (sweep_effect config (map (erase own) other.facts) room moment)
+        (sweep_alike config own one.facts room moment)
+        (sweep_alike config own other.facts room moment)
+        (ap (λ (l : List Fact). sweep_effect config l room moment) before.facts_are))
+
+    priced_step : (one other : AuditTrail) (more more_too : Step) → DayBears config one
+        → AreDays own one other → IsPricedByAnother config own more more_too
+        → AreDays own (after_step config one more) (after_step config other more_too)
+    unfolding after_step
+    priced_step one other more more_too bears before priced =
+        subst (λ (s : Step).
+        AreDays own (after_step config one s) (after_step config other more_too))
+        (sym priced.one_is)
+        (subst (λ (s : Step). AreDays own
+        (after_step config one (step.In priced.firm priced.moment priced.message))
+        (after_step config other s)) (sym priced.other_is)
+        (after_effects (actor.Firm priced.firm) one other _ _ before
+        (priced_same one other.facts priced.firm priced.moment priced.row priced.message
+        priced.priced bears before.facts_are priced.is_dealer priced.is_another priced.prices)))
+
+    either_step : (one other : AuditTrail) (more more_too : Step) → DayBears config one
+        → AreDays own one other → (more ≡ more_too) ⊎ IsPricedByAnother config own more more_too
+        → AreDays own (after_step config one more) (after_step config other more_too)
+    either_step one other more more_too bears before (inl same) =
+        subst (λ (s : Step). AreDays own (after_step config one more) (after_step config other s))
+        same (step_same one other more before)
+    either_step one other more more_too bears before (inr priced) =
+        priced_step one other more more_too bears before priced
+
+    days_same : (one other : AuditTrail) (steps others : List Step) → DayBears config one
+        → AreDays own one other → IsPriceAlike config own steps others
+        → AreDays own (fold (after_step config) one steps) (fold (after_step config) other others)
+    days_same one other [] [] bears before alike = before
+    days_same one other [] (more_too ∷ others) bears before alike = elim alike [ ]
+    days_same one other (more ∷ steps) [] bears before alike = elim alike [ ]
+    days_same one other (more ∷ steps) (more_too ∷ others) bears before alike =
+        days_same (after_step config one more) (after_step config other more_too) steps others
+        (step_bears config one more bears)
+        (either_step one other more more_too bears before alike.0) alike.1
+
+    all_days : (steps others : List Step) → IsPriceAlike config own steps others
+        → AreDays own (audit_trail config steps) (audit_trail config others)
+    unfolding audit_trail
+    all_days steps others alike =
+        days_same no_steps no_steps steps others
+        (record { facts_bear = tt; caused_bear = tt })
+        (record { facts_are = refl; caused_are = refl; done_are = refl }) alike
+
+-- Due lists.
+
+due_same : (entry : DealerEntry)
+    → due_by (erase_entry true entry) ≡ option_map erase_due (due_by entry)
+due_same (AtDesk (Came moment bytes used)) = refl
+due_same (AtDesk (Shown ask moment)) = refl
+due_same (AtDesk (Told request close moment)) = refl
+due_same (AtDesk (Dropped last moment)) = refl
+due_same (AtDesk fact) = refl
+due_same (Lifted quote) = refl
+due_same entry = refl
+
+due_list_is : (config : Configuration) (own : ℕ) (facts : List Fact)
+    → map erase_due (due_list (of_dealer own facts))
+    ≡ due_list (of_dealer own (map (erase own) facts))
+due_list_is config own facts =
+    let same : (own == own) ≡ true = eq-eqb own own refl in
+    sym (ap (λ (l : List DealerEntry). due_list l)
+    (dealer_same config own facts own
+    ∙ ap (λ (b : Bool). map (erase_entry b) (of_dealer own facts)) same)
+    ∙ filter_map_erased (erase_entry true) due_by due_by erase_due due_same (of_dealer own facts))
+
+-- two items are one, but that Cover may stand against Done Away
+abbrev pub AreItems : Due → Due → Type 0
+AreItems one other =
+    (one ≡ other) ⊎ IsCoverAgainstDoneAway one other ⊎ IsCoverAgainstDoneAway other one
+
+same_notice : (request again moment later : ℕ) (one other : Close) → request ≡ again
+    → moment ≡ later → one ≡ other
+    → due.Closed request one moment ≡ due.Closed again other later
+same_notice request again moment later one other requests moments closes =
+    ap (λ (r : ℕ). due.Closed r one moment) requests
+    ∙ ap (λ (c : Close). due.Closed again c moment) closes
+    ∙ ap (λ (m : ℕ). due.Closed again other m) moments
+
+notices : (request again moment later : ℕ) (one other : Close) → request ≡ again
+    → moment ≡ later → erase_close one ≡ erase_close other
+    → AreItems (due.Closed request one moment) (due.Closed again other later)
+notices request again moment later closes.Cover closes.Cover requests moments same =
+    inl (same_notice request again moment later closes.Cover closes.Cover requests moments refl)
+notices request again moment later closes.Cover closes.DoneAway requests moments same =
+    inr (inl (requests, moments))
+notices request again moment later closes.DoneAway closes.Cover requests moments same =
+    inr (inr (sym requests, sym moments))
+notices request again moment later closes.Cover other requests moments same = cc
+notices request again moment later one closes.Cover requests moments same = cc
+notices request again moment later one other requests moments same =
+    inl (same_notice request again moment later one other requests moments same)
+
+items : (one other : Due) → erase_due one ≡ erase_due other → AreItems one other
+items (due.Closed request one moment) (due.Closed again other later) same =
+    let requests : request ≡ again = cc in
+    let moments : moment ≡ later = cc in
+    let ends : erase_close one ≡ erase_close other = cc in
+    notices request again moment later one other requests moments ends
+items (due.Closed request one moment) other same = cc
+items one (due.Closed again other later) same = cc
+items one other same = inl same
+
+lists : (dues others : List Due) → map erase_due dues ≡ map erase_due others
+    → IsOneButForCover dues others
+lists [] [] same = tt
+lists [] (other ∷ others) same = cc
+lists (one ∷ dues) [] same = cc
+lists (one ∷ dues) (other ∷ others) same =
+    let first : erase_due one ≡ erase_due other = cc in
+    let later : map erase_due dues ≡ map erase_due others = cc in
+    (items one other first, lists dues others later)
+
+-- what is due is one but for the cover
+pub is_blind : ((bytes : List ℕ) (fields : List Field) → IsFrame bytes fields
+    → frame_of bytes ≡ Some fields) → (config : Configuration) (steps others : List Step) (own : ℕ)
+    → IsPriceAlike config own steps others
+    → IsOneButForCover (due_to own (audit_trail config steps))
+    (due_to own (audit_trail config others))
+is_blind reads config steps others own alike =
+    let day = audit_trail config steps in
+    let other = audit_trail config others in
+    lists (due_to own day) (due_to own other)
+    (due_list_is config own day.facts
+    ∙ ap (λ (l : List Fact). due_list (of_dealer own l))
+    (all_days config own reads steps others alike).facts_are
+    ∙ sym (due_list_is config own other.facts))

@@ -1,0 +1,266 @@
+-- Two messages that differ in their prices alone: every tag but those of prices reads the same, and
+-- no line of the session checks tells them apart.
+use Rattle.std.proofs.Common.{◌≡◌, ℕ, ◌==◌, Bool, true, false, nat_lt, List, [], ◌∷◌, map}
+use Rattle.std.proofs.Common.{length, Option, Some, None, count_by, refl, sym, ap, ◌∙◌, arith}
+use Rattle.std.proofs.Common.{if◌then◌else◌, Ok, ◌⊎◌, inl, inr, subst, option_and_then}
+use Rattle.std.specs.List.{AllZip, AllByRecursion}
+use Rattle.std.proofs.lemmas.Bool.Decides.{nat_tests}
+use Rattle.bond_prices.specs.Price.{price_of}
+use Rattle.fix_fields.specs.Frame.{Field, value_of, times_of}
+use Rattle.venue_config.specs.declared.bond_rows.BondRow.{BondRow}
+use Rattle.quote_messages.specs.ValueForms.{ValueRule, APrice}
+use Rattle.quote_messages.specs.ValueForms.{value_fault}
+use Rattle.quote_messages.specs.SessionLines.{Line, occurrence_fault, at_tag}
+use Rattle.quote_messages.specs.SessionLines.{tag_fault, required_where, required, optional}
+use Rattle.quote_messages.specs.SessionLines.{or_next}
+use Rattle.quote_messages.specs.SessionLines.{first_fault, has_number, is_number}
+use Rattle.quote_messages.specs.Texts.{number_of}
+use Rattle.quote_messages.specs.SessionChecks.{header_lines, quote_lines, cancel_lines}
+use Rattle.quote_messages.specs.SessionChecks.{decline_lines}
+use Rattle.quote_messages.specs.declared.session_faults.SessionRejectReason.{SessionRejectReason}
+use Rattle.quote_messages.specs.declared.session_faults.SessionRejectReason.TheVariants as reason
+use Rattle.quote_messages.specs.declared.session_faults.SessionFault.{SessionFault}
+use Rattle.venue_laws.specs.PriceAlike.{is_price_tag, IsPriceOf, ArePricesOf}
+use Rattle.venue_laws.specs.PriceAlike.{IsOneOrPriced}
+use Rattle.venue_laws.proofs.ErasedLists.{count_erased}
+
+-- two values of a tag are lawful prices
+pub record ArePrices (bond : Option BondRow) (one other : Option (List ℕ)) : Type 0 where
+  pub text : List ℕ
+  pub priced : List ℕ
+  pub one_is : one ≡ Some text
+  pub other_is : other ≡ Some priced
+  pub one_price : IsPriceOf bond text
+  pub other_price : IsPriceOf bond priced
+
+module _ (bond : Option BondRow) where
+  -- Tags.
+
+  tag_same : (one other : Field) → IsOneOrPriced bond one other → one.0 ≡ other.0
+  tag_same one other (inl same) = ap (λ (field : Field). field.0) same
+  tag_same one other (inr prices) = prices.tag
+
+  tags_same : (one other : List Field) → AllZip (IsOneOrPriced bond) one other
+      → map (λ (field : Field). field.0) one ≡ map (λ (field : Field). field.0) other
+  tags_same [] [] alike = refl
+  tags_same [] (y ∷ ys) alike = elim alike [ ]
+  tags_same (x ∷ xs) [] alike = elim alike [ ]
+  tags_same (x ∷ xs) (y ∷ ys) alike =
+      ap (λ (tag : ℕ). tag ∷ map (λ (field : Field). field.0) xs) (tag_same x y alike.0)
+      ∙ ap (λ (tags : List ℕ). y.0 ∷ tags) (tags_same xs ys alike.1)
+
+  pub times_same : (one other : List Field) → AllZip (IsOneOrPriced bond) one other → (tag : ℕ)
+      → times_of tag one ≡ times_of tag other
+  times_same one other alike tag =
+      sym (count_erased (λ (field : Field). field.0) (λ (field : Field). field.0 == tag)
+      (λ (t : ℕ). t == tag) (λ field. refl) one)
+      ∙ ap (count_by (λ (t : ℕ). t == tag)) (tags_same one other alike)
+      ∙ count_erased (λ (field : Field). field.0) (λ (field : Field). field.0 == tag)
+      (λ (t : ℕ). t == tag) (λ field. refl) other
+
+  -- Values.
+
+  -- another tag than that of a price
+  other_tag : (one other : Field) (tag : ℕ) → ArePricesOf bond one other
+      → is_price_tag tag ≡ false → (one.0 == tag) ≡ false
+  other_tag one other tag prices is_none = by_test (one.0 == tag) refl
+    where
+      by_test : (b : Bool) → (one.0 == tag) ≡ b → (one.0 == tag) ≡ false
+      by_test false test = test
+      by_test true test =
+          let equal : one.0 ≡ tag = grind (arith, nat_tests) in
+          let never : true ≡ false =
+          sym prices.is_price ∙ ap is_price_tag equal ∙ is_none in cc
+
+  first_same : (x y : Field) (tag : ℕ) (rest rest_too : Option (List ℕ))
+      → IsOneOrPriced bond x y → is_price_tag tag ≡ false → rest ≡ rest_too
+      → (if x.0 == tag then Some x.1 else rest) ≡ (if y.0 == tag then Some y.1 else rest_too)
+  first_same x y tag rest rest_too (inl same) is_none later =
+      ap (λ (field : Field). if field.0 == tag then Some field.1 else rest) same
+      ∙ ap (λ (o : Option (List ℕ)). if y.0 == tag then Some y.1 else o) later
+  first_same x y tag rest rest_too (inr prices) is_none later =
+      let here : (x.0 == tag) ≡ false = other_tag x y tag prices is_none in
+      let there : (y.0 == tag) ≡ false = ap (λ (t : ℕ). t == tag) (sym prices.tag) ∙ here in
+      rw (here, there) later
+
+  pub value_same : (one other : List Field) → AllZip (IsOneOrPriced bond) one other → (tag : ℕ)
+      → is_price_tag tag ≡ false → value_of tag one ≡ value_of tag other
+  value_same [] [] alike tag is_none = refl
+  value_same [] (y ∷ ys) alike tag is_none = elim alike [ ]
+  value_same (x ∷ xs) [] alike tag is_none = elim alike [ ]
+  value_same (x ∷ xs) (y ∷ ys) alike tag is_none =
+      first_same x y tag (value_of tag xs) (value_of tag ys) alike.0 is_none
+      (value_same xs ys alike.1 tag is_none)
+
+  -- two values are one, or lawful prices
+  abbrev pub AreValues : Option (List ℕ) → Option (List ℕ) → Type 0
+  AreValues one other = (one ≡ other) ⊎ ArePrices bond one other
+
+  first_price : (x y : Field) (tag : ℕ) (rest rest_too : Option (List ℕ))
+      → IsOneOrPriced bond x y → AreValues rest rest_too
+      → AreValues (if x.0 == tag then Some x.1 else rest)
+      (if y.0 == tag then Some y.1 else rest_too)
+  first_price x y tag rest rest_too (inl same) later =
+      subst (λ (field : Field).
+      AreValues (if x.0 == tag then Some x.1 else rest)
+      (if field.0 == tag then Some field.1 else rest_too)) same (by_test (x.0 == tag))
+    where
+      by_test : (b : Bool)
+          → AreValues (if b then Some x.1 else rest) (if b then Some x.1 else rest_too)
+      by_test true = inl refl
+      by_test false = later
+  first_price x y tag rest rest_too (inr prices) later =
+      subst (λ (t : ℕ).
+      AreValues (if x.0 == tag then Some x.1 else rest)
+      (if t == tag then Some y.1 else rest_too)) prices.tag (by_test (x.0 == tag))
+    where
+      by_test : (b : Bool)
+          → AreValues (if b then Some x.1 else rest) (if b then Some y.1 else rest_too)
+      by_test true = inr (record {
+        text = x.1;
+        priced = y.1;
+        one_is = refl;
+        other_is = refl;
+        one_price = prices.one_price;
+        other_price = prices.other_price;
+      })
+      by_test false = later
+
+  pub price_value : (one other : List Field) → AllZip (IsOneOrPriced bond) one other → (tag : ℕ)
+      → AreValues (value_of tag one) (value_of tag other)
+  price_value [] [] alike tag = inl refl
+  price_value [] (y ∷ ys) alike tag = elim alike [ ]
+  price_value (x ∷ xs) [] alike tag = elim alike [ ]
+  price_value (x ∷ xs) (y ∷ ys) alike tag =
+      first_price x y tag (value_of tag xs) (value_of tag ys) alike.0
+      (price_value xs ys alike.1 tag)
+
+-- Lines of the session checks.
+
+-- a lawful price has no fault, however often its tag stands
+price_fine : (date text : List ℕ) (price : ℕ) → price_of text ≡ Ok price
+    → (if length text == 0 then Some reason.TagWithoutValue else value_fault date APrice text) ≡ None
+unfolding price_of
+price_fine date [] price is = cc
+price_fine date (c ∷ text) price is =
+    let some : (length (c ∷ text) == 0) ≡ false = grind (arith, nat_tests) in
+    rw (some, is) refl
+
+module _ (bond : Option BondRow) (one other : List Field)
+    (alike : AllZip (IsOneOrPriced bond) one other) (date : List ℕ) where
+  -- a line that both keep or both do not keep
+  abbrev pub IsSame : Line → Type 0
+  IsSame line = line date one ≡ line date other
+
+  -- the fault of a tag with this value
+  abbrev fault_of : ℕ → ValueRule → Bool → Option (List ℕ) → ℕ → Option SessionFault
+  fault_of tag rule is_required value times =
+      tag_fault date (record { tag = tag; is_required = is_required; value = rule })
+      (record { first = value; is_repeated = nat_lt 1 times })
+
+  line_where : (is_required : List Field → Bool) (tag : ℕ) (rule : ValueRule)
+      → is_price_tag tag ≡ false → is_required one ≡ is_required other
+      → IsSame (required_where is_required tag rule)
+  line_where is_required tag rule is_none same =
+      ap (λ (b : Bool). fault_of tag rule b (value_of tag one) (times_of tag one)) same
+      ∙ ap (λ (value : Option (List ℕ)).
+      fault_of tag rule (is_required other) value (times_of tag one))
+      (value_same bond one other alike tag is_none)
+      ∙ ap (fault_of tag rule (is_required other) (value_of tag other))
+      (times_same bond one other alike tag)
+
+  line : (tag : ℕ) (rule : ValueRule) → is_price_tag tag ≡ false → IsSame (required tag rule)
+  line tag rule is_none = line_where (λ fields. true) tag rule is_none refl
+
+  line_if : (tag : ℕ) (rule : ValueRule) → is_price_tag tag ≡ false → IsSame (optional tag rule)
+  line_if tag rule is_none = line_where (λ fields. false) tag rule is_none refl
+
+  number_same : (tag n : ℕ) → is_price_tag tag ≡ false
+      → has_number tag n one ≡ has_number tag n other
+  number_same tag n is_none =
+      ap (λ (value : Option (List ℕ)). is_number n
+      (option_and_then number_of value))
+      (value_same bond one other alike tag is_none)
+
+  -- the fault of a price that stands so
+  price_fault_same : (tag : ℕ) (repeated : Bool) (value value_too : Option (List ℕ))
+      → AreValues bond value value_too
+      → at_tag tag (occurrence_fault date
+      (record { tag = tag; is_required = false; value = APrice }) value repeated)
+      ≡ at_tag tag (occurrence_fault date
+      (record { tag = tag; is_required = false; value = APrice }) value_too repeated)
+  price_fault_same tag repeated value value_too (inl same) =
+      ap (λ (v : Option (List ℕ)). at_tag tag (occurrence_fault date
+      (record { tag = tag; is_required = false; value = APrice }) v repeated)) same
+  price_fault_same tag repeated value value_too (inr prices) =
+      let found = λ (v : Option (List ℕ)). at_tag tag (occurrence_fault date
+      (record { tag = tag; is_required = false; value = APrice }) v repeated) in
+      let fine = λ (f : Option SessionRejectReason).
+      at_tag tag (if repeated then Some reason.TagMoreThanOnce else f) in
+      ap found prices.one_is
+      ∙ ap fine (price_fine date prices.text prices.one_price.price prices.one_price.is_read)
+      ∙ sym (ap fine
+      (price_fine date prices.priced prices.other_price.price prices.other_price.is_read))
+      ∙ sym (ap found prices.other_is)
+
+  price_line : (tag : ℕ) → IsSame (optional tag APrice)
+  unfolding tag_fault
+  price_line tag =
+      price_fault_same tag (nat_lt 1 (times_of tag one)) (value_of tag one) (value_of tag other)
+      (price_value bond one other alike tag)
+      ∙ ap (λ (times : ℕ). at_tag tag (occurrence_fault date
+      (record { tag = tag; is_required = false; value = APrice }) (value_of tag other)
+      (nat_lt 1 times)))
+      (times_same bond one other alike tag)
+
+  -- Tables.
+
+  pub faults_same : (lines : List Line) → AllByRecursion IsSame lines
+      → first_fault lines date one ≡ first_fault lines date other
+  faults_same [] same = refl
+  faults_same (line ∷ lines) same =
+      ap (λ (f : Option SessionFault). or_next f (first_fault lines date one)) same.0
+      ∙ ap (or_next (line date other)) (faults_same lines same.1)
+
+  pub header_same : (name : List ℕ) (traders types : List (List ℕ))
+      → first_fault (header_lines name traders types) date one
+      ≡ first_fault (header_lines name traders types) date other
+  header_same name traders types =
+      faults_same (header_lines name traders types)
+      (line 49 _ refl, (line 56 _ refl, (line 52 _ refl, (line 50 _ refl, (line 35 _ refl, tt)))))
+
+  pub quote_same : first_fault quote_lines date one ≡ first_fault quote_lines date other
+  quote_same =
+      faults_same quote_lines (
+        line 117 _ refl,
+        (
+          line 131 _ refl,
+          (
+            line 48 _ refl,
+            (
+              line 22 _ refl,
+              (
+                price_line 132,
+                (
+                  price_line 133,
+                  (
+                    line_if 134 _ refl,
+                    (
+                      line_if 135 _ refl,
+                      (line_if 537 _ refl, (line_if 62 _ refl, tt)),
+                    ),
+                  ),
+                ),
+              ),
+            ),
+          ),
+        ),
+      )
+
+  pub cancel_same : first_fault cancel_lines date one ≡ first_fault cancel_lines date other
+  cancel_same =
+      faults_same cancel_lines
+      (line 298 _ refl, (line_where (has_number 298 5) 117 _ refl (number_same 298 5 refl), tt))
+
+  pub decline_same : first_fault decline_lines date one ≡ first_fault decline_lines date other
+  decline_same = faults_same decline_lines (line 131 _ refl, (line 658 _ refl, tt))

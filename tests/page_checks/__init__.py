@@ -1,0 +1,1 @@
+"""What tests/pages.py asks of the pages of this repository."""

@@ -1,0 +1,37 @@
+"""Names that pages may have though nothing in the repository bears them."""
+
+from __future__ import annotations
+
+import fnmatch
+
+# Names of what the repository stands on: Rust's standard library as the kit has it, and antt.
+OF_THE_KIT = {"Abort", "AllocError", "Data", "Display", "refl"}
+
+# A page, and what it alone may name: files that its reader makes, and what other programs print or
+# take.
+ON_A_PAGE = [
+    ("audit/README.md", "--strict"),  # of mypy
+    ("crates/quote_word/README.md", "Pens"),  # of the kit's logbook
+    ("crates/all_cases/README.md", "data/PLACE-subject.cases"),  # a file that a reader writes
+    ("tests/edits/README.md", "FUNCTION-what.edit"),  # a file that a reader writes
+    ("CONTRIBUTING.md", "*-what.edit"),  # a file that a reader writes
+    ("deploy/README.md", "gw2"),  # a second host of a reader's
+    ("deploy/README.md", "10.77.0.0/24"),  # a network
+    ("deploy/README.md", "ETCD_*"),  # variables of etcd
+    ("deploy/README.md", "config.yml"),  # a file of Patroni's
+    ("deploy/README.md", "--now"),  # of systemctl
+    ("deploy/README.md", "Leader"),  # of patronictl
+    ("deploy/README.md", "Replica"),  # of patronictl
+    ("docs/SUPERVISING.md", "day-20261124.db"),  # a log of a reader's
+    ("docs/SUPERVISING.md", "day_20261124"),  # a schema of a reader's
+    ("docs/SUPERVISING.md", "sent.txt"),  # a list of a reader's
+    ("docs/SUPERVISING.md", "pages/index.html"),  # a page that the audit writes
+    ("gateway/README.md", "ThreadedSSLSocketAcceptor"),  # of QuickFIX
+]
+
+
+def is_excepted(page: str, name: str) -> bool:
+    """Whether this page may have the name."""
+    if name in OF_THE_KIT:
+        return True
+    return any(page == where and fnmatch.fnmatch(name, what) for where, what in ON_A_PAGE)
