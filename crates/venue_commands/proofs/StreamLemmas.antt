@@ -28,10 +28,10 @@ appends_both (Some xs) (Some ys) None a b first second = absurd second
 appends_both (Some xs) (Some ys) (Some zs) a b first second = second ∙ ap (λ l. l ++ b) first ∙ append_assoc xs a b
 
 pub appends_kept : (old mid new : Option (List ℕ)) (a : List ℕ) → Appends old mid a → Keeps mid new → Appends old new a
-appends_kept None mid new a first kept = tt
-appends_kept (Some xs) None new a first kept = absurd first
-appends_kept (Some xs) (Some ys) None a first kept = absurd kept
-appends_kept (Some xs) (Some ys) (Some zs) a first kept = kept ∙ first
+appends_kept None mid new a first stays = tt
+appends_kept (Some xs) None new a first stays = absurd first
+appends_kept (Some xs) (Some ys) None a first stays = absurd stays
+appends_kept (Some xs) (Some ys) (Some zs) a first stays = stays ∙ first
 
 -- what was taken of a text
 pub prefix_taken : (out : Written) (text written rest : List ℕ) → Gains written out → text ≡ written ++ rest → GainsPart text out
@@ -57,8 +57,8 @@ nothing_taken (Some xs) text = record { taken = 0; gained = sym (append-nil xs) 
 
 pub all_taken : (old mid new : Option (List ℕ)) (text : List ℕ) → Appends old mid text → Keeps mid new
     → GainsPart text (record { before = old; after = new })
-all_taken old mid new text all kept =
-    prefix_taken (record { before = old; after = new }) text text [] (appends_kept old mid new text all kept) (sym (append-nil text))
+all_taken old mid new text all stays =
+    prefix_taken (record { before = old; after = new }) text text [] (appends_kept old mid new text all stays) (sym (append-nil text))
 
 -- what was read, unless it is too long, is all
 all_read : (all bytes : List ℕ) → IsReadOf all bytes → length bytes ≤ MOST_INPUT → bytes ≡ all
