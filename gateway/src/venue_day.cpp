@@ -24,7 +24,12 @@ constexpr std::uint32_t chunk = 1024;
 // How often a gateway that speaks and does not write yet says that it is there.
 constexpr auto sign_of_life = 500ms;
 
-std::unique_ptr<Database> open_database(const Config &config) {
+// Throws where it is none of today.
+std::unique_ptr<Database> open_database(const Config &config, const DayClock &clock) {
+    if (!clock.is_today()) {
+        throw std::runtime_error(fmt::format(
+            "the venue's configuration is of {}, and today is {} in UTC", clock.date(), today()));
+    }
     if (!config.sqlite.empty()) {
         return open_sqlite(config.sqlite.string());
     }
@@ -36,13 +41,8 @@ std::unique_ptr<Database> open_database(const Config &config) {
 VenueDay::VenueDay(const Config &config, Metrics &metrics, Status &status,
                    std::shared_ptr<spdlog::logger> events)
     : config_(config), metrics_(metrics), status_(status), events_(std::move(events)),
-      clock_(config_.firms.date), database_(open_database(config_)),
-      comparison_(*database_, status_.stopping()), ahead_(config_.waiting_messages) {
-    if (!clock_.is_today()) {
-        throw std::runtime_error(fmt::format(
-            "the venue's configuration is of {}, and today is {} in UTC", clock_.date(), today()));
-    }
-}
+      clock_(config_.firms.date), database_(open_database(config_, clock_)),
+      comparison_(*database_, status_.stopping()), ahead_(config_.waiting_messages) {}
 
 VenueDay::~VenueDay() {
     close();

@@ -32,20 +32,20 @@ def today() -> str:
     return datetime.now(timezone.utc).strftime("%Y%m%d")
 
 
-class Port(int):
-    """A port of the loopback. As long as it stands nobody else is given it, but for who asks for it by its number."""
+class Port:
+    """A port of the loopback. As long as this stands nobody else is given it, but for who asks for it by its number."""
 
-    held: socket.socket
+    def __init__(self) -> None:
+        self._held = socket.socket()
+        self._held.bind(("127.0.0.1", 0))
+        # Behind bind(), so that no other socket shares it: now one with the same option, as a server's, may have it too.
+        self._held.setsockopt(socket.SOL_SOCKET, socket.SO_REUSEADDR, 1)
+        self.number: int = self._held.getsockname()[1]
 
 
-def free_port() -> Port:
-    held = socket.socket()
-    held.bind(("127.0.0.1", 0))
-    # Behind bind(), so that no other socket shares it: now one with the same option, as a server's, may have it too.
-    held.setsockopt(socket.SOL_SOCKET, socket.SO_REUSEADDR, 1)
-    port = Port(held.getsockname()[1])
-    port.held = held
-    return port
+def free_port() -> int:
+    """A port that is free now."""
+    return Port().number
 
 
 def venue_text(dealers: list[Identity], investors: list[Identity]) -> str:
@@ -67,8 +67,6 @@ class Door:
     folder: Path
     dealers: list[Identity]
     investors: list[Identity]
-    port: Port = field(default_factory=free_port)
-    metrics: Port = field(default_factory=free_port)
     limits: dict[str, int] = field(default_factory=dict)
     tls: dict[str, str] = field(default_factory=dict)
     environment: dict[str, str] = field(default_factory=dict)
@@ -76,6 +74,16 @@ class Door:
     postgres: PostgresLog | None = None  # the log, in the place of a file of SQLite
     process: subprocess.Popen | None = None
     _hashes: dict[str, str] = field(default_factory=dict)
+    _sessions_port: Port = field(default_factory=Port)
+    _metrics_port: Port = field(default_factory=Port)
+
+    @property
+    def port(self) -> int:
+        return self._sessions_port.number
+
+    @property
+    def metrics(self) -> int:
+        return self._metrics_port.number
 
     @property
     def database(self) -> Path:
