@@ -74,8 +74,7 @@ drop_back date last moment short time =
     let rest = decimal last ++ 32 ∷ time_text moment in
     record {
       line = codes "drop " ++ rest;
-      written = ap (λ (l : List ℕ). codes "drop " ++ l)
-          (sym (append_assoc (decimal last) (32 ∷ time_text moment) (10 ∷ [])));
+      written = refl;
       is_one = record {
         in_line = all_append is_in_line (codes "drop ") rest refl
             (all_append is_in_line (decimal last) (32 ∷ time_text moment) (in_line (decimal last) word)
@@ -131,10 +130,8 @@ closed_back date number how moment short time =
     let behind_number = behind_is (decimal number) behind word in
     record {
       line = codes "closed " ++ rest;
-      written = ap (λ (l : List ℕ). codes "closed " ++ l)
-          (ap (λ (l : List ℕ). decimal number ++ 32 ∷ l)
-          (sym (append_assoc kind (32 ∷ time_text moment) (10 ∷ [])))
-          ∙ sym (append_assoc (decimal number) (32 ∷ behind) (10 ∷ [])));
+      written = ap (λ (l : List ℕ). codes "closed " ++ (l ++ 10 ∷ []))
+          (append_assoc (decimal number) (32 ∷ kind) (32 ∷ time_text moment));
       is_one = record {
         in_line = all_append is_in_line (codes "closed ") rest refl
             (all_append is_in_line (decimal number) (32 ∷ behind) (in_line (decimal number) word)
@@ -160,11 +157,11 @@ closed_back date number how moment short time =
 bar_back : (c : ℕ) → is_unsayable c ≡ false
     → (is_in_line (with_bar c) ≡ true) × (soh_for_bar (with_bar c) ≡ c)
 bar_back c sayable =
-    let parts = or_parts (c == 124) ((c == 10) || (c == 13)) sayable in
-    let feed = (or_parts (c == 10) (c == 13) parts.1).0 in
+    let parts = or_parts (c == 124) (c == 10)
+    (or_parts ((c == 124) || (c == 10)) (c == 13) sayable).0 in
     elim (cases_Bool (c == 1)) [
       | inl soh ↦ (let same : 1 ≡ c = grind (arith, nat_tests) in rw soh (refl, same))
-      | inr other ↦ rw (other, feed, parts.0) (refl, refl)
+      | inr other ↦ rw (other, parts.1, parts.0) (refl, refl)
     ]
 
 barred_in_line : (message : List ℕ) → list_any is_unsayable message ≡ false
@@ -205,8 +202,7 @@ bytes_back date moment message some sayable time is =
     let word = time_in_part moment in
     record {
       line = codes "own " ++ rest;
-      written = is ∙ ap (λ (l : List ℕ). codes "own " ++ l)
-          (sym (append_assoc (time_text moment) (32 ∷ frame) (10 ∷ [])));
+      written = is;
       is_one = record {
         in_line = all_append is_in_line (codes "own ") rest refl
             (all_append is_in_line (time_text moment) (32 ∷ frame) (in_line (time_text moment) word)
@@ -237,9 +233,12 @@ hex_in_line : (message : List ℕ) → list_all is_in_line (encode_lower message
 unfolding encode_with
 hex_in_line [] = refl
 hex_in_line (b ∷ message) =
-    all_more is_in_line _ _ (digit_of is_in_line lower_digits refl refl (b / 16))
-    (all_more is_in_line _ _ (digit_of is_in_line lower_digits refl refl (b % 16))
-    (hex_in_line message))
+    let high = slice_index lower_digits (b / 16) in
+    let low = slice_index lower_digits (b % 16) in
+    all_more is_in_line high (low ∷ encode_lower message)
+    (digit_of is_in_line lower_digits refl refl (b / 16))
+    (all_more is_in_line low (encode_lower message)
+    (digit_of is_in_line lower_digits refl refl (b % 16)) (hex_in_line message))
 
 hex_some : (message : List ℕ) → not (length message == 0) ≡ true
     → (length (encode_lower message) == 0) ≡ false
@@ -266,8 +265,7 @@ digits_back date moment message some back time is =
     let word = time_in_part moment in
     record {
       line = codes "hex " ++ rest;
-      written = is ∙ ap (λ (l : List ℕ). codes "hex " ++ l)
-          (sym (append_assoc (time_text moment) (32 ∷ digits) (10 ∷ [])));
+      written = is;
       is_one = record {
         in_line = all_append is_in_line (codes "hex ") rest refl
             (all_append is_in_line (time_text moment) (32 ∷ digits) (in_line (time_text moment) word)

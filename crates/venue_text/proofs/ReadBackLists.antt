@@ -71,7 +71,7 @@ module _ (date : List ℕ) (row : DealerValues) (first second : List ℕ) (dues 
     (header : AreHeader date row first second) (each : EachReadsAs date dues)
     (sayable : list_all is_sayable dues ≡ true) where
   abbrev whole : List ℕ
-  whole = first ++ 10 ∷ second ++ 10 ∷ due_lines dues
+  whole = first ++ 10 ∷ (second ++ 10 ∷ due_lines dues)
 
   whole_lines : lines_of whole ≡ first ∷ second ∷ lines_of (due_lines dues)
   whole_lines =

@@ -1,5 +1,5 @@
 -- Parts of lines that are written: where they end, and what they are read as.
-use Rattle.std.proofs.Common.{◌≡◌, ℕ, ◌+◌, ◌%◌, ◌^◌, ◌<◌, ◌≤◌, ◌==◌, ◌&&◌, ◌||◌, not, Bool, true, false}
+use Rattle.std.proofs.Common.{◌≡◌, ℕ, ◌+◌, ◌/◌, ◌%◌, ◌^◌, ◌<◌, ◌≤◌, ◌==◌, ◌&&◌, ◌||◌, not, Bool, true, false}
 use Rattle.std.proofs.Common.{cond, nat_le, nat_lt, List, [], ◌∷◌, ◌++◌, length, decimal}
 use Rattle.std.proofs.Common.{Some, None, Ok, refl, sym, ap, ap₂, ◌∙◌, arith, inl, inr, rules}
 use Rattle.std.specs.Char.{is_ascii_digit, is_ascii_uppercase}
@@ -13,7 +13,7 @@ use Rattle.std.proofs.lemmas.List.{append_assoc}
 use Rattle.std.proofs.lemmas.Str.Parse.{IsNumeralModel, numerals_by_value}
 use Rattle.fix_fields.specs.Frame.{three_digits}
 use Rattle.fix_fields.specs.TimeOfDay.{time_text}
-use Rattle.fix_fields.specs.UtcTimestamp.{clock_text, moment_of, timestamp_text}
+use Rattle.fix_fields.specs.UtcTimestamp.{clock_text, moment_of, timestamp_text, two_digits}
 use Rattle.quote_messages.specs.Texts.{number_up_to}
 use Rattle.venue_config.specs.Texts.{is_bond_id, is_capital_or_digit, is_name}
 use Rattle.venue_text.specs.Lines.{behind_part, first_part, has_part_behind, parts_of, time_of}
@@ -171,14 +171,33 @@ bond_in_part bond is =
 glyph : (d : ℕ) → is_in_part (48 + d) ≡ true
 glyph d = grind (arith, nat_tests)
 
+two_in_part : (n : ℕ) → list_all is_in_part (two_digits n) ≡ true
+two_in_part n =
+    all_more is_in_part (48 + n / 10) ((48 + n % 10) ∷ []) (glyph (n / 10))
+    (all_more is_in_part (48 + n % 10) [] (glyph (n % 10)) refl)
+
+three_in_part : (n : ℕ) → list_all is_in_part (three_digits n) ≡ true
+three_in_part n =
+    all_more is_in_part (48 + n / 100) ((48 + n / 10 % 10) ∷ ((48 + n % 10) ∷ []))
+    (glyph (n / 100))
+    (all_more is_in_part (48 + n / 10 % 10) ((48 + n % 10) ∷ []) (glyph (n / 10 % 10))
+    (all_more is_in_part (48 + n % 10) [] (glyph (n % 10)) refl))
+
+clock_in_part : (n : ℕ) → list_all is_in_part (clock_text n) ≡ true
+clock_in_part n =
+    let hours = two_digits (n / 3600000) in
+    let minutes = two_digits (n / 60000 % 60) in
+    let seconds = two_digits (n / 1000 % 60) in
+    all_append is_in_part hours (58 ∷ (minutes ++ (58 ∷ seconds))) (two_in_part (n / 3600000))
+    (all_more is_in_part 58 (minutes ++ (58 ∷ seconds)) refl
+    (all_append is_in_part minutes (58 ∷ seconds) (two_in_part (n / 60000 % 60))
+    (all_more is_in_part 58 seconds refl (two_in_part (n / 1000 % 60)))))
+
 pub time_in_part : (n : ℕ) → list_all is_in_part (time_text n) ≡ true
 unfolding time_text
 time_in_part n =
-    let more = all_more is_in_part in
-    more _ _ (glyph _) (more _ _ (glyph _) (more 58 _ refl
-    (more _ _ (glyph _) (more _ _ (glyph _) (more 58 _ refl
-    (more _ _ (glyph _) (more _ _ (glyph _) (more 46 _ refl
-    (more _ _ (glyph _) (more _ _ (glyph _) (more _ [] (glyph _) refl)))))))))))
+    all_append is_in_part (clock_text n) (46 ∷ three_digits (n % 1000)) (clock_in_part n)
+    (all_more is_in_part 46 (three_digits (n % 1000)) refl (three_in_part (n % 1000)))
 
 pub time_back : (date : List ℕ) (n : ℕ) → moment_of date (timestamp_text date n) ≡ Ok n
     → time_of date (time_text n) ≡ Some n

@@ -49,7 +49,7 @@ quantity_word n least most =
     let few : nat_le n MOST ≡ true = grind (arith, nat_tests) in
     record {
       word = decimal_in_part n (omega arith);
-      back = ap (λ (found : Option ℕ). found >>= (λ (n : ℕ). if is_quantity n then Some n else None))
+      back = ap (λ (found : Option ℕ). found >>= (λ (n : ℕ). cond (is_quantity n) (Some n) None))
           (number_back 16 n (omega arith) long)
           ∙ ap (λ (b : Bool). cond b (Some n) None) (ap₂ (λ (a b : Bool). a && b) one few);
     }
@@ -112,14 +112,13 @@ end_word date moment grid time is =
           (let same : grid ≡ finest_grid = grind (arith, nat_tests) in
           record {
             text = time_text moment;
-            written = rw finest refl;
+            written = rw finest (ap (λ (l : List ℕ). l ++ 10 ∷ []) (append-nil (time_text moment)));
             word = finest_end date moment grid time same;
           })
       | inr other ↦
           record {
             text = time_text moment ++ 32 ∷ decimal grid;
-            written = rw other
-                (sym (append_assoc (time_text moment) (32 ∷ decimal grid) (10 ∷ [])));
+            written = rw other refl;
             word = other_end date moment grid time is;
           }
     ]
@@ -196,21 +195,33 @@ shown_by date ask moment t₁ t₂ t₃ t₄ t₅ t₆ i b s q d c₁ c₂ c₃ 
     ∙ ap (time_of date) c₅.part_is ∙ deadline in
     let e₆ = ap (λ (t : List ℕ). time_of date (first_part t)) b₅ ∙ time in
     let e₇ = ap grid_behind b₅ ∙ grid in
+    let bond_read = text_if is_bond_id (first_part (behind_part t₁)) in
+    let side_read = side_of (first_part (behind_part (behind_part t₁))) in
+    let at_quantity = behind_part (behind_part (behind_part t₁)) in
+    let quantity_read = asked_quantity (first_part at_quantity) in
+    let deadline_read = time_of date (first_part (behind_part at_quantity)) in
+    let at_time = behind_part (behind_part at_quantity) in
+    let time_read = time_of date (first_part at_time) in
+    let grid_read = grid_behind at_time in
     shown_is date t₁
-    ∙ ap (λ (x : Option (List ℕ)). shown_with x _ _ _ _ _ _) e₁
-    ∙ ap (λ (x : Option (List ℕ)). shown_with (Some ask.investor) x _ _ _ _ _) e₂
-    ∙ ap (λ (x : Option Side). shown_with (Some ask.investor) (Some ask.bond) x _ _ _ _) e₃
-    ∙ ap (λ (x : Option ℕ). shown_with (Some ask.investor) (Some ask.bond) (Some ask.side) x _ _ _) e₄
+    ∙ ap (λ (x : Option (List ℕ)). shown_with x bond_read side_read quantity_read deadline_read
+    time_read grid_read) e₁
+    ∙ ap (λ (x : Option (List ℕ)). shown_with (Some ask.investor) x side_read quantity_read
+    deadline_read time_read grid_read) e₂
+    ∙ ap (λ (x : Option Side). shown_with (Some ask.investor) (Some ask.bond) x quantity_read
+    deadline_read time_read grid_read) e₃
+    ∙ ap (λ (x : Option ℕ). shown_with (Some ask.investor) (Some ask.bond) (Some ask.side) x
+    deadline_read time_read grid_read) e₄
     ∙ ap (λ (x : Option ℕ). shown_with (Some ask.investor) (Some ask.bond) (Some ask.side)
-    (Some ask.quantity) x _ _) e₅
+    (Some ask.quantity) x time_read grid_read) e₅
     ∙ ap (λ (x : Option ℕ). shown_with (Some ask.investor) (Some ask.bond) (Some ask.side)
-    (Some ask.quantity) (Some ask.deadline) x _) e₆
+    (Some ask.quantity) (Some ask.deadline) x grid_read) e₆
     ∙ ap (λ (x : Option ℕ). shown_with (Some ask.investor) (Some ask.bond) (Some ask.side)
     (Some ask.quantity) (Some ask.deadline) (Some moment) x) e₇
     ∙ shown_all ask moment
 
 regrouped : (i b s q d e end : List ℕ)
-    → ((i ++ (32 ∷ (b ++ (32 ∷ (s ++ (32 ∷ q)))))) ++ (32 ∷ d)) ++ (32 ∷ (e ++ end))
+    → (i ++ 32 ∷ b ++ 32 ∷ s ++ 32 ∷ q ++ 32 ∷ d) ++ 32 ∷ (e ++ end)
     ≡ (i ++ (32 ∷ (b ++ (32 ∷ (s ++ (32 ∷ (q ++ (32 ∷ (d ++ (32 ∷ e)))))))))) ++ end
 regrouped i b s q d e end = simp append_assoc
 
@@ -240,7 +251,7 @@ shown_back date ask moment named bond least most grid deadline time =
     record {
       line = codes "shown " ++ t₁;
       written = ap (λ (l : List ℕ). codes "shown " ++ l)
-          (ap (λ (l : List ℕ). ((ask.investor ++ 32 ∷ ask.bond ++ 32 ∷ s ++ 32 ∷ q) ++ 32 ∷ d) ++ 32 ∷ l)
+          (ap (λ (l : List ℕ). (ask.investor ++ 32 ∷ ask.bond ++ 32 ∷ s ++ 32 ∷ q ++ 32 ∷ d) ++ 32 ∷ l)
           ends.written
           ∙ regrouped ask.investor ask.bond s q d t₆ (10 ∷ []));
       is_one = record {

@@ -1,6 +1,6 @@
 -- What `live` prints of one firm: among all messages those of the firm, a line each, in the order in
 -- which they are printed.
-use Rattle.std.specs.Prelude.{ℕ, Bool, ◌==◌, List, [], ◌++◌, drop, length, filter}
+use Rattle.std.specs.Prelude.{ℕ, Bool, ◌==◌, List, [], ◌∷◌, ◌++◌, drop, length, filter}
 use Rattle.venue_config.specs.Rows.{Configuration, values_of}
 use Rattle.step_replay.specs.LiveDays.{Sent, live_messages}
 use Rattle.venue_text.specs.DueText.{Lines}

@@ -61,5 +61,5 @@ pub record AreHeader (date : List ℕ) (row : DealerValues) (first second : List
 abbrev pub IsReadBack : List ℕ → List Due → Type 0
 IsReadBack date dues = (row : DealerValues) (first second : List ℕ)
     → AreHeader date row first second
-    → due_text_of (first ++ 10 ∷ second ++ 10 ∷ due_lines dues)
+    → due_text_of (first ++ 10 ∷ (second ++ 10 ∷ due_lines dues))
     ≡ Ok (record { date = date; row = row; dues = dues })
