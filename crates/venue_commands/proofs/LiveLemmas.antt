@@ -447,7 +447,7 @@ both_more dealer number line fault one before after keeps o e e' tells lines sta
     let more = subst (λ (n : ℕ). KeepsMore (dues dealer) second.config (taken_at second.config k had.behind) n line after fault) place
     (keeps second.config (dues dealer) (taken_at second.config k had.behind) second.keeps) in
     let faults : (taken_at second.config k (had.behind ++ line ∷ [])).faults
-        ≡ (taken_at second.config k had.behind).faults ++ option_to_list fault =
+    ≡ (taken_at second.config k had.behind).faults ++ option_to_list fault =
     ap (λ (t : Taken). t.faults) same ∙ more.told in
     record {
       first = had.first;
@@ -585,6 +585,7 @@ bad_by form line text fault here why = go fault why
     by : (f : ProgramFault) → OpensNone form text f → IsBad form line text f
     by f (inl is) = OfConfig here is
     by f (inr is) = OfFirm here is.0 is.1 is.2
+
     go : (f : ProgramFault) → (f ≢ Memory → OpensNone form text f) → IsBad form line text f
     go Memory none = OfMemory refl
     go NotRead none = by NotRead (none (λ e. cc))
@@ -886,7 +887,11 @@ module _ (dealer : List ℕ) (lines : List (List ℕ)) (line text : List ℕ) (d
 
   second_memory : Second Memory
   second_memory = record {
-    is_fault = tt; lines = lines; rest = line ∷ more; split = append_assoc lines (line ∷ []) more; left = so_far;
+    is_fault = tt;
+    lines = lines;
+    rest = line ∷ more;
+    split = append_assoc lines (line ∷ []) more;
+    left = so_far;
   }
 
   second_lawless : (fault : ProgramFault) → is_divider line ≡ true → venue_of text ≡ Err fault → Second fault
@@ -1213,8 +1218,7 @@ module _ (day : KeptDay) (o o' : Option (List ℕ)) where
   closes_kept text texts gained (answered form) lines start err is = absurd is
   closes_kept text texts gained (compared_for dealer) lines start err is = absurd is
   closes_kept text texts gained (kept_for wanted) lines start err is =
-      let text_is = texts is.config wanted (taken_in is.config lines) is.keeps in
-      (
+      let text_is = texts is.config wanted (taken_in is.config lines) is.keeps in (
         is.config,
         record {
           divided = is.answers.divided;
@@ -1310,14 +1314,13 @@ module _ (one other : KeptDay) (o o' : Option (List ℕ)) (text : List ℕ) (com
   pub closes_both : Appends o o' text → Closes (stage.Both one other) (record { before = o; after = o' })
   closes_both gained (answered form) lines start err is = absurd is
   closes_both gained (kept_for wanted) lines start err is = absurd is
-  closes_both gained (compared_for dealer) lines start err is =
-      (
-        text,
-        (
-          has_compared dealer lines one other text (record { before = start; after = o }) err compares is,
-          appends_both start o o' [] text is.goes.goes.answers.printed gained,
-        ),
-      )
+  closes_both gained (compared_for dealer) lines start err is = (
+    text,
+    (
+      has_compared dealer lines one other text (record { before = start; after = o }) err compares is,
+      appends_both start o o' [] text is.goes.goes.answers.printed gained,
+    ),
+  )
 
   pub closes_both_unprinted : (fault : ProgramFault) → fault ≡ Write → GainsPart text (record { before = o; after = o' })
       → CloseFails (stage.Both one other) fault (record { before = o; after = o' })
