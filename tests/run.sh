@@ -11,14 +11,15 @@
 # not done by then hangs, and has failed. What a machine can't do (a package that can't be had, no root)
 # is told as not run, and counts neither as passed nor as failed.
 #
-# SEED is the seed of all (1), JOBS how many processors they take (all).
+# SEED is the seed of all (1), JOBS how many processors they take (all). GATEWAY has a gateway that is
+# built already.
 set -u
 root=$(cd "$(dirname "$0")/.." && pwd)
 cd "$root" || exit 2
 seed=${SEED:-1}
 jobs=${JOBS:-$(nproc)}
 program=$root/crates/rfq_venue/out/rfq_venue
-gateway=$root/gateway/out/mireseason-gateway
+gateway=${GATEWAY:-}
 work=$(mktemp -d) || exit 2
 child=
 passed=0
@@ -85,6 +86,8 @@ gate() {
 }
 
 build_gateway() {
+    [ -z "$gateway" ] || return
+    gateway=$root/gateway/out/mireseason-gateway
     # shellcheck disable=SC2016 # of the inner shell
     form build 3600 "$(gateway/packages.sh)" 's/^100% tests passed, 0 tests failed out of \([0-9]*\)$/\1/p' \
         sh -c 'cmake -S gateway -B gateway/out && cmake --build gateway/out -j "$1" &&

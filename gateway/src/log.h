@@ -44,9 +44,9 @@ class Log {
     Log(const Log &) = delete;
     Log &operator=(const Log &) = delete;
 
-    // Who commits a message: the log's thread, which is woken for it, or the one that puts it, which
-    // calls commit() once it has no more. One that does not is found out by the log's thread a
-    // little later.
+    // Who commits a message: the log's thread, which is woken for it, or the one that puts it,
+    // which calls commit() once it has no more. One that does not is found out by the log's thread
+    // a little later.
     enum class Committer { thread, caller };
 
     // A message of a firm: the next place and the moment are given here. number is the session's,

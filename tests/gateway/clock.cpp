@@ -1,5 +1,6 @@
-// Stands between a process and its clock, by LD_PRELOAD: with CLOCK_AHEAD=SECONDS in the environment
-// the date and the time of day are so much later. Clocks that only measure are left alone.
+// Stands between a process and its clock, by LD_PRELOAD: with CLOCK_AHEAD=SECONDS in the
+// environment the date and the time of day are so much later. Clocks that only measure are left
+// alone.
 #include <dlfcn.h>
 #include <sys/time.h>
 #include <time.h>
