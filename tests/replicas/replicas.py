@@ -48,7 +48,7 @@ CAST = Cast.of(dealers=4, investors=2)
 NAMES = ("north", "south", "east", "west")
 USUAL_PACE = 0.1  # seconds that a message waits for an answer
 PACE = 0.4  # the same while something is damaged
-RECOVERY = 180.0  # seconds in which all has to be as it was
+RECOVERY = 420.0  # seconds in which all has to be as it was, on a machine that is busy, too
 LOGONS = 120.0  # seconds in which all firms log on
 STILL = 2.0  # seconds without an entry at the end of a day: longer than the shortest deadline
 LOOKS = 5  # how often the end of a day is looked at until no deadline comes in between

@@ -4,7 +4,7 @@ import threading
 from collections.abc import Callable
 from types import TracebackType
 
-STEP = 0.2
+STEP = 0.5
 
 
 class Watch:
