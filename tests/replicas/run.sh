@@ -10,7 +10,7 @@
 # VENUE has the words of the venue's program: crates/rfq_venue/out/rfq_venue if it is not set, which
 # `rt run` there builds, or tests/model/program.py, the second implementation. GATEWAY has a gateway
 # that is built already; terms, logs and appends are then not tried, which need the other programs
-# of that build. Short: one day of nine faults, two venues behind one gateway, appends. The last line
+# of that build. Short: two venues behind one gateway, and one day of nine faults. The last line
 # counts all: `N passed, M failed`.
 set -eu
 here=$(cd "$(dirname "$0")" && pwd)
