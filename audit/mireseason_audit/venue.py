@@ -16,7 +16,7 @@ from .faults import Lacking, Unreadable
 from .records import SOH
 
 LINE_FAULT = re.compile(rb"line ([0-9]+): (.*)\Z")
-ANSWER_SECONDS = 60  # the program answers a line by then
+ANSWER_SECONDS = 300  # the program answers a line by then, and says its version, if it does at all
 MOST_TOLD = 1000  # of the lines on standard error, so many are kept
 WRONG_ARGUMENTS = 2  # the status of the program for arguments that it does not know
 
@@ -55,7 +55,10 @@ class Venue:
         """What `--version` says; `unknown` where it says nothing."""
         try:
             done = subprocess.run(
-                [*self.words, "--version"], capture_output=True, timeout=60, check=False
+                [*self.words, "--version"],
+                capture_output=True,
+                timeout=ANSWER_SECONDS,
+                check=False,
             )
         except (OSError, subprocess.TimeoutExpired) as fault:
             raise Unreadable("the venue's program %s: %s" % (self, fault)) from None

@@ -16,7 +16,7 @@ class Cluster:
         for database in self.databases:
             database.start()
 
-    def wait_ready(self, limit: float = 120) -> None:
+    def wait_ready(self, limit: float = 300) -> None:
         until("a primary with two standbys, one of them synchronous", limit, self.is_ready)
 
     def is_ready(self) -> bool:

@@ -45,9 +45,10 @@ class Network:
 
     def up(self) -> None:
         switch = self.space("switch")
-        if tried("ip", "netns", "pids", switch):
-            raise Fault("there are namespaces %s-*: another runs here, or `down` was not done" %
-                        self.prefix)
+        if any(self.processes(name) for name in self.hosts):
+            raise Fault("there are namespaces %s-*, with processes in them: another runs here, or "
+                        "`down` was not done" % self.prefix)
+        self.down()  # what is left of one that was killed
         run("ip", "netns", "add", switch)
         run("ip", "-n", switch, "link", "add", "switch", "type", "bridge")
         run("ip", "-n", switch, "link", "set", "switch", "up")

@@ -1,5 +1,6 @@
 """The same log in PostgreSQL: a server of this test alone, in a folder of its own."""
 
+import os
 import shutil
 import sqlite3
 import subprocess
@@ -17,9 +18,13 @@ TABLES = ("entry", "sent", "outgoing", "session")
 
 
 def as_user(*words: object) -> list[str]:
-    """A server does not run as root."""
+    """A server does not run as root, and nobody else may become another."""
     listed = [str(word) for word in words]
-    return ["runuser", "-u", "postgres", "--", *listed] if shutil.which("runuser") else listed
+    return ["runuser", "-u", "postgres", "--", *listed] if is_root() else listed
+
+
+def is_root() -> bool:
+    return os.geteuid() == 0
 
 
 @unittest.skipUnless(SERVERS, "there is no PostgreSQL")
@@ -34,7 +39,8 @@ class Postgres(unittest.TestCase):
     def setUpClass(cls) -> None:
         cls.kept = folder()
         cls.place = Path(cls.kept.name)
-        shutil.chown(cls.place, "postgres")
+        if is_root():
+            shutil.chown(cls.place, "postgres")
         cls.bin, data = SERVERS[-1].parent, cls.place / "data"
         run(as_user(cls.bin / "initdb", "-D", data, "-A", "trust", "-U", "postgres", "--no-sync"))
         words = "-k %s -c listen_addresses= -c fsync=off" % cls.place

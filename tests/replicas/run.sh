@@ -10,18 +10,20 @@
 # VENUE has the words of the venue's program: crates/rfq_venue/out/rfq_venue if it is not set, which
 # `rt run` there builds, or tests/model/program.py, the second implementation. GATEWAY has a gateway
 # that is built already; terms, logs and appends are then not tried, which need the other programs
-# of that build. The last line counts all: `N passed, M failed`.
+# of that build. Short: two venues behind one gateway, and one day of nine faults. The last line
+# counts all: `N passed, M failed`.
 set -eu
 here=$(cd "$(dirname "$0")" && pwd)
 root=$(cd "$here/../.." && pwd)
 venue=${VENUE:-$root/crates/rfq_venue/out/rfq_venue}
 days="--days 3 --messages 2000 --faults 30"
-several="--days 1 --messages 600 --faults 18"
-upkeep="--upkeep --days 1 --messages 200 --faults 4"
+several="--venues 2 --days 1 --messages 600 --faults 18 --seed 101"
+upkeep="--upkeep --days 1 --messages 200 --faults 4 --seed 201"
+short=
 if [ "${1:-}" = short ]; then
     shift
+    short=yes
     days="--days 1 --messages 300 --faults 9"
-    several="--days 1 --messages 300 --faults 9"
 fi
 
 program=${venue%% *}
@@ -56,9 +58,10 @@ part() {
     *)
         [ -n "${GATEWAY:-}" ] || part python3 "$here/appends.py" "$root/gateway/out" --seconds 5
         part python3 "$here/venues.py" "$gateway" "$work/player" -- $venue
-        part python3 "$here/replicas.py" "$gateway" "$work/player" $several --venues 2 \
-            --seed 101 -- $venue
-        part python3 "$here/replicas.py" "$gateway" "$work/player" $upkeep --seed 201 -- $venue
+        if [ -z "$short" ]; then
+            part python3 "$here/replicas.py" "$gateway" "$work/player" $several -- $venue
+            part python3 "$here/replicas.py" "$gateway" "$work/player" $upkeep -- $venue
+        fi
         ;;
     esac
     part python3 "$here/replicas.py" "$gateway" "$work/player" $days "$@" -- $venue
