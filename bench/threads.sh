@@ -6,12 +6,7 @@
 #
 #     bench/threads.sh [PROGRAM]
 set -e
-here=$(cd "$(dirname "$0")" && pwd)
-crate=$here/../crates/rfq_venue
-program=${1:-$crate/out/rfq_venue}
-make=$(mktemp -d)
-trap 'rm -rf "$make"' EXIT
-[ -n "$1" ] || (cd "$crate" && rt run -- alone < ../../examples/first-quote.due > /dev/null 2>&1)
+. "$(dirname "$0")/program.sh"
 messages=6000
 day() {  # the configuration and the messages of so many pairs, with `turn` lines behind them or without
     awk -v pairs="$1" -v turns="$2" -v requests=$((messages / 3 / $1)) 'BEGIN {

@@ -6,12 +6,7 @@
 #
 #     bench/venue.sh [PROGRAM]
 set -e
-here=$(cd "$(dirname "$0")" && pwd)
-crate=$here/../crates/rfq_venue
-program=${1:-$crate/out/rfq_venue}
-make=$(mktemp -d)
-trap 'rm -rf "$make"' EXIT
-[ -n "$1" ] || (cd "$crate" && rt run -- alone < ../../examples/first-quote.due > /dev/null 2>&1)
+. "$(dirname "$0")/program.sh"
 g++ -std=c++14 -O3 -w -o "$make/venue" "$here/venue.cpp" -lquickfix -lpthread
 instructions() {
     valgrind --tool=callgrind --callgrind-out-file=/dev/null "$@" 2>&1 > /dev/null | sed -n 's/.*Collected : //p'

@@ -1,13 +1,14 @@
 #!/usr/bin/env python3
-"""A whole installation on this machine: three database hosts with etcd, Patroni and PostgreSQL, two gateways with their
-venues, each host a network namespace of its own.
+"""A whole installation on this machine: three database hosts with etcd, Patroni and PostgreSQL, two
+gateways with their venues, each host a network namespace of its own.
 
 usage: one_machine.py up FOLDER [--images FOLDER] [--gateway PROGRAM] [--venue WORDS] [--day FOLDER]
        one_machine.py down FOLDER [--images FOLDER]
 
-`up` starts all, prints where what is, stays, and takes all down at its end: Ctrl-C, SIGTERM, or the end of its input if
-that is a pipe. `down` takes down what an `up` left that was killed. The day's folder has the venue's configuration
-(venue.toml, whose date is set to today's) and the firms' credentials.toml: examples/gateway if none is named.
+`up` starts all, prints where what is, stays, and takes all down at its end: Ctrl-C or SIGTERM.
+`down` takes down what an `up` left that was killed. The day's folder has the venue's configuration
+(venue.toml, whose date is set to today's) and the firms' credentials.toml: examples/gateway if none
+is named.
 """
 
 import argparse
@@ -17,16 +18,19 @@ import sys
 import time
 from datetime import datetime, timezone
 from pathlib import Path
+from typing import NoReturn
 
 HERE = Path(__file__).resolve().parent
 sys.dont_write_bytecode = True
 sys.path.insert(0, str(HERE))
 
-from parts.gateway import PORT, Programs
-from parts.machine import FIRMS, Machine, check_root, remove
-from parts.run import Fault
+from parts.gateway import PORT
+from parts.machine import FIRMS, Machine, check_root, remove, site_here
+from parts.run import Fault, whole_paths
+from parts.site import ALONE
 
 ROOT = HERE.parent
+LOOK = 0.5  # seconds from one look at who speaks to the next
 
 
 def read_words() -> argparse.Namespace:
@@ -45,7 +49,7 @@ def today(venue: str) -> str:
     return re.sub(r'(?m)^date = .*$', 'date = "%s"' % date, venue)
 
 
-def stay(machine: Machine) -> None:
+def stay(machine: Machine) -> NoReturn:
     """Until a signal; says who speaks whenever that changes."""
     known = ""
     while True:
@@ -54,15 +58,14 @@ def stay(machine: Machine) -> None:
         if name != known:
             print("%s speaks" % name, flush=True)
             known = name
-        time.sleep(0.5)
+        time.sleep(LOOK)
 
 
 def up(words: argparse.Namespace, images: Path) -> None:
-    venue = [str(Path(word).resolve()) if Path(word).exists() else word for word in words.venue.split()]
-    programs = Programs(words.gateway.resolve(), tuple(venue))
-    machine = Machine(words.folder.resolve(), images, programs)
+    site = site_here(whole_paths(words.venue.split()))
+    machine = Machine(words.folder.resolve(), images, words.gateway.resolve(), site)
     try:
-        machine.up(today((words.day / "venue.toml").read_text()),
+        machine.up({ALONE: today((words.day / "venue.toml").read_text())},
                    (words.day / "credentials.toml").read_text())
         for gateway in machine.gateways:
             print("%s is %s:%d, from `%s`" % (gateway.name, gateway.host.address, PORT,

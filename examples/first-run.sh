@@ -21,7 +21,8 @@ case "${1:-}" in
 esac
 command -v rt >/dev/null || { echo "the command rt is not on the PATH" >&2; exit 2; }
 
-say() { printf '\n== %s\n' "$*"; }
+start=$(date +%s)
+say() { printf '\n== %s (%d s from the start)\n' "$*" "$(($(date +%s) - start))"; }
 
 say "Packages of Debian"
 # shellcheck disable=SC2046 # a word for each package
@@ -39,7 +40,8 @@ fi
 
 say "The gateway"
 cmake -S "$root/gateway" -B "$root/gateway/out" >/dev/null
-cmake --build "$root/gateway/out" -j 2
+cmake --build "$root/gateway/out" -j "$(nproc)"
 
 say "An auction over TCP"
 VENUE=$venue "$root/examples/gateway/run.sh"
+say "Done"

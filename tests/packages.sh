@@ -1,7 +1,11 @@
 #!/bin/sh
-# Installs those of the named Debian packages that are missing. Status 1, with a line for each, where
-# one is missing still. usage: tests/packages.sh PACKAGE ..
+# Installs those of the named Debian packages that are missing; waits, within limits, where another
+# has apt's locks. Status 1, with a line for each, where one is missing still. usage: tests/packages.sh
+# PACKAGE ..
 set -eu
+locked=300  # seconds that a lock is waited for
+longest=900 # seconds of one call of apt-get
+
 missing() {
     for package in "$@"; do
         dpkg-query -W -f='${Status}' "$package" 2>/dev/null | grep -q '^install ok installed' ||
@@ -12,16 +16,31 @@ missing() {
 set -- $(missing "$@")
 [ $# -gt 0 ] || exit 0
 as_root=
-[ "$(id -u)" = 0 ] || as_root=sudo
+[ "$(id -u)" = 0 ] || as_root="sudo -n"
 echo "installing $*" >&2
 export DEBIAN_FRONTEND=noninteractive
+told=$(mktemp)
+trap 'rm -f "$told"' EXIT
+
+# apt WORDS ..: in $told what it says.
+apt() {
+    $as_root timeout "$longest" apt-get -qq -o "DPkg::Lock::Timeout=$locked" "$@" </dev/null >"$told" 2>&1
+}
 install() {
-    $as_root timeout 300 apt-get install -y -qq --no-install-recommends "$@" >/dev/null 2>&1
+    apt install -y --no-install-recommends "$@"
+}
+# The lock of the lists is none of those that apt-get waits for.
+update() {
+    end=$(($(date +%s) + locked))
+    until apt update; do
+        grep -q 'get lock' "$told" && [ "$(date +%s)" -lt "$end" ] || return 0
+        sleep 5
+    done
 }
 install "$@" || {
-    $as_root timeout 120 apt-get update -qq >/dev/null 2>&1 || true
+    update
     # One by one where they can't be had together.
-    install "$@" || for package in "$@"; do install "$package" || true; done
+    install "$@" || for package in "$@"; do install "$package" || tail -n 3 "$told" >&2; done
 }
 # shellcheck disable=SC2046 # a word for each package
 set -- $(missing "$@")

@@ -40,6 +40,7 @@ CALLERS = {
     "recorded_days": ("venue_commands/src/days.rt", "count_woven"),
     "venue_text": ("venue_commands/src/live.rt", "answer_step"),
     "venue_commands": ("rfq_venue/src/main.rt", "main"),
+    "venue_places": ("session_worker/src/duties.rt", "act"),
     "blotter": ("venue_text/src/printed_blotter.rt", "lines_text"),
     "session_worker": ("venue_commands/src/days.rt", "day_text"),
 }

@@ -1,81 +1,147 @@
 #!/bin/sh
-# Everything that is tried: the gate, and then short forms of the tests that stand beside it, in twelve
-# minutes at most. Installs what is missing from Debian. The last line counts all: `N passed, M failed`.
+# Everything that is tried: the gate, and then short forms of the tests that stand beside it, which take
+# twelve minutes at most on a machine of four processors that does nothing else. Installs what is missing
+# from Debian. The last line counts all: `N passed, M failed`.
 #
 #     tests/run.sh                 the gate first
 #     tests/run.sh --beside        the short forms alone, with the program that stands
 #
-# Each short form prints a line of its own, with its seed and its time, and has a limit of time: one
-# that is not done by then has failed. Where a package is missing that can't be installed, what needs it
+# Each short form prints a line of its own, with its seed and its time; one that fails is counted, its
+# last lines are printed, and the others go on. Its limit of time is many times what it takes: one that is
+# not done by then hangs, and has failed. What a machine can't do (a package that can't be had, no root)
 # is told as not run, and counts neither as passed nor as failed.
 #
-# SEED is the seed of all (1), JOBS how many processors they take (2).
+# SEED is the seed of all (1), JOBS how many processors they take (all).
 set -u
 root=$(cd "$(dirname "$0")/.." && pwd)
 cd "$root" || exit 2
 seed=${SEED:-1}
-jobs=${JOBS:-2}
+jobs=${JOBS:-$(nproc)}
 program=$root/crates/rfq_venue/out/rfq_venue
-work=$(mktemp -d)
-trap 'rm -rf "$work"' EXIT
-trap 'exit 143' TERM INT
+gateway=$root/gateway/out/mireseason-gateway
+work=$(mktemp -d) || exit 2
+child=
 passed=0
 failed=0
+end() {
+    [ -z "$child" ] || kill "$child" 2>/dev/null
+    rm -rf "$work"
+}
+trap end EXIT
+trap 'exit 143' HUP INT TERM
+exec </dev/null
+export LC_ALL=C.UTF-8
+# Compilers, databases and browsers want a place of their own.
+[ -n "${HOME:-}" ] && [ -w "$HOME" ] || export HOME="$work"
+
+# count GOOD BAD
+count() {
+    passed=$((passed + $1))
+    failed=$((failed + $2))
+}
+
+# in_time SECONDS COMMAND ..: so that a signal to this script ends the command too.
+in_time() {
+    timeout -k 30 "$@" >"$work/told" 2>&1 &
+    child=$!
+    status=0
+    wait "$child" || status=$?
+    child=
+    [ "$status" != 124 ] || echo "not done in $1 s" >>"$work/told"
+    return "$status"
+}
 
 # form NAME SECONDS PACKAGES COUNT COMMAND ..: COUNT is a sed script that prints how many were tried.
 form() {
-    name=$1 limit=$2 packages=$3 count=$4
+    name=$1 limit=$2 packages=$3 tried=$4
     shift 4
     # shellcheck disable=SC2086 # a word for each package
     if ! tests/packages.sh $packages 2>"$work/packages"; then
-        echo "$name: not run: $(grep 'not installed' "$work/packages" | cut -d ' ' -f 1 | paste -sd ' ') can't be installed"
+        echo "$name: not run: can't be installed: $(sed -n 's/ is not installed.*//p' "$work/packages" | paste -sd ' ')"
         return
     fi
     began=$(date +%s)
-    status=0
-    timeout -k 20 "$limit" "$@" >"$work/$name" 2>&1 || status=$?
+    good=
+    ! in_time "$limit" "$@" || good=$(sed -n "$tried" "$work/told" | tail -n 1)
     took=$(($(date +%s) - began))
-    tried=$(sed -n "$count" "$work/$name" | tail -n 1)
-    if [ "$status" = 0 ] && [ -n "$tried" ]; then
-        echo "$name: $tried passed, seed $seed, $took s"
-        passed=$((passed + tried))
+    if [ -n "$good" ]; then
+        echo "$name: $good passed, seed $seed, $took s"
+        count "$good" 0
         return
     fi
-    [ "$status" != 124 ] || echo "not done in $limit s" >>"$work/$name"
-    tail -n 20 "$work/$name"
-    bad=$(sed -n 's/^[0-9]* passed, \([1-9][0-9]*\) failed$/\1/p' "$work/$name" | tail -n 1)
-    good=$(sed -n 's/^\([0-9]*\) passed, [1-9][0-9]* failed$/\1/p' "$work/$name" | tail -n 1)
+    tail -n 30 "$work/told"
+    good=$(sed -n 's/^\([0-9]*\) passed, [1-9][0-9]* failed$/\1/p' "$work/told" | tail -n 1)
+    bad=$(sed -n 's/^[0-9]* passed, \([1-9][0-9]*\) failed$/\1/p' "$work/told" | tail -n 1)
     echo "$name: ${good:-0} passed, ${bad:-1} failed, seed $seed, $took s"
-    passed=$((passed + ${good:-0}))
-    failed=$((failed + ${bad:-1}))
+    count "${good:-0}" "${bad:-1}"
 }
 
 gate() {
     rt ci | tee "$work/gate"
-    count=$(sed -n 's/^\([0-9]*\) passed, \([0-9]*\) failed$/\1 \2/p' "$work/gate" | tail -n 1)
-    good=${count% *} bad=${count#* }
-    echo "gate: ${good:-0} passed, ${bad:-1} failed"
-    passed=$((passed + ${good:-0}))
-    failed=$((failed + ${bad:-1}))
+    told=$(sed -n 's/^\([0-9]*\) passed, \([0-9]*\) failed$/\1 \2/p' "$work/gate" | tail -n 1)
+    told=${told:-0 1}
+    echo "gate: ${told% *} passed, ${told#* } failed"
+    count "${told% *}" "${told#* }"
+}
+
+build_gateway() {
+    # shellcheck disable=SC2016 # of the inner shell
+    form build 3600 "$(gateway/packages.sh)" 's/^100% tests passed, 0 tests failed out of \([0-9]*\)$/\1/p' \
+        sh -c 'cmake -S gateway -B gateway/out && cmake --build gateway/out -j "$1" &&
+            ctest --test-dir gateway/out --output-on-failure' build "$jobs"
+}
+
+# Hosts are network namespaces, whose disks are files.
+try_replicas() {
+    if [ "$(id -u)" != 0 ] || ! unshare --net true 2>"$work/why" || ! losetup -f >"$work/why" 2>&1; then
+        echo "replicas: not run: namespaces and file systems are made by root alone, and not in each container"
+        return
+    fi
+    images=/dev/shm/mireseason
+    [ "$(df --output=avail -k /dev/shm 2>/dev/null | tail -n 1)" -gt 1500000 ] || images=$work/images
+    form replicas 1800 "$(gateway/packages.sh) postgresql patroni etcd-server etcd-client iproute2" \
+        's/^\([0-9]*\) passed, 0 failed$/\1/p' env VENUE="$program" GATEWAY="$gateway" \
+        tests/replicas/run.sh short --messages 200 --faults 4 --seed "$seed" --images "$images"
 }
 
 beside() {
     if ! [ -x "$program" ]; then
         echo "there is no program $program: nothing beside the gate can be tried"
-        failed=$((failed + 1))
+        count 0 1
         return
     fi
-    form pages 60 python3 's/^\([0-9]*\) passed, 0 failed$/\1/p' \
+    start=$(date +%s)
+    # The audit asks for the flag --live; a program that has it not yet is stood in for by the second
+    # implementation.
+    supervised=$program
+    without_live=
+    if ! "$program" --help 2>&1 | grep -q -e --live; then
+        supervised="/usr/bin/python3 $root/tests/model/program.py"
+        without_live=--without-live
+    fi
+    form pages 600 python3 's/^\([0-9]*\) passed, 0 failed$/\1/p' \
         python3 tests/pages.py --venue "$program"
-    form engines 120 "g++ libquickfix-dev" '$s/.*/1/p' tests/engines/run.sh "$program"
-    form model 45 python3 's/^\([0-9]*\) inputs, .*: no difference$/\1/p' \
-        python3 tests/model/compare.py --without-live "$program" 1000 "$seed" "$jobs"
-    form isolation 45 python3 's/^seeds .*: \([0-9]*\) pairs with equal due lists.*/\1/p' \
+    form page_checks 300 python3 's/^Ran \([0-9]*\) tests in .*/\1/p' \
+        env PYTHONPATH=tests python3 -m unittest page_checks.test_checks
+    form engines 900 "g++ libquickfix-dev" '$s/.*/1/p' tests/engines/run.sh "$program"
+    # shellcheck disable=SC2086 # a word or none
+    form model 600 python3 's/^\([0-9]*\) inputs, .*: no difference$/\1/p' \
+        python3 tests/model/compare.py $without_live "$program" 1000 "$seed" "$jobs"
+    form threads 600 python3 's/^\([0-9]*\) passed, 0 failed$/\1/p' \
+        python3 tests/model/lawful.py "$program" 40 "$seed"
+    form isolation 600 python3 's/^seeds .*: \([0-9]*\) pairs with equal due lists.*/\1/p' \
         python3 tests/isolation/pairs.py "$program" 1000 "$seed" "$jobs"
-    form hostile 45 python3 's/^\([0-9]*\) inputs from seed .*/\1/p' \
+    form hostile 600 python3 's/^\([0-9]*\) inputs from seed .*/\1/p' \
         python3 tests/hostile/inputs.py "$program" spoilt 1000 "$seed" "$jobs"
-    form gateway 465 "$(gateway/packages.sh) openssl postgresql" 's/^\([0-9]*\) passed, 0 failed$/\1/p' \
-        env VENUE="$program" SEED="$seed" tests/gateway/run.sh short
+    build_gateway
+    form gateway 2400 "$(gateway/packages.sh) openssl postgresql" 's/^\([0-9]*\) passed, 0 failed$/\1/p' \
+        env VENUE="$program" GATEWAY="$gateway" SEED="$seed" tests/gateway/run.sh short
+    tests/packages.sh chromium 2>"$work/packages" || echo "audit: without a browser: chromium can't be installed"
+    form audit 1800 "python3 python3-jinja2 python3-psycopg2 openssl sqlite3 postgresql" \
+        's/^Ran \([0-9]*\) tests* in .*/\1/p' \
+        env VENUE="$supervised" GATEWAY="$gateway" SEED="$seed" tests/audit/run.sh short
+    try_replicas
+    echo "beside the gate: $(($(date +%s) - start)) s"
 }
 
 case "${1:-}" in

@@ -3,6 +3,7 @@ against the log.
 """
 
 import itertools
+from abc import ABC, abstractmethod
 from collections.abc import Iterable, Iterator
 from dataclasses import dataclass
 from pathlib import Path
@@ -58,14 +59,22 @@ class ChainJob:
 
 
 @dataclass(frozen=True)
-class ReplayJob:
-    """`replay --live`, all firms, against `sent`."""
+class FindingsJob(ABC):
+    """A job that opens the log for itself."""
 
     audited: Audited
 
     def __call__(self, step: Step) -> list[Finding]:
         with self.audited.source.open() as log:
             return list(self._findings(log, step))
+
+    @abstractmethod
+    def _findings(self, log: Log, step: Step) -> Iterator[Finding]:
+        """What is not as it should be."""
+
+
+class ReplayJob(FindingsJob):
+    """`replay --live`, all firms, against `sent`."""
 
     def _findings(self, log: Log, step: Step) -> Iterator[Finding]:
         names = [firm.name for firm in self.audited.day.firms]
@@ -90,15 +99,8 @@ class ReplayJob:
             yield Finding("entries", text, place)
 
 
-@dataclass(frozen=True)
-class PlacesJob:
+class PlacesJob(FindingsJob):
     """`live --marks` against the places that `sent` has."""
-
-    audited: Audited
-
-    def __call__(self, step: Step) -> list[Finding]:
-        with self.audited.source.open() as log:
-            return list(self._findings(log, step))
 
     def _findings(self, log: Log, step: Step) -> Iterator[Finding]:
         rows: dict[str, Iterator[Sent]] = {}
@@ -120,30 +122,27 @@ class PlacesJob:
 
 
 @dataclass(frozen=True)
-class AloneJob:
+class AloneJob(FindingsJob):
     """`due --live` of a dealer, and `alone` of that, against what it was sent."""
 
-    audited: Audited
     dealer: str
 
-    def __call__(self, step: Step) -> list[Finding]:
+    def _findings(self, log: Log, step: Step) -> Iterator[Finding]:
         venue, files = self.audited.venue, self.audited.files
         due = files.due(self.dealer)
         venue.to_file(["due", self.dealer, "--live"], files.day, due)
-        with self.audited.source.open() as log, venue.run(["alone", "--frames"], due) as run:
-            return list(held(self.dealer, log.sent(self.dealer), run.lines(), step, ALONE))
+        with venue.run(["alone", "--frames"], due) as run:
+            yield from held(self.dealer, log.sent(self.dealer), run.lines(), step, ALONE)
 
 
 @dataclass(frozen=True)
-class WireJob:
+class WireJob(FindingsJob):
     """What a firm's session carried, against what the venue gave for it."""
 
-    audited: Audited
     firm: str
 
-    def __call__(self, step: Step) -> list[Finding]:
-        with self.audited.source.open() as log:
-            return list(check_wire(log, self.firm))
+    def _findings(self, log: Log, step: Step) -> Iterator[Finding]:
+        return check_wire(log, self.firm)
 
 
 def place_finding(row: Sent | None, place: int, number: int, line: bytes) -> Finding:

@@ -2,14 +2,11 @@
 
 from abc import ABC, abstractmethod
 from collections.abc import Iterator
-from contextlib import AbstractContextManager
 from dataclasses import dataclass
-from types import TracebackType
 
+from .closing import Closing
 from .faults import Wrong
 from .records import Day, Entry, Outgoing, Sent, configured, day_of
-
-FORM = 1  # of the tables, as gateway/schema.sql has it
 
 
 @dataclass(frozen=True)
@@ -21,7 +18,7 @@ class Counts:
     outgoing: int
 
 
-class Log(AbstractContextManager["Log"], ABC):
+class Log(Closing):
     """Reads the rows of a log. Every list is read row by row, so none is held."""
 
     has_chain: bool = True  # whether the entries have hashes, and the sessions their messages
@@ -74,24 +71,12 @@ class Log(AbstractContextManager["Log"], ABC):
     def counts(self) -> Counts:
         """How many rows there are."""
 
-    @abstractmethod
-    def close(self) -> None:
-        """Lets the log go."""
-
     def day(self) -> Day:
         """The day in entry 0."""
         first = next(self.entries(), None)
         if first is None or first.place != 0:
             raise Wrong("the log has no entry 0, which says what day it is of")
         return day_of(first.line) if self.has_chain else configured("", "", first.line)
-
-    def __exit__(
-        self,
-        kind: type[BaseException] | None,
-        value: BaseException | None,
-        trace: TracebackType | None,
-    ) -> None:
-        self.close()
 
 
 class Source(ABC):

@@ -12,7 +12,6 @@ from .check import Checker, Result, Verdict, judged, rows_of
 from .dictionary import read_dictionary
 from .faults import Unreadable
 from .firm_pages import FirmJob, page_name
-from .jobs import Files
 from .reading import Reader
 from .request_pages import RequestJob, file_name
 from .summary import Summary, SummaryJob

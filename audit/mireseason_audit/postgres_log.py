@@ -5,14 +5,19 @@ from collections.abc import Iterator
 from dataclasses import dataclass
 from typing import Any
 
-import psycopg2
+import psycopg2  # type: ignore[import]  # Debian has no stubs of it
 from psycopg2 import sql
 
 from .faults import Unreadable
-from .log import FORM, Counts, Log, Source
+from .log import Log, Source
 from .records import Entry, Outgoing, Sent
+from .sql_log import SqlLog, check_form
 
+FORM = 2  # of the tables, as gateway/terms.sql has it
 ROWS_AT_A_TIME = 1000
+ENTRY = "SELECT place, term, moment, firm, number, line, before, hash FROM entry"
+SENT = "SELECT firm, number, place, bytes FROM sent WHERE firm = %s ORDER BY number"
+OUTGOING = "SELECT firm, number, sent, bytes FROM outgoing WHERE firm = %s ORDER BY number"
 REJECTED = """SELECT place, number FROM entry WHERE number IS NOT NULL AND place IN
     (SELECT place FROM sent WHERE firm = %s AND position('\\x0133353D3301'::bytea IN bytes) > 0)"""
 
@@ -32,7 +37,7 @@ class PostgresSource(Source):
         return PostgresLog(self)
 
 
-class PostgresLog(Log):
+class PostgresLog(SqlLog):
     """One transaction that reads, and sees the log as it was when it began."""
 
     def __init__(self, source: PostgresSource) -> None:
@@ -48,10 +53,9 @@ class PostgresLog(Log):
                 forms = cursor.fetchall()
         except psycopg2.Error as fault:
             raise Unreadable("%s: no log can be read: %s" % (self._name, one_line(fault))) from None
-        if forms != [(FORM,)]:
-            raise Unreadable("%s: the form of its tables is not %d" % (self._name, FORM))
+        check_form(self._name, forms, FORM)
 
-    def _rows(self, query: str, *values: object) -> Iterator[tuple[Any, ...]]:
+    def rows(self, query: str, *values: object) -> Iterator[tuple[Any, ...]]:
         try:
             with self._connection.cursor("audit_%d" % next(self._cursors)) as cursor:
                 cursor.itersize = ROWS_AT_A_TIME
@@ -61,6 +65,10 @@ class PostgresLog(Log):
         except psycopg2.Error as fault:
             raise Unreadable("%s: %s" % (self._name, one_line(fault))) from None
 
+    @staticmethod
+    def bytes_of(value: Any) -> bytes:
+        return bytes(value)
+
     def entries(self) -> Iterator[Entry]:
         return self._entries(" ORDER BY place")
 
@@ -68,58 +76,27 @@ class PostgresLog(Log):
         return self._entries(" WHERE firm = %s ORDER BY place", firm)
 
     def _entries(self, which: str, *values: object) -> Iterator[Entry]:
-        query = "SELECT place, term, moment, firm, number, line, before, hash FROM entry"
-        for row in self._rows(query + which, *values):
+        for row in self.rows(ENTRY + which, *values):
             place, term, moment, firm, number, line, before, hash_ = row
-            yield Entry(
-                place, term, moment, firm, number, bytes(line), bytes(before), bytes(hash_)
-            )
+            hashes = bytes(before), bytes(hash_)
+            yield Entry(place, term, moment, firm, number, bytes(line), *hashes)
 
     def sent(self, firm: str) -> Iterator[Sent]:
-        query = "SELECT firm, number, place, bytes FROM sent WHERE firm = %s ORDER BY number"
-        for name, number, place, data in self._rows(query, firm):
+        for name, number, place, data in self.rows(SENT, firm):
             yield Sent(name, number, place, bytes(data))
 
     def outgoing(self, firm: str) -> Iterator[Outgoing]:
-        query = "SELECT firm, number, sent, bytes FROM outgoing WHERE firm = %s ORDER BY number"
-        for name, number, carried, data in self._rows(query, firm):
+        for name, number, carried, data in self.rows(OUTGOING, firm):
             yield Outgoing(name, number, carried, bytes(data))
 
-    def lines(self) -> Iterator[bytes]:
-        rows = self._rows("SELECT line FROM entry WHERE place > 0 ORDER BY place")
-        return (bytes(line) for line, in rows)
-
-    def places(self) -> Iterator[int]:
-        return (row[0] for row in self._rows("SELECT place FROM entry ORDER BY place"))
-
     def session_numbers(self, firm: str) -> dict[int, int]:
-        return {place: number for place, number in self._rows(REJECTED, firm)}
-
-    def targets(self) -> dict[str, int]:
-        return {firm: target for firm, target in self._rows("SELECT firm, target FROM session")}
-
-    def firms(self) -> set[str]:
-        query = "SELECT firm FROM sent UNION SELECT firm FROM outgoing"
-        query += " UNION SELECT firm FROM entry WHERE firm IS NOT NULL"
-        return {firm for firm, in self._rows(query)}
+        return {place: number for place, number in self.rows(REJECTED, firm)}
 
     def count_of(self, firm: str) -> int:
-        ((count,),) = self._rows("SELECT count(*) FROM sent WHERE firm = %s", firm)
+        ((count,),) = self.rows("SELECT count(*) FROM sent WHERE firm = %s", firm)
         return int(count)
 
-    def last_numbers(self) -> list[tuple[str, int, int]]:
-        query = "SELECT firm, max(number), max(place) FROM entry WHERE number IS NOT NULL"
-        return [(firm, number, place) for firm, number, place in
-                self._rows(query + " AND firm IS NOT NULL GROUP BY firm")]
-
-    def counts(self) -> Counts:
-        (row,) = self._rows(
-            "SELECT (SELECT count(*) FROM entry), (SELECT count(*) FROM sent),"
-            " (SELECT count(*) FROM outgoing)"
-        )
-        return Counts(*row)
-
-    def close(self) -> None:
+    def close(self, failed: bool = False) -> None:
         self._connection.close()
 
 

@@ -70,10 +70,6 @@ class Request:
     end_moment: str = ""
 
     @property
-    def file(self) -> str:
-        return "request-%04d.html" % self.key
-
-    @property
     def buys(self) -> bool:
         return self.side == "1"
 

@@ -1,20 +1,24 @@
 """A log in a file of SQLite, read in one transaction."""
 
 import sqlite3
-from collections.abc import Iterator
+from collections.abc import Callable, Iterator
 from dataclasses import dataclass
 from pathlib import Path
-from typing import Any
+from typing import Any, TypeVar
 
 from .faults import Unreadable
-from .log import FORM, Counts, Log, Source
+from .log import Log, Source
 from .records import Entry, Outgoing, Sent
+from .sql_log import SqlLog, as_text, check_form
 
+FORM = 1  # of the tables, as gateway/schema.sql has it
 ENTRY = "SELECT place, term, moment, firm, number, line, before, hash FROM entry"
 SENT = "SELECT firm, number, place, bytes FROM sent WHERE firm = ? ORDER BY number"
 OUTGOING = "SELECT firm, number, sent, bytes FROM outgoing WHERE firm = ? ORDER BY number"
 REJECTED = """SELECT place, number FROM entry WHERE number IS NOT NULL AND place IN
     (SELECT place FROM sent WHERE firm = ? AND instr(bytes, x'0133353D3301') > 0)"""
+
+Row = TypeVar("Row")
 
 
 @dataclass(frozen=True)
@@ -33,8 +37,8 @@ class SqliteSource(Source):
         return SqliteLog(self)
 
 
-class SqliteLog(Log):
-    """One transaction over the file."""
+class SqliteLog(SqlLog):
+    """One transaction over the file. Any column may hold a value of any type."""
 
     def __init__(self, source: SqliteSource) -> None:
         self.has_chain = source.has_chain
@@ -46,14 +50,20 @@ class SqliteLog(Log):
             forms = self._connection.execute("SELECT number FROM form").fetchall()
         except sqlite3.Error as fault:
             raise Unreadable("%s is no log of the gateway: %s" % (source.path, fault)) from None
-        if forms != [(FORM,)]:
-            raise Unreadable("%s: the form of its tables is not %d" % (source.path, FORM))
+        check_form(str(source.path), forms, FORM)
 
-    def _rows(self, query: str, *values: object) -> Iterator[tuple[Any, ...]]:
+    def rows(self, query: str, *values: object) -> Iterator[tuple[Any, ...]]:
         try:
             yield from self._connection.execute(query, values)
         except sqlite3.Error as fault:
             raise Unreadable("%s: %s" % (self._name, fault)) from None
+
+    @staticmethod
+    def bytes_of(value: Any) -> bytes:
+        """Those that SQLite gives whoever asks for a column as bytes."""
+        if isinstance(value, bytes):
+            return value
+        return b"" if value is None else str(value).encode()
 
     def entries(self) -> Iterator[Entry]:
         return self._entries(" ORDER BY place")
@@ -62,65 +72,42 @@ class SqliteLog(Log):
         return self._entries(" WHERE firm = ? ORDER BY place", firm)
 
     def _entries(self, which: str, *values: object) -> Iterator[Entry]:
-        for row in self._rows(ENTRY + which, *values):
+        as_bytes = self.bytes_of
+        for row in self.rows(ENTRY + which, *values):
             place, term, moment, firm, number, line, before, hash_ = row
             if type(line) is not bytes or type(before) is not bytes or type(hash_) is not bytes:
                 line, before, hash_ = as_bytes(line), as_bytes(before), as_bytes(hash_)
             if type(moment) is not str or not (firm is None or type(firm) is str):
                 moment, firm = as_text(moment), None if firm is None else as_text(firm)
-            check_numbers("entry %s" % place, place, term, number)
+            if type(place) is not int or type(term) is not int or type(number) is not int:
+                check_numbers("entry", place, place, term, number)
             yield Entry(place, term, moment, firm, number, line, before, hash_)
 
     def sent(self, firm: str) -> Iterator[Sent]:
-        for name, number, place, data in self._rows(SENT, firm):
-            if type(data) is not bytes:
-                data = as_bytes(data)
-            check_numbers("sent %s %s" % (firm, number), number, place)
-            yield Sent(name, number, place, data)
+        return self._messages(SENT, "sent %s" % firm, firm, Sent)
 
     def outgoing(self, firm: str) -> Iterator[Outgoing]:
-        for name, number, carried, data in self._rows(OUTGOING, firm):
+        return self._messages(OUTGOING, "outgoing %s" % firm, firm, Outgoing)
+
+    def _messages(
+        self, query: str, table: str, firm: str, row: Callable[[str, int, int, bytes], Row]
+    ) -> Iterator[Row]:
+        """The messages of a firm, as rows of a table."""
+        for name, number, other, data in self.rows(query, firm):
             if type(data) is not bytes:
-                data = as_bytes(data)
-            check_numbers("outgoing %s %s" % (firm, number), number, carried)
-            yield Outgoing(name, number, carried, data)
-
-    def lines(self) -> Iterator[bytes]:
-        for line, in self._rows("SELECT line FROM entry WHERE place > 0 ORDER BY place"):
-            yield line if type(line) is bytes else as_bytes(line)
-
-    def places(self) -> Iterator[int]:
-        return (row[0] for row in self._rows("SELECT place FROM entry ORDER BY place"))
+                data = self.bytes_of(data)
+            if type(number) is not int or type(other) is not int:
+                check_numbers(table, number, number, other)
+            yield row(name, number, other, data)
 
     def session_numbers(self, firm: str) -> dict[int, int]:
-        return {place: number for place, number in self._rows(REJECTED, firm)}
-
-    def targets(self) -> dict[str, int]:
-        rows = self._rows("SELECT firm, target FROM session")
-        return {str(firm): target for firm, target in rows}
-
-    def firms(self) -> set[str]:
-        query = "SELECT DISTINCT firm FROM sent UNION SELECT DISTINCT firm FROM outgoing"
-        query += " UNION SELECT DISTINCT firm FROM entry WHERE firm IS NOT NULL"
-        return {as_text(firm) for firm, in self._rows(query)}
+        return {place: number for place, number in self.rows(REJECTED, firm)}
 
     def count_of(self, firm: str) -> int:
-        ((count,),) = self._rows("SELECT count(*) FROM sent WHERE firm = ?", firm)
+        ((count,),) = self.rows("SELECT count(*) FROM sent WHERE firm = ?", firm)
         return int(count)
 
-    def last_numbers(self) -> list[tuple[str, int, int]]:
-        query = "SELECT firm, max(number), max(place) FROM entry WHERE number IS NOT NULL"
-        return [(as_text(firm), number, place) for firm, number, place in
-                self._rows(query + " AND firm IS NOT NULL GROUP BY firm")]
-
-    def counts(self) -> Counts:
-        (row,) = self._rows(
-            "SELECT (SELECT count(*) FROM entry), (SELECT count(*) FROM sent),"
-            " (SELECT count(*) FROM outgoing)"
-        )
-        return Counts(*row)
-
-    def close(self) -> None:
+    def close(self, failed: bool = False) -> None:
         self._connection.close()
 
 
@@ -140,20 +127,7 @@ def connected(path: Path) -> sqlite3.Connection:
     raise AssertionError("the loop returns or raises")
 
 
-def as_bytes(value: object) -> bytes:
-    """The bytes that SQLite gives whoever asks for a column as bytes."""
-    if isinstance(value, bytes):
-        return value
-    return b"" if value is None else str(value).encode()
-
-
-def as_text(value: object) -> str:
-    if isinstance(value, bytes):
-        return value.decode("utf-8", "replace")
-    return "" if value is None else str(value)
-
-
-def check_numbers(row: str, *values: object) -> None:
+def check_numbers(table: str, row: object, *values: object) -> None:
     for value in values:
         if value is not None and type(value) is not int:
-            raise Unreadable("%s: %r stands where a number should" % (row, value))
+            raise Unreadable("%s %s: %r stands where a number should" % (table, row, value))

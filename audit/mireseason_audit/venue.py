@@ -7,17 +7,18 @@ import select
 import subprocess
 import tempfile
 from collections.abc import Iterator
-from contextlib import AbstractContextManager
 from dataclasses import dataclass, field
 from pathlib import Path
-from types import TracebackType
+from typing import Self
 
-from .faults import Unreadable
+from .closing import Closing
+from .faults import Lacking, Unreadable
 from .records import SOH
 
 LINE_FAULT = re.compile(rb"line ([0-9]+): (.*)\Z")
 ANSWER_SECONDS = 60  # the program answers a line by then
 MOST_TOLD = 1000  # of the lines on standard error, so many are kept
+WRONG_ARGUMENTS = 2  # the status of the program for arguments that it does not know
 
 
 @dataclass(frozen=True)
@@ -63,15 +64,17 @@ class Venue:
 
 
 @dataclass
-class Run(AbstractContextManager["Run"]):
-    """One run of the program. A run that ends with another status than 0 is Unreadable."""
+class Run(Closing):
+    """One run of the program. A run that ends with another status than 0 is Unreadable, and
+    Lacking where the program does not know the arguments.
+    """
 
     venue: Venue
     arguments: list[str]
     input: Path
     faults: list[LineFault] = field(default_factory=list)  # whole once the run has ended
 
-    def __enter__(self) -> "Run":
+    def __enter__(self) -> Self:
         self._told = tempfile.TemporaryFile()
         try:
             with self.input.open("rb") as file:
@@ -110,17 +113,14 @@ class Run(AbstractContextManager["Run"]):
             found = LINE_FAULT.match(last)
             if found and len(self.faults) < MOST_TOLD:
                 self.faults.append(LineFault(int(found[1]), found[2].decode("utf-8", "replace")))
+        if status == WRONG_ARGUMENTS:
+            raise Lacking("%s has no `%s`" % (self.venue, " ".join(self.arguments)))
         if status != 0:
             command = " ".join([*self.venue.words, *self.arguments])
             text = last.decode("utf-8", "replace") or "it says nothing"
             raise Unreadable("`%s` ends with status %d: %s" % (command, status, text))
 
-    def __exit__(
-        self,
-        kind: type[BaseException] | None,
-        value: BaseException | None,
-        trace: TracebackType | None,
-    ) -> None:
+    def close(self, failed: bool = False) -> None:
         if self._process.poll() is None:
             self._process.kill()
         if self._process.stdout is not None:
@@ -130,13 +130,13 @@ class Run(AbstractContextManager["Run"]):
 
 
 @dataclass
-class Conversation(AbstractContextManager["Conversation"]):
+class Conversation(Closing):
     """`live --marks`, line by line: each line is answered before the next is given."""
 
     venue: Venue
     _read: bytes = b""
 
-    def __enter__(self) -> "Conversation":
+    def __enter__(self) -> Self:
         words = [*self.venue.words, "live", "--frames", "--marks"]
         try:
             self._process = subprocess.Popen(
@@ -184,13 +184,8 @@ class Conversation(AbstractContextManager["Conversation"]):
         except BrokenPipeError:
             raise Unreadable("`%s live` takes no more lines" % self.venue) from None
 
-    def __exit__(
-        self,
-        kind: type[BaseException] | None,
-        value: BaseException | None,
-        trace: TracebackType | None,
-    ) -> None:
-        if kind is not None:
+    def close(self, failed: bool = False) -> None:
+        if failed:
             self._process.kill()
         for stream in (self._process.stdin, self._process.stdout):
             if stream is not None:

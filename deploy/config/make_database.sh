@@ -1,7 +1,8 @@
 #!/bin/sh
-# Run by Patroni once, when the cluster is made: the database of the logs, the role of the gateways, which may make
-# schemas in it, and one that reads. The one argument is a connection string of the superuser.
-# The words between two @ are replaced: deploy/README.md says by what.
+# Run by Patroni once, when the cluster is made: the database of the logs, the role of the gateways,
+# which may make schemas in it, and one that reads. The one argument is a connection string of the
+# superuser.
+# configure.py replaces the words between two @.
 set -eu
 psql --no-psqlrc -v ON_ERROR_STOP=1 -d "$1" \
     -c "CREATE ROLE gateway LOGIN PASSWORD '@GATEWAY_PASSWORD@'" \

@@ -1,26 +1,18 @@
 """Three database hosts: which is the primary, and when all is as it should be."""
 
 from dataclasses import dataclass
-from pathlib import Path
 
 from parts.database import DatabaseHost
-from parts.network import Host, Network
 from parts.run import until
-from parts.service import Supervisor
 
 
 @dataclass
 class Cluster:
     databases: list[DatabaseHost]
 
-    @classmethod
-    def of(cls, hosts: list[Host], network: Network, folder: Path, images: Path,
-           supervisor: Supervisor) -> "Cluster":
-        return cls([DatabaseHost(host, network, folder, images, supervisor) for host in hosts])
-
     def up(self) -> None:
         for database in self.databases:
-            database.make([each.host for each in self.databases])
+            database.make()
         for database in self.databases:
             database.start()
 
@@ -45,7 +37,3 @@ class Cluster:
 
     def etcd_leader(self) -> DatabaseHost | None:
         return next((each for each in self.databases if each.leads_etcd()), None)
-
-    def remove(self) -> None:
-        for database in self.databases:
-            database.remove()

@@ -7,14 +7,14 @@ from dataclasses import dataclass
 from pathlib import Path
 
 from parts.disk import Disk
-from parts.network import NETWORK, Host, Network
-from parts.run import Fault, fill_in, run, until
-from parts.service import Service, Supervisor
+from parts.place import Place
+from parts.run import Fault, run
+from parts.service import Service
+from parts.site import Folders
 
 DISK_MEGABYTES = 900
-CONFIG = Path(__file__).resolve().parent.parent / "config"
-PASSWORDS = {word + "_PASSWORD": "%s-secret" % word.lower()
-             for word in ("GATEWAY", "READER", "REPLICATION", "REWIND")}
+DATABASE = "mireseason"
+USERS = {"etcd": "etcd", "postgres": "postgres"}  # folders on the disk, and whose they are
 
 
 def as_user(user: str) -> list[str]:
@@ -23,50 +23,34 @@ def as_user(user: str) -> list[str]:
 
 
 @dataclass
-class DatabaseHost:
-    host: Host
-    network: Network
-    folder: Path  # of the whole installation
-    images: Path
-    supervisor: Supervisor
+class DatabaseHost(Place):
+    images: Path  # the folder of the disks
 
     def __post_init__(self) -> None:
         self.disk = Disk(self.images / (self.name + ".img"), self.folder / self.name / "disk",
                          DISK_MEGABYTES)
 
-    @property
-    def name(self) -> str:
-        return self.host.name
-
-    @property
-    def own(self) -> Path:
-        """Configurations and sockets, which are on no disk that is cut."""
-        return self.folder / self.name
-
-    def make(self, databases: list[Host]) -> None:
+    def make(self) -> None:
         self.own.mkdir(parents=True, exist_ok=True)
-        self.disk.make({"etcd": "etcd", "postgres": "postgres"})
+        self.disk.make(USERS)
         owner = pwd.getpwnam("postgres")
         os.chown(self.own, owner.pw_uid, owner.pw_gid)
-        words = {"NAME": self.name, "ADDRESS": self.host.address, "DATA": str(self.disk.mount),
-                 "RUN": str(self.own), "CONFIG": str(self.own), "NETWORK": NETWORK, **PASSWORDS}
-        words |= {host.name.upper(): host.address for host in databases}
-        for name in ("etcd.yml", "patroni.yml", "make_database.sh"):
-            fill_in(CONFIG / name, self.own / name, words)
-        (self.own / "make_database.sh").chmod(0o755)
+        folders = Folders(str(self.own), str(self.disk.mount), str(self.own))
+        for name, text in self.site.files(self.name, folders).items():
+            (self.own / name).write_text(text)
+            (self.own / name).chmod(0o755)
 
     def start(self) -> None:
-        logs = self.folder / "log"
-        logs.mkdir(exist_ok=True)
+        self.logs.mkdir(exist_ok=True)
         inside = self.network.words(self.name)
         self.supervisor.add(Service(
             self.name + ".etcd",
             inside + as_user("etcd") + ["etcd", "--config-file", str(self.own / "etcd.yml")],
-            logs / (self.name + ".etcd")))
+            self.logs / (self.name + ".etcd")))
         self.supervisor.add(Service(
             self.name + ".patroni",
             inside + as_user("postgres") + ["/usr/bin/patroni", str(self.own / "patroni.yml")],
-            logs / (self.name + ".patroni"),
+            self.logs / (self.name + ".patroni"),
             {"PATRONI_LOG_LEVEL": "INFO", "HOME": str(self.own), "PYTHONDONTWRITEBYTECODE": "1"}))
 
     def services(self) -> list[Service]:
@@ -76,8 +60,9 @@ class DatabaseHost:
 
     def postmaster(self) -> int:
         """The process of PostgreSQL, 0 where there is none."""
+        file = self.disk.mount / "postgres" / "data" / "postmaster.pid"
         try:
-            pid = int((self.disk.mount / "postgres" / "data" / "postmaster.pid").read_text().split("\n")[0])
+            pid = int(file.read_text().split("\n")[0])
             os.kill(pid, 0)
             return pid
         except (OSError, ValueError):
@@ -88,11 +73,9 @@ class DatabaseHost:
         try:
             return run(*as_user("postgres"), "psql", "--no-psqlrc", "-AtX", "-h", str(self.own),
                        "-U", "postgres", "-v", "ON_ERROR_STOP=1", "-c", query,
-                       self.database, limit=limit).strip()
+                       DATABASE, limit=limit).strip()
         except Fault:
             return None
-
-    database = "mireseason"
 
     def is_primary(self) -> bool:
         return self.asked("SELECT NOT pg_is_in_recovery()") == "t"
@@ -133,32 +116,31 @@ class DatabaseHost:
         for service in services:
             service.wanted = False
         self.disk.cut_power()
-        self.end_all()
+        self.network.end_all(self.name)
         for service in services:
-            service.process.wait()
+            service.wait_end()
 
     def power_up(self) -> None:
         self.disk.attach_again()
+        self.start_again()
 
+    def start_again(self) -> None:
         def start() -> None:
             for service in self.services():
                 service.start()
 
         self.supervisor.locked(start)
 
-    def end_all(self) -> None:
-        """Kills what runs in the host's namespace."""
-        def none_left() -> bool:
-            left = self.network.processes(self.name)
-            for pid in left:
-                try:
-                    os.kill(pid, signal.SIGKILL)
-                except ProcessLookupError:
-                    continue
-            return not left
+    def stop(self) -> None:
+        """Ends Patroni, which ends PostgreSQL, and then etcd, as an operator does."""
+        for service in reversed(self.services()):
+            service.stop(60)
 
-        until("all processes of %s end" % self.name, 20, none_left)
+    def renew_disk(self) -> None:
+        """An empty disk, where the power is cut and the old one is lost."""
+        self.disk.remove()
+        self.disk.make(USERS)
 
     def remove(self) -> None:
-        self.end_all()
+        self.network.end_all(self.name)
         self.disk.remove()

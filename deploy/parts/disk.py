@@ -28,8 +28,8 @@ def has_room(file: int, size: int, part: int) -> bool:
 
 
 class Disk:
-    """ext4 in a file. What was not synchronised is not in the file but by chance, so that behind a cut of
-    power there is what was synchronised, and little else."""
+    """ext4 in a file. What was not synchronised is not in the file but by chance, so that behind a
+    cut of power there is what was synchronised, and little else."""
 
     def __init__(self, image: Path, mount: Path, megabytes: int) -> None:
         self.image, self.mount, self.megabytes = image, mount, megabytes
@@ -67,7 +67,8 @@ class Disk:
         self.ballast.unlink(missing_ok=True)
 
     def cut_power(self) -> None:
-        """From here on nothing is written. The host's processes have to be ended before it is attached."""
+        """From here on nothing is written. The host's processes have to be ended before it is
+        attached again."""
         place = os.open(self.mount, os.O_RDONLY)
         try:
             fcntl.ioctl(place, SHUT_DOWN, struct.pack("I", WRITE_NOTHING))

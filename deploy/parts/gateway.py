@@ -1,16 +1,19 @@
-"""A gateway host: the gateway, and the venue that it starts."""
+"""A gateway host: the gateway, and the venues that it starts."""
 
-import json
-import subprocess
-from dataclasses import dataclass, field
+import re
+from collections.abc import Iterable, Mapping
+from dataclasses import dataclass
 from pathlib import Path
 
-from parts.database import CONFIG, PASSWORDS
-from parts.network import Host, Network
-from parts.run import fill_in
-from parts.service import Service, Supervisor
+from parts.place import Place
+from parts.run import run
+from parts.service import Service
+from parts.site import ALONE, Folders, file_of
 
 PORT = 9878
+
+# What a gateway tells of a venue's log: it reads it, its venue has answered all, it writes it.
+STANDING = re.compile(r" info (follows|stands by|speaks)(?: venue=(\S+))? ")
 
 
 @dataclass(frozen=True)
@@ -22,53 +25,29 @@ class Firm:
     password: str
 
 
-@dataclass(frozen=True)
-class Programs:
-    gateway: Path
-    venue: tuple[str, ...]  # its words
-
-
 @dataclass
-class GatewayHost:
-    host: Host
-    network: Network
-    folder: Path  # of the whole installation
-    supervisor: Supervisor
-    programs: Programs
-    synchronous: str = "on"
-    _hashes: dict[str, str] = field(default_factory=dict)
-
-    @property
-    def name(self) -> str:
-        return self.host.name
-
-    @property
-    def own(self) -> Path:
-        return self.folder / self.name
+class GatewayHost(Place):
+    program: Path
 
     @property
     def log(self) -> Path:
         """All that it told, of all its starts."""
-        return self.folder / "log" / self.name
+        return self.logs / self.name
 
-    def make(self, databases: list[Host], venue: str, credentials: str) -> None:
-        """With this configuration of the venue, and these credentials."""
+    def make(self, configurations: Mapping[str, str], credentials: str) -> None:
+        """With the configurations of the venues by their names, and these credentials."""
         self.own.mkdir(parents=True, exist_ok=True)
-        (self.own / "venue.toml").write_text(venue)
-        (self.own / "credentials.toml").write_text(credentials)
-        (self.own / "pgpass").write_text("*:*:*:gateway:%s\n" % PASSWORDS["GATEWAY_PASSWORD"])
+        files = self.site.files(self.name, Folders(str(self.own)))
+        files |= {file_of(name): text for name, text in configurations.items()}
+        files["credentials.toml"] = credentials
+        for name, text in files.items():
+            (self.own / name).write_text(text)
         (self.own / "pgpass").chmod(0o600)
-        words = {"NAME": self.name, "ADDRESS": self.host.address, "CONFIG": str(self.own),
-                 "SYNCHRONOUS": self.synchronous,
-                 "VENUE": ", ".join(json.dumps(word) for word in self.programs.venue),
-                 "SECURITY": "plain_tcp_beyond_loopback = true # on this machine alone"}
-        words |= {host.name.upper(): host.address for host in databases}
-        fill_in(CONFIG / "gateway.toml", self.own / "gateway.toml", words)
 
     def start(self) -> None:
         words = self.network.words(self.name)
-        words += [str(self.programs.gateway), str(self.own / "gateway.toml")]
-        self.log.parent.mkdir(exist_ok=True)
+        words += [str(self.program), str(self.own / "gateway.toml")]
+        self.logs.mkdir(exist_ok=True)
         self.supervisor.add(Service(self.name, words, self.log))
 
     @property
@@ -80,24 +59,21 @@ class GatewayHost:
         return self.log.read_text(errors="replace").splitlines() if self.log.exists() else []
 
     def stands_by(self) -> bool:
-        """Whether it follows with a venue that has answered all."""
-        for line in reversed(self.told()):
-            if " info stands by " in line:
-                return self.service.is_running()
-            if " info follows " in line:
-                return False
-        return False
+        """Whether it follows with venues that have answered all."""
+        last: dict[str, str] = {}
+        for found in filter(None, map(STANDING.search, self.told())):
+            last[found[2] or ALONE] = found[1]
+        wanted = dict.fromkeys(self.site.venues, "stands by")
+        return last == wanted and self.service.is_running()
 
     def last_words(self) -> str:
         return "\n".join(self.told()[-6:])
 
 
-def credentials_of(gateway: Path, firms: list[Firm]) -> str:
+def credentials_of(gateway: Path, firms: Iterable[Firm]) -> str:
     """The text of the gateways' credentials."""
     text = ""
     for firm in firms:
-        done = subprocess.run([gateway, "--hash"], input=firm.password + "\n", capture_output=True,
-                              text=True, check=True)
-        text += '[%s]\nusername = "%s"\npassword = "%s"\n' % (firm.name, firm.username,
-                                                             done.stdout.strip())
+        hashed = run(str(gateway), "--hash", text=firm.password + "\n").strip()
+        text += '[%s]\nusername = "%s"\npassword = "%s"\n' % (firm.name, firm.username, hashed)
     return text

@@ -1,16 +1,18 @@
-"""A whole installation on one machine: three database hosts, two gateway hosts, and one for firms."""
+"""A whole installation on one machine: three database hosts, two gateway hosts, one for firms."""
 
 import os
 import shutil
-import signal
+from collections.abc import Mapping
 from dataclasses import dataclass, field
 from pathlib import Path
 
 from parts.cluster import Cluster
-from parts.gateway import PORT, GatewayHost, Programs
-from parts.network import Host, Network
+from parts.database import DatabaseHost
+from parts.gateway import PORT, GatewayHost
+from parts.network import NETWORK, Host, Network
 from parts.run import Fault, run, tried, until
 from parts.service import Supervisor
+from parts.site import ALONE, WORDS, Site
 
 DATABASES = [Host("db%d" % number, 10 + number) for number in (1, 2, 3)]
 GATEWAYS = [Host("gw%d" % number, 20 + number) for number in (1, 2)]
@@ -23,17 +25,19 @@ class Machine:
 
     folder: Path
     images: Path
-    programs: Programs
+    gateway: Path  # the program
+    site: Site
     prefix: str = "mireseason"
-    synchronous: str = "on"
     supervisor: Supervisor = field(default_factory=Supervisor)
 
     def __post_init__(self) -> None:
-        self.network = Network(self.prefix, [*DATABASES, *GATEWAYS, FIRMS])
-        self.cluster = Cluster.of(DATABASES, self.network, self.folder, self.images,
-                                  self.supervisor)
-        self.gateways = [GatewayHost(host, self.network, self.folder, self.supervisor,
-                                     self.programs, self.synchronous) for host in GATEWAYS]
+        self.network = network_of(self.prefix)
+        self.cluster = Cluster([
+            DatabaseHost(host, self.network, self.folder, self.supervisor, self.site, self.images)
+            for host in DATABASES])
+        self.gateways = [
+            GatewayHost(host, self.network, self.folder, self.supervisor, self.site, self.gateway)
+            for host in GATEWAYS]
 
     def bring_up_databases(self) -> None:
         """Makes the hosts, and starts the database ones."""
@@ -43,11 +47,13 @@ class Machine:
         self.cluster.up()
         self.cluster.wait_ready()
 
-    def up(self, venue: str, credentials: str) -> None:
-        """Starts all, and waits until a gateway speaks."""
+    def up(self, configurations: Mapping[str, str], credentials: str) -> None:
+        """Starts all, with the venues' configurations by their names, and waits until a gateway
+        speaks.
+        """
         self.bring_up_databases()
         for gateway in self.gateways:
-            gateway.make(DATABASES, venue, credentials)
+            gateway.make(configurations, credentials)
             gateway.start()
         until("a gateway speaks", 60, lambda: self.speaking() is not None)
 
@@ -69,31 +75,31 @@ class Machine:
         remove(self.prefix, self.folder, self.images)
 
 
+def site_here(command: tuple[str, ...], venues: tuple[str, ...] = (ALONE,),
+              synchronous: str = "on") -> Site:
+    """An installation on this machine alone, with the words of the venue's program."""
+    return Site(
+        NETWORK, {host.name: host.address for host in DATABASES},
+        {host.name: host.address for host in GATEWAYS},
+        {word: "%s-secret" % word.lower() for word in WORDS}, command,
+        "plain_tcp_beyond_loopback = true # on this machine alone", venues, synchronous)
+
+
+def network_of(prefix: str) -> Network:
+    return Network(prefix, [*DATABASES, *GATEWAYS, FIRMS])
+
+
 def remove(prefix: str, folder: Path, images: Path) -> None:
     """Also what was left by one that could not end: nothing of it has to be there."""
-    network = Network(prefix, [*DATABASES, *GATEWAYS, FIRMS])
-    supervisor = Supervisor()
-    supervisor.end()
+    network = network_of(prefix)
     for host in (*GATEWAYS, FIRMS):
-        end_all(network, host.name)
-    Cluster.of(DATABASES, network, folder, images, supervisor).remove()
+        network.end_all(host.name)
+    for host in DATABASES:
+        DatabaseHost(host, network, folder, Supervisor(), site_here(()), images).remove()
     network.down()
     for host in (*DATABASES, *GATEWAYS):
         shutil.rmtree(folder / host.name, ignore_errors=True)
     tried("rmdir", str(images))
-
-
-def end_all(network: Network, name: str) -> None:
-    def none_left() -> bool:
-        left = network.processes(name)
-        for pid in left:
-            try:
-                os.kill(pid, signal.SIGKILL)
-            except ProcessLookupError:
-                continue
-        return not left
-
-    until("all processes of %s end" % name, 20, none_left)
 
 
 def check_root() -> None:

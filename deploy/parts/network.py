@@ -1,13 +1,15 @@
 """Hosts as network namespaces, each with one link to a switch, and links that can be cut.
 
-A cut drops every packet and tells nobody, as a cable that is pulled somewhere in between: the two hosts
-send to a hardware address that nobody has. A host that is cut off has its port of the switch down.
+A cut drops every packet and tells nobody, as a cable that is pulled somewhere in between: the two
+hosts send to a hardware address that nobody has. A host that is cut off has its port of the switch
+down.
 """
 
 import os
+import signal
 from dataclasses import dataclass
 
-from parts.run import Fault, run, tried
+from parts.run import Fault, run, tried, until
 
 NETWORK = "10.77.0.0/24"
 NOBODY = "02:4d:52:00:00:ff"
@@ -85,6 +87,19 @@ class Network:
         if not os.path.exists("/run/netns/%s" % space):
             return []
         return [int(word) for word in run("ip", "netns", "pids", space).split()]
+
+    def end_all(self, name: str) -> None:
+        """Kills what runs on a host, and waits until it is gone."""
+        def none_left() -> bool:
+            left = self.processes(name)
+            for pid in left:
+                try:
+                    os.kill(pid, signal.SIGKILL)
+                except ProcessLookupError:
+                    continue
+            return not left
+
+        until("all processes of %s end" % name, 20, none_left)
 
     def down(self) -> None:
         for name in [*self.hosts, "switch"]:

@@ -2,10 +2,12 @@
 
 import subprocess
 import time
-from collections.abc import Callable
+from collections.abc import Callable, Iterable
 from pathlib import Path
+from typing import TypeVar
 
 STEP = 0.05
+Found = TypeVar("Found")
 
 
 class Fault(Exception):
@@ -19,8 +21,11 @@ def run(*words: str, text: str | None = None, limit: float = 60) -> str:
                               check=False)
     except subprocess.TimeoutExpired as fault:
         raise Fault("%s: no end within %g s" % (" ".join(words), limit)) from fault
+    except OSError as fault:
+        raise Fault("%s: %s" % (" ".join(words), fault)) from fault
     if done.returncode != 0:
-        raise Fault("%s: %s" % (" ".join(words), done.stderr.strip() or "status %d" % done.returncode))
+        cause = done.stderr.strip() or "status %d" % done.returncode
+        raise Fault("%s: %s" % (" ".join(words), cause))
     return done.stdout
 
 
@@ -31,17 +36,20 @@ def tried(*words: str) -> bool:
 
 def until(what: str, limit: float, holds: Callable[[], bool]) -> None:
     """Waits until the condition holds; Fault with what was waited for."""
+    found_in(what, limit, lambda: True if holds() else None)
+
+
+def found_in(what: str, limit: float, look: Callable[[], Found | None]) -> Found:
+    """What a look finds, once there is something; Fault with what was waited for."""
     end = time.monotonic() + limit
-    while not holds():
+    while (found := look()) is None:
         if time.monotonic() > end:
             raise Fault("%s: not within %g s" % (what, limit))
         time.sleep(STEP)
+    return found
 
 
-def fill_in(template: Path, target: Path, words: dict[str, str]) -> None:
-    """Writes a configuration with each @WORD@ of it replaced."""
-    text = template.read_text()
-    for word, value in words.items():
-        text = text.replace("@%s@" % word, value)
-    target.write_text(text)
-    target.chmod(0o644)
+def whole_paths(words: Iterable[str]) -> tuple[str, ...]:
+    """The words of a program that is started in another folder: those that are files whole."""
+    return tuple(str(Path(word).resolve()) if Path(word).exists() else word for word in words)
+

@@ -19,9 +19,9 @@ class Service:
     words: list[str]
     log: Path
     environment: dict[str, str] = field(default_factory=dict)
-    process: subprocess.Popen | None = None
     wanted: bool = False
     starts: int = 0
+    _process: subprocess.Popen[bytes] | None = None
     _ended: float = 0.0
 
     def start(self) -> None:
@@ -31,7 +31,7 @@ class Service:
     def _spawn(self) -> None:
         self.starts += 1
         with self.log.open("ab") as log:
-            self.process = subprocess.Popen(
+            self._process = subprocess.Popen(
                 self.words, stdin=subprocess.DEVNULL, stdout=log, stderr=subprocess.STDOUT,
                 env={**os.environ, **self.environment}, start_new_session=True)
 
@@ -46,45 +46,54 @@ class Service:
             self._ended = 0.0
             self._spawn()
 
-    def is_running(self) -> bool:
-        return self.process is not None and self.process.poll() is None
+    def _running(self) -> subprocess.Popen[bytes] | None:
+        process = self._process
+        return process if process is not None and process.poll() is None else None
 
-    @property
-    def pid(self) -> int:
-        return self.process.pid if self.is_running() else 0
+    def is_running(self) -> bool:
+        return self._running() is not None
 
     def kill(self) -> None:
         """It is started again."""
-        if self.is_running():
-            self.process.send_signal(signal.SIGKILL)
+        process = self._running()
+        if process is not None:
+            process.send_signal(signal.SIGKILL)
+
+    def wait_end(self) -> None:
+        """Waits for a process that somebody has ended."""
+        if self._process is not None:
+            self._process.wait()
 
     def stop(self, limit: float = 10) -> None:
         """It is not started again. SIGTERM, and SIGKILL where that does not end it."""
         self.wanted = False
-        if not self.is_running():
+        process = self._running()
+        if process is None:
             return
-        self.process.terminate()
+        process.terminate()
         try:
-            self.process.wait(limit)
+            process.wait(limit)
         except subprocess.TimeoutExpired:
-            self.process.kill()
-            self.process.wait()
+            process.kill()
+            process.wait()
 
 
 class Supervisor:
-    """Looks after services on a thread of its own."""
+    """Looks after services on a thread of its own, from the first one on."""
 
     def __init__(self) -> None:
         self.services: dict[str, Service] = {}
         self._lock = threading.Lock()
         self._ending = threading.Event()
-        self._thread = threading.Thread(target=self._run, daemon=True)
-        self._thread.start()
+        self._thread: threading.Thread | None = None
 
     def add(self, service: Service) -> None:
         with self._lock:
             self.services[service.name] = service
             service.start()
+            if self._thread is None:
+                self._thread = threading.Thread(target=self._run, daemon=True)
+                self._thread.start()
 
     def locked(self, work: Callable[[], None]) -> None:
         """Work during which nothing is started."""
@@ -100,6 +109,7 @@ class Supervisor:
     def end(self) -> None:
         """No service is started any more."""
         self._ending.set()
-        self._thread.join()
+        if self._thread is not None:
+            self._thread.join()
         for service in self.services.values():
             service.wanted = False

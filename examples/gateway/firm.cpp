@@ -26,7 +26,7 @@
 namespace {
 
 constexpr const char *bond = "BONDA0000001";
-constexpr auto patience = std::chrono::seconds(30);
+constexpr auto patience = std::chrono::seconds(60);
 
 std::string value_of(const FIX::FieldMap &fields, int tag) {
     return fields.isSetField(tag) ? fields.getField(tag) : std::string();

@@ -26,31 +26,60 @@ end() {
     [ -z "$remove" ] || rm -rf "$remove"
 }
 trap end EXIT
+trap 'exit 143' HUP INT TERM
+
+# free USUAL: this port of the loopback, or another one where it is taken.
+free() {
+    python3 -c 'import socket, sys
+probe = socket.socket()
+probe.setsockopt(socket.SOL_SOCKET, socket.SO_REUSEADDR, 1)
+try:
+    probe.bind(("127.0.0.1", int(sys.argv[1])))
+    probe.listen()
+except OSError:
+    probe = socket.socket()
+    probe.bind(("127.0.0.1", 0))
+print(probe.getsockname()[1])' "$1"
+}
+# told COUNT EVENT PROCESS ..: waits until the gateway has told an event so often; not behind the end of a process.
+told() {
+    count=$1 event=$2
+    shift 2
+    for _ in $(seq 600); do
+        [ "$(grep -c " $event " gateway.events)" -lt "$count" ] || return 0
+        kill -0 "$@" 2>/dev/null || break
+        sleep 0.1
+    done
+    echo "the gateway did not tell \`$event\`:" >&2
+    cat gateway.events >&2
+    exit 1
+}
 
 cp "$here"/*.toml "$here"/*.cfg "$day"
 mkdir -p "$day/store" "$day/fix"
 cp "$root"/fix/*.xml "$day/fix"
 sed -i "s/^date = .*/date = \"$(date -u +%Y%m%d)\"/" "$day/venue.toml"
-command=$(for word in $venue; do printf '"%s", ' "$word"; done)
+command=$(for word in $venue; do
+    [ ! -e "$word" ] || word=$(realpath "$word")
+    printf '"%s", ' "$word"
+done)
 sed -i "s|^command = .*|command = [$command\"live\", \"--frames\", \"--marks\"]|" "$day/gateway.toml"
+port=$(free 9878)
+sed -i -e "s/^port = 9878/port = $port/" -e "s/^port = 9879/port = $(free 9879)/" "$day/gateway.toml"
+sed -i "s/^SocketConnectPort=.*/SocketConnectPort=$port/" "$day"/*.cfg
 g++ -std=c++14 -O1 -Wall -Wextra -Wno-deprecated -o "$day/firm" "$here/firm.cpp" -lquickfix -lpthread
 
 cd "$day"
 "$gateway" gateway.toml 2>gateway.events &
 server=$!
 pids=$server
-until grep -q ' ready ' gateway.events; do
-    kill -0 "$server" 2>/dev/null || { cat gateway.events >&2; exit 1; }
-    sleep 0.1
-done
+told 1 ready "$server"
 ./firm dlr1.cfg dealer T1 99.5 >dlr1.out &
 first=$!
 ./firm dlr2.cfg dealer T2 99.4375 >dlr2.out &
 second=$!
 pids="$pids $first $second"
-until [ "$(grep -c ' logged on ' gateway.events)" = 2 ]; do
-    sleep 0.1
-done
+told 2 'logged on' "$server" "$first" "$second"
 ./firm inv1.cfg investor T8 DLR1 DLR2 >inv1.out
 wait "$first" "$second"
 kill "$server"

@@ -126,6 +126,10 @@ Channel::Progress Channel::read(char *bytes, std::size_t room, std::size_t &coun
     return ended(std::strerror(errno));
 }
 
+bool Channel::holds_more() const {
+    return tls_ != nullptr && SSL_has_pending(tls_.get()) == 1;
+}
+
 Channel::Progress Channel::write(const char *bytes, std::size_t size, std::size_t &count) {
     if (tls_) {
         ERR_clear_error();

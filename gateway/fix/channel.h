@@ -45,6 +45,8 @@ class Channel {
     Progress shake_hands();
     // `done` with at least one byte.
     Progress read(char *bytes, std::size_t room, std::size_t &count);
+    // Whether bytes came that read() has not given yet and the socket does not show any more.
+    bool holds_more() const;
     Progress write(const char *bytes, std::size_t size, std::size_t &count);
     // Writes what the socket takes at once, and returns how much that is; nothing where there is
     // TLS. Any thread may call it, one at a time, while no other writes.

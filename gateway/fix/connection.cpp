@@ -179,9 +179,11 @@ void Connection::wait(milliseconds longest) {
     set[1].fd = bell_.number();
     set[1].events = POLLIN;
     ::poll(set.data(), set.size(), static_cast<int>(longest.count()));
-    std::uint64_t rung = 0;
-    const ssize_t count = ::read(bell_.number(), &rung, sizeof rung);
-    static_cast<void>(count);
+    if ((set[1].revents & POLLIN) != 0) {
+        std::uint64_t rung = 0;
+        const ssize_t count = ::read(bell_.number(), &rung, sizeof rung);
+        static_cast<void>(count);
+    }
 }
 
 void Connection::read() {
@@ -195,9 +197,18 @@ void Connection::read() {
     if (progress != Channel::Progress::done) {
         return;
     }
-    // What TLS still holds does not show in poll().
-    wake();
+    if (channel_.holds_more()) {
+        // It does not show in poll().
+        wake();
+    }
     cutter_.add(bytes.data(), count);
+    take_messages();
+    if (session_ != nullptr) {
+        session_->all_taken();
+    }
+}
+
+void Connection::take_messages() {
     std::string message;
     while (!shut_) {
         const Cutter::Result result = cutter_.next(message);

@@ -62,6 +62,7 @@ class Connection final : public FIX::Responder {
     // Waits until there is something to do.
     void wait(std::chrono::milliseconds longest);
     void read();
+    void take_messages();
     void take(const std::string &message);
     bool find_session(const std::string &logon);
     void write();

@@ -188,8 +188,12 @@ void Engine::deliver(const Delivery &delivery) {
     parts_->session(delivery.session).deliver(delivery);
 }
 
-bool Engine::is_settling(const std::string &session) const {
-    return parts_->session(session).is_settling();
+bool Engine::deliver_at_once(const Delivery &delivery) {
+    return parts_->session(delivery.session).deliver_at_once(delivery);
+}
+
+std::chrono::steady_clock::time_point Engine::settles_until(const std::string &session) const {
+    return parts_->session(session).settles_until();
 }
 
 void Engine::disconnect(const std::string &session) {

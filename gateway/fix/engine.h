@@ -3,6 +3,7 @@
 #ifndef GATEWAY_FIX_ENGINE_H
 #define GATEWAY_FIX_ENGINE_H
 
+#include <chrono>
 #include <cstddef>
 #include <cstdint>
 #include <memory>
@@ -48,10 +49,14 @@ class SessionHost {
     virtual std::string refusal_of(const LogonFacts &facts) = 0;
     virtual void logged_on(const std::string &firm) = 0;
     virtual void logged_off(const std::string &firm) = 0;
+    // The firm's session settles no more: what waited for that may be delivered.
+    virtual void settled(const std::string &firm) = 0;
     // A message of the application, with its session number, as it came. Returns the tag at fault
     // where it is no frame of the venue's, or 0: then it is the log's.
     virtual int received(const std::string &firm, std::uint32_t number,
                          const std::string &bytes) = 0;
+    // No more of them is there now: they are to be committed.
+    virtual void all_received() = 0;
 
     // A message of a session; delivery is what it carries of the venue, or null. What it returns is
     // waited for before a message of the session itself leaves.
@@ -121,9 +126,13 @@ class Engine {
     // Gives a message to its session: it is stored under the session's next number, and sent
     // if the firm is there. One thread at a time for one firm. Throws what the host throws.
     void deliver(const Delivery &delivery);
-    // Whether the firm's session is between its Logon and the answer to the TestRequest behind it.
-    // Then the firm may be filling a gap, and messages had better wait.
-    bool is_settling(const std::string &session) const;
+    // The same, but where that had to wait for the session's connection, whose thread may wait for
+    // its firm: then false, and nothing was done.
+    bool deliver_at_once(const Delivery &delivery);
+    // A session settles between its Logon and the answer to the TestRequest behind it: then the
+    // firm may be filling a gap, and messages had better wait. Until when at the latest; a moment
+    // that has passed where it does not.
+    std::chrono::steady_clock::time_point settles_until(const std::string &session) const;
     // Ends the firm's connection, if there is one. Does not wait for anything.
     void disconnect(const std::string &session);
 

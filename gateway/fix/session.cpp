@@ -18,7 +18,7 @@ using Clock = std::chrono::steady_clock;
 // The answer to this TestRequest tells that a firm that has logged on has filled its gap. It is
 // waited for so long, and longer once the firm has asked for a gap: a stock engine that is sent a
 // Reject while it fills one counts wrong.
-const std::string settle = "MIRESEASON-";
+const std::string question = "MIRESEASON-";
 constexpr auto settling = std::chrono::seconds(1);
 constexpr auto filling = std::chrono::seconds(30);
 
@@ -102,7 +102,7 @@ bool FirmSession::attach(Connection &connection) {
 void FirmSession::detach(Connection &connection) {
     // Takes the connection away from the engine, under the engine's own lock, and tells onLogout().
     session_->disconnect();
-    settled_at_ = Clock::time_point();
+    settle();
     ahead_.clear();
     const std::lock_guard<std::mutex> lock(mutex_);
     if (connection_ == &connection) {
@@ -132,6 +132,7 @@ void FirmSession::log_out(const std::string &reason) {
 }
 
 void FirmSession::take(const std::string &bytes) {
+    const std::lock_guard<std::mutex> lock(at_work_);
     FIX::Message message;
     try {
         if (!is_frame(bytes)) {
@@ -155,12 +156,20 @@ void FirmSession::take(const std::string &bytes) {
     }
 }
 
+// Without a lock: a commit takes its time, and what the venue answers meanwhile may be delivered.
+void FirmSession::all_taken() {
+    if (has_received_) {
+        has_received_ = false;
+        host_.all_received();
+    }
+}
+
 // The answer tells it whatever its own number is: while the firm's messages have a gap too, the
 // engine keeps the answer, and may be told to leave it out.
 void FirmSession::look_for_answer(const std::string &type, const FIX::Message &message) {
     if (type == "0" && session_->isLoggedOn() &&
-        text_in(message, FIX::FIELD::TestReqID) == settle + std::to_string(questions_)) {
-        settled_at_ = Clock::time_point();
+        text_in(message, FIX::FIELD::TestReqID) == question + std::to_string(questions_)) {
+        settle();
     }
 }
 
@@ -251,7 +260,7 @@ void FirmSession::take_resend_request(FIX::Message message, Connection &connecti
 void FirmSession::ask_whether_settled() {
     FIX::Message request;
     request.getHeader().setField(FIX::MsgType(FIX::MsgType_TestRequest));
-    request.setField(FIX::TestReqID(settle + std::to_string(++questions_)));
+    request.setField(FIX::TestReqID(question + std::to_string(++questions_)));
     session_->send(request);
 }
 
@@ -280,6 +289,7 @@ void FirmSession::take_application(const FIX::Message &message, const std::strin
 }
 
 void FirmSession::tick() {
+    const std::lock_guard<std::mutex> at_work(at_work_);
     std::string farewell;
     {
         const std::lock_guard<std::mutex> lock(mutex_);
@@ -291,8 +301,9 @@ void FirmSession::tick() {
     session_->next();
 }
 
-bool FirmSession::is_settling() const {
-    return Clock::now() < settled_at_.load();
+void FirmSession::settle() {
+    settled_at_ = Clock::time_point();
+    host_.settled(firm_);
 }
 
 void FirmSession::deliver(const Delivery &delivery) {
@@ -307,13 +318,22 @@ void FirmSession::deliver(const Delivery &delivery) {
     }
 }
 
+bool FirmSession::deliver_at_once(const Delivery &delivery) {
+    const std::unique_lock<std::mutex> lock(at_work_, std::try_to_lock);
+    if (!lock || is_settling()) {
+        return false;
+    }
+    deliver(delivery);
+    return true;
+}
+
 void FirmSession::onLogon(const FIX::SessionID &) {
     host_.logged_on(firm_);
     ask_whether_settled();
 }
 
 void FirmSession::onLogout(const FIX::SessionID &) {
-    settled_at_ = Clock::time_point();
+    settle();
     host_.logged_off(firm_);
 }
 
@@ -354,6 +374,7 @@ void FirmSession::fromApp(const FIX::Message &message,
                                                         FIX::UnsupportedMessageType) {
     const int number = number_in(message.getHeader(), FIX::FIELD::MsgSeqNum);
     ahead_.erase(number);
+    has_received_ = true;
     int fault = 0;
     try {
         fault = host_.received(firm_, static_cast<std::uint32_t>(number),

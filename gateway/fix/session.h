@@ -18,8 +18,8 @@ namespace gateway {
 class Connection;
 
 // QuickFIX's session, with what it needs of an application, a store and a log, for one firm. At
-// most one connection has it. The thread of that connection calls take() and tick(); deliver() is
-// called by the one thread that delivers to the firm.
+// most one connection has it. The thread of that connection calls take(), all_taken() and tick();
+// deliver() and deliver_at_once() are called by one thread at a time.
 class FirmSession final : private FIX::Application, private FIX::Log {
   public:
     FirmSession(const SessionStart &start, const EngineSettings &settings, EngineEvents &events);
@@ -34,11 +34,15 @@ class FirmSession final : private FIX::Application, private FIX::Log {
 
     // A message as it came.
     void take(const std::string &bytes);
+    // No more has come for now.
+    void all_taken();
     // Heartbeats, and what else time brings about.
     void tick();
     void deliver(const Delivery &delivery);
-    // Between a Logon and the answer to the TestRequest behind it the firm may be filling a gap.
-    bool is_settling() const;
+    // False where it settles, or the connection's thread is at work here: then nothing was done.
+    bool deliver_at_once(const Delivery &delivery);
+    // Engine::settles_until()
+    std::chrono::steady_clock::time_point settles_until() const { return settled_at_; }
     // Since it was attached.
     bool has_logged_on() const { return has_logged_on_; }
     // Ends the connection, if there is one.
@@ -55,6 +59,8 @@ class FirmSession final : private FIX::Application, private FIX::Log {
     void take_application(const FIX::Message &message, const std::string &bytes);
     std::string refusal_of(const FIX::Message &logon);
     void refuse(const std::string &why);
+    bool is_settling() const { return std::chrono::steady_clock::now() < settled_at_.load(); }
+    void settle();
     void ask_whether_settled();
     void look_for_answer(const std::string &type, const FIX::Message &message);
     void next(const FIX::Message &message);
@@ -109,7 +115,11 @@ class FirmSession final : private FIX::Application, private FIX::Log {
     Logs logs_{*this};
     std::atomic<std::chrono::steady_clock::time_point> settled_at_{};
     std::atomic<bool> has_logged_on_{false};
-    unsigned questions_ = 0; // of the connection's thread
+    // Of the connection's thread.
+    unsigned questions_ = 0;
+    bool has_received_ = false; // what the host was not told the end of
+
+    std::mutex at_work_; // over what the connection's thread does here, and deliver_at_once()
 
     std::mutex mutex_;
     Connection *connection_ = nullptr;

@@ -14,18 +14,18 @@ constexpr std::uint32_t chunk = 512;
 
 } // namespace
 
-void Ahead::put(Delivery delivery) {
+std::optional<Delivery> Ahead::put(Delivery delivery) {
     std::unique_lock lock(mutex_);
-    changed_.wait(lock,
-                  [&] { return !limited_ || waiting_[delivery.firm].size() < limit_ || taker_; });
-    if (!taker_) {
-        std::deque<Delivery> &firm = waiting_[delivery.firm];
-        firm.push_back(std::move(delivery));
-        return;
+    changed_.wait(lock, [&] {
+        return !limited_ || waiting_[delivery.firm].size() < limit_ || stage_ != Stage::keeps;
+    });
+    if (stage_ == Stage::gives_back) {
+        return delivery;
     }
-    const Taker taker = taker_;
-    lock.unlock();
-    taker(std::move(delivery));
+    if (stage_ == Stage::keeps) {
+        waiting_[delivery.firm].push_back(std::move(delivery));
+    }
+    return std::nullopt;
 }
 
 void Ahead::clear() {
@@ -84,7 +84,7 @@ void Ahead::lift_limit() {
     changed_.notify_all();
 }
 
-void Ahead::hand_over(Taker taker) {
+void Ahead::hand_over(const std::function<void(Delivery)> &taker) {
     const std::lock_guard lock(mutex_);
     for (auto &[firm, messages] : waiting_) {
         for (Delivery &message : messages) {
@@ -92,12 +92,15 @@ void Ahead::hand_over(Taker taker) {
         }
     }
     waiting_.clear();
-    taker_ = std::move(taker);
+    stage_ = Stage::gives_back;
     changed_.notify_all();
 }
 
 void Ahead::close() {
-    hand_over([](const Delivery &) {});
+    const std::lock_guard lock(mutex_);
+    waiting_.clear();
+    stage_ = Stage::drops;
+    changed_.notify_all();
 }
 
 } // namespace gateway

@@ -10,21 +10,22 @@
 #include <functional>
 #include <map>
 #include <mutex>
+#include <optional>
 #include <string>
 
 namespace gateway {
 
 // While another gateway speaks, its messages come to the log, and those of this gateway's venue are
-// held against them. Once this one speaks, what is left is handed over, and all that comes goes
-// there at once. One thread puts, another settles and hands over.
+// held against them. Once this one speaks, what is left is handed over, and nothing is kept here
+// any more. One thread puts, another settles and hands over.
 class Ahead {
   public:
-    using Taker = std::function<void(Delivery)>;
-
     // So many messages may wait for one firm.
     explicit Ahead(std::size_t limit) : limit_(limit) {}
 
-    void put(Delivery delivery);
+    // Keeps the message; once all was handed over it is given back, and is the caller's to hand
+    // over.
+    std::optional<Delivery> put(Delivery delivery);
     // The venue begins again.
     void clear();
 
@@ -33,7 +34,7 @@ class Ahead {
     void settle(LogReader &log);
     // The log has ended, and what the venue gives for it has an end: nothing waits for room.
     void lift_limit();
-    void hand_over(Taker taker);
+    void hand_over(const std::function<void(Delivery)> &taker);
     // What is put is dropped.
     void close();
 
@@ -47,7 +48,7 @@ class Ahead {
     std::condition_variable changed_;
     std::map<std::string, std::deque<Delivery>> waiting_;
     bool limited_ = true;
-    Taker taker_;
+    enum class Stage { keeps, gives_back, drops } stage_ = Stage::keeps;
 };
 
 } // namespace gateway

@@ -1,7 +1,5 @@
 #include "committed.h"
 
-#include <utility>
-
 namespace gateway {
 
 namespace {
@@ -11,41 +9,61 @@ constexpr std::size_t kept = 8192;
 
 } // namespace
 
-void Committed::put(std::vector<LoggedEntry> entries) {
-    const std::lock_guard lock(mutex_);
-    for (LoggedEntry &entry : entries) {
-        last_place_ = entry.entry.place;
-        recent_.push_back(std::move(entry));
+void Committed::put(const std::vector<LoggedEntry> &entries) {
+    if (entries.empty()) {
+        return;
     }
-    while (recent_.size() > kept) {
-        recent_.pop_front();
+    const std::lock_guard telling(telling_mutex_);
+    {
+        const std::lock_guard lock(mutex_);
+        last_place_ = entries.back().entry.place;
+        recent_.insert(recent_.end(), entries.begin(), entries.end());
+        while (recent_.size() > kept) {
+            recent_.pop_front();
+        }
     }
-    changed_.notify_all();
+    if (reader_ != nullptr) {
+        reader_->entries_came(entries);
+    }
 }
 
 void Committed::close() {
-    const std::lock_guard lock(mutex_);
-    closed_ = true;
-    changed_.notify_all();
+    const std::lock_guard telling(telling_mutex_);
+    {
+        const std::lock_guard lock(mutex_);
+        closed_ = true;
+    }
+    if (reader_ != nullptr) {
+        reader_->no_more_come();
+    }
 }
 
-std::optional<std::vector<LoggedEntry>> Committed::wait(std::uint32_t from, std::stop_token stop) {
-    std::unique_lock lock(mutex_);
-    changed_.wait(lock, stop, [&] { return last_place_ >= from || closed_; });
-    if (stop.stop_requested() || last_place_ < from) {
+void Committed::tell(Reader *reader) {
+    const std::lock_guard telling(telling_mutex_);
+    reader_ = reader;
+}
+
+std::optional<std::vector<LoggedEntry>> Committed::from(std::uint32_t place) {
+    const std::lock_guard lock(mutex_);
+    if (last_place_ < place) {
         return std::vector<LoggedEntry>{};
     }
-    if (recent_.empty() || recent_.front().entry.place > from) {
+    if (recent_.empty() || recent_.front().entry.place > place) {
         return std::nullopt;
     }
     const auto first =
-        recent_.begin() + static_cast<std::ptrdiff_t>(from - recent_.front().entry.place);
+        recent_.begin() + static_cast<std::ptrdiff_t>(place - recent_.front().entry.place);
     return std::vector<LoggedEntry>(first, recent_.end());
 }
 
 std::uint32_t Committed::last_place() {
     const std::lock_guard lock(mutex_);
     return last_place_;
+}
+
+bool Committed::is_closed() {
+    const std::lock_guard lock(mutex_);
+    return closed_;
 }
 
 } // namespace gateway

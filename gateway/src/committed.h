@@ -5,11 +5,9 @@
 #include "records.h"
 
 #include <chrono>
-#include <condition_variable>
 #include <deque>
 #include <mutex>
 #include <optional>
-#include <stop_token>
 #include <vector>
 
 namespace gateway {
@@ -20,27 +18,42 @@ struct LoggedEntry {
     std::chrono::steady_clock::time_point received;
 };
 
-// Whoever commits entries, or sees that another gateway did, puts them here; the thread that feeds
-// the venue takes them. The latest ones are kept, and older ones are read from the database.
+// Whoever commits entries, or sees that another gateway did, puts them here. The latest ones are
+// kept, and older ones are read from the database.
 class Committed {
   public:
+    // Is told of what is put, on the thread that puts it, which it keeps waiting for nothing.
+    class Reader {
+      public:
+        virtual ~Reader() = default;
+
+        virtual void entries_came(const std::vector<LoggedEntry> &entries) = 0;
+        virtual void no_more_come() = 0;
+    };
+
     // All up to this place are in the log.
     explicit Committed(std::uint32_t last_place) : last_place_(last_place) {}
 
-    // In order, and without a gap.
-    void put(std::vector<LoggedEntry> entries);
+    // In order, and without a gap; one thread at a time.
+    void put(const std::vector<LoggedEntry> &entries);
     // No more come.
     void close();
 
-    // The entries from a place on, at least one: waits for it. Nothing where they are in the
-    // database alone; none where no more come or the stop was asked for.
-    std::optional<std::vector<LoggedEntry>> wait(std::uint32_t from, std::stop_token stop);
+    // Who is told from now on, null for nobody. The one before is not told any more when this
+    // returns.
+    void tell(Reader *reader);
 
+    // The entries from a place on: none where they are still to come, nothing where they are in the
+    // database alone.
+    std::optional<std::vector<LoggedEntry>> from(std::uint32_t place);
     std::uint32_t last_place();
+    bool is_closed();
 
   private:
+    std::mutex telling_mutex_; // over the calls of the reader; taken before the other
+    Reader *reader_ = nullptr;
+
     std::mutex mutex_;
-    std::condition_variable_any changed_;
     std::uint32_t last_place_;
     std::deque<LoggedEntry> recent_;
     bool closed_ = false;

@@ -28,7 +28,7 @@ constexpr int looks_to_be_seen = 50;
 
 Log::Log(Database &database, Committed &committed, DayClock &clock, Metrics &metrics, Start start,
          std::function<void(const std::string &)> failed)
-    : committed_entries_(committed), clock_(clock), metrics_(metrics), failed_(std::move(failed)),
+    : entries_(committed), clock_(clock), metrics_(metrics), failed_(std::move(failed)),
       writer_(database.writer()), limit_(start.waiting), sessions_(std::move(start.sessions)),
       next_place_(start.last.place + 1), committed_place_(start.last.place), term_(start.term),
       before_(start.last.hash), thread_([this](const std::stop_token &stop) { write(stop); }) {}
@@ -36,7 +36,7 @@ Log::Log(Database &database, Committed &committed, DayClock &clock, Metrics &met
 Log::~Log() = default;
 
 Log::Ticket Log::append_message(const std::string &firm, std::optional<std::uint32_t> number,
-                                std::string_view frame) {
+                                std::string_view frame, Committer committer) {
     Entry entry;
     entry.firm = firm;
     entry.number = number;
@@ -44,9 +44,24 @@ Log::Ticket Log::append_message(const std::string &firm, std::optional<std::uint
     const std::string rest = fmt::format(" {}", hexadecimal(frame));
     const auto received = std::chrono::steady_clock::now();
     std::unique_lock lock(mutex_);
+    if (held_ || !has_room()) {
+        // What this thread has not committed yet is not to wait with it.
+        work_.notify_one();
+    }
     room_.wait(lock, [&] { return (!held_ && has_room()) || !failure_.empty(); });
     throw_if_failed();
-    return append_here(std::move(entry), verb, rest, received);
+    return append_here(std::move(entry), verb, rest, received, committer);
+}
+
+void Log::commit() {
+    try {
+        std::unique_lock lock(mutex_);
+        if (!writing_ && failure_.empty() && is_pressing()) {
+            commit_some(lock, false);
+        }
+    } catch (const std::exception &fault) {
+        fail(fault.what());
+    }
 }
 
 std::optional<std::uint32_t> Log::append_clock_behind(std::uint32_t place) {
@@ -56,7 +71,7 @@ std::optional<std::uint32_t> Log::append_clock_behind(std::uint32_t place) {
     if (next_place_ != place + 1) {
         return std::nullopt;
     }
-    append_here(Entry{}, "clock ", "", now);
+    append_here(Entry{}, "clock ", "", now, Committer::thread);
     return place + 1;
 }
 
@@ -72,7 +87,7 @@ Log::Hold::~Hold() {
 }
 
 Log::Ticket Log::append_here(Entry entry, std::string_view verb, std::string_view rest,
-                             std::chrono::steady_clock::time_point received) {
+                             std::chrono::steady_clock::time_point received, Committer committer) {
     entry.place = next_place_++;
     entry.term = term_;
     // Under the lock, so that places and moments rise together.
@@ -82,7 +97,10 @@ Log::Ticket Log::append_here(Entry entry, std::string_view verb, std::string_vie
     filling_.rows.entries.push_back(std::move(entry));
     filling_.received.push_back(received);
     ++filling_.size;
-    work_.notify_one();
+    // Where there is a second one, its thread may be busy with more for a while.
+    if (!writing_ && (committer == Committer::thread || filling_.received.size() > 1)) {
+        work_.notify_one();
+    }
     return filling_ticket_;
 }
 
@@ -169,12 +187,7 @@ void Log::write(const std::stop_token &stop) {
 void Log::write_all(const std::stop_token &stop) {
     std::unique_lock lock(mutex_);
     while (wait_for_work(lock, stop)) {
-        Filling filling = take(stop.stop_requested());
-        room_.notify_all();
-        lock.unlock();
-        commit(filling);
-        lock.lock();
-        publish(filling);
+        commit_some(lock, stop.stop_requested());
     }
 }
 
@@ -183,22 +196,31 @@ bool Log::is_pressing() const {
 }
 
 bool Log::wait_for_work(std::unique_lock<std::mutex> &lock, const std::stop_token &stop) {
-    for (int looks = 1; !stop.stop_requested(); ++looks) {
+    for (int looks = 1; !stop.stop_requested() && failure_.empty(); ++looks) {
         // Rows that nobody waits for wake nobody: they are found when it looks again.
-        if (work_.wait_for(lock, stop, patience, [&] { return is_pressing(); }) ||
-            !filling_.rows.empty()) {
+        const bool pressing =
+            work_.wait_for(lock, stop, patience, [&] { return !writing_ && is_pressing(); });
+        if (pressing || (!writing_ && !filling_.rows.empty())) {
             return true;
         }
-        lock.unlock();
-        if (looks == looks_to_rest) {
-            writer_->rest();
+        if (!writing_) {
+            use_lull(lock, looks);
         }
-        if (looks % looks_to_be_seen == 0) {
-            writer_->be_seen();
-        }
-        lock.lock();
     }
-    return !filling_.rows.empty();
+    return failure_.empty() && !filling_.rows.empty();
+}
+
+void Log::use_lull(std::unique_lock<std::mutex> &lock, int looks) {
+    writing_ = true;
+    lock.unlock();
+    if (looks == looks_to_rest) {
+        writer_->rest();
+    }
+    if (looks % looks_to_be_seen == 0) {
+        writer_->be_seen();
+    }
+    lock.lock();
+    writing_ = false;
 }
 
 Log::Filling Log::take(bool all) {
@@ -217,7 +239,25 @@ Log::Filling Log::take(bool all) {
     return entries;
 }
 
-void Log::commit(Filling &filling) {
+void Log::commit_some(std::unique_lock<std::mutex> &lock, bool all) {
+    writing_ = true;
+    Filling filling = take(all);
+    room_.notify_all();
+    lock.unlock();
+    write_rows(filling);
+    // An entry is on disk before the venue sees it, and so before any answer to it can leave.
+    const auto last = hand_on(filling);
+    lock.lock();
+    writing_ = false;
+    committed_place_ = last.value_or(committed_place_);
+    committed_ += filling.is_whole ? 1 : 0;
+    done_.notify_all();
+    if (is_pressing()) {
+        work_.notify_one();
+    }
+}
+
+void Log::write_rows(Filling &filling) {
     for (Entry &entry : filling.rows.entries) {
         entry.before = before_;
         entry.hash = hash_of(entry);
@@ -232,29 +272,30 @@ void Log::commit(Filling &filling) {
                        std::chrono::steady_clock::now() - begin);
 }
 
-// The lock is held.
-void Log::publish(Filling &filling) {
+std::optional<std::uint32_t> Log::hand_on(Filling &filling) {
     const auto now = std::chrono::steady_clock::now();
     std::vector<LoggedEntry> entries;
     for (std::size_t at = 0; at < filling.rows.entries.size(); ++at) {
-        metrics_.logged(now - filling.received[at]);
-        committed_place_ = filling.rows.entries[at].place;
         entries.push_back({std::move(filling.rows.entries[at]), filling.received[at]});
     }
-    committed_entries_.put(std::move(entries));
-    committed_ += filling.is_whole ? 1 : 0;
-    done_.notify_all();
+    entries_.put(entries);
+    for (const auto &received : filling.received) {
+        metrics_.logged(now - received);
+    }
+    return entries.empty() ? std::nullopt : std::optional(entries.back().entry.place);
 }
 
 void Log::fail(const std::string &cause) {
+    const std::string failure = fmt::format("the log could not be written: {}", cause);
     {
         const std::lock_guard lock(mutex_);
-        failure_ = fmt::format("the log could not be written: {}", cause);
+        failure_ = failure;
         done_.notify_all();
         room_.notify_all();
+        work_.notify_all();
     }
-    committed_entries_.close();
-    failed_(failure_);
+    entries_.close();
+    failed_(failure);
 }
 
 } // namespace gateway

@@ -16,10 +16,11 @@
 
 namespace gateway {
 
-// Rows are put into the batch that is being filled; one thread commits it as soon as the one before
-// is committed and there is an entry, or somebody waits for it. Rows that nobody waits for stay in
-// it for a few milliseconds, so that an entry is not kept waiting for them. Any thread may put
-// rows, and waits where too many are there.
+// Rows are put into the batch that is being filled. It is committed as soon as the one before is
+// committed and there is an entry, or somebody waits for it: by the thread that put the entry, so
+// that it need not wait for another, or by a thread of the log, where more has come meanwhile. Rows
+// that nobody waits for stay in it for a few milliseconds, so that an entry is not kept waiting for
+// them. Any thread may put rows, and waits where too many are there.
 //
 // Where a commit fails nothing is written any more: every call that needs the log throws, with the
 // cause, and `failed` is called once.
@@ -43,10 +44,17 @@ class Log {
     Log(const Log &) = delete;
     Log &operator=(const Log &) = delete;
 
+    // Who commits a message: the log's thread, which is woken for it, or the one that puts it, which
+    // calls commit() once it has no more. One that does not is found out by the log's thread a
+    // little later.
+    enum class Committer { thread, caller };
+
     // A message of a firm: the next place and the moment are given here. number is the session's,
     // or nothing where the gateway speaks for the firm.
     Ticket append_message(const std::string &firm, std::optional<std::uint32_t> number,
-                          std::string_view frame);
+                          std::string_view frame, Committer committer = Committer::thread);
+    // Commits the entries that wait; where another thread is committing they are left to the log's.
+    void commit();
     // A sweep of the clock, at the moment of now, if this place is the last one: then its own
     // place.
     std::optional<std::uint32_t> append_clock_behind(std::uint32_t place);
@@ -88,7 +96,7 @@ class Log {
 
     // The lock is held.
     Ticket append_here(Entry entry, std::string_view verb, std::string_view rest,
-                       std::chrono::steady_clock::time_point received);
+                       std::chrono::steady_clock::time_point received, Committer committer);
     bool has_room() const { return filling_.size < limit_; }
     // Waits for room; the lock is held before and behind.
     void wait_for_room(std::unique_lock<std::mutex> &lock);
@@ -97,15 +105,19 @@ class Log {
     void write_all(const std::stop_token &stop);
     // False at the end, where nothing is left. The lock is held before and behind.
     bool wait_for_work(std::unique_lock<std::mutex> &lock, const std::stop_token &stop);
+    void use_lull(std::unique_lock<std::mutex> &lock, int looks);
     // Whether there is what a commit does not wait for. The lock is held.
     bool is_pressing() const;
     // What is to be committed now. The lock is held.
     Filling take(bool all);
-    void commit(Filling &filling);
-    void publish(Filling &filling);
+    // Commits what is to be committed now. The lock is held before and behind; nobody else writes.
+    void commit_some(std::unique_lock<std::mutex> &lock, bool all);
+    void write_rows(Filling &filling);
+    // Hands the entries on to the venue, and returns the last one's place, if there is one.
+    std::optional<std::uint32_t> hand_on(Filling &filling);
     void fail(const std::string &cause);
 
-    Committed &committed_entries_;
+    Committed &entries_;
     DayClock &clock_;
     Metrics &metrics_;
     std::function<void(const std::string &)> failed_;
@@ -113,13 +125,14 @@ class Log {
     const std::size_t limit_;
 
     std::mutex mutex_;
-    std::condition_variable_any work_; // for the writing thread
+    std::condition_variable_any work_; // for the log's thread
     std::condition_variable_any done_; // for whoever waits for a commit
     std::condition_variable_any room_; // for whoever has rows
     Filling filling_;
     bool urgent_ = false;
     std::chrono::steady_clock::time_point whole_at_; // when a whole batch was taken last
     bool held_ = false;
+    bool writing_ = false; // some thread has the writer
     Ticket filling_ticket_ = 1;
     Ticket committed_ = 0;
     std::string failure_;
@@ -128,7 +141,7 @@ class Log {
     std::uint32_t committed_place_;
     const std::uint32_t term_;
 
-    Digest before_; // of the writing thread alone
+    Digest before_; // of whoever has the writer
     std::jthread thread_;
 };
 

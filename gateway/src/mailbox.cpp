@@ -1,68 +1,99 @@
 #include "mailbox.h"
 
+#include <chrono>
 #include <stdexcept>
+#include <utility>
 
 namespace gateway {
 
-using namespace std::chrono_literals;
-
-Mailbox::Mailbox(std::string firm, Engine &engine, std::size_t limit,
+Mailbox::Mailbox(std::string session, Engine &engine, std::size_t limit,
                  std::function<void(const std::string &)> failed)
-    : firm_(std::move(firm)), engine_(engine), limit_(limit), failed_(std::move(failed)),
+    : session_(std::move(session)), engine_(engine), limit_(limit), failed_(std::move(failed)),
       thread_([this](const std::stop_token &stop) { run(stop); }) {}
 
 void Mailbox::put(Delivery delivery) {
     std::unique_lock lock(mutex_);
     if (waiting_.size() >= limit_) {
         lock.unlock();
-        engine_.disconnect(firm_);
+        engine_.disconnect(session_);
         lock.lock();
-        changed_.wait(lock, [&] { return waiting_.size() < limit_ || broken_; });
+        went_.wait(lock, [&] { return waiting_.size() < limit_ || broken_; });
     }
     waiting_.push_back(std::move(delivery));
-    changed_.notify_all();
+    came_.notify_one();
+}
+
+void Mailbox::put_now(Delivery delivery) {
+    {
+        std::unique_lock lock(mutex_);
+        const bool is_next = waiting_.empty() && !handing_over_ && !broken_;
+        if (is_next && hand_over(lock, [&] { return engine_.deliver_at_once(delivery); })) {
+            return;
+        }
+    }
+    put(std::move(delivery));
 }
 
 void Mailbox::wait_until_empty() {
     std::unique_lock lock(mutex_);
-    changed_.wait(lock, [&] { return (waiting_.empty() && !handing_over_) || broken_; });
+    went_.wait(lock, [&] { return (waiting_.empty() && !handing_over_) || broken_; });
 }
 
 void Mailbox::run(const std::stop_token &stop) {
     std::unique_lock lock(mutex_);
-    for (;;) {
-        changed_.wait(lock, stop, [&] { return !waiting_.empty(); });
+    while (!broken_) {
+        came_.wait(lock, stop, [&] { return !waiting_.empty() && !handing_over_; });
         if (stop.stop_requested()) {
             return;
         }
         wait_while_settling(lock, stop);
         const Delivery delivery = std::move(waiting_.front());
         waiting_.pop_front();
-        handing_over_ = true;
-        lock.unlock();
-        std::string fault;
-        try {
+        hand_over(lock, [&] {
             engine_.deliver(delivery);
-        } catch (const std::exception &caught) {
-            fault = caught.what();
-        }
-        lock.lock();
-        handing_over_ = false;
-        broken_ = !fault.empty();
-        changed_.notify_all();
-        if (broken_) {
-            lock.unlock();
-            failed_(fault);
-            return;
-        }
+            return true;
+        });
     }
 }
 
-void Mailbox::wait_while_settling(std::unique_lock<std::mutex> &lock, const std::stop_token &stop) {
-    while (engine_.is_settling(firm_) && !stop.stop_requested() && waiting_.size() < limit_ / 2) {
+bool Mailbox::hand_over(std::unique_lock<std::mutex> &lock, const std::function<bool()> &deliver) {
+    handing_over_ = true;
+    lock.unlock();
+    bool done = false;
+    std::string fault;
+    try {
+        done = deliver();
+    } catch (const std::exception &caught) {
+        fault = caught.what();
+    }
+    lock.lock();
+    handing_over_ = false;
+    broken_ = !fault.empty();
+    went_.notify_all();
+    if (!waiting_.empty()) {
+        came_.notify_one();
+    }
+    if (broken_) {
         lock.unlock();
-        std::this_thread::sleep_for(2ms);
+        failed_(fault);
         lock.lock();
+    }
+    return done;
+}
+
+void Mailbox::settled() {
+    const std::lock_guard lock(mutex_);
+    came_.notify_one();
+}
+
+void Mailbox::wait_while_settling(std::unique_lock<std::mutex> &lock, const std::stop_token &stop) {
+    const auto is_over = [this] {
+        return std::chrono::steady_clock::now() >= engine_.settles_until(session_) ||
+               waiting_.size() >= limit_ / 2;
+    };
+    // It may be put off meanwhile.
+    while (!is_over() && !stop.stop_requested()) {
+        came_.wait_until(lock, stop, engine_.settles_until(session_), is_over);
     }
 }
 

@@ -19,12 +19,18 @@ namespace gateway {
 class Mailbox {
   public:
     // failed is called where a message can't be handed over: the log takes nothing any more.
-    Mailbox(std::string firm, Engine &engine, std::size_t limit,
+    Mailbox(std::string session, Engine &engine, std::size_t limit,
             std::function<void(const std::string &)> failed);
 
     // Where too many wait, the firm's connection is ended, and room waited for: without a
-    // connection messages are handed over as fast as the log takes them.
+    // connection messages are handed over as fast as the log takes them. One thread puts.
     void put(Delivery delivery);
+    // Hands it over on this thread, if nothing is before it and the session does nothing else;
+    // otherwise as put().
+    void put_now(Delivery delivery);
+
+    // The session settles no more.
+    void settled();
 
     // Returns when all that was put is handed over.
     void wait_until_empty();
@@ -32,14 +38,18 @@ class Mailbox {
   private:
     void run(const std::stop_token &stop);
     void wait_while_settling(std::unique_lock<std::mutex> &lock, const std::stop_token &stop);
+    // Without the lock, which is held before and behind. What `deliver` returned, or false where it
+    // failed.
+    bool hand_over(std::unique_lock<std::mutex> &lock, const std::function<bool()> &deliver);
 
-    const std::string firm_;
+    const std::string session_;
     Engine &engine_;
     const std::size_t limit_;
     std::function<void(const std::string &)> failed_;
 
     std::mutex mutex_;
-    std::condition_variable_any changed_;
+    std::condition_variable_any came_; // for the thread
+    std::condition_variable_any went_; // for whoever waits for room or for the end
     std::deque<Delivery> waiting_;
     bool handing_over_ = false;
     bool broken_ = false;

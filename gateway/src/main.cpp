@@ -50,11 +50,12 @@ class Signals {
         std::signal(SIGPIPE, SIG_IGN);
     }
 
-    void watch(gateway::Gateway &gateway) {
-        thread_ = std::jthread([this, &gateway](const std::stop_token &stop) {
-            const timespec second{0, 200'000'000};
+    // The thread is not to outlive the gateway.
+    std::jthread watch(gateway::Gateway &gateway) const {
+        return std::jthread([this, &gateway](const std::stop_token &stop) {
+            const timespec look{0, 200'000'000};
             while (!stop.stop_requested()) {
-                const int signal = sigtimedwait(&set_, nullptr, &second);
+                const int signal = sigtimedwait(&set_, nullptr, &look);
                 if (signal > 0) {
                     gateway.ask_to_stop(signal == SIGTERM ? "SIGTERM" : "SIGINT");
                 }
@@ -64,7 +65,6 @@ class Signals {
 
   private:
     sigset_t set_{};
-    std::jthread thread_;
 };
 
 int serve(const std::string &path, bool only_check) {
@@ -77,9 +77,9 @@ int serve(const std::string &path, bool only_check) {
         return 0;
     }
     const auto events = make_events(configs.front().event_level);
-    Signals signals;
+    const Signals signals;
     gateway::Gateway gateway(std::move(configs), events);
-    signals.watch(gateway);
+    const std::jthread watching = signals.watch(gateway);
     gateway.start();
     const auto failure = gateway.run();
     return failure ? 1 : 0;

@@ -7,6 +7,7 @@
 
 #include <fcntl.h>
 #include <fmt/format.h>
+#include <poll.h>
 #include <spawn.h>
 #include <sys/wait.h>
 #include <unistd.h>
@@ -82,6 +83,10 @@ Process::Process(const std::vector<std::string> &command) {
     Pipe in = make_pipe();
     Pipe out = make_pipe();
     Pipe err = make_pipe();
+    // Of this end alone: the process's own still blocks.
+    if (::fcntl(in.write.number(), F_SETFL, O_NONBLOCK) != 0) {
+        throw std::system_error(errno, std::generic_category(), "a pipe to the venue");
+    }
     SpawnPlan plan;
     plan.use(in.read, STDIN_FILENO);
     plan.use(out.write, STDOUT_FILENO);
@@ -113,15 +118,22 @@ Process::~Process() {
 bool Process::write(std::string_view bytes) {
     while (!bytes.empty()) {
         const ssize_t count = ::write(input_.number(), bytes.data(), bytes.size());
-        if (count < 0 && errno == EINTR) {
-            continue;
-        }
-        if (count <= 0) {
+        if (count > 0) {
+            bytes.remove_prefix(static_cast<std::size_t>(count));
+        } else if (count < 0 && errno == EAGAIN) {
+            // Of a process that has ended poll() tells at once, and the next write why.
+            pollfd room{input_.number(), POLLOUT, 0};
+            ::poll(&room, 1, -1);
+        } else if (count == 0 || errno != EINTR) {
             return false;
         }
-        bytes.remove_prefix(static_cast<std::size_t>(count));
     }
     return true;
+}
+
+std::size_t Process::write_at_once(std::string_view bytes) {
+    const ssize_t count = ::write(input_.number(), bytes.data(), bytes.size());
+    return count > 0 ? static_cast<std::size_t>(count) : 0;
 }
 
 void Process::close_input() {

@@ -22,8 +22,11 @@ class Process {
     Process(const Process &) = delete;
     Process &operator=(const Process &) = delete;
 
-    // Writes all bytes to its standard input; false where it does not read any more.
+    // Writes all bytes to its standard input, and waits for room there; false where it does not read
+    // any more.
     bool write(std::string_view bytes);
+    // Writes what its standard input takes at once, and returns how much that is.
+    std::size_t write_at_once(std::string_view bytes);
     void close_input();
     // The next bytes of its standard output or error, empty at the end.
     std::string read_output();

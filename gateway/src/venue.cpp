@@ -12,9 +12,6 @@ namespace gateway {
 
 namespace {
 
-// Entries that are read from the database at once.
-constexpr std::uint32_t chunk = 1024;
-
 // Of the venue's standard error, kept as its last words.
 constexpr std::size_t longest_words = 2048;
 
@@ -29,8 +26,8 @@ std::string_view take_word(std::string_view &text) {
 
 Venue::Venue(Settings settings, Database &database, Committed &committed, const Digest &first_hash,
              VenueListener &listener, Metrics &metrics, std::shared_ptr<spdlog::logger> events)
-    : settings_(std::move(settings)), database_(database), committed_(committed),
-      first_hash_(first_hash), listener_(listener), metrics_(metrics), events_(std::move(events)),
+    : settings_(std::move(settings)), log_{database, committed, first_hash}, listener_(listener),
+      metrics_(metrics), events_(std::move(events)),
       // The configuration, `%%`, and the line `#` whose mark says that the configuration was read.
       lines_before_(static_cast<std::size_t>(std::count(settings_.configuration.begin(),
                                                         settings_.configuration.end(), '\n')) +
@@ -93,7 +90,6 @@ std::string Venue::run_once(std::stop_token stop) {
     {
         const std::lock_guard lock(mutex_);
         fed_.clear();
-        feeding_fault_.clear();
         last_words_.clear();
     }
     answered_lines_ = 0;
@@ -111,9 +107,6 @@ std::string Venue::run_once(std::stop_token stop) {
     if (fault) {
         std::rethrow_exception(fault);
     }
-    if (!feeding_fault_.empty()) {
-        throw std::runtime_error(feeding_fault_);
-    }
     return end;
 }
 
@@ -125,8 +118,9 @@ void Venue::set_running(Process *process) {
 // Until the process ends, or says something at which it is killed: then that.
 std::exception_ptr Venue::serve(Process &process, const std::stop_token &stop) {
     std::jthread errors([&] { listen_to_errors(process); });
-    std::jthread feeder([&](std::stop_token own) { feed(process, std::move(own)); });
-    const std::stop_callback forward(stop, [&] { feeder.request_stop(); });
+    Feeder feeder(process, log_, settings_.configuration + "%%\n#\n",
+                  [this](const std::vector<LoggedEntry> &entries) { note_fed(entries); });
+    const std::stop_callback forward(stop, [&] { feeder.stop(); });
     std::exception_ptr fault;
     try {
         read(process);
@@ -135,60 +129,18 @@ std::exception_ptr Venue::serve(Process &process, const std::stop_token &stop) {
         fault = std::current_exception();
         process.kill();
     }
+    const std::string unfed = feeder.end();
+    if (!fault && !unfed.empty()) {
+        fault = std::make_exception_ptr(std::runtime_error(unfed));
+    }
     return fault;
 }
 
-void Venue::feed(Process &process, std::stop_token stop) {
-    try {
-        if (!process.write(settings_.configuration) || !process.write("%%\n#\n")) {
-            process.close_input();
-            return;
-        }
-        PatientReader reader(database_, stop);
-        std::uint32_t next = 1;
-        Digest before = first_hash_;
-        for (bool going = true; going;) {
-            const std::vector<LoggedEntry> entries = next_entries(next, reader, stop);
-            for (const LoggedEntry &logged : entries) {
-                check_link(logged.entry, next, before);
-                before = logged.entry.hash;
-                ++next;
-            }
-            going = !entries.empty() && feed_entries(process, entries);
-        }
-    } catch (const std::exception &fault) {
-        const std::lock_guard lock(mutex_);
-        feeding_fault_ = fault.what();
+void Venue::note_fed(const std::vector<LoggedEntry> &entries) {
+    const std::lock_guard lock(mutex_);
+    for (const LoggedEntry &logged : entries) {
+        fed_.push_back({logged.entry.place, logged.entry.number.value_or(0), logged.received});
     }
-    process.close_input();
-}
-
-// None where the stop was asked for.
-std::vector<LoggedEntry> Venue::next_entries(std::uint32_t next, PatientReader &reader,
-                                             const std::stop_token &stop) {
-    if (auto recent = committed_.wait(next, stop)) {
-        return std::move(*recent);
-    }
-    std::vector<LoggedEntry> old;
-    for (Entry &entry : reader.ask([&](LogReader &log) { return log.entries(next, chunk); })) {
-        old.push_back({std::move(entry), std::chrono::steady_clock::now()});
-    }
-    if (old.empty()) {
-        throw std::runtime_error(fmt::format("the log has no entry {}", next));
-    }
-    return old;
-}
-
-bool Venue::feed_entries(Process &process, const std::vector<LoggedEntry> &entries) {
-    std::string lines;
-    {
-        const std::lock_guard lock(mutex_);
-        for (const LoggedEntry &logged : entries) {
-            lines.append(logged.entry.line).append("\n");
-            fed_.push_back({logged.entry.place, logged.entry.number.value_or(0), logged.received});
-        }
-    }
-    return process.write(lines);
 }
 
 void Venue::read(Process &process) {
@@ -206,6 +158,7 @@ void Venue::read(Process &process) {
             rest.remove_prefix(end + 1);
         }
         buffer.erase(0, buffer.size() - rest.size());
+        listener_.venue_pauses();
     }
 }
 

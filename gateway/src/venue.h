@@ -4,9 +4,9 @@
 
 #include "committed.h"
 #include "database.h"
+#include "feeder.h"
 #include "metrics.h"
 #include "moment.h"
-#include "patient_reader.h"
 #include "process.h"
 
 #include <atomic>
@@ -36,12 +36,13 @@ class VenueListener {
     // All messages for this entry were given. deadline is the earliest of a request, if there is
     // one. Place 0: the configuration was read.
     virtual void venue_answered(std::uint32_t place, std::optional<Moment> deadline) = 0;
+    // All that it has said so far was told.
+    virtual void venue_pauses() = 0;
     // The venue is no more, for this cause. Told once.
     virtual void venue_failed(const std::string &cause) = 0;
 };
 
-// One thread reads the venue, one feeds it. Neither of them waits for a session, and the one that
-// feeds waits for nothing but the log and the pipe.
+// One thread reads the venue; a Feeder feeds it, which waits for nothing but the log and the pipe.
 class Venue {
   public:
     struct Settings {
@@ -75,10 +76,7 @@ class Venue {
     std::string run_once(std::stop_token stop);
     std::exception_ptr serve(Process &process, const std::stop_token &stop);
     void set_running(Process *process);
-    void feed(Process &process, std::stop_token stop);
-    bool feed_entries(Process &process, const std::vector<LoggedEntry> &entries);
-    std::vector<LoggedEntry> next_entries(std::uint32_t next, PatientReader &reader,
-                                          const std::stop_token &stop);
+    void note_fed(const std::vector<LoggedEntry> &entries);
     void read(Process &process);
     void take_line(std::string_view line);
     void take_mark(std::string_view line);
@@ -88,9 +86,7 @@ class Venue {
     bool may_start();
 
     Settings settings_;
-    Database &database_;
-    Committed &committed_;
-    const Digest first_hash_;
+    const Feeder::Log log_;
     VenueListener &listener_;
     Metrics &metrics_;
     std::shared_ptr<spdlog::logger> events_;
@@ -99,7 +95,6 @@ class Venue {
     std::mutex mutex_;
     std::condition_variable changed_;
     std::deque<Fed> fed_;
-    std::string feeding_fault_;
     std::string last_words_;
     Process *running_ = nullptr;
     bool ended_ = false;

@@ -24,7 +24,12 @@ constexpr std::uint32_t chunk = 1024;
 // How often a gateway that speaks and does not write yet says that it is there.
 constexpr auto sign_of_life = 500ms;
 
-std::unique_ptr<Database> open_database(const Config &config) {
+// Throws where it is none of today.
+std::unique_ptr<Database> open_database(const Config &config, const DayClock &clock) {
+    if (!clock.is_today()) {
+        throw std::runtime_error(fmt::format(
+            "the venue's configuration is of {}, and today is {} in UTC", clock.date(), today()));
+    }
     if (!config.sqlite.empty()) {
         return open_sqlite(config.sqlite.string());
     }
@@ -36,13 +41,8 @@ std::unique_ptr<Database> open_database(const Config &config) {
 VenueDay::VenueDay(const Config &config, Metrics &metrics, Status &status,
                    std::shared_ptr<spdlog::logger> events)
     : config_(config), metrics_(metrics), status_(status), events_(std::move(events)),
-      clock_(config_.firms.date), database_(open_database(config_)),
-      comparison_(*database_, status_.stopping()), ahead_(config_.waiting_messages) {
-    if (!clock_.is_today()) {
-        throw std::runtime_error(fmt::format(
-            "the venue's configuration is of {}, and today is {} in UTC", clock_.date(), today()));
-    }
-}
+      clock_(config_.firms.date), database_(open_database(config_, clock_)),
+      comparison_(*database_, status_.stopping()), ahead_(config_.waiting_messages) {}
 
 VenueDay::~VenueDay() {
     close();
@@ -247,6 +247,7 @@ void VenueDay::finish() {
     wait_until_handed_over();
     status_.end();
     venue_->stop();
+    wait_until_handed_over();
     log_->flush();
     events_->info("ended{} entries={}", of_venue(), last);
 }
@@ -315,7 +316,32 @@ void VenueDay::venue_gave(std::uint32_t place, std::uint32_t number, std::string
     delivery.frame = std::move(frame);
     delivery.type = std::move(message.type);
     delivery.body = std::move(message.body);
-    ahead_.put(std::move(delivery));
+    if (auto given_back = ahead_.put(std::move(delivery))) {
+        hand_over(std::move(*given_back));
+    }
+}
+
+// The first message of what was read stays at hand until the venue pauses: then this thread hands
+// it over itself, while those of the mailboxes are at the others. Behind a firm's message that is
+// at hand another of the firm puts it into the mailbox, so that they keep their order.
+void VenueDay::hand_over(Delivery delivery) {
+    if (at_hand_ && at_hand_->firm == delivery.firm) {
+        firm_of(at_hand_->firm).mailbox->put(std::move(*at_hand_));
+        at_hand_.reset();
+    }
+    if (at_hand_) {
+        firm_of(delivery.firm).mailbox->put(std::move(delivery));
+    } else {
+        at_hand_ = std::move(delivery);
+    }
+}
+
+void VenueDay::venue_pauses() {
+    if (at_hand_) {
+        Delivery delivery = std::move(*at_hand_);
+        at_hand_.reset();
+        firm_of(delivery.firm).mailbox->put_now(std::move(delivery));
+    }
 }
 
 void VenueDay::venue_answered(std::uint32_t place, std::optional<Moment> deadline) {

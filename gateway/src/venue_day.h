@@ -76,6 +76,7 @@ class VenueDay final : private SessionHost, private VenueListener {
     void open_firms();
     void open_mailboxes(Engine &engine);
     void begin_to_speak(Engine &engine);
+    void hand_over(Delivery delivery);
     void wait_until_handed_over();
     void withdraw_for_lost_sessions();
     void cancel_all_of(const std::string &name, Firm &firm);
@@ -86,7 +87,9 @@ class VenueDay final : private SessionHost, private VenueListener {
     std::string refusal_of(const LogonFacts &facts) override;
     void logged_on(const std::string &firm) override;
     void logged_off(const std::string &firm) override;
+    void settled(const std::string &firm) override;
     int received(const std::string &firm, std::uint32_t number, const std::string &bytes) override;
+    void all_received() override;
     std::uint64_t store_outgoing(const std::string &firm, std::uint32_t number,
                                  const std::string &bytes, const Delivery *delivery) override;
     void wait_stored(std::uint64_t ticket) override;
@@ -99,6 +102,7 @@ class VenueDay final : private SessionHost, private VenueListener {
     void venue_gave(std::uint32_t place, std::uint32_t number, std::string firm,
                     std::string frame) override;
     void venue_answered(std::uint32_t place, std::optional<Moment> deadline) override;
+    void venue_pauses() override;
     void venue_failed(const std::string &cause) override;
 
     const Config &config_;
@@ -124,6 +128,7 @@ class VenueDay final : private SessionHost, private VenueListener {
     std::unique_ptr<Committed> committed_;
     Comparison comparison_;
     Ahead ahead_;
+    std::optional<Delivery> at_hand_; // of the thread that reads the venue
     Answers answers_;
     std::unique_ptr<Log> log_;
     std::unique_ptr<Venue> venue_;

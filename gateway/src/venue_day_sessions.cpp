@@ -39,6 +39,10 @@ void VenueDay::logged_off(const std::string &firm) {
     }
 }
 
+void VenueDay::settled(const std::string &firm) {
+    firm_of(firm).mailbox->settled();
+}
+
 int VenueDay::received(const std::string &name, std::uint32_t number, const std::string &bytes) {
     Firm &firm = firm_of(name);
     const std::lock_guard lock(firm.mutex);
@@ -50,10 +54,14 @@ int VenueDay::received(const std::string &name, std::uint32_t number, const std:
     if (const auto *none = std::get_if<NoFrame>(&frame)) {
         return none->tag == 0 ? 9 : none->tag;
     }
-    log_->append_message(name, number, std::get<std::string>(frame));
+    log_->append_message(name, number, std::get<std::string>(frame), Log::Committer::caller);
     ++firm.entries;
     firm.last_number = number;
     return 0;
+}
+
+void VenueDay::all_received() {
+    log_->commit();
 }
 
 std::uint64_t VenueDay::store_outgoing(const std::string &firm, std::uint32_t number,

@@ -67,10 +67,15 @@ Entry begin_day(Database &database) {
 constexpr std::uint32_t threads = 4;
 constexpr std::uint32_t messages = 200;
 
+// Every other thread commits itself, three messages at a time, and leaves the last ones to the log.
 void write_from(Log &log, std::uint32_t thread) {
     const std::string firm = fmt::format("F{}", thread);
+    const auto committer = thread % 2 == 0 ? Log::Committer::thread : Log::Committer::caller;
     for (std::uint32_t number = 1; number <= messages; ++number) {
-        log.append_message(firm, number, "x");
+        log.append_message(firm, number, "x", committer);
+        if (committer == Log::Committer::caller && number % 3 == 0) {
+            log.commit();
+        }
         log.put({firm, number, number, "wire"}, Sent{firm, number, number, "frame"});
         log.put_target(firm, number + 1);
     }
@@ -140,6 +145,26 @@ void a_held_log(Database &database) {
           "the message does not come behind the sweep");
 }
 
+// What the caller commits is in the log when the call returns, and what it does not is soon.
+void a_message_alone(Database &database) {
+    DayClock clock(today());
+    Metrics metrics(0);
+    Log::Start start;
+    start.last = database.reader()->last_entry().value();
+    start.term = start.last.term;
+    const std::uint32_t last = start.last.place;
+    Committed committed(last);
+    Log log(database, committed, clock, metrics, std::move(start),
+            [](const std::string &cause) { std::cerr << cause << '\n'; });
+    log.append_message("F0", messages + 2, "x", Log::Committer::caller);
+    log.commit();
+    same(last + 1, committed.last_place(), "the place that was committed");
+    same<std::size_t>(1, database.reader()->entries(last + 1, 9).size(), "entries in the log");
+    log.append_message("F0", messages + 3, "x", Log::Committer::caller);
+    log.flush();
+    same(last + 2, committed.last_place(), "the place that was left to the log");
+}
+
 void a_commit_that_fails() {
     FailingDatabase database(1);
     DayClock clock(today());
@@ -165,6 +190,23 @@ void a_commit_that_fails() {
             thrown = fault.what();
         }
         check(!thrown.empty(), "a log that failed takes a message");
+    }
+    same<std::string>("the log could not be written: no room", told, "what is told");
+}
+
+void a_commit_that_fails_at_its_caller() {
+    FailingDatabase database(0);
+    DayClock clock(today());
+    Metrics metrics(0);
+    std::string told;
+    {
+        Committed committed(0);
+        Log log(database, committed, clock, metrics, Log::Start{},
+                [&told](const std::string &cause) { told = cause; });
+        log.append_message("F", 1, "x", Log::Committer::caller);
+        log.commit();
+        check(!log.failure().empty(), "the log has not failed");
+        check(committed.is_closed() && committed.last_place() == 0, "the venue is given something");
     }
     same<std::string>("the log could not be written: no room", told, "what is told");
 }
@@ -205,6 +247,7 @@ void run(const std::vector<std::string> &arguments) {
             open_postgres({arguments[1], fmt::format("log_test_{}", ::getpid()), "log_test"});
         many_threads(*database);
         a_held_log(*database);
+        a_message_alone(*database);
     } else {
         const std::filesystem::path file = folder / "log_test.db";
         for (const char *suffix : {"", "-wal", "-shm", ".lock"}) {
@@ -213,8 +256,10 @@ void run(const std::vector<std::string> &arguments) {
         const auto database = open_sqlite(file.string());
         many_threads(*database);
         a_held_log(*database);
+        a_message_alone(*database);
     }
     a_commit_that_fails();
+    a_commit_that_fails_at_its_caller();
     changed_entries();
 }
 

@@ -58,7 +58,10 @@ def audit(*words: object, venue: list[str] | None = None, **environment: str) ->
     return Ran(done.returncode, done.stdout, done.stderr)
 
 
-def folder() -> "tempfile.TemporaryDirectory[str]":
+Folder = tempfile.TemporaryDirectory[str]
+
+
+def folder() -> Folder:
     return tempfile.TemporaryDirectory(prefix="audit-test-")
 
 

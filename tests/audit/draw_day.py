@@ -1,11 +1,12 @@
 #!/usr/bin/python3
 """Draws a day of a venue by a seed, and writes its log as the gateway does.
 
-usage: draw_day.py LOG [--requests N] [--seed N] [--noise N] [--dealers N] [--investors N] -- VENUE WORDS ..
+usage: draw_day.py LOG [--requests N] [--seed N] [--noise N] [--dealers N] [--investors N]
+                   -- VENUE WORDS ..
 
-Investors ask, dealers quote, replace, withdraw and decline, by what each was sent so far: the venue's program answers
-each line before the next is drawn. `--noise` has so many messages more for each dealer and request, of those
-that are refused.
+Investors ask, dealers quote, replace, withdraw and decline, by what each was sent so far: the
+venue's program answers each line before the next is drawn. `--noise` has so many messages more for
+each dealer and request, of those that are refused.
 """
 
 import argparse
@@ -22,8 +23,13 @@ from ledger import Fields, Ledger, fields_of, frame, time_text
 DATE = "20261125"
 OPENING, CLOSING = 8 * 3_600_000, 17 * 3_600_000
 BONDS = {"US91282CAA18": 256, "US91282CBB27": 128, "US912810TM09": 64, "US912810SX72": 32}
-MIDDLES = {"US91282CAA18": 99.5, "US91282CBB27": 101.25, "US912810TM09": 87.75, "US912810SX72": 73.0}
-ALL_DEALERS = {"ALPHA": ("AL1", "AL2"), "BRAVO": ("BR1",), "CEDAR": ("CE1",), "DELTA": ("DE1",), "EIGER": ("EI1",)}
+MIDDLES = {
+    "US91282CAA18": 99.5, "US91282CBB27": 101.25, "US912810TM09": 87.75, "US912810SX72": 73.0,
+}
+ALL_DEALERS = {
+    "ALPHA": ("AL1", "AL2"), "BRAVO": ("BR1",), "CEDAR": ("CE1",), "DELTA": ("DE1",),
+    "EIGER": ("EI1",),
+}
 ALL_INVESTORS = {"FJORD": ("FJ1", "FJ2"), "GROVE": ("GR1",)}
 
 
@@ -72,7 +78,7 @@ class Request:
     deadline: int
     dealers: list[str]
     shown: dict[str, str] = field(default_factory=dict)  # dealer to its name of the request
-    standing: dict[str, tuple[str, float]] = field(default_factory=dict)  # quote to dealer and price
+    standing: dict[str, tuple[str, float]] = field(default_factory=dict)  # to dealer and price
     live: dict[str, str] = field(default_factory=dict)  # dealer to its own name of its quote
     ended: bool = False
     hits: int = 0
@@ -105,7 +111,7 @@ class Market:
     def answers(self) -> list[tuple[str, bytes]]:
         """What the venue gives for the last line."""
         assert self.venue.stdout is not None
-        messages = []
+        messages: list[tuple[str, bytes]] = []
         for line in self.venue.stdout:
             word, _, rest = line.decode().rstrip("\n").partition(" ")
             if word in ("done", "fault"):
@@ -153,7 +159,7 @@ class Market:
             request.standing[told["117"]] = (told["448"], price)
         elif status == "17":
             dealer, _ = request.standing.pop(told["117"], ("", 0.0))
-        elif status == "7" or (status == "0" and "117" in told) or (status == "11" and "693" in told):
+        elif ends(told):
             request.ended = True
 
     # ------------------------------------------------------------ time
@@ -232,13 +238,15 @@ class Market:
         if request.ended or not request.standing:
             self.leave(request)
             return
-        best = (min if request.buys else max)(request.standing, key=lambda q: request.standing[q][1])
+        choose = min if request.buys else max
+        best = choose(request.standing, key=lambda name: request.standing[name][1])
         name = best if self.draw.random() < 0.85 else self.draw.choice(sorted(request.standing))
         dealer = request.standing[name][0]
         if self.draw.random() < 0.2:  # the dealer is a moment too late, or in time
             cancel = lambda now: self.cancel(request, dealer)  # noqa: E731
             self.later(self.now + self.draw.choice([0, 40]), cancel)
-        self.later(self.now + self.draw.choice([0, 20]), lambda now: self.respond(request, "1", "117", name))
+        when = self.now + self.draw.choice([0, 20])
+        self.later(when, lambda now: self.respond(request, "1", "117", name))
         request.hits += 1
         if request.hits < 3:
             self.later(self.now + 2_500, lambda now: self.hit_again(request))
@@ -272,7 +280,8 @@ class Market:
             again = when + draw.randrange(8_000, 70_000)
             self.later(again, lambda now: self.quote(request, dealer))
         if draw.random() < 0.12:
-            self.later(when + draw.randrange(20_000, 90_000), lambda now: self.cancel(request, dealer))
+            behind = when + draw.randrange(20_000, 90_000)
+            self.later(behind, lambda now: self.cancel(request, dealer))
         if draw.random() < 0.05:
             self.later(when + draw.randrange(4_000, 40_000), lambda now: self.cancel_all(dealer))
         for _ in range(self.noise):
@@ -297,7 +306,8 @@ class Market:
         self.say(dealer, trader or self.firms.all[dealer][0], "Z", body)
 
     def cancel_all(self, dealer: str) -> None:
-        number = self.draw.random() < 0.5  # without one it is the gateway's own, of a dealer that is gone
+        # Without a number it is the gateway's own, of a dealer that is gone.
+        number = self.draw.random() < 0.5
         self.say(dealer, self.firms.all[dealer][0], "Z", [("298", "4")], number)
 
     def decline(self, request: Request, dealer: str) -> None:
@@ -308,6 +318,13 @@ class Market:
 def moment_of(text: str) -> int:
     hours, minutes, seconds = text.split(":")
     return int(hours) * 3_600_000 + int(minutes) * 60_000 + round(float(seconds) * 1000)
+
+
+def ends(told: dict[str, str]) -> bool:
+    """Whether a message to an investor is the end of its request."""
+    status = told.get("297")
+    answered = (status == "0" and "117" in told) or (status == "11" and "693" in told)
+    return status == "7" or answered
 
 
 def main() -> None:

@@ -3,9 +3,10 @@
 
 usage: long_day.py LOG FRAMES -- VENUE WORDS ..
 
-Messages are drawn without waiting for an answer: names are counted as the venue counts them, and most messages are
-those that change nothing (cancels of quotes that are gone, prices off the grid, hits of old quotes), as on a long
-day of a market that is quoted by programs. What is sent for them is the venue's program's, in one run of `live`.
+Messages are drawn without waiting for an answer: names are counted as the venue counts them, and
+most messages are those that change nothing (cancels of quotes that are gone, prices off the grid,
+hits of old quotes), as on a long day of a market that is quoted by programs. What is sent for them
+is the venue's program's, in one run of `live`.
 """
 
 import random
@@ -114,17 +115,18 @@ def write(path: Path, frames: int, venue: list[str]) -> None:
     answered: list[int | None] = [None]
     with tempfile.NamedTemporaryFile() as day:
         day.write(head + b"%%\n")
-        for firm, moment, line in Writer(random.Random(1), frames).lines():
+        for speaker, moment, line in Writer(random.Random(1), frames).lines():
             day.write(line + b"\n")
             moments.append(moment)
-            if firm is not None:
-                ledger.sessions[firm].came += 1
-            number = None if firm is None else ledger.sessions[firm].came
+            if speaker is not None:
+                ledger.sessions[speaker].came += 1
+            number = None if speaker is None else ledger.sessions[speaker].came
             answered.append(number)
-            ledger.entry(time_text(moment), firm, number, line)
+            ledger.entry(time_text(moment), speaker, number, line)
         day.flush()
         with open(day.name, "rb") as file:
-            run = subprocess.Popen([*venue, "live", "--frames", "--marks"], stdin=file, stdout=subprocess.PIPE)
+            words = [*venue, "live", "--frames", "--marks"]
+            run = subprocess.Popen(words, stdin=file, stdout=subprocess.PIPE)
         assert run.stdout is not None
         place = 1
         for line in run.stdout:

@@ -3,8 +3,9 @@
 
 usage: remembered.py WORDS OF THE PROGRAM .. ARGUMENTS ..
 
-The program is a function of its input, so an answer that it gave once is the one that it gives again. Hundreds of
-tests read one day; with this each of its answers is made once. REMEMBERED has the folder.
+The program is a function of its input, so an answer that it gave once is the one that it gives
+again. Hundreds of tests read one day; with this each of its answers is made once. REMEMBERED has
+the folder.
 """
 
 import hashlib

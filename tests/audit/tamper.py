@@ -10,9 +10,16 @@ from collections.abc import Callable
 from contextlib import closing
 from dataclasses import dataclass
 from pathlib import Path
+from typing import Any
 
 Row = tuple[int, int, str, str | None, int | None, bytes, bytes, bytes]
 ENTRIES = "SELECT place, term, moment, firm, number, line, before, hash FROM entry ORDER BY place"
+CARRIED = "SELECT firm, number, sent FROM outgoing WHERE sent IS NOT NULL"
+LAST_OF = "SELECT max(number) FROM outgoing WHERE firm = ?"
+
+# What the report has to have.
+CHANGED = r"entries: entry %d: it was changed"
+ANOTHER = r"%s: entry %d, number %d: the log has another message"
 
 
 @dataclass(frozen=True)
@@ -43,7 +50,7 @@ class Tamperer:
         self.connection = sqlite3.connect(path, isolation_level=None)
         self.draw = draw
 
-    def rows(self, query: str, *values: object) -> list[tuple]:
+    def rows(self, query: str, *values: object) -> list[Any]:
         return self.connection.execute(query, values).fetchall()
 
     def do(self, query: str, *values: object) -> None:
@@ -58,7 +65,7 @@ class Tamperer:
 
     def some_entry(self, kinds: bytes = b"") -> Row:
         """An entry behind place 0; with a kind, one whose message has that 35 or that verb."""
-        rows = self.rows(ENTRIES)[1:]
+        rows: list[Row] = self.rows(ENTRIES)[1:]
         fitting = [row for row in rows if not kinds or kinds in row[5]]
         return self.draw.choice(fitting or rows)
 
@@ -66,23 +73,26 @@ class Tamperer:
         row = self.some_entry(self.draw.choice(ENTRY_KINDS))
         line = changed_byte(row[5], self.draw)
         self.do("UPDATE entry SET line = ? WHERE place = ?", line, row[0])
-        return Change("a byte of entry %d" % row[0], r"entries: entry %d: it was changed" % row[0])
+        return Change("a byte of entry %d" % row[0], CHANGED % row[0])
 
     def entry_column(self) -> Change:
         row = self.some_entry()
         column, value = self.draw.choice([
-            ("term", row[1] + 1), ("moment", "23:59:59.999"), ("firm", "NOBODY"), ("number", (row[4] or 0) + 1),
+            ("term", row[1] + 1),
+            ("moment", "23:59:59.999"),
+            ("firm", "NOBODY"),
+            ("number", (row[4] or 0) + 1),
         ])
         self.do("UPDATE entry SET %s = ? WHERE place = ?" % column, value, row[0])
         what = "%s of entry %d" % (column, row[0])
-        return Change(what, r"entries: entry %d: it was changed" % row[0])
+        return Change(what, CHANGED % row[0])
 
     def entry_hash(self) -> Change:
         row = self.some_entry()
         column = self.draw.choice(["before", "hash"])
-        value = changed_byte(row[6 if column == "before" else 7], self.draw)
+        value = changed_byte(row[6] if column == "before" else row[7], self.draw)
         self.do("UPDATE entry SET %s = ? WHERE place = ?" % column, value, row[0])
-        return Change("%s of entry %d" % (column, row[0]), r"entries: entry %d: it was changed" % row[0])
+        return Change("%s of entry %d" % (column, row[0]), CHANGED % row[0])
 
     def entry_out(self) -> Change:
         row = self.some_entry()
@@ -97,7 +107,7 @@ class Tamperer:
         row = self.some_entry()
         self.shift(row[0])
         self.insert((row[0] + 1, *row[1:]))
-        return Change("entry %d doubled" % row[0], r"entries: entry %d: it was changed" % (row[0] + 1))
+        return Change("entry %d doubled" % row[0], CHANGED % (row[0] + 1))
 
     def entry_moved(self) -> Change:
         first, second = self.some_entry(), self.some_entry()
@@ -108,7 +118,7 @@ class Tamperer:
             self.insert((place, *row[1:]))
         low = min(first[0], second[0])
         what = "entries %d and %d in each other's place" % (first[0], second[0])
-        return Change(what, r"entries: entry %d: it was changed" % low)
+        return Change(what, CHANGED % low)
 
     def entry_put_in(self) -> Change:
         """A message that nobody sent, with a chain that is right up to it."""
@@ -117,7 +127,7 @@ class Tamperer:
         before = self.rows("SELECT hash FROM entry WHERE place = ?", row[0] - 1)[0][0]
         made = (row[0], row[1], row[2], row[3], row[4], row[5], before, b"")
         self.insert((*made[:7], hash_of(made, before)))
-        pattern = r"entries: entry %d: it was changed" % (row[0] + 1)
+        pattern = CHANGED % (row[0] + 1)
         return Change("an entry put in at %d" % row[0], pattern)
 
     def shift(self, behind: int) -> None:
@@ -172,7 +182,8 @@ class Tamperer:
         """A number of the configuration, its SHA-256, and the chain made anew."""
         line = self.rows("SELECT line FROM entry WHERE place = 0")[0][0]
         head, _, text = line.partition(b"%%\n")
-        found = self.draw.choice(list(re.finditer(rb"(?:quotes|exposure|requests) = ([0-9]+)\n", text)))
+        numbers = list(re.finditer(rb"(?:quotes|exposure|requests) = ([0-9]+)\n", text))
+        found = self.draw.choice(numbers)
         text = text[: found.start(1)] + b"%d" % (int(found[1]) - 1) + text[found.end(1) :]
         digest = hashlib.sha256(text).hexdigest().encode()
         head = re.sub(rb"configuration [0-9a-f]{64}", b"configuration " + digest, head)
@@ -183,7 +194,7 @@ class Tamperer:
 
     # ------------------------------------------------------------ what was sent
 
-    def some_sent(self) -> tuple:
+    def some_sent(self) -> Any:
         """A message of a kind that is drawn."""
         rows = self.rows("SELECT firm, number, place, bytes FROM sent")
         kind = self.draw.choice(SENT_KINDS)
@@ -194,26 +205,30 @@ class Tamperer:
         data = changed_byte(data, self.draw)
         self.do("UPDATE sent SET bytes = ? WHERE firm = ? AND number = ?", data, firm, number)
         what = "a byte of number %d to %s" % (number, firm)
-        return Change(what, r"%s: entry %d, number %d: the log has another message" % (firm, place, number))
+        return Change(what, ANOTHER % (firm, place, number))
 
     def sent_place(self) -> Change:
         firm, number, place, _ = self.some_sent()
         self.do("UPDATE sent SET place = place + 1 WHERE firm = ? AND number = ?", firm, number)
-        pattern = r"%s: entry %d, number %d: it is given for entry %d" % (firm, place + 1, number, place)
-        return Change("the place of number %d to %s" % (number, firm), pattern)
+        pattern = r"%s: entry %d, number %d: it is given for entry %d"
+        what = "the place of number %d to %s" % (number, firm)
+        return Change(what, pattern % (firm, place + 1, number, place))
 
     def sent_out(self) -> Change:
         firm, number, place, _ = self.some_sent()
         last = self.rows("SELECT max(number) FROM sent WHERE firm = ?", firm)[0][0]
         self.do("DELETE FROM sent WHERE firm = ? AND number = ?", firm, number)
-        text = "the log lacks a message" if number == last else "the log has number %d where %d" % (number + 1, number)
+        text = "the log has number %d where %d" % (number + 1, number)
+        if number == last:
+            text = "the log lacks a message"
         pattern = r"%s: entry \d+, number %d: %s" % (firm, number, text)
         return Change("number %d to %s taken out" % (number, firm), pattern)
 
     def sent_swapped(self) -> Change:
         """Two messages of a firm in each other's place."""
         firm, number, _, data = self.some_sent()
-        others = self.rows("SELECT number, bytes FROM sent WHERE firm = ? AND number <> ?", firm, number)
+        query = "SELECT number, bytes FROM sent WHERE firm = ? AND number <> ?"
+        others = self.rows(query, firm, number)
         other, its = self.draw.choice(others)
         for one, text in ((number, its), (other, data)):
             self.do("UPDATE sent SET bytes = ? WHERE firm = ? AND number = ?", text, firm, one)
@@ -240,7 +255,7 @@ class Tamperer:
 
     # ------------------------------------------------------------ what sessions carried
 
-    def some_outgoing(self) -> tuple:
+    def some_outgoing(self) -> Any:
         rows = self.rows("SELECT firm, number, sent, bytes FROM outgoing")
         kind = self.draw.choice(OUTGOING_KINDS)
         return self.draw.choice([row for row in rows if kind in row[3]] or rows)
@@ -253,17 +268,19 @@ class Tamperer:
         return Change("a byte of message %d of %s's session" % (number, firm), pattern)
 
     def outgoing_out(self) -> Change:
-        rows = self.rows("SELECT firm, number FROM outgoing o WHERE number < (SELECT max(number) FROM outgoing WHERE firm = o.firm)")
+        last = LAST_OF.replace("?", "one.firm")
+        rows = self.rows("SELECT firm, number FROM outgoing one WHERE number < (%s)" % last)
         firm, number = self.draw.choice(rows)
         self.do("DELETE FROM outgoing WHERE firm = ? AND number = ?", firm, number)
         pattern = r"%s: its session has no message %d" % (firm, number)
         return Change("message %d of %s's session taken out" % (number, firm), pattern)
 
     def outgoing_last(self) -> Change:
-        """The last message of a session, one of the session itself: no number says that it was there."""
+        """The last message of a session, one of the session itself: no number says that it was
+        there.
+        """
         firm = self.draw.choice(self.rows("SELECT DISTINCT firm FROM outgoing"))[0]
-        query = "DELETE FROM outgoing WHERE firm = ? AND number = (SELECT max(number) FROM outgoing WHERE firm = ?)"
-        self.do(query, firm, firm)
+        self.do("DELETE FROM outgoing WHERE firm = ? AND number = (%s)" % LAST_OF, firm, firm)
         pattern = r"%s: its messages of its session are not those that were sealed" % firm
         return Change("the last message of %s's session" % firm, pattern, needs_seal=True)
 
@@ -276,9 +293,9 @@ class Tamperer:
 
     def outgoing_carried(self) -> Change:
         """What a message is said to carry."""
-        rows = self.rows("SELECT firm, number, sent FROM outgoing WHERE sent IS NOT NULL")
-        firm, number, sent = self.draw.choice(rows)
-        self.do("UPDATE outgoing SET sent = ? WHERE firm = ? AND number = ?", sent + 1, firm, number)
+        firm, number, sent = self.draw.choice(self.rows(CARRIED))
+        query = "UPDATE outgoing SET sent = ? WHERE firm = ? AND number = ?"
+        self.do(query, sent + 1, firm, number)
         pattern = r"%s: .*message %d of its session carries number %d" % (firm, number, sent + 1)
         return Change("what message %d of %s's session carries" % (number, firm), pattern)
 
@@ -286,7 +303,8 @@ class Tamperer:
         """The number that a session expects next."""
         firm = self.draw.choice(self.rows("SELECT firm FROM entry WHERE number IS NOT NULL"))[0]
         self.do("UPDATE session SET target = 1 WHERE firm = ?", firm)
-        return Change("what %s's session expects" % firm, r"%s: .*its session expects number 1" % firm)
+        pattern = r"%s: .*its session expects number 1" % firm
+        return Change("what %s's session expects" % firm, pattern)
 
 
 def types(*kinds: bytes) -> list[bytes]:
@@ -296,7 +314,8 @@ def types(*kinds: bytes) -> list[bytes]:
 
 SENT_KINDS = types(b"3", b"R", b"AI", b"AJ", b"S", b"AG")
 OUTGOING_KINDS = SENT_KINDS + types(b"A", b"1", b"5")
-ENTRY_KINDS = [b"clock", *(kind.hex().upper().encode() for kind in types(b"R", b"S", b"Z", b"AG", b"AJ"))]
+CAME_KINDS = types(b"R", b"S", b"Z", b"AG", b"AJ")
+ENTRY_KINDS = [b"clock", *(kind.hex().upper().encode() for kind in CAME_KINDS)]
 KINDS: list[Callable[[Tamperer], Change]] = [
     Tamperer.entry_byte,
     Tamperer.entry_byte,

@@ -7,25 +7,29 @@ import shutil
 import subprocess
 import tarfile
 import unittest
+from html import unescape
 from pathlib import Path
+from typing import Any
 
-from common import STORED, folder
+from common import STORED, Folder, folder
 from pages import Element, read_page
 
 WIDTHS = (1280, 400)
 SECONDS = 240
 # Loads each page in a frame of the width that is asked, and writes down what stands where.
-HARNESS = """<!doctype html><meta charset="utf-8"><body style="margin:0"><pre id="found"></pre><script>
+HARNESS = """<!doctype html><meta charset="utf-8"><body style="margin:0"><pre id="found"></pre>
+<script>
 const pages = %s, width = %d, found = [];
 function look(frame, name) {
   const page = frame.contentDocument, root = page.documentElement;
   const wide = [...page.body.querySelectorAll("*")].filter(one => !one.closest(".scroll, pre, svg")
-    && one.getBoundingClientRect().right > width + 0.5).map(one => one.tagName + " " + one.className);
+    && one.getBoundingClientRect().right > width + 0.5)
+    .map(one => one.tagName + " " + one.className);
   const headings = [...page.querySelectorAll("h1, h2")].map(one => one.tagName);
   const bare = [...page.querySelectorAll(".scroll")].filter(one => one.scrollWidth > one.clientWidth
     && getComputedStyle(one).overflowX !== "auto").length;
-  found.push({name, inner: frame.contentWindow.innerWidth, scroll: root.scrollWidth, wide, headings, bare,
-    style: getComputedStyle(page.body).fontSize});
+  found.push({name, inner: frame.contentWindow.innerWidth, scroll: root.scrollWidth, wide,
+    headings, bare, style: getComputedStyle(page.body).fontSize});
 }
 async function all() {
   for (const name of pages) {
@@ -64,21 +68,24 @@ def chromium(place: Path, page: Path, *words: str) -> tuple[str, str]:
 class Browser(unittest.TestCase):
     """All stored pages, each in a frame."""
 
+    kept: Folder
+    place: Path
+    names: list[str]
+
     @classmethod
     def setUpClass(cls) -> None:
         cls.kept = folder()
         cls.place = Path(cls.kept.name)
         with tarfile.open(STORED / "pages.tar.xz") as stored:
             stored.extractall(cls.place / "pages")
-        cls.names = sorted(
-            str(path.relative_to(cls.place / "pages")) for path in (cls.place / "pages").rglob("*.html")
-        )
+        pages = cls.place / "pages"
+        cls.names = sorted(str(path.relative_to(pages)) for path in pages.rglob("*.html"))
 
     @classmethod
     def tearDownClass(cls) -> None:
         cls.kept.cleanup()
 
-    def looked_at(self, width: int) -> list[dict]:
+    def looked_at(self, width: int) -> list[dict[str, Any]]:
         harness = self.place / "pages" / ("harness-%d.html" % width)
         harness.write_text(HARNESS % (json.dumps(self.names), width))
         words = ["--dump-dom", "--virtual-time-budget=100000", "--window-size=1400,900"]
@@ -86,8 +93,10 @@ class Browser(unittest.TestCase):
         harness.unlink()
         self.assertFalse(re.findall(r".*CONSOLE.*", told))
         found = re.search(r'<pre id="found">(.*?)</pre>', dom, re.DOTALL)
-        self.assertTrue(found and found[1], "the browser has not looked at all pages: %s" % told[-500:])
-        return json.loads(found[1].replace("&lt;", "<").replace("&gt;", ">").replace("&amp;", "&"))
+        fault = "the browser has not looked at all pages: %s" % told[-500:]
+        assert found and found[1], fault
+        looked: list[dict[str, Any]] = json.loads(unescape(found[1]))
+        return looked
 
     def test_nothing_is_wider_than_its_page(self) -> None:
         for width in WIDTHS:
@@ -98,12 +107,10 @@ class Browser(unittest.TestCase):
                 self.assertLessEqual(one["scroll"], width, one)
                 self.assertEqual((one["wide"], one["bare"]), ([], 0), one)
                 self.assertEqual(one["headings"][:1], ["H1"], one)
-                self.assertEqual(one["style"], "15px", "the style sheet of %s is not there" % one["name"])
+                self.assertEqual(one["style"], "15px", "%s has no style sheet" % one["name"])
 
     def test_without_colours(self) -> None:
         """What a colour says, a shape and a word say, too."""
-
-
         for name in self.names:
             page = read_page(self.place / "pages" / name)
             for tag in page.all("span", "tag"):

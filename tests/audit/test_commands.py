@@ -19,7 +19,8 @@ from witness import Witness
 def day_text(path: Path) -> bytes:
     """The day of a log as `live` reads it."""
     with closing(sqlite3.connect(path)) as connection:
-        lines = [line for line, in connection.execute("SELECT line FROM entry ORDER BY place")]
+        query = "SELECT line FROM entry ORDER BY place"
+        lines: list[bytes] = [line for line, in connection.execute(query)]
     configuration = lines[0].split(b"%%\n", 1)[1]
     return configuration + b"%%\n" + b"".join(line + b"\n" for line in lines[1:])
 
@@ -42,8 +43,9 @@ class Commands(unittest.TestCase):
             row.number for row in Witness(DAY).sent
             if row.firm == "ALPHA" and row.message["35"] == "AI" and row.message.get("297") == "0"
         )
-        query = "UPDATE sent SET bytes = CAST(replace(bytes, %s, %s) AS BLOB) WHERE firm = 'ALPHA' AND number = ?"
-        self.change(query % (before, after), number)
+        value = "CAST(replace(bytes, %s, %s) AS BLOB)" % (before, after)
+        query = "UPDATE sent SET bytes = %s WHERE firm = 'ALPHA' AND number = ?"
+        self.change(query % value, number)
         return number
 
     # ------------------------------------------------------------ check
@@ -55,14 +57,16 @@ class Commands(unittest.TestCase):
         for name in witness.dealers + witness.investors:
             count = sum(row.firm == name for row in witness.sent)
             self.assertRegex(ran.out, r"(?m)^%s +\w+ +%d messages: as replayed" % (name, count))
-        self.assertRegex(ran.out, r"(?m)^entries +%d, each follows on the one before" % witness.entries)
+        entries = r"(?m)^entries +%d, each follows on the one before" % witness.entries
+        self.assertRegex(ran.out, entries)
         self.assertEqual(len(re.findall(r"(?m)^verdict: ", ran.out)), 1)
 
     def test_a_difference_has_firm_number_texts_and_place(self) -> None:
         number = self.change_answer("'297=0'", "'297=9'")
         ran = audit("check", self.log)
         self.assertEqual(ran.status, 1)
-        place = next(row.place for row in Witness(DAY).sent if (row.firm, row.number) == ("ALPHA", number))
+        rows = {(row.firm, row.number): row for row in Witness(DAY).sent}
+        place = rows["ALPHA", number].place
         text = "ALPHA: entry %d, number %d: the log has another message" % (place, number)
         self.assertIn(text, ran.out)
         self.assertRegex(ran.out, r"the venue gives +8=FIXT\.1\.1\|.*297=0\|10=")
@@ -74,7 +78,8 @@ class Commands(unittest.TestCase):
         number = self.change_answer("char(1) || '297'", "'|297'")
         ran = audit("check", self.log)
         self.assertEqual(ran.status, 1)
-        self.assertRegex(ran.out, r"number %d: the log has another message than the venue gives" % number)
+        pattern = r"number %d: the log has another message than the venue gives"
+        self.assertRegex(ran.out, pattern % number)
 
     def test_what_cannot_be_read(self) -> None:
         empty, text = self.place / "empty.db", self.place / "text.db"
@@ -94,15 +99,18 @@ class Commands(unittest.TestCase):
 
     def test_another_type_in_a_column(self) -> None:
         self.change("UPDATE entry SET line = CAST(line AS TEXT) WHERE place = 3")
-        self.change("UPDATE sent SET bytes = CAST(bytes AS TEXT) WHERE firm = 'ALPHA' AND number = 1")
+        first = " WHERE firm = 'ALPHA' AND number = 1"
+        self.change("UPDATE sent SET bytes = CAST(bytes AS TEXT)" + first)
         self.assertEqual(audit("check", self.log).status, 0)
-        self.change("UPDATE sent SET place = 'x' WHERE firm = 'ALPHA' AND number = 1")
+        self.change("UPDATE sent SET place = 'x'" + first)
         ran = audit("check", self.log)
         self.assertEqual(ran.status, 2, ran.text)
         self.assertIn("sent ALPHA 1", ran.err)
 
     def test_a_log_in_a_folder_that_is_not_ours(self) -> None:
-        """A file that was copied while it was open, without its write-ahead log, can still be read."""
+        """A file that was copied while it was open, without its write-ahead log, can still be
+        read.
+        """
         with closing(sqlite3.connect(self.log)) as connection:
             connection.execute("PRAGMA journal_mode = WAL")
         self.place.chmod(0o555)
@@ -118,7 +126,8 @@ class Commands(unittest.TestCase):
         self.assertIn("no entry 0", ran.out)
 
     def test_a_firm_that_the_day_does_not_have(self) -> None:
-        self.change("INSERT INTO sent SELECT 'NOBODY', number, place, bytes FROM sent WHERE firm = 'ALPHA'")
+        rows = "SELECT 'NOBODY', number, place, bytes FROM sent WHERE firm = 'ALPHA'"
+        self.change("INSERT INTO sent " + rows)
         ran = audit("check", self.log)
         self.assertEqual(ran.status, 1)
         self.assertIn("NOBODY: the configuration has no such firm", ran.out)
@@ -128,11 +137,10 @@ class Commands(unittest.TestCase):
     def two_files(self) -> tuple[Path, Path]:
         day, sent = self.place / "day.live", self.place / "sent.txt"
         day.write_bytes(day_text(self.log))
-        witness = []
-        with closing(sqlite3.connect(self.log)) as connection:
-            for firm, data in connection.execute("SELECT firm, bytes FROM sent ORDER BY place, firm, number"):
-                witness.append(firm.encode() + b" " + data.replace(b"\x01", b"|") + b"\n")
-        sent.write_bytes(b"".join(witness))
+        query = "SELECT firm, bytes FROM sent ORDER BY place, firm, number"
+        with closing(sqlite3.connect(self.log)) as connection, sent.open("wb") as file:
+            for firm, data in connection.execute(query):
+                file.write(firm.encode() + b" " + data.replace(b"\x01", b"|") + b"\n")
         return day, sent
 
     def test_two_files(self) -> None:
@@ -179,7 +187,9 @@ class Commands(unittest.TestCase):
             self.assertIn(audit("check", self.log, "--key", public).status, (1, 2), at)
 
     def test_the_signature_is_openssl_s(self) -> None:
-        """Whoever has openssl alone verifies a seal: its last line is the signature of the others."""
+        """Whoever has openssl alone verifies a seal: its last line is the signature of the
+        others.
+        """
         private, public = keys(self.place)
         audit("seal", self.log, "--key", private)
         lines = self.log.with_name("day.db.seal").read_bytes().splitlines(keepends=True)
@@ -230,7 +240,8 @@ class Commands(unittest.TestCase):
         path = "%s:%s" % (self.place / "bin", os.environ["PATH"])
         text = (pages / "certificates" / "BRAVO.html").read_text()
         hashes = re.findall(r"SHA-256\s+<code>([0-9a-f]{64})", text)
-        commands = re.findall(r"(?m)^(?:<pre[^>]*>)?((?:rfq_venue|sha256sum) .*?)(?:</pre>)?$", text)
+        pattern = r"(?m)^(?:<pre[^>]*>)?((?:rfq_venue|sha256sum) .*?)(?:</pre>)?$"
+        commands = re.findall(pattern, text)
         answers = []
         for command in commands:
             command = command.replace("&lt;", "<")
@@ -248,14 +259,16 @@ class Commands(unittest.TestCase):
         self.assertRegex(ran.out, r"quotes of 4 dealers moved by up to 64 32nds")
         prices, without = ran.out.split("Others' messages")
         self.assertNotRegex(prices, r"expired|won|lifted")
-        # Its quotes that were hit are hit without the others, too, by the names that they have then.
+        # Its quotes that were hit are hit without the others, too, by the names that they have
+        # then.
         self.assertRegex(without, r"[1-9][0-9]* hits of its quotes name them")
         self.assertNotRegex(without, r"lifted no longer: [1-9]")
         self.assertEqual(audit("pair", self.log, "FJORD").status, 2)
         self.assertEqual(audit("pair", self.log, "NOBODY").status, 2)
 
     def test_wrong_arguments(self) -> None:
-        for words in ([], ["nothing"], ["check"], ["page", "x"], ["pair", "x"]):
+        wrong: list[list[str]] = [[], ["nothing"], ["check"], ["page", "x"], ["pair", "x"]]
+        for words in wrong:
             done = subprocess.run([str(AUDIT), *words], capture_output=True, check=False)
             self.assertEqual(done.returncode, 2)
 

@@ -18,10 +18,11 @@ GATEWAY = Path(os.environ.get("GATEWAY", ROOT / "gateway" / "out" / "mireseason-
 class Example(unittest.TestCase):
     def test_a_day_of_the_gateway(self) -> None:
         with folder() as name:
-            environment = {**os.environ, "VENUE": shlex.join(venue_words()), "GATEWAY": str(GATEWAY)}
+            own = {"VENUE": shlex.join(venue_words()), "GATEWAY": str(GATEWAY)}
             script = ROOT / "examples" / "gateway" / "run.sh"
+            words, environment = [str(script), name + "/day"], {**os.environ, **own}
             done = subprocess.run(
-                [str(script), name + "/day"], env=environment, capture_output=True, text=True, check=False
+                words, env=environment, capture_output=True, text=True, check=False
             )
             self.assertEqual(done.returncode, 0, done.stderr)
             (log,) = Path(name).glob("day/day-*.db")
@@ -29,9 +30,11 @@ class Example(unittest.TestCase):
             self.assertEqual(ran.status, 0, ran.text)
             ran = audit("page", log, Path(name) / "pages")
             self.assertEqual(ran.status, 0, ran.text)
-            (row,) = rows_of(table_behind(read_page(Path(name) / "pages" / "index.html"), "Requests"))
+            index = read_page(Path(name) / "pages" / "index.html")
+            (row,) = rows_of(table_behind(index, "Requests"))
             texts = [cell.text for cell in row]
-            # INV1 asks two dealers for two million, DLR2 quotes 99.4375 and is hit, DLR1 quotes 99.5.
+            # INV1 asks two dealers for two million; DLR2 quotes 99.4375 and is hit, and DLR1
+            # quotes 99.5.
             self.assertEqual(texts[2], "INV1")
             self.assertEqual(texts[4:9], ["buys", "2 000 000", "BONDA0000001", "2", "2"])
             self.assertEqual(texts[9:], ["◆ awarded", "DLR2", "99-14 99.4375", "DLR1"])

@@ -63,12 +63,13 @@ class LongDay(unittest.TestCase):
             words = ["/usr/bin/python3", str(HERE / "long_day.py"), str(log), str(FRAMES), "--"]
             subprocess.run([*words, *venue_words()], check=True)
             day.write_bytes(day_text(log))
-            venue = shlex.join(venue_words())
+            venue = ["--venue", shlex.join(venue_words())]
             replay, _ = timed([*venue_words(), "replay", "--live", "--frames"], day)
-            check, memory = timed([str(AUDIT), "check", str(log), "--venue", venue])
-            page, more = timed([str(AUDIT), "page", str(log), str(place / "pages"), "--venue", venue])
-            print("%d messages: replay --live %.1f s; check %.1f s, %d MB; page %.1f s, %d MB" % (
-                FRAMES, replay, check, memory // 1000, page, more // 1000))
+            check, memory = timed([str(AUDIT), "check", str(log), *venue])
+            page, more = timed([str(AUDIT), "page", str(log), str(place / "pages"), *venue])
+            text = "%d messages: replay --live %.1f s; check %.1f s, %d MB; page %.1f s, %d MB"
+            sizes = (FRAMES, replay, check, memory // 1000, page, more // 1000)
+            print((text + "; load %.1f") % (*sizes, os.getloadavg()[0]))
             self.assertLess(max(memory, more), MEGABYTES * 1000)
             if FRAMES >= 100_000:  # of a shorter day the processes that are started are the most
                 self.assertLess(check, TIMES * replay)

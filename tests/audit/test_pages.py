@@ -9,11 +9,12 @@ import unittest
 from collections import Counter
 from pathlib import Path
 
-from common import DAY, STORED, audit, folder
+from common import DAY, STORED, Folder, Ran, audit, folder
 from pages import Element, read_page, rows_of, table_behind, walk
 from witness import Asked, Came, Witness, thirty_seconds
 
 PAGES = STORED / "pages.tar.xz"
+ACTS = "Who said what, and who was told what"
 
 
 def price_pair(text: str) -> str:
@@ -23,6 +24,12 @@ def price_pair(text: str) -> str:
 
 class Pages(unittest.TestCase):
     """The stored day, paged once."""
+
+    kept: Folder
+    place: Path
+    ran: Ran
+    witness: Witness
+    index: Element
 
     @classmethod
     def setUpClass(cls) -> None:
@@ -43,7 +50,11 @@ class Pages(unittest.TestCase):
     def test_each_file_is_as_it_is_stored(self) -> None:
         if os.environ.get("WRITE_PAGES"):
             write_stored(self.place)
-        found = {str(path.relative_to(self.place)): path for path in self.place.rglob("*") if path.is_file()}
+        found = {
+            str(path.relative_to(self.place)): path
+            for path in self.place.rglob("*")
+            if path.is_file()
+        }
         with tarfile.open(PAGES) as stored:
             names = {member.name for member in stored.getmembers()}
             self.assertEqual(names, set(found))
@@ -53,14 +64,16 @@ class Pages(unittest.TestCase):
                 self.assertEqual(file.read().splitlines(), path.read_bytes().splitlines(), name)
 
     def test_sums(self) -> None:
-        done = subprocess.run(["sha256sum", "-c", "--quiet", "SHA256SUMS"], cwd=self.place, capture_output=True, check=False)
+        words = ["sha256sum", "-c", "--quiet", "SHA256SUMS"]
+        done = subprocess.run(words, cwd=self.place, capture_output=True, check=False)
         self.assertEqual(done.returncode, 0, done.stderr)
 
     def test_no_script_and_no_host(self) -> None:
         for path in self.place.rglob("*.html"):
             for element in walk(read_page(path)):
                 self.assertNotEqual(element.name, "script", path)
-                self.assertFalse([name for name in element.attributes if name.startswith("on")], path)
+                acting = [name for name in element.attributes if name.startswith("on")]
+                self.assertFalse(acting, path)
                 for name in ("href", "src"):
                     value = element.attributes.get(name, "")
                     self.assertNotRegex(value, r"^[a-z]+:|^//", path)
@@ -69,7 +82,8 @@ class Pages(unittest.TestCase):
     def test_each_link_leads_somewhere(self) -> None:
         anchors: dict[Path, set[str]] = {}
         for path in self.place.rglob("*.html"):
-            anchors[path] = {one.attributes["id"] for one in walk(read_page(path)) if "id" in one.attributes}
+            elements = [one.attributes for one in walk(read_page(path))]
+            anchors[path] = {one["id"] for one in elements if "id" in one}
         for path in anchors:
             for link in read_page(path).all("a"):
                 name, _, anchor = link.attributes["href"].partition("#")
@@ -123,7 +137,10 @@ class Pages(unittest.TestCase):
         came = Counter(one.firm for one in witness.came)
         sent = Counter(row.firm for row in witness.sent)
         refused = witness.refused()
-        for row, name in zip(rows_of(table_behind(self.index, "Firms")), witness.dealers + witness.investors):
+        names = witness.dealers + witness.investors
+        rows = rows_of(table_behind(self.index, "Firms"))
+        self.assertEqual(len(rows), len(names))
+        for row, name in zip(rows, names):
             role = "dealer" if name in witness.dealers else "investor"
             counts = [str(came[name]), str(refused[name]), str(sent[name])]
             self.assertEqual([cell.text for cell in row][:5], [name, role, *counts])
@@ -148,12 +165,14 @@ class Pages(unittest.TestCase):
         ]
 
     def test_who_said_and_was_told_what(self) -> None:
-        """Each line of a request's page is an entry, and each thing told the message that its link names."""
+        """Each line of a request's page is an entry, and each thing told the message that its
+        link names.
+        """
         sent = {(row.firm, row.number): row for row in self.witness.sent}
         came = {one.place: one for one in self.witness.came}
         listed: Counter[tuple[str, int]] = Counter()
         for asked, page in self.request_pages():
-            for time, entry, who, said, told in rows_of(table_behind(page, "Who said what, and who was told what")):
+            for time, entry, who, said, told in rows_of(table_behind(page, ACTS)):
                 place = int(entry.text)
                 self.assertEqual(time.text, self.witness.moments[place])
                 if place in came:
@@ -201,12 +220,14 @@ class Pages(unittest.TestCase):
     def check_life(self, asked: Asked, line: list[str], came: Came, quotes: list[Came]) -> None:
         """A line of the table of quotes against the messages."""
         name = came.message["117"]
-        shown = [row.message["117"] for row in self.witness.at[came.place] if row.message["35"] == "S"]
+        given = [row.message for row in self.witness.at[came.place]]
+        shown = [message["117"] for message in given if message["35"] == "S"]
         price = came.message.get("133") or came.message["132"]
         self.assertEqual(line[:4], [name, shown[0], price_pair(price), came.moment])
         withdrawn = [
             row for row in self.witness.sent
-            if row.firm == came.firm and row.message.get("117") == name and row.message.get("297") == "17"
+            if (row.firm, row.message.get("117")) == (came.firm, name)
+            and row.message.get("297") == "17"
         ]
         behind = [one for one in quotes if one.place > came.place]
         kinds = {"1": "won", "3": "expired", "4": "cover", "5": "done away", "6": "passed"}
@@ -220,12 +241,15 @@ class Pages(unittest.TestCase):
         self.assertEqual((line[4], line[5].partition(" ")[2]), (end, fate))
 
     def test_the_lines_of_time(self) -> None:
-        """The drawing has each quote as a bar, and no time and no price that is not in a message of the request."""
+        """The drawing has each quote as a bar, and no time and no price that is not in a message
+        of the request.
+        """
         for asked, page in self.request_pages():
             drawing = page.all("svg")[0]
             self.assertEqual(len(drawing.all("rect", "bar")), len(asked.quotes))
-            acts = rows_of(table_behind(page, "Who said what, and who was told what"))
-            self.assertEqual([one.text for one in drawing.all("text", "time")], [row[0].text for row in acts])
+            acts = rows_of(table_behind(page, ACTS))
+            times = [one.text for one in drawing.all("text", "time")]
+            self.assertEqual(times, [row[0].text for row in acts])
             table = " ".join(row[3].text + " " + row[4].text for row in acts)
             for text in drawing.all("text", "said") + drawing.all("text", "told"):
                 for price in re.findall(r"\b[0-9]+-[0-9]{2}[0-9+]?", text.text):
@@ -241,16 +265,19 @@ class Pages(unittest.TestCase):
         for name in self.witness.dealers + self.witness.investors:
             page = read_page(self.place / "firms" / (name + "-1.html"))
             shown = {one.attributes["id"]: one for one in page.all("article")}
-            expected = {"e%d" % one.place: one.message for one in self.witness.came if one.firm == name}
-            expected |= {"s%d" % row.number: row.message for row in self.witness.sent if row.firm == name}
+            came = [one for one in self.witness.came if one.firm == name]
+            sent = [row for row in self.witness.sent if row.firm == name]
+            expected = {"e%d" % one.place: one.message for one in came}
+            expected |= {"s%d" % row.number: row.message for row in sent}
             self.assertEqual(set(shown), set(expected))
             for anchor, message in expected.items():
                 text = shown[anchor].all("code")[0].text
                 fields = [part.partition("=") for part in text.rstrip("|").split("|")]
+                pairs = [(tag, value) for tag, _, value in fields]
                 items = shown[anchor].all("li")
-                self.assertEqual([one.all("i")[0].text for one in items], [tag for tag, _, _ in fields])
-                self.assertEqual([one.all("b")[0].text for one in items], [value for _, _, value in fields])
-                self.assertTrue({(tag, value) for tag, value in message.items()} <= {(tag, value) for tag, _, value in fields})
+                listed = [(one.all("i")[0].text, one.all("b")[0].text) for one in items]
+                self.assertEqual(listed, pairs)
+                self.assertTrue(set(message.items()) <= set(pairs))
                 self.assertFalse([one.text for one in items if "not in the dictionary" in one.text])
 
 

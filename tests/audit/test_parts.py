@@ -8,6 +8,7 @@ import os
 import unittest
 from collections import Counter
 from pathlib import Path
+from typing import Any
 
 from common import ROOT, folder
 
@@ -28,12 +29,35 @@ from mireseason_audit.wire import carried, parts_of
 from mireseason_audit.work import run_jobs
 
 # Frames of docs/MESSAGES.md and docs/CONNECTING.md, with a bar for each SOH.
-ACCEPTED = "8=FIXT.1.1|9=73|35=AI|49=VENUE|56=DLR1|34=2|52=20250314-09:00:10.000|131=R1|117=a1|297=0|10=207|"
-QUOTE = "8=FIXT.1.1|9=109|35=S|49=DLR1|56=VENUE|34=1|52=20250314-09:00:10.000|50=T1|131=R1|117=a1|48=BONDA0000001|22=4|133=99.50390625|10=039|"
-SHOWN = "8=FIXT.1.1|9=165|35=R|49=VENUE|56=DLR1|34=1|52=20250314-09:00:00.000|131=R1|146=1|55=[N/A]|48=BONDA0000001|22=4|54=1|38=2000000|126=20250314-09:05:00.000|453=1|448=INV1|447=D|452=13|10=216|"
-REJECT = "8=FIXT.1.1|9=76|35=3|49=VENUE|56=DLR1|34=6|52=20250314-09:01:10.000|45=4|371=50|372=Z|373=1|10=010|"
-OFFERED = "8=FIXT.1.1|9=185|35=S|49=VENUE|56=INV1|34=3|52=20250314-09:00:20.000|131=A|117=Q2|55=[N/A]|48=BONDA0000001|22=4|54=1|133=99.515625|135=2000000|62=20250314-09:04:00.000|537=1|453=1|448=DLR2|447=D|452=35|10=169|"
-CONFIGURATION = b'version = 1\ndate = "20250314"\n[[dealer]]\nname = "DLR1"\n[[investor]]\nname = "INV1"\n'
+ACCEPTED = (
+    "8=FIXT.1.1|9=73|35=AI|49=VENUE|56=DLR1|34=2|52=20250314-09:00:10.000|131=R1|117=a1|297=0"
+    "|10=207|"
+)
+QUOTE = (
+    "8=FIXT.1.1|9=109|35=S|49=DLR1|56=VENUE|34=1|52=20250314-09:00:10.000|50=T1|131=R1|117=a1"
+    "|48=BONDA0000001|22=4|133=99.50390625|10=039|"
+)
+SHOWN = (
+    "8=FIXT.1.1|9=165|35=R|49=VENUE|56=DLR1|34=1|52=20250314-09:00:00.000|131=R1|146=1|55=[N/A]"
+    "|48=BONDA0000001|22=4|54=1|38=2000000|126=20250314-09:05:00.000|453=1|448=INV1|447=D|452=13"
+    "|10=216|"
+)
+REJECT = (
+    "8=FIXT.1.1|9=76|35=3|49=VENUE|56=DLR1|34=6|52=20250314-09:01:10.000|45=4|371=50|372=Z|373=1"
+    "|10=010|"
+)
+OFFERED = (
+    "8=FIXT.1.1|9=185|35=S|49=VENUE|56=INV1|34=3|52=20250314-09:00:20.000|131=A|117=Q2|55=[N/A]"
+    "|48=BONDA0000001|22=4|54=1|133=99.515625|135=2000000|62=20250314-09:04:00.000|537=1|453=1"
+    "|448=DLR2|447=D|452=35|10=169|"
+)
+CONFIGURATION = b"""version = 1
+date = "20250314"
+[[dealer]]
+name = "DLR1"
+[[investor]]
+name = "INV1"
+"""
 
 
 def soh(text: str) -> bytes:
@@ -74,8 +98,9 @@ class Frames(unittest.TestCase):
 class Prices(unittest.TestCase):
     def test_thirty_seconds(self) -> None:
         for text, expected in (
-            ("99.50390625", "99-161"), ("99.515625", "99-16+"), ("99.5", "99-16"), ("101", "101-00"),
-            ("0.00390625", "0-001"), ("99.501", ""), ("", ""), ("x", ""), ("-1", ""), ("1e2", "100-00"),
+            ("99.50390625", "99-161"), ("99.515625", "99-16+"), ("99.5", "99-16"),
+            ("101", "101-00"), ("0.00390625", "0-001"), ("1e2", "100-00"),
+            ("99.501", ""), ("", ""), ("x", ""), ("-1", ""),
         ):
             self.assertEqual(Price(text).thirty_seconds, expected, text)
 
@@ -98,27 +123,32 @@ class Prices(unittest.TestCase):
 class Lines(unittest.TestCase):
     def test_lines_of_a_day(self) -> None:
         data = soh(QUOTE)
-        for line in (b"hex DLR1 09:00:10.000 " + data.hex().encode(), b"in DLR1 09:00:10.000 " + QUOTE.encode()):
+        for verb, text in ((b"hex", data.hex().encode()), (b"in", QUOTE.encode())):
+            line = verb + b" DLR1 09:00:10.000 " + text
             came = came_of(line)
             assert came is not None
             self.assertEqual((came.firm, came.time, came.frame), ("DLR1", "09:00:10.000", data))
             self.assertEqual(firm_and_time(line), ("DLR1", "09:00:10.000"))
         said = came_of(b"say DLR1 T1 09:00:10 S 117=a1|131=R1|133=99.5")
         assert said is not None
-        self.assertEqual(said.fields, [(35, b"S"), (50, b"T1"), (117, b"a1"), (131, b"R1"), (133, b"99.5")])
+        fields = [(35, b"S"), (50, b"T1"), (117, b"a1"), (131, b"R1"), (133, b"99.5")]
+        self.assertEqual(said.fields, fields)
         self.assertEqual(firm_and_time(b"clock 09:05:00.000"), (None, "09:05:00.000"))
-        for line in (b"clock 09:05:00", b"", b"# x", b"hex DLR1 09:00:00 0", b"piece DLR1 09:00:00 8=", b"say"):
+        others = (b"clock 09:05:00", b"", b"# x", b"hex DLR1 09:00:00 0", b"say")
+        for line in (*others, b"piece DLR1 09:00:00 8="):
             self.assertIsNone(came_of(line), line)
 
 
-def entry(place: int, moment: str, line: bytes, before: bytes, **other: object) -> Entry:
+def entry(place: int, moment: str, line: bytes, before: bytes, **other: Any) -> Entry:
     made = Entry(place, 0, moment, None, None, line, before, b"")._replace(**other)
     return made._replace(hash=hash_of(made))
 
 
 class Chains(unittest.TestCase):
     def test_the_hash_is_that_of_the_schema(self) -> None:
-        """The text of gateway/schema.sql: BEFORE PLACE TERM MOMENT FIRM NUMBER LENGTH, a line feed, the line."""
+        """The text of gateway/schema.sql: BEFORE PLACE TERM MOMENT FIRM NUMBER LENGTH, a line
+        feed, the line.
+        """
         line = b"hex DLR1 09:00:10.000 00"
         made = Entry(7, 2, "09:00:10.000", "DLR1", 5, line, bytes(range(32)), b"")
         text = bytes(range(32)).hex() + " 7 2 09:00:10.000 DLR1 5 %d\n" % len(line)
@@ -144,10 +174,12 @@ class Chains(unittest.TestCase):
         self.assertEqual(len(self.found(first, second, earlier)), 1)
         later = entry(1, "09:00:01.000", b"clock 09:00:01.000", first.hash, term=2)
         older = entry(2, "09:00:02.000", b"clock 09:00:02.000", later.hash, term=1)
-        self.assertEqual(self.found(first, later, older), ["its term 1 is before 2, that of entry 1"])
+        found = self.found(first, later, older)
+        self.assertEqual(found, ["its term 1 is before 2, that of entry 1"])
         other = entry(2, "09:00:02.000", b"clock 09:00:03.000", second.hash)
         self.assertEqual(len(self.found(first, second, other)), 1)
-        stranger = entry(2, "09:00:02.000", b"hex DLR1 09:00:02.000 00", second.hash, firm="DLR2", number=3)
+        line = b"hex DLR1 09:00:02.000 00"
+        stranger = entry(2, "09:00:02.000", line, second.hash, firm="DLR2", number=3)
         self.assertEqual(len(self.found(first, second, stranger)), 1)
         foreign = entry(2, "09:00:02.000", b"clock 09:00:02.000", bytes(32))
         self.assertEqual(len(self.found(first, second, foreign)), 1)
@@ -157,23 +189,29 @@ class Chains(unittest.TestCase):
         line = b"version v 1\nprogram 00\nconfiguration " + digest + b"\n%%\n" + CONFIGURATION
         day = day_of(line)
         self.assertEqual((day.version, day.date), ("v 1", "20250314"))
-        self.assertEqual([(firm.name, firm.kind) for firm in day.firms], [("DLR1", "dealer"), ("INV1", "investor")])
+        firms = [(firm.name, firm.kind) for firm in day.firms]
+        self.assertEqual(firms, [("DLR1", "dealer"), ("INV1", "investor")])
         self.assertEqual(day.head, CONFIGURATION + b"%%\n")
-        for wrong in (b"", line[1:], line + b" ", line.replace(b"%%\n", b""), line.replace(digest, b"00")):
+        parts = [line.replace(b"%%\n", b""), line.replace(digest, b"00")]
+        for wrong in (b"", line[1:], line + b" ", *parts):
             self.assertRaises(Wrong, day_of, wrong)
 
 
 class Wires(unittest.TestCase):
-    """The body on the wire: 1181 first, 60 in front of 537, 297 or 453, or last; 45 the session's."""
+    """The body on the wire: 1181 first; 60 in front of 537, 297 or 453, or last; 45 is the
+    session's.
+    """
 
     def test_each_type(self) -> None:
         for text, expected in (
             (ACCEPTED, "|1181=2|131=R1|117=a1|60=20250314-09:00:10.000|297=0"),
-            (SHOWN, "|1181=1|131=R1|146=1|55=[N/A]|48=BONDA0000001|22=4|54=1|38=2000000|126=20250314-09:05:00.000"
-                    "|60=20250314-09:00:00.000|453=1|448=INV1|447=D|452=13"),
+            (SHOWN, "|1181=1|131=R1|146=1|55=[N/A]|48=BONDA0000001|22=4|54=1|38=2000000"
+                    "|126=20250314-09:05:00.000|60=20250314-09:00:00.000|453=1|448=INV1|447=D"
+                    "|452=13"),
             (REJECT, "|1181=6|45=9|371=50|372=Z|373=1|60=20250314-09:01:10.000"),
-            (OFFERED, "|1181=3|131=A|117=Q2|55=[N/A]|48=BONDA0000001|22=4|54=1|133=99.515625|135=2000000"
-                      "|62=20250314-09:04:00.000|60=20250314-09:00:20.000|537=1|453=1|448=DLR2|447=D|452=35"),
+            (OFFERED, "|1181=3|131=A|117=Q2|55=[N/A]|48=BONDA0000001|22=4|54=1|133=99.515625"
+                      "|135=2000000|62=20250314-09:04:00.000|60=20250314-09:00:20.000|537=1|453=1"
+                      "|448=DLR2|447=D|452=35"),
         ):
             parts = parts_of(soh(text))
             assert parts is not None
@@ -185,7 +223,7 @@ class Holding(unittest.TestCase):
     def found(self, rows: list[bytes], lines: list[bytes]) -> list[tuple[str, int | None]]:
         sent = [Sent("DLR1", at, at + 10, data) for at, data in enumerate(rows, 1)]
         findings = held("DLR1", sent, lines, lambda rows: None)
-        return [(finding.text.partition(" ")[2].split(" ")[0], finding.number) for finding in findings]
+        return [(one.text.partition(" ")[2].split(" ")[0], one.number) for one in findings]
 
     def test_the_first_difference(self) -> None:
         a, b = soh(ACCEPTED), soh(REJECT)
@@ -211,7 +249,8 @@ class Words(unittest.TestCase):
             ("AI", "131=A|117=Q1|297=17", False, "Q1 is gone"),
             ("AI", "131=A|297=11|453=1|448=DLR3|447=D|452=35", False, "DLR3 declined"),
             ("AI", "693=h|131=A|117=Q1|297=0", False, "awarded"),
-            ("AI", "693=h|131=A|117=Q1|297=5|300=4|58=Gone", False, "refused: quote replaced or gone"),
+            ("AI", "693=h|131=A|117=Q1|297=5|300=4|58=Gone", False,
+             "refused: quote replaced or gone"),
             ("AI", "693=p|131=A|297=11", False, "passed"),
             ("AI", "693=h|117=Q9|297=9", False, "not found"),
             ("AI", "131=A|297=7", False, "expired"),
@@ -228,7 +267,8 @@ class Words(unittest.TestCase):
     def test_the_dictionary(self) -> None:
         dictionary = read_dictionary(ROOT / "fix" / "MIRESEASON.xml")
         named = dictionary.named(fields_of(soh(ACCEPTED)))
-        self.assertEqual([(one.name, one.meaning) for one in named][-2:], [("QuoteStatus", "accepted"), ("CheckSum", "")])
+        last = [(one.name, one.meaning) for one in named][-2:]
+        self.assertEqual(last, [("QuoteStatus", "accepted"), ("CheckSum", "")])
         self.assertEqual(dictionary.type_name("S"), "Quote")
         with folder() as name:
             path = Path(name) / "none.xml"
@@ -238,7 +278,8 @@ class Words(unittest.TestCase):
 
     def test_texts_of_the_drawing(self) -> None:
         self.assertEqual(broken("a bb ccc dddd", 6), ["a bb", "ccc", "dddd"])
-        self.assertEqual([gap_text(gap) for gap in (0.04, 59.9, 61, 3600)], ["+0.040 s", "+59.900 s", "+1 min 01 s", "+60 min 00 s"])
+        texts = [gap_text(gap) for gap in (0.04, 59.9, 61, 3600)]
+        self.assertEqual(texts, ["+0.040 s", "+59.900 s", "+1 min 01 s", "+60 min 00 s"])
 
 
 class Terminal(io.StringIO):
@@ -254,7 +295,8 @@ class Bars(unittest.TestCase):
             for _ in range(4):
                 progress.step(1000)
             progress.end()
-            bars = [text.partition("]")[0] for text in stream.getvalue().split("\r") if "[" in text and "%" in text]
+            drawn = [text for text in stream.getvalue().split("\r") if "[" in text and "%" in text]
+            bars = [text.partition("]")[0] for text in drawn]
             self.assertEqual([bar.count("#") for bar in bars], [0, 10, 20, 30, 40] if shown else [])
             self.assertEqual(stream.getvalue().endswith("\r\x1b[K"), shown)
 
@@ -268,8 +310,11 @@ class Bars(unittest.TestCase):
         def fails(step: object) -> int:
             raise Unreadable("this")
 
+        def ends(step: object) -> int:
+            os._exit(3)
+
         self.assertRaisesRegex(Unreadable, "this", run_jobs, [*jobs, fails], 2, progress)
-        self.assertRaisesRegex(Unreadable, "status 3", run_jobs, [lambda step: os._exit(3)], 1, progress)
+        self.assertRaisesRegex(Unreadable, "status 3", run_jobs, [ends], 1, progress)
 
 
 class Pairs(unittest.TestCase):

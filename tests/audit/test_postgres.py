@@ -6,13 +6,14 @@ import subprocess
 import unittest
 from contextlib import closing
 from pathlib import Path
+from typing import Any
 
-import psycopg2
-from common import DAY, ROOT, audit, folder
+import psycopg2  # type: ignore[import]  # Debian has no stubs of it
+from common import DAY, ROOT, Folder, audit, folder
 
 SERVERS = sorted(Path("/usr/lib/postgresql").glob("*/bin/initdb"))
 SCHEMA = "day_20261125"
-TABLES = ("form", "entry", "sent", "outgoing", "session")
+TABLES = ("entry", "sent", "outgoing", "session")
 
 
 def as_user(*words: object) -> list[str]:
@@ -23,6 +24,12 @@ def as_user(*words: object) -> list[str]:
 
 @unittest.skipUnless(SERVERS, "there is no PostgreSQL")
 class Postgres(unittest.TestCase):
+    kept: Folder
+    place: Path
+    bin: Path
+    stop: list[str]
+    connection: str
+
     @classmethod
     def setUpClass(cls) -> None:
         cls.kept = folder()
@@ -32,7 +39,8 @@ class Postgres(unittest.TestCase):
         run(as_user(cls.bin / "initdb", "-D", data, "-A", "trust", "-U", "postgres", "--no-sync"))
         words = "-k %s -c listen_addresses= -c fsync=off" % cls.place
         cls.stop = as_user(cls.bin / "pg_ctl", "-D", data, "-m", "immediate", "stop")
-        run(as_user(cls.bin / "pg_ctl", "-D", data, "-l", cls.place / "log", "-o", words, "-w", "start"))
+        start = ["-l", cls.place / "log", "-o", words, "-w", "start"]
+        run(as_user(cls.bin / "pg_ctl", "-D", data, *start))
         cls.connection = "host=%s user=postgres dbname=postgres" % cls.place
         fill(cls.connection)
 
@@ -60,17 +68,25 @@ class Postgres(unittest.TestCase):
         self.assertRegex(text, r"ALPHA: entry \d+, number 1: it is given for entry")
 
     def test_what_cannot_be_read(self) -> None:
-        for words in (["postgres:host=/nowhere"], ["postgres:" + self.connection, "--schema", "none"]):
+        here = "postgres:" + self.connection
+        for words in (["postgres:host=/nowhere"], [here, "--schema", "none"]):
             ran = audit("check", *words)
             self.assertEqual(ran.status, 2, ran.text)
             self.assertEqual(len(ran.err.splitlines()), 1)
+
+    def test_tables_of_another_form(self) -> None:
+        self.change("UPDATE form SET number = 1")
+        status, text = self.check()
+        self.change("UPDATE form SET number = 2")
+        self.assertEqual(status, 2)
+        self.assertIn("the form of its tables is not 2", text)
 
 
 def run(words: list[str]) -> None:
     subprocess.run(words, check=True, stdout=subprocess.DEVNULL, cwd="/")
 
 
-def execute(connection: str, query: str, rows: list[tuple] | None = None) -> None:
+def execute(connection: str, query: str, rows: list[Any] | None = None) -> None:
     with closing(psycopg2.connect(connection)) as opened, opened.cursor() as cursor:
         if rows is None:
             cursor.execute(query)
@@ -80,14 +96,16 @@ def execute(connection: str, query: str, rows: list[tuple] | None = None) -> Non
 
 
 def fill(connection: str) -> None:
-    """The tables of gateway/schema.sql with the rows of the stored day."""
-    schema = (ROOT / "gateway" / "schema.sql").read_text()
-    execute(connection, "CREATE SCHEMA %s; SET search_path TO %s; %s" % (SCHEMA, SCHEMA, schema))
+    """The gateway's tables with the rows of the stored day."""
+    files = [ROOT / "gateway" / name for name in ("schema.sql", "terms.sql")]
+    tables = "".join(file.read_text() for file in files)
+    execute(connection, "CREATE SCHEMA %s; SET search_path TO %s; %s" % (SCHEMA, SCHEMA, tables))
     with closing(sqlite3.connect(DAY)) as stored:
-        for table in TABLES[1:]:
+        for table in TABLES:
             rows = stored.execute("SELECT * FROM " + table).fetchall()
             marks = ", ".join(["%s"] * len(rows[0]))
-            execute(connection, "INSERT INTO %s.%s VALUES (%s)" % (SCHEMA, table, marks), rows)
+            words = "SET search_path TO %s; INSERT INTO %s VALUES (%s)"
+            execute(connection, words % (SCHEMA, table, marks), rows)
 
 
 if __name__ == "__main__":

@@ -12,7 +12,7 @@ from dataclasses import dataclass
 from multiprocessing import get_context
 from pathlib import Path
 
-from common import HERE, audit, folder, keys, venue_words
+from common import HERE, Folder, audit, folder, keys, venue_words
 from tamper import Tamperer
 
 from mireseason_audit.check import report
@@ -28,12 +28,15 @@ PRINT = 'cat "$1"; cat "$2" >&2; exit "$(cat "$3")"'
 
 @dataclass(frozen=True)
 class KeptVenue(Venue):
-    """The venue's program, a function of its input: what it answered once is kept, and printed again."""
+    """The venue's program, a function of its input: what it answered once is kept, and printed
+    again.
+    """
 
     kept: Path = Path()
 
     def run(self, arguments: list[str], input_: Path) -> Run:
-        digest = hashlib.sha256(" ".join(arguments).encode() + b"\0" + input_.read_bytes()).hexdigest()
+        asked = " ".join(arguments).encode() + b"\0" + input_.read_bytes()
+        digest = hashlib.sha256(asked).hexdigest()
         parts = [self.kept / (digest + end) for end in (".out", ".err", ".status")]
         if not parts[2].exists():
             self.answer(arguments, input_, parts)
@@ -68,8 +71,10 @@ class Sealed:
         parsed = parser_of().parse_args([*words, "--seal", str(self.place / "day.db.seal")])
         venue = KeptVenue(tuple(venue_words()), self.place / "kept")
         with folder() as name:
+            place = Path(name)
             try:
-                verdict = checked(Work(parsed, source_of(parsed, venue, Path(name)), Path(name), venue))
+                work = Work(parsed, source_of(parsed, venue, place), place, venue)
+                verdict = checked(work)
             except Wrong as fault:
                 return 1, str(fault)
             except Unreadable as fault:
@@ -91,6 +96,9 @@ class Sealed:
 
 
 class Tampered(unittest.TestCase):
+    kept: Folder
+    sealed: Sealed
+
     @classmethod
     def setUpClass(cls) -> None:
         cls.kept = folder()
@@ -111,7 +119,8 @@ class Tampered(unittest.TestCase):
     def test_changes_that_are_drawn(self) -> None:
         with ProcessPoolExecutor(AT_ONCE, get_context("fork")) as pool:
             missed = [text for text in pool.map(self.sealed.tampered, range(CHANGES)) if text]
-        self.assertEqual(missed, [], "%d of %d:\n%s" % (len(missed), CHANGES, "\n".join(missed[:5])))
+        some = "\n".join(missed[:5])
+        self.assertEqual(missed, [], "%d of %d:\n%s" % (len(missed), CHANGES, some))
 
 
 def draw_day(path: Path) -> None:

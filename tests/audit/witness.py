@@ -11,6 +11,8 @@ from fractions import Fraction
 from pathlib import Path
 
 Message = dict[str, str]
+ENTRIES = "SELECT place, moment, firm, line FROM entry ORDER BY place"
+SENT = "SELECT firm, number, place, bytes FROM sent ORDER BY place, firm, number"
 
 
 def message_of(data: bytes) -> Message:
@@ -78,8 +80,8 @@ class Witness:
 
     def __init__(self, path: Path) -> None:
         with closing(sqlite3.connect(path)) as connection:
-            entries = connection.execute("SELECT place, moment, firm, line FROM entry ORDER BY place").fetchall()
-            sent = connection.execute("SELECT firm, number, place, bytes FROM sent ORDER BY place, firm, number").fetchall()
+            entries = connection.execute(ENTRIES).fetchall()
+            sent = connection.execute(SENT).fetchall()
         self.configuration = entries[0][3].decode()
         self.dealers = re.findall(r'\[\[dealer\]\]\nname = "(\w+)"', self.configuration)
         self.investors = re.findall(r'\[\[investor\]\]\nname = "(\w+)"', self.configuration)
@@ -91,8 +93,14 @@ class Witness:
             for place, moment, firm, line in entries[1:]
             if firm is not None
         ]
-        self.raw = {place: bytes.fromhex(line.split()[3].decode()) for place, _, firm, line in entries[1:] if firm}
-        self.sent = [Sent(firm, number, place, message_of(data)) for firm, number, place, data in sent]
+        self.raw = {
+            place: bytes.fromhex(line.split()[3].decode())
+            for place, _, firm, line in entries[1:]
+            if firm
+        }
+        self.sent = [
+            Sent(firm, number, place, message_of(data)) for firm, number, place, data in sent
+        ]
         self.at: dict[int, list[Sent]] = defaultdict(list)
         for row in self.sent:
             self.at[row.place].append(row)
@@ -117,7 +125,10 @@ class Witness:
             rows = self.at[came.place]
             if came.message["35"] == "R" and not self.is_refused(came):
                 dealers = re.findall(rb"\x01448=(\w+)", self.raw[came.place])
-                asked = Asked(came.place, came.moment, came.firm, came.message, [d.decode() for d in dealers])
+                asked = Asked(
+                    came.place, came.moment, came.firm, came.message,
+                    [dealer.decode() for dealer in dealers],
+                )
                 found.append(asked)
                 for row in rows:
                     if row.message["35"] == "R":

@@ -72,18 +72,21 @@ FIX50SP2::QuoteRequestReject decline(const char *request_id) {
         FIX::QuoteRequestRejectReason(FIX::QuoteRequestRejectReason_PASS));
 }
 
-FIX50SP2::QuoteResponse hit(const char *id, const char *quote_id) {
+FIX50SP2::QuoteResponse response(const char *id, int type) {
     FIX50SP2::QuoteResponse message;
     message.set(FIX::QuoteRespID(id));
-    message.set(FIX::QuoteRespType(FIX::QuoteRespType_HIT_LIFT));
+    message.set(FIX::QuoteRespType(type));
+    return message;
+}
+
+FIX50SP2::QuoteResponse hit(const char *id, const char *quote_id) {
+    FIX50SP2::QuoteResponse message = response(id, FIX::QuoteRespType_HIT_LIFT);
     message.set(FIX::QuoteID(quote_id));
     return message;
 }
 
 FIX50SP2::QuoteResponse pass(const char *id, const char *request_id) {
-    FIX50SP2::QuoteResponse message;
-    message.set(FIX::QuoteRespID(id));
-    message.set(FIX::QuoteRespType(FIX::QuoteRespType_PASS));
+    FIX50SP2::QuoteResponse message = response(id, FIX::QuoteRespType_PASS);
     message.setField(FIX::QuoteReqID(request_id));
     return message;
 }

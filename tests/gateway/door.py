@@ -11,7 +11,7 @@ from pathlib import Path
 
 from firm import Identity
 from ledger import Ledger, PostgresLog, read_ledger
-from wait import until, within
+from wait import LONG, until, within
 
 
 @dataclass(frozen=True)
@@ -32,10 +32,20 @@ def today() -> str:
     return datetime.now(timezone.utc).strftime("%Y%m%d")
 
 
+class Port:
+    """A port of the loopback. As long as this stands nobody else is given it, but for who asks for it by its number."""
+
+    def __init__(self) -> None:
+        self._held = socket.socket()
+        self._held.bind(("127.0.0.1", 0))
+        # Behind bind(), so that no other socket shares it: now one with the same option, as a server's, may have it too.
+        self._held.setsockopt(socket.SOL_SOCKET, socket.SO_REUSEADDR, 1)
+        self.number: int = self._held.getsockname()[1]
+
+
 def free_port() -> int:
-    with socket.socket() as probe:
-        probe.bind(("127.0.0.1", 0))
-        return probe.getsockname()[1]
+    """A port that is free now."""
+    return Port().number
 
 
 def venue_text(dealers: list[Identity], investors: list[Identity]) -> str:
@@ -57,8 +67,6 @@ class Door:
     folder: Path
     dealers: list[Identity]
     investors: list[Identity]
-    port: int = field(default_factory=free_port)
-    metrics: int = field(default_factory=free_port)
     limits: dict[str, int] = field(default_factory=dict)
     tls: dict[str, str] = field(default_factory=dict)
     environment: dict[str, str] = field(default_factory=dict)
@@ -66,6 +74,16 @@ class Door:
     postgres: PostgresLog | None = None  # the log, in the place of a file of SQLite
     process: subprocess.Popen | None = None
     _hashes: dict[str, str] = field(default_factory=dict)
+    _sessions_port: Port = field(default_factory=Port)
+    _metrics_port: Port = field(default_factory=Port)
+
+    @property
+    def port(self) -> int:
+        return self._sessions_port.number
+
+    @property
+    def metrics(self) -> int:
+        return self._metrics_port.number
 
     @property
     def database(self) -> Path:
@@ -121,7 +139,7 @@ class Door:
         with socket.socket() as probe:
             return probe.connect_ex(("127.0.0.1", self.port)) == 0
 
-    def wait_open(self, limit: float = 30) -> None:
+    def wait_open(self, limit: float = LONG) -> None:
         until("the gateway takes connections", limit, lambda: self.is_open() or self.has_ended())
         if self.has_ended():
             raise RuntimeError("the gateway ended: %s" % self.last_words())
@@ -129,7 +147,7 @@ class Door:
     def has_ended(self) -> bool:
         return self.process is not None and self.process.poll() is not None
 
-    def wait_end(self, limit: float = 30) -> int:
+    def wait_end(self, limit: float = LONG) -> int:
         """Its status, once it has ended by itself."""
         until("the gateway ends", limit, self.has_ended)
         return self.process.returncode
@@ -153,7 +171,7 @@ class Door:
         venues = self.venues()
         self.process.kill()
         self.process.wait()
-        until("the venue of a gateway that is gone ends", 20, lambda: not any(is_running(pid) for pid in venues))
+        until("the venue of a gateway that is gone ends", LONG, lambda: not any(is_running(pid) for pid in venues))
 
     def kill_venue(self) -> bool:
         """Ends the venue by SIGKILL; whether there was one."""
@@ -165,7 +183,7 @@ class Door:
                 pass
         return bool(venues)
 
-    def stop(self, limit: float = 30) -> int:
+    def stop(self, limit: float = LONG) -> int:
         self.process.terminate()
         return self.wait_end(limit)
 
@@ -175,7 +193,7 @@ class Door:
             venues = self.venues()
             self.process.kill()
             self.process.wait()
-            within(5, lambda: not any(is_running(pid) for pid in venues))
+            within(LONG, lambda: not any(is_running(pid) for pid in venues))
 
     def ledger(self) -> Ledger:
         return read_ledger(self.postgres or self.database)

@@ -7,7 +7,7 @@ from dataclasses import dataclass, field
 from pathlib import Path
 
 from frames import SOH, read_fields
-from wait import until
+from wait import LONG, until
 
 SESSION_TAGS = (8, 9, 10, 35, 49, 56, 34, 52, 43, 97, 122)  # of the frame and the session's header
 VENUE_NUMBER, VENUE_MOMENT = 1181, 60
@@ -101,6 +101,7 @@ class Firm:
     who: Identity
     more: dict[str, str] = field(default_factory=dict)  # settings of the engine beside the usual ones
     tls: bool = False
+    environment: dict[str, str] = field(default_factory=dict)
     received: list[Received] = field(default_factory=list)  # each message that came, also again
     sent: dict[str, int] = field(default_factory=dict)  # the session number under which a named message is in the store
     refused: dict[str, str] = field(default_factory=dict)
@@ -125,7 +126,8 @@ class Firm:
         settings.write_text(settings_text(self.places, self.who, self.more))
         words = [str(self.places.player), str(settings), str(self.file), self.name, self.who.password]
         self.process = subprocess.Popen(words + ["tls"] * self.tls, stdin=subprocess.PIPE, stdout=subprocess.PIPE,
-                                        stderr=(self.places.folder / (self.name + ".told")).open("ab"))
+                                        stderr=(self.places.folder / (self.name + ".told")).open("ab"),
+                                        env={**os.environ, **self.environment})
         os.set_blocking(self.process.stdout.fileno(), False)
         self.is_on, self._printed = False, b""
 
@@ -183,10 +185,10 @@ class Firm:
         self.look()
         return self.is_on
 
-    def wait_on(self, limit: float = 20) -> None:
+    def wait_on(self, limit: float = LONG) -> None:
         until("%s logs on" % self.name, limit, self.logged_on)
 
-    def wait_sent(self, name: str, limit: float = 10) -> int:
+    def wait_sent(self, name: str, limit: float = LONG) -> int:
         def done() -> bool:
             self.look()
             return name in self.sent or name in self.refused
@@ -201,7 +203,7 @@ class Firm:
         self.look()
         self._close()
 
-    def stop(self, limit: float = 20) -> None:
+    def stop(self, limit: float = LONG) -> None:
         self.order("quit")
         self.process.wait(limit)
         self.look()

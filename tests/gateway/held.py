@@ -2,11 +2,12 @@
 
 from collections.abc import Iterator
 
-from firm import SESSION_TAGS, VENUE_MOMENT, Firm, Received
+from firm import SESSION_TAGS, VENUE_MOMENT, VENUE_NUMBER, Firm, Received
 from frames import read_frame, read_time
 from ledger import Ledger, Mark, fields_of
 
 MOST_LATE = 10_000  # milliseconds that a clock line may be late: the gateway may have been away
+BEHIND_MOMENT = {b"S": 537, b"AI": 297, b"R": 453}  # the field in front of which 60 stands; it is the last one of others
 REF_NUMBER = 45  # of a Reject: the number of the message that is meant
 
 
@@ -34,6 +35,13 @@ def as_received(frame: bytes, numbers: list[int]) -> tuple[tuple[int, bytes], ..
     return tuple((tag, b"%d" % numbers[int(value) - 1]) if tag == REF_NUMBER else (tag, value) for tag, value in body)
 
 
+def is_well_placed(message: Received) -> bool:
+    """Whether 1181 is the first field behind the header, and 60 stands where the dictionary has it."""
+    tags = [tag for tag, _ in message.fields if tag not in SESSION_TAGS]
+    behind = [*tags, None][tags.index(VENUE_MOMENT) + 1]
+    return tags[0] == VENUE_NUMBER and behind == BEHIND_MOMENT.get(message.kind)
+
+
 def differences(firm: Firm, answers: list[bytes], ledger: Ledger) -> Iterator[str]:
     """What is missing, different, or under two session numbers; nothing where all is as it has to be."""
     numbers = used_numbers(ledger, firm.name)
@@ -52,6 +60,8 @@ def differences(firm: Firm, answers: list[bytes], ledger: Ledger) -> Iterator[st
             yield "%s: %d is another: %r came, %r is the venue's" % (firm.name, number, message.raw, frame)
         elif message.value(VENUE_MOMENT) != dict(fields_of(frame))[52]:
             yield "%s: %d has another 60 than the venue's 52" % (firm.name, number)
+        elif not is_well_placed(message):
+            yield "%s: %d has its 1181 or its 60 in another place: %r" % (firm.name, number, message.raw)
     for number, message in by_number.items():
         yield "%s: %d is none of the venue's: %r" % (firm.name, number, message.raw)
     sessions = {message.session_number: message.venue_number for message in firm.received}

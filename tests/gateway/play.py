@@ -31,7 +31,7 @@ from held import count_of
 from ledger import PostgresLog
 from market import Act, Market, play
 from settle import settled, wait_all_on
-from wait import TooLong, until, within
+from wait import LONG, TooLong, until, within
 
 DEALERS = [Identity("DLR%d" % n, "T%d" % n, "dealer-%d-secret" % n) for n in range(1, 5)]
 INVESTORS = [Identity("INV%d" % n, "V%d" % n, "investor-%d-secret" % n) for n in range(1, 3)]
@@ -88,7 +88,7 @@ class Day:
             self.door.start()
         elif what == "venue":
             self.venue_ends.append(time.monotonic())
-            until("there is a venue", 20, self.door.kill_venue)
+            until("there is a venue", LONG, self.door.kill_venue)
         else:
             firm = self.draw.choice(self.firms)
             firm.kill()

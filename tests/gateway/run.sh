@@ -34,12 +34,13 @@ trap 'rm -rf "$work"' EXIT
 gateway=${GATEWAY:-}
 if [ -z "$gateway" ]; then
     cmake -S "$root/gateway" -B "$root/gateway/out" >"$work/built" 2>&1 &&
-        cmake --build "$root/gateway/out" -j 2 >>"$work/built" 2>&1 || { tail -50 "$work/built" >&2; exit 1; }
+        cmake --build "$root/gateway/out" -j "$(nproc)" >>"$work/built" 2>&1 || { tail -50 "$work/built" >&2; exit 1; }
     gateway=$root/gateway/out/mireseason-gateway
 fi
 g++ -std=c++14 -DHAVE_SSL=1 -O1 -Wall -Wextra -Werror -o "$work/player" "$here/player.cpp" \
     -lquickfix -lpthread -lssl -lcrypto
-g++ -std=c++20 -O1 -shared -fPIC -Wall -Wextra -Werror -o "$work/disk.so" "$here/disk.cpp" -ldl
+g++ -std=c++20 -O1 -shared -fPIC -Wall -Wextra -Werror -o "$work/shim.so" "$here/disk.cpp" "$here/clock.cpp" \
+    -ldl
 
 keep=${KEEP:+--keep $KEEP}
 # What each part says goes into a file of its own, and is told when the part is over. Each part ends with a line
@@ -52,7 +53,7 @@ part() {
 }
 # shellcheck disable=SC2086 # the words of $days, $keep, $quick, $seed and $venue
 {
-    part tried python3 "$here/tried.py" "$gateway" "$work/player" "$work/disk.so" $keep $quick --jobs 3 -- $venue
+    part tried python3 "$here/tried.py" "$gateway" "$work/player" "$work/shim.so" $keep $quick --jobs 3 -- $venue
     part sqlite python3 "$here/play.py" "$gateway" "$work/player" $days $seed $keep -- $venue
     part postgres "$here/postgres.sh" python3 "$here/play.py" "$gateway" "$work/player" $in_postgres $seed $keep \
         --postgres '{}' -- $venue

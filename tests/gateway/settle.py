@@ -9,13 +9,13 @@ from door import Door
 from firm import Firm
 from held import clock_faults, count_of, differences, unkept, unlogged
 from ledger import Ledger, answers, marks
-from wait import until, within
+from wait import LONG, until, within
 
 MODEL = [sys.executable, str(Path(__file__).resolve().parent.parent / "model" / "program.py")]
 LOOKS = 5  # how often a day is looked at until no deadline comes behind its last message
 
 
-def wait_all_on(door: Door, firms: list[Firm], limit: float = 60) -> None:
+def wait_all_on(door: Door, firms: list[Firm], limit: float = 2 * LONG) -> None:
     def all_on() -> bool:
         if door.has_ended():
             raise RuntimeError("the gateway ended: %s" % door.last_words())
@@ -34,18 +34,18 @@ def wait_still(door: Door, seconds: float) -> None:
             seen[:] = [count, time.monotonic()]
         return time.monotonic() - seen[1] > seconds
 
-    within(seconds + 15, still)
+    within(seconds + LONG, still)
 
 
 def settled(door: Door, firms: list[Firm], still: float = 0.3) -> list[str]:
     """The faults of a day, whose gateway has ended behind this, and whose firms' messages were all waited for."""
     for _ in range(LOOKS):
         wait_all_on(door, firms)
-        within(20, lambda: not any(True for firm in firms for _ in unlogged(firm, door.ledger())))
+        within(LONG, lambda: not any(True for firm in firms for _ in unlogged(firm, door.ledger())))
         wait_still(door, still)
         before = door.ledger()
         wanted = answers(list(door.programs.venue), before.day())
-        within(20, lambda: all([has_all(firm, wanted) for firm in firms]))
+        within(LONG, lambda: all([has_all(firm, wanted) for firm in firms]))
         status, ledger = door.stop(), door.ledger()
         if len(ledger.entries) == len(before.entries):
             return list(faults(door, firms, status, ledger))

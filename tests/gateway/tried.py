@@ -1,7 +1,7 @@
 #!/usr/bin/env python3
 """Puts faults in by hand and looks whether what happens is what docs/CONNECTING.md says.
 
-usage: tried.py GATEWAY PLAYER SHIM [--only WORD] [--quick] [--keep FOLDER] [--jobs N] -- VENUE WORDS ..
+usage: tried.py GATEWAY PLAYER SHIM [--only WORD] [--quick] [--sanitized] [--keep FOLDER] [--jobs N] -- VENUE WORDS ..
 """
 
 import argparse
@@ -19,6 +19,7 @@ ROOT = HERE.parent.parent
 sys.dont_write_bytecode = True
 sys.path.insert(0, str(ROOT / "tests" / "model"))
 
+import tried_away
 import tried_disk
 import tried_log
 import tried_logon
@@ -64,6 +65,7 @@ def read_words() -> argparse.Namespace:
         parser.add_argument(name, type=Path)
     parser.add_argument("--only", default="", help="tests with this word in their names alone")
     parser.add_argument("--quick", action="store_true", help="the disk is full at a few commits alone")
+    parser.add_argument("--sanitized", action="store_true", help="the gateway has a sanitizer: its memory is not measured")
     parser.add_argument("--keep", type=Path, help="where the files of tests that fail are put")
     parser.add_argument("--jobs", type=int, default=1, help="how many tests are done at one time")
     parser.add_argument("venue", nargs="+")
@@ -73,8 +75,8 @@ def read_words() -> argparse.Namespace:
 def main() -> None:
     words = read_words()
     programs = programs_of(words.gateway, words.venue)
-    tools = Tools(programs, words.player.resolve(), DICTIONARIES, words.shim.resolve())
-    tests = tried_log.TRIED + tried_logon.TRIED + tried_messages.TRIED
+    tools = Tools(programs, words.player.resolve(), DICTIONARIES, words.shim.resolve(), not words.sanitized)
+    tests = tried_log.TRIED + tried_logon.TRIED + tried_messages.TRIED + tried_away.TRIED
     tests += tried_disk.QUICK if words.quick else tried_disk.TRIED
     chosen = [test for test in tests if words.only in test.__name__]
     with ThreadPoolExecutor(words.jobs) as jobs:

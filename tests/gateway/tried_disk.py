@@ -54,7 +54,7 @@ def full_disk(stage: Stage, at: int) -> None:
     for firm in stage.firms:
         firm.start()
     traded(stage, at, lambda: not stage.door.has_ended())
-    check(stage.door.wait_end(30) == 1, "the gateway ended with status %s" % stage.door.process.returncode)
+    check(stage.door.wait_end() == 1, "the gateway ended with status %s" % stage.door.process.returncode)
     check("full" in stage.door.last_words() or "disk" in stage.door.last_words(), "it does not say why: %s" % stage.door.last_words())
     stage.door.environment = {}
     stage.door.start()

@@ -4,10 +4,13 @@ import os
 import signal
 import sqlite3
 from collections.abc import Callable
+from datetime import datetime, timedelta, timezone
 
-from door import Door, Programs
+from door import Door, Programs, today
 from stage import Stage, check
-from wait import until
+from wait import LONG, until
+
+BEFORE_MIDNIGHT = 20  # seconds
 
 
 def ended_day(stage: Stage) -> None:
@@ -16,7 +19,7 @@ def ended_day(stage: Stage) -> None:
     stage.auction()
     check(stage.door.stop() == 0, "the gateway does not end well")
     for firm in stage.firms:
-        until("%s is logged off" % firm.name, 10, lambda: not firm.logged_on())
+        until("%s is logged off" % firm.name, LONG, lambda: not firm.logged_on())
 
 
 def nothing_sent(stage: Stage, act: Callable[[], None]) -> None:
@@ -134,10 +137,16 @@ def venue_that_ends(stage: Stage) -> None:
     stage.door.limits["venue_starts"] = 3
     stage.open(*stage.firms)
     for count in range(1, 3):
-        until("there is a venue", 20, stage.door.kill_venue)
+        until("there is a venue", LONG, stage.door.kill_venue)
         stage.auction()
         check(not stage.door.has_ended(), "the gateway ended at the venue's end %d" % count)
-    until("there is a venue", 20, stage.door.kill_venue)
+
+    def ended_with_it() -> bool:
+        """Ends it again as soon as there is one: on a slow machine the minute may be over in between."""
+        stage.door.kill_venue()
+        return stage.door.has_ended()
+
+    until("the gateway ends with its venue", LONG, ended_with_it)
     check(stage.door.wait_end() == 1, "the gateway ended with another status")
 
 
@@ -147,8 +156,35 @@ def venue_that_says_something(stage: Stage) -> None:
     stage.door.programs = type(stage.door.programs)(stage.door.programs.gateway, ("python3", "-c", words))
     stage.door.write()
     stage.door.start()
-    check(stage.door.wait_end(60) == 1, "the gateway ended with another status")
+    check(stage.door.wait_end() == 1, "the gateway ended with another status")
     check("the last words of a venue" in stage.door.last_words(), "it does not tell the venue's last words")
+
+
+def another_date(stage: Stage) -> None:
+    """A configuration of yesterday is none of today."""
+    stage.door.write()
+    file, yesterday = stage.folder / "venue.toml", datetime.now(timezone.utc) - timedelta(days=1)
+    file.write_text(file.read_text().replace(today(), yesterday.strftime("%Y%m%d")))
+    stage.refused("today")
+
+
+def midnight(stage: Stage) -> None:
+    """At midnight in UTC the sessions are logged out, and the gateway ends well."""
+    now = datetime.now(timezone.utc)
+    end = now.replace(hour=0, minute=0, second=0) + timedelta(days=1)
+    ahead = max(0, int((end - now).total_seconds()) - BEFORE_MIDNIGHT)
+    clock = {"LD_PRELOAD": str(stage.tools.shim), "CLOCK_AHEAD": str(ahead)}
+    stage.door.environment = clock
+    for firm in stage.firms:
+        firm.environment = clock
+        firm.more = {"StartTime": "12:00:01", "EndTime": "12:00:00"}  # so that it does not end at midnight by itself
+    stage.open(*stage.firms)
+    stage.ping(stage.dealer)
+    check(stage.door.wait_end(BEFORE_MIDNIGHT + LONG) == 0, "the gateway ended with another status")
+    check("the day is over" in stage.door.last_words(), "it does not say why: %s" % stage.door.last_words())
+    for firm in stage.firms:
+        until("%s is logged off" % firm.name, LONG, lambda: not firm.logged_on())
+        check(any(message.kind == b"5" for message in firm.admin), "%s was not logged out" % firm.name)
 
 
 def asked_to_end(stage: Stage) -> None:
@@ -176,7 +212,7 @@ def venue_that_hangs(stage: Stage) -> None:
         os.kill(pid, signal.SIGSTOP)
     stage.say(stage.dealer, "Z", [(298, b"4")])
     before = stage.dealer.times_on
-    until("the message is in the log", 10, lambda: stage.entries_of(stage.dealer) == 1)
+    until("the message is in the log", LONG, lambda: stage.entries_of(stage.dealer) == 1)
     for pid in venues:
         os.kill(pid, signal.SIGCONT)
     stage.answer(stage.dealer, "297=9", lambda message: message.value(297) == b"9")
@@ -186,4 +222,4 @@ def venue_that_hangs(stage: Stage) -> None:
 
 
 TRIED = [changed_configuration, entry_taken_out, last_entry_taken_out, byte_of_an_entry, byte_of_sent, another_program,
-         another_log_form, two_gateways, venue_that_ends, venue_that_says_something, venue_that_hangs, asked_to_end, ended_at_once]
+         another_log_form, another_date, midnight, two_gateways, venue_that_ends, venue_that_says_something, venue_that_hangs, asked_to_end, ended_at_once]

@@ -6,10 +6,10 @@ from pathlib import Path
 
 from firm import Firm, Identity, Received
 from stage import DEALER, INVESTOR, LOGON_SECONDS, OTHER, Stage, check, quiet
-from wait import until, within
+from wait import LONG, until, within
 from wire import Wire
 
-SLACK = 3  # seconds that a limit of the gateway may be late
+SLACK = LONG  # that a limit of the gateway may be late on a busy machine
 MOST_GROWTH = 24 * 2**20
 
 
@@ -23,7 +23,7 @@ def wrong_password(stage: Stage) -> None:
     before = stage.counters()
     stage.dealer = stage.firm(Identity(DEALER.name, DEALER.trader, "another"))
     stage.dealer.start()
-    until("a Logout with a text", 10, lambda: stage.dealer.look() is None and any(map(is_logout, stage.dealer.admin)))
+    until("a Logout with a text", LONG, lambda: stage.dealer.look() is None and any(map(is_logout, stage.dealer.admin)))
     check(stage.dealer.times_on == 0, "it was logged on")
     check(stage.entries_of(stage.dealer) == 0, "something of it is in the log")
     check(grown(before, stage.counters()), "no counter has grown")
@@ -93,6 +93,30 @@ def numbers_are_not_reset(stage: Stage) -> None:
     stage.log_on(stage.dealer)
     stage.auction()
     stage.whole()
+
+
+def reset_as_the_first(stage: Stage) -> None:
+    """141=Y in the first message of the day is an ordinary Logon."""
+    stage.open(stage.other)
+    with Wire(stage.door.port) as wire:
+        wire.logon(DEALER.name.encode(), DEALER.password.encode(), more=[(141, b"Y")])
+        check(wire.read_kind(b"A") is not None, "it is not logged on")
+    stage.ping(stage.other)
+
+
+def heartbeats(stage: Stage) -> None:
+    """108 is 1 to 300."""
+    stage.open(stage.other)
+    for interval in (b"0", b"301", b"-1", b"x"):
+        with Wire(stage.door.port) as wire:
+            wire.logon(DEALER.name.encode(), DEALER.password.encode(), heartbeat=interval)
+            message = wire.read_kind(b"5")
+            check(message is not None and message.value(58), "no Logout with a text for %r" % interval)
+            check(wire.closed_within(SLACK), "the connection stays for %r" % interval)
+    with Wire(stage.door.port) as wire:
+        wire.logon(DEALER.name.encode(), DEALER.password.encode(), heartbeat=b"300")
+        check(wire.read_kind(b"A") is not None, "300 is refused")
+    stage.ping(stage.other)
 
 
 def half_a_logon(stage: Stage) -> None:
@@ -231,7 +255,7 @@ def gets_a_logon(stage: Stage, name: str | None) -> bool:
 
 def plain_to_tls(stage: Stage) -> None:
     """Plain TCP, and connections that begin no handshake: closed at the limit, and no other handshake waits for them."""
-    longest = 15  # seconds: a stock engine has to have logged on by then, on a busy machine too
+    longest = 40  # seconds: a stock engine has to have logged on by then, on a busy machine too
     stage.door.limits["logon_seconds"] = longest
     with_tls(stage)
     stage.open(stage.investor)
@@ -249,5 +273,6 @@ def plain_to_tls(stage: Stage) -> None:
     check(INVESTOR.name == stage.investor.name and stage.investor.is_on, "another session was disturbed")
 
 
-TRIED = [wrong_password, wrong_words, unknown_firm, second_connection, numbers_are_not_reset, half_a_logon, endless_logon, many_connections,
+TRIED = [wrong_password, wrong_words, unknown_firm, second_connection, numbers_are_not_reset, reset_as_the_first, heartbeats,
+         half_a_logon, endless_logon, many_connections,
          beyond_the_loopback, by_tls, certificate_of_another_firm, certificate_of_another_authority, plain_to_tls]

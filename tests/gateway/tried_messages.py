@@ -1,15 +1,13 @@
-"""Messages of a session that stands: what is odd in them, and firms that are away."""
+"""Messages of a session that stands: what is odd in them, and how they come."""
 
 import threading
 from datetime import datetime, timedelta, timezone
 
 from firm import Received
 from frames import read_frame
-from held import milliseconds
 from ledger import answers
-from market import moment_in
 from stage import DEALER, Stage, check, quiet
-from wait import until
+from wait import LONG, until
 from wire import Fields, Wire, framed, now
 
 TEXT = 58
@@ -40,11 +38,11 @@ def every_byte_in_text(stage: Stage) -> None:
                 continue
             text = b"a" + bytes([byte]) + b"z"
             number = stage.say(stage.dealer, "Z", cancel + [(TEXT, text)])
-            until("an entry for the byte %d" % byte, 10, lambda: stage.has_entry(stage.dealer, number))
+            until("an entry for the byte %d" % byte, LONG, lambda: stage.has_entry(stage.dealer, number))
             check(text_of(logged(stage, number)) == text, "58 with the byte %d is %r in the log" % (byte, logged(stage, number)))
 
     quiet(stage, [stage.other, stage.investor], send_all)
-    until("255 answers", 10, lambda: stage.dealer.look() is None and len(stage.dealer.received) >= 255)
+    until("255 answers", LONG, lambda: stage.dealer.look() is None and len(stage.dealer.received) >= 255)
     check({message.value(297) for message in stage.dealer.received} == {b"9"}, "one of 255 cancels is answered otherwise")
     stage.whole()
 
@@ -136,113 +134,6 @@ def unknown_trader(stage: Stage) -> None:
     stage.whole()
 
 
-def reject_for_one_away(stage: Stage) -> None:
-    """A dealer that ends behind its message gets the Reject at its next Logon."""
-    stage.open(*stage.firms)
-    number = stage.say(stage.dealer, "Z", [(298, b"4")], trader="T9")
-    stage.dealer.kill()
-    until("the message is in the log", 10, lambda: stage.entries_of(stage.dealer) == 1)
-    until("the venue has answered", 10, lambda: len(stage.door.ledger().sent.get("DLR1", [])) == 1)
-    stage.auction([stage.other])
-    stage.log_on(stage.dealer)
-    reject = stage.answer(stage.dealer, "a Reject", lambda message: message.kind == b"3")
-    check(reject.value(45) == b"%d" % number, "it is %r, of the session's %d" % (reject.raw, number))
-    stage.auction()
-    stage.whole()
-
-
-def one_that_was_away(stage: Stage) -> None:
-    """What a firm is sent while it is away waits for it, and comes in its order."""
-    stage.open(*stage.firms)
-    stage.log_off(stage.other)
-    stage.ask_of([stage.dealer, stage.other])
-    stage.answer(stage.dealer, "a request", lambda message: message.kind == b"R")
-    stage.log_on(stage.other)
-    stage.answer(stage.other, "a request", lambda message: message.kind == b"R")
-    stage.auction()
-    stage.whole()
-
-
-def sent_while_away(stage: Stage) -> None:
-    """What a firm's engine is told to send while the gateway is away comes to the venue once it is back, in its order."""
-    stage.open(*stage.firms)
-    stage.door.kill()
-    for _ in range(20):
-        stage.say(stage.dealer, "Z", [(298, b"5"), (117, stage.name("x"))])
-    stage.door.start()
-    until("20 answers", 20, lambda: stage.dealer.look() is None and len(stage.dealer.received) >= 20)
-    stage.whole()
-
-
-def gaps_on_both_sides(stage: Stage) -> None:
-    """A firm that missed messages, and whose own were not taken: both are made good within seconds of its Logon."""
-    stage.open(*stage.firms)
-    stage.auction()
-    stage.dealer.kill()
-    stage.ask_of([stage.dealer, stage.other])
-    until("the request is in the log", 10, lambda: len(stage.door.ledger().sent.get("DLR1", [])) == 4)
-    stage.door.kill()
-    stage.dealer.start()
-    names = [stage.name("x") for _ in range(5)]
-    for name in names:
-        stage.say(stage.dealer, "Z", [(298, b"5"), (117, name)])
-    stage.door.start()
-    stage.dealer.wait_on()
-    for name in names:
-        stage.answer(stage.dealer, "what became of a cancel", lambda message: message.value(117) == name, limit=8)
-    stage.answer(stage.dealer, "a request", lambda message: message.kind == b"R" and message.value(131) == b"R2")
-    stage.whole()
-
-
-def deadline_passes(stage: Stage) -> None:
-    """At a deadline one clock line is committed, and the request's end is told; without a deadline none is."""
-    stage.open(*stage.firms)
-    stage.ask(600)
-    stage.ask(1.5)
-    end = stage.answer(stage.investor, "that a request expired", lambda message: message.value(297) == b"7", limit=5)
-    for dealer in (stage.dealer, stage.other):
-        stage.answer(dealer, "that a request expired", lambda message: message.value(694) == b"3")
-    clocks = [entry for entry in stage.door.ledger().entries if entry.is_clock]
-    check(len(clocks) == 1, "%d clock lines" % len(clocks))
-    before, after = milliseconds(clocks[0].moment) - milliseconds(stage.deadline), milliseconds(end.value(60)[9:].decode())
-    check(0 <= before < 1000, "the clock line is %d ms behind the deadline" % before)
-    check(after == milliseconds(clocks[0].moment), "60 of the end is %r" % end.value(60))
-    stage.whole()
-
-
-def deadline_while_away(stage: Stage) -> None:
-    """A deadline that passes while there is no gateway is told once it is back."""
-    stage.open(*stage.firms)
-    stage.ask(1.5)
-    stage.door.kill()
-    until("the deadline has passed", 5, lambda: moment_in(0)[9:].decode() > stage.deadline)
-    stage.door.start()
-    stage.answer(stage.investor, "that a request expired", lambda message: message.value(297) == b"7")
-    stage.whole()
-
-
-def cancelled_for_one_gone(stage: Stage) -> None:
-    """The quotes of a dealer that is gone are cancelled by the trader that the configuration names, if it names one."""
-    stage.door.cancelled = {DEALER.name: DEALER.trader}
-    stage.open(*stage.firms)
-    request = stage.ask()
-    for dealer in (stage.dealer, stage.other):
-        stage.quote(dealer, request)
-    stage.dealer.kill()
-    stage.answer(stage.investor, "that a quote is gone", lambda message: message.value(297) == b"17")
-    stage.other.kill()
-    stage.log_on(stage.dealer, stage.other)
-    gone = stage.answer(stage.dealer, "that its quote is gone", lambda message: message.value(297) == b"17")
-    check(gone.kind == b"AI", "it is %r" % gone.raw)
-    stage.ping(stage.other)
-    check(not any(message.value(297) == b"17" for message in stage.other.received), "the other dealer's quote is gone too")
-    stage.door.stop()
-    stage.door.cancelled = {}  # else the end of the gateway is one of the dealer too
-    stage.door.write_credentials()
-    stage.door.start()
-    stage.whole()
-
-
 # ---------------------------------------------------------------- what no stock engine sends
 
 
@@ -304,6 +195,22 @@ def a_while_ago() -> bytes:
     return (datetime.now(timezone.utc) - timedelta(seconds=150)).strftime("%Y%m%d-%H:%M:%S.000").encode()
 
 
+def fields_of_no_use(stage: Stage) -> None:
+    """58, 60 and 1128 are taken, and ignored by the venue; without a trader the venue rejects."""
+    stage.open(stage.other, stage.investor)
+    with on_a_wire(stage) as wire:
+        number = wire.number
+        wire.raw(wire.message(b"Z", b"DLR1", [(1128, b"9"), *cancel(b"one"), (60, now()), (TEXT, b"text")]))
+        check(answered(wire, b"one").value(297) == b"9", "it is not answered as ever")
+        check({58, 60, 1128} <= set(dict(read_frame(logged(stage, number)))), "a field is not in the log")
+        number = wire.number
+        wire.raw(wire.message(b"Z", b"DLR1", [(298, b"4")]))
+        reject = wire.read_kind(b"3")
+        check(reject is not None and reject.value(1181), "no Reject of the venue")
+        check((reject.value(45), reject.value(371), reject.value(373)) == (b"%d" % number, b"50", b"1"), "it is %r" % reject.raw)
+    stage.whole()
+
+
 def no_frames(stage: Stage) -> None:
     """What can't be parsed never reaches the log; the session goes on with the number that was not used."""
     stage.open(stage.other, stage.investor)
@@ -341,21 +248,45 @@ def no_numbers_of_the_venue(stage: Stage) -> None:
     stage.whole()
 
 
-def resent_as_it_was(stage: Stage) -> None:
+def answered_messages(wire: Wire) -> list[Received]:
+    """What the venue gives for a message without a trader, and for five cancels."""
+    wire.raw(wire.message(b"Z", b"DLR1", [(50, b"T9"), (298, b"4")]))
+    found = [wire.read_kind(b"3")]
+    for number in range(5):
+        wire.raw(wire.message(b"Z", b"DLR1", cancel(b"c%d" % number)))
+        found.append(answered(wire, b"c%d" % number))
+    return found
+
+
+def check_sent_again(wire: Wire, first: list[Received]) -> None:
     """A ResendRequest of all: each message of the venue comes again under its number with 43=Y, its body, and its first 52 in 122."""
+    wire.raw(wire.message(b"2", b"DLR1", [(7, b"1"), (16, b"0")]))
+    for was in first:
+        message = wire.read_until(lambda message: message.session_number == was.session_number and message.value(43) == b"Y")
+        check(message is not None, "%d does not come again" % was.session_number)
+        check((message.kind, message.body) == (was.kind, was.body), "%r is sent again as %r" % (was.raw, message.raw))
+        check(message.venue_number == was.venue_number and message.value(60) == was.value(60), "%r is sent again as %r" % (was.raw, message.raw))
+        check(message.value(122) == was.value(52), "122 of %r is not the 52 of %r" % (message.raw, was.raw))
+
+
+def resent_as_it_was(stage: Stage) -> None:
     stage.open(stage.other, stage.investor)
     with on_a_wire(stage) as wire:
-        wire.raw(wire.message(b"Z", b"DLR1", [(50, b"T9"), (298, b"4")]))
-        first = [wire.read_kind(b"3")]
-        for number in range(5):
-            wire.raw(wire.message(b"Z", b"DLR1", cancel(b"c%d" % number)))
-            first.append(answered(wire, b"c%d" % number))
-        wire.raw(wire.message(b"2", b"DLR1", [(7, b"1"), (16, b"0")]))
-        again = [wire.read_until(lambda message, was=was: message.session_number == was.session_number) for was in first]
-        for message, was in zip(again, first):
-            check(message is not None, "%d does not come again" % was.session_number)
-            check((message.kind, message.body, message.value(43)) == (was.kind, was.body, b"Y"), "%r is sent again as %r" % (was.raw, message.raw))
-            check(message.value(122) == was.value(52), "122 of %r is not the 52 of %r" % (message.raw, was.raw))
+        check_sent_again(wire, answered_messages(wire))
+    stage.whole()
+
+
+def resent_after_a_crash(stage: Stage) -> None:
+    """The same behind a SIGKILL of the gateway: what is sent again comes from its log."""
+    stage.open(stage.other, stage.investor)
+    with on_a_wire(stage) as wire:
+        first, number = answered_messages(wire), wire.number
+        until("all of it is in the log", LONG, lambda: len(stage.door.ledger().sent.get("DLR1", [])) == len(first))
+        stage.door.kill()
+    stage.door.start()
+    stage.door.wait_open()
+    with on_a_wire(stage, number) as wire:
+        check_sent_again(wire, first)
     stage.whole()
 
 
@@ -369,7 +300,7 @@ def faster_than_the_log(stage: Stage) -> None:
         sender = threading.Thread(target=wire.raw, args=(data,))
         sender.start()
         stage.ping(stage.other)
-        check(wire.read_until(lambda message: message.value(117) == b"c%d" % (count - 1), 60) is not None, "the last is not answered")
+        check(wire.read_until(lambda message: message.value(117) == b"c%d" % (count - 1), 2 * LONG) is not None, "the last is not answered")
         sender.join()
         check(stage.memory() - before < 64 * 2**20, "%d bytes of memory more" % (stage.memory() - before))
     check(stage.entries_of(stage.dealer) == count, "%d of %d are in the log" % (stage.entries_of(stage.dealer), count))
@@ -383,7 +314,7 @@ def longer_than_the_limit(stage: Stage) -> None:
         before = stage.memory()
         wire.raw(b"8=FIXT.1.1\x019=900000000\x0135=Z\x0149=DLR1\x01")
         taken = sum(wire.raw(b"z" * 65536) for _ in range(1024) if not wire.closed_within(0))
-        check(taken < 1024 or wire.closed_within(5), "64 MiB are taken")
+        check(taken < 1024 or wire.closed_within(LONG), "64 MiB are taken")
         check(stage.memory() - before < 24 * 2**20, "%d bytes of memory more" % (stage.memory() - before))
     stage.log_on(stage.dealer)
     stage.ping(stage.other)
@@ -404,6 +335,5 @@ def one_that_does_not_read(stage: Stage) -> None:
 
 
 TRIED = [every_byte_in_text, another_firms_words, five_thousand_bytes, about_the_longest_frame, microseconds,
-         wrong_clock, poss_resend, unknown_trader, reject_for_one_away, one_that_was_away, sent_while_away, gaps_on_both_sides,
-         deadline_passes, deadline_while_away, cancelled_for_one_gone, poss_dup, no_frames,
-         no_numbers_of_the_venue, resent_as_it_was, faster_than_the_log, longer_than_the_limit, one_that_does_not_read]
+         wrong_clock, poss_resend, unknown_trader, poss_dup, fields_of_no_use, no_frames, no_numbers_of_the_venue, resent_as_it_was,
+         resent_after_a_crash, faster_than_the_log, longer_than_the_limit, one_that_does_not_read]

@@ -9,6 +9,7 @@ from datetime import datetime, timezone
 
 from firm import Received, received_of
 from frames import checksum
+from wait import LONG
 
 Fields = list[tuple[int, bytes]]
 
@@ -25,7 +26,8 @@ def framed(body: bytes) -> bytes:
 
 class Wire:
     def __init__(self, port: int, context: ssl.SSLContext | None = None) -> None:
-        plain = socket.create_connection(("127.0.0.1", port), timeout=10)
+        # Of sendall() this is the limit for all bytes together.
+        plain = socket.create_connection(("127.0.0.1", port), timeout=2 * LONG)
         plain.setsockopt(socket.IPPROTO_TCP, socket.TCP_NODELAY, 1)
         self.socket = context.wrap_socket(plain, server_hostname="localhost") if context else plain
         self.name, self.number, self.waiting, self.is_over = b"", 1, b"", False
@@ -52,13 +54,14 @@ class Wire:
         head = [(35, kind), (49, name), (56, b"VENUE"), (34, b"%d" % number), (52, sending or now())]
         return framed(b"".join(b"%d=%s\x01" % item for item in head + fields) + tail)
 
-    def logon(self, name: bytes, password: bytes | None, user: bytes | None = None, more: Fields | None = None) -> bool:
-        self.name, fields = name, [(98, b"0"), (108, b"30"), *(more or [])]
+    def logon(self, name: bytes, password: bytes | None, user: bytes | None = None, more: Fields | None = None,
+              heartbeat: bytes = b"30") -> bool:
+        self.name, fields = name, [(98, b"0"), (108, heartbeat), *(more or [])]
         if password is not None:
             fields += [(553, name if user is None else user), (554, password)]
         return self.raw(self.message(b"A", name, fields + [(1137, b"9")]))
 
-    def read(self, limit: float = 5) -> Received | None:
+    def read(self, limit: float = LONG) -> Received | None:
         """The next message; None where the connection has ended or nothing came within the limit.
 
         A TestRequest is answered on the way.
@@ -79,7 +82,7 @@ class Wire:
         end = at + len("\x0110=000\x01")
         return end if at >= 0 and len(self.waiting) >= end else None
 
-    def read_until(self, fits: Callable[[Received], bool], limit: float = 5) -> Received | None:
+    def read_until(self, fits: Callable[[Received], bool], limit: float = LONG) -> Received | None:
         """The next message that fits; others are passed over."""
         until = time.monotonic() + limit
         while (message := self.read(max(0.0, until - time.monotonic()))) is not None:
@@ -87,7 +90,7 @@ class Wire:
                 return message
         return None
 
-    def read_kind(self, kind: bytes, limit: float = 5) -> Received | None:
+    def read_kind(self, kind: bytes, limit: float = LONG) -> Received | None:
         """The next message of this kind."""
         return self.read_until(lambda message: message.kind == kind, limit)
 

@@ -85,10 +85,7 @@ class DealerDesk(Desk):
 
     # ------------------------------------------------------------ own messages; each answers the duties that follow
 
-    def take(self, moment, data):
-        message = self.receive(moment, data)
-        if message is None:
-            return []
+    def take_message(self, moment, message):
         if message[35] == b"S":
             return self.take_quote(moment, message)
         if message[35] == b"Z":

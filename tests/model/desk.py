@@ -53,6 +53,11 @@ class Desk:
             return None
         return message
 
+    def take(self, moment, data):
+        """The duties that follow a message: none where it did not pass the session checks."""
+        message = self.receive(moment, data)
+        return [] if message is None else self.take_message(moment, message)
+
     def frames(self):
         return [write_frame(fields) for fields in self.sent]
 

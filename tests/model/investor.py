@@ -62,10 +62,7 @@ class InvestorDesk(Desk):
 
     # ------------------------------------------------------------ own messages; each answers the duties that follow
 
-    def take(self, moment, data):
-        message = self.receive(moment, data)
-        if message is None:
-            return []
+    def take_message(self, moment, message):
         if message[35] == b"R":
             return self.take_request(moment, message)
         return self.take_hit(moment, message) if message[694] == 1 else self.take_pass(moment, message)
@@ -114,12 +111,16 @@ class InvestorDesk(Desk):
 
     # ------------------------------------------------------------ what comes from rooms
 
+    def standing(self, request):
+        """The quotes on a request that are not gone."""
+        return [quote for quote in self.shown if quote.request is request and not quote.gone]
+
     def quote_came(self, n, dealer, word, ticks, until, moment):
         request = self.requests[n - 1]
         if not request.is_open():
             return
-        for quote in self.shown:
-            if quote.request is request and quote.dealer == dealer and not quote.gone:
+        for quote in self.standing(request):
+            if quote.dealer == dealer:
                 self.report_gone(quote, moment)
         quote = Shown(len(self.shown) + 1, request, dealer, word, ticks)
         self.shown.append(quote)
@@ -136,12 +137,9 @@ class InvestorDesk(Desk):
 
     def quote_gone(self, n, word, moment):
         request = self.requests[n - 1]
-        if not request.is_open():
-            return
-        for quote in self.shown:
-            if quote.request is request and quote.word == word and not quote.gone:
-                self.report_gone(quote, moment)
-                return
+        found = next((quote for quote in self.standing(request) if quote.word == word), None)
+        if request.is_open() and found is not None:
+            self.report_gone(found, moment)
 
     def dealer_declined(self, n, dealer, moment):
         request = self.requests[n - 1]

@@ -1,12 +1,14 @@
 #!/usr/bin/env python3
 """Tries terms on three database hosts, and measures how fast logs take messages there.
 
-usage: appends.py OUT [--seconds N] [--images FOLDER]    OUT: the folder in which the gateway was built
+usage: appends.py OUT [--seconds N] [--images FOLDER]
 
-Runs terms_test and log_test of OUT on the primary, and log_bench with one, two and four logs.
+Runs terms_test and log_test of OUT, the folder in which the gateway was built, on the primary, and
+log_bench with one, two and four logs.
 """
 
 import argparse
+import os
 import signal
 import subprocess
 import sys
@@ -18,16 +20,32 @@ ROOT = HERE.parent.parent
 sys.dont_write_bytecode = True
 sys.path.insert(0, str(ROOT / "deploy"))
 
-from parts.database import PASSWORDS
-from parts.gateway import Programs
-from parts.machine import DATABASES, GATEWAYS, Machine
+from parts.database import DATABASE
+from parts.machine import DATABASES, GATEWAYS, Machine, site_here
+from parts.site import Site
 
 LOADS = ((1, 1), (1, 8), (1, 32), (2, 32), (4, 32))  # logs, threads of each
 
 
-def connection() -> str:
-    return "host=%s dbname=mireseason user=gateway password=%s target_session_attrs=read-write" % (
-        ",".join(host.address for host in DATABASES), PASSWORDS["GATEWAY_PASSWORD"])
+def connection_to(site: Site) -> str:
+    return "host=%s dbname=%s user=gateway password=%s target_session_attrs=read-write" % (
+        ",".join(host.address for host in DATABASES), DATABASE, site.passwords["GATEWAY"])
+
+
+def tried(machine: Machine, out: Path, seconds: int) -> int:
+    """Runs the tests and the measurement; how many tests failed."""
+    inside = machine.network.words(GATEWAYS[0].name)
+    failed, connection = 0, connection_to(machine.site)
+    for test in (["terms_test"], ["log_test", str(machine.folder)]):
+        words = [*inside, str(out / test[0]), *test[1:], connection]
+        status = subprocess.run(words, check=False).returncode
+        print("%s: %s" % (test[0], "failed" if status else "passed"), flush=True)
+        failed += status != 0
+    for logs, threads in LOADS:
+        subprocess.run([*inside, str(out / "log_bench"), connection, str(logs), str(threads),
+                        str(seconds)], check=True)
+    print("load %.0f" % os.getloadavg()[0])
+    return failed
 
 
 def main() -> None:
@@ -36,26 +54,19 @@ def main() -> None:
     parser.add_argument("--seconds", type=int, default=10)
     parser.add_argument("--images", type=Path, default=Path("/dev/shm/mireseason"))
     words = parser.parse_args()
-    failed = 0
     # Hosts are taken away also where it is interrupted.
     signal.signal(signal.SIGTERM, lambda *_: sys.exit(143))
     with tempfile.TemporaryDirectory(prefix="mrt") as name:
         folder = Path(name)
         folder.chmod(0o755)
-        machine = Machine(folder, words.images / folder.name, Programs(Path(), ()), "mrta")
-        inside = machine.network.words(GATEWAYS[0].name)
+        machine = Machine(folder, words.images / folder.name, words.out, site_here(()),
+                          "mrt%d" % os.getpid())
         try:
             machine.bring_up_databases()
-            for test in (["terms_test"], ["log_test", name]):
-                status = subprocess.run([*inside, str(words.out / test[0]), *test[1:], connection()],
-                                        check=False).returncode
-                print("%s: %s" % (test[0], "failed" if status else "passed"), flush=True)
-                failed += status != 0
-            for logs, threads in LOADS:
-                subprocess.run([*inside, str(words.out / "log_bench"), connection(), str(logs),
-                                str(threads), str(words.seconds)], check=True)
+            failed = tried(machine, words.out, words.seconds)
         finally:
             machine.down()
+    print("%d passed, %d failed" % (2 - failed, failed))
     sys.exit(1 if failed else 0)
 
 

@@ -3,7 +3,7 @@
 from ledger import Entry, Ledger
 from parts.database import DatabaseHost
 from parts.machine import Machine
-from parts.run import Fault, until
+from parts.run import Fault, found_in
 
 PATIENCE = 60.0
 
@@ -17,14 +17,7 @@ def rows(database: DatabaseHost, query: str) -> list[list[str]]:
 
 def primary(machine: Machine) -> DatabaseHost:
     """The primary, which may still have to come."""
-    found: list[DatabaseHost] = []
-
-    def is_there() -> bool:
-        found[:] = [each for each in [machine.cluster.primary()] if each]
-        return bool(found)
-
-    until("there is a primary", PATIENCE, is_there)
-    return found[0]
+    return found_in("there is a primary", PATIENCE, machine.cluster.primary)
 
 
 def read_ledger(machine: Machine, schema: str) -> Ledger:

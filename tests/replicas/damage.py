@@ -9,7 +9,7 @@ from book import PATIENCE, primary
 from parts.database import DatabaseHost
 from parts.gateway import GatewayHost
 from parts.machine import DATABASES, GATEWAYS, Machine
-from parts.run import until
+from parts.run import found_in
 
 CUT_SECONDS = 20.0
 POWER_SECONDS = 5.0
@@ -56,8 +56,7 @@ class Damages:
         return primary(self.machine)
 
     def speaking(self) -> GatewayHost:
-        until("a gateway speaks", PATIENCE, lambda: self.machine.speaking() is not None)
-        return self.machine.speaking()
+        return found_in("a gateway speaks", PATIENCE, self.machine.speaking)
 
     # ------------------------------------------------------------ kinds
 
@@ -77,9 +76,8 @@ class Damages:
 
     def cut_standby(self) -> Damage:
         cluster, network = self.machine.cluster, self.machine.network
-        until("there is a synchronous standby", PATIENCE,
-              lambda: cluster.synchronous_standby() is not None)
-        one, other = self.primary().name, cluster.synchronous_standby().name
+        standby = found_in("there is a synchronous standby", PATIENCE, cluster.synchronous_standby)
+        one, other = self.primary().name, standby.name
         network.cut(one, other)
         return Damage("link of primary and standby cut",
                       [(CUT_SECONDS, lambda: network.heal(one, other))])

@@ -1,22 +1,26 @@
 #!/usr/bin/env python3
-"""Plays drawn days of stock initiators on three database hosts and two gateways, and damages them on the way.
+"""Plays drawn days of stock initiators on three database hosts and two gateways, and damages them
+on the way.
 
-usage: replicas.py GATEWAY PLAYER [--days N] [--messages N] [--faults N] [--seed N] [--wrong local|terms]
-                   [--folder FOLDER] [--images FOLDER] -- VENUE WORDS ..
+usage: replicas.py GATEWAY PLAYER [--days N] [--messages N] [--faults N] [--seed N] [--venues N]
+                   [--upkeep] [--wrong local|terms] [--keep FOLDER] [--images FOLDER]
+                   -- VENUE WORDS ..
 
-At the end of each day each initiator has the messages of `VENUE WORDS replay --live` over the log that is left: none is
-missing, none is different, none came under two numbers of the session; and each message that an initiator's engine had
-sent is in the log once. A gateway that was cut off from the database has ended by itself.
+At the end of each day each initiator has the messages of the venue's program over the log that is
+left: none is missing, none is different, none came under two numbers of the session; and each
+message that an initiator's engine had sent is in the log once. A gateway that was cut off from the
+database has ended by itself. With several venues all that is true of each of them. With --upkeep an
+operator takes hosts out and in, four times, in the place of drawn damages.
 """
 
 import argparse
+import os
 import shutil
 import signal
 import sys
 import tempfile
 import time
 from pathlib import Path
-from types import SimpleNamespace
 
 HERE = Path(__file__).resolve().parent
 ROOT = HERE.parent.parent
@@ -29,24 +33,26 @@ from book import last_place, read_ledger, terms
 from damage import Damage, Damages
 from door import today, venue_text
 from figures import Figures
-from firm import Firm, Identity, Places
-from held import clock_faults, count_of, differences, unkept, unlogged
-from ledger import Ledger, answers, marks
-from market import Act, Market
-from parts.gateway import PORT, Programs
-from parts.machine import FIRMS, GATEWAYS, Machine
-from parts.run import Fault
+from held import count_of
+from parts.gateway import PORT
+from parts.machine import FIRMS, GATEWAYS, Machine, site_here
+from parts.run import Fault, whole_paths
+from parts.site import ALONE
+from side import Cast, Side, Stage
+from upkeep import Upkeep
 from wait import TooLong, until, within
 from watch import Watch
 from wrong import SET_UPS, spoil, synchronous_of
 
-DEALERS = [Identity("DLR%d" % n, "T%d" % n, "dealer-%d-secret" % n) for n in range(1, 5)]
-INVESTORS = [Identity("INV%d" % n, "V%d" % n, "investor-%d-secret" % n) for n in range(1, 3)]
-DICTIONARIES = (ROOT / "fix" / "FIXT11.xml", ROOT / "fix" / "MIRESEASON.xml")
-PACE = 0.4  # seconds that a message waits for an answer while something is damaged
+CAST = Cast.of(dealers=4, investors=2)
+NAMES = ("north", "south", "east", "west")
+USUAL_PACE = 0.1  # seconds that a message waits for an answer
+PACE = 0.4  # the same while something is damaged
 RECOVERY = 180.0  # seconds in which all has to be as it was
+LOGONS = 120.0  # seconds in which all firms log on
 STILL = 2.0  # seconds without an entry at the end of a day: longer than the shortest deadline
-LATE = "no clock line came"  # of a fault of the gateway's tests: here databases are away for longer
+LOOKS = 5  # how often the end of a day is looked at until no deadline comes in between
+TOLD_FAULTS = 20
 
 # Both addresses, and a heartbeat that finds a gateway that is gone before its cut is mended.
 SETTINGS = {"SocketConnectHost": GATEWAYS[0].address, "SocketConnectPort": str(PORT),
@@ -56,84 +62,86 @@ SETTINGS = {"SocketConnectHost": GATEWAYS[0].address, "SocketConnectPort": str(P
 
 class Day:
     def __init__(self, words: argparse.Namespace, folder: Path, seed: int) -> None:
-        self.words, self.folder, self.schema = words, folder, "day_" + today()
-        self.venue = [str(Path(word).resolve()) if Path(word).exists() else word for word in words.venue]
-        programs = Programs(words.gateway.resolve(), tuple(self.venue))
-        self.machine = Machine(folder, words.images / folder.name, programs, "mrt%d" % seed,
-                               synchronous_of(words.wrong))
-        places = Places(self.wrapped(words.player.resolve()), folder, DICTIONARIES, PORT)
-        self.dealers = [Firm(places, who, SETTINGS) for who in DEALERS]
-        self.investors = [Firm(places, who, SETTINGS) for who in INVESTORS]
-        self.market = Market(seed, self.dealers, self.investors)
-        self.damages = Damages(self.machine, seed, words.faults)
-        self.figures, self.acts, self.problems = Figures(), 0, []
+        self.words, self.venue = words, list(whole_paths(words.venue))
+        self.names = (ALONE,) if words.venues == 1 else NAMES[:words.venues]
+        site = site_here(tuple(self.venue), self.names, synchronous_of(words.wrong))
+        self.machine = Machine(folder, words.images / folder.name, words.gateway.resolve(), site,
+                               "mrt%d" % os.getpid())
+        inside = tuple(self.machine.network.words(FIRMS.name))
+        stage = Stage(folder, words.player.resolve(), PORT, SETTINGS, inside)
+        self.sides = [self.side(stage, name, seed + 1000 * at)
+                      for at, name in enumerate(self.names)]
+        self.damages: Damages | Upkeep = Damages(self.machine, seed, words.faults)
+        if words.upkeep:
+            self.damages = Upkeep(self.machine)
+        self.figures, self.problems = Figures(), list[str]()
+
+    def side(self, stage: Stage, name: str, seed: int) -> Side:
+        schema = self.schema(name)
+        return stage.side(name, seed, CAST, lambda: read_ledger(self.machine, schema))
+
+    def schema(self, name: str) -> str:
+        """Of a venue's log."""
+        return self.machine.site.schema.replace("{venue}", name).replace("{date}", today())
 
     @property
-    def firms(self) -> list[Firm]:
-        return self.dealers + self.investors
-
-    def wrapped(self, player: Path) -> Path:
-        """The initiators run on a host of their own."""
-        script = self.folder / "player"
-        words = " ".join(self.machine.network.words(FIRMS.name))
-        script.write_text('#!/bin/sh\nexec %s %s "$@"\n' % (words, player))
-        script.chmod(0o755)
-        return script
+    def sent(self) -> int:
+        return sum(side.sent for side in self.sides)
 
     # ------------------------------------------------------------ the day
 
     def open(self) -> None:
         credentials = parts.gateway.credentials_of(
             self.words.gateway.resolve(),
-            [parts.gateway.Firm(who.name, who.name, who.password) for who in DEALERS + INVESTORS])
-        self.machine.up(venue_text(DEALERS, INVESTORS), credentials)
-        spoil(self.machine, self.schema, self.words.wrong)
-        for firm in self.firms:
-            firm.start()
-        self.wait_all_on(60)
+            [parts.gateway.Firm(who.name, who.name, who.password) for who in CAST.all])
+        text = venue_text(list(CAST.dealers), list(CAST.investors))
+        self.machine.up(dict.fromkeys(self.names, text), credentials)
+        for name in self.names:
+            spoil(self.machine, self.schema(name), self.words.wrong)
+        for side in self.sides:
+            side.start()
+        self.wait_all_on()
 
-    def wait_all_on(self, limit: float) -> None:
-        until("all firms are logged on", limit, self.all_on)
+    def wait_all_on(self) -> None:
+        until("all firms are logged on", LOGONS, self.all_on)
 
     def all_on(self) -> bool:
-        return all([firm.logged_on() for firm in self.firms])
+        return all([side.all_on() for side in self.sides])
 
     def send(self, wait: float) -> None:
-        """The next message of some firm; waits a little for an answer."""
-        self.market.look()
-        act: Act = self.market.next()
-        self.acts += 1
-        name, before = "m%d" % self.acts, len(act.firm.received)
-        act.firm.send(name, act.kind, act.fields)
-        act.firm.wait_sent(name)
-        within(wait, lambda: bool(act.firm.look()) or len(act.firm.received) > before)
+        """The next message, at each venue in its turn."""
+        self.sides[self.sent % len(self.sides)].send(wait)
 
     def play(self) -> None:
         between = max(self.words.messages // (self.words.faults + 1), 1)
         for _ in range(self.words.faults):
             for _ in range(between):
-                self.send(0.1)
+                self.send(USUAL_PACE)
             self.suffer(self.damages.begin())
         for _ in range(between):
-            self.send(0.1)
+            self.send(USUAL_PACE)
 
     def suffer(self, damage: Damage) -> None:
         """Goes on sending until all is as it was."""
-        starts = self.machine.supervisor.services[damage.silenced].starts if damage.silenced else 0
+        starts = self.starts_of(damage.silenced)
         while not damage.mended:
             self.send(PACE)
             damage.look()
-        if damage.silenced and self.machine.supervisor.services[damage.silenced].starts == starts:
+        if damage.silenced and self.starts_of(damage.silenced) == starts:
             self.problems.append("%s: %s did not end" % (damage.what, damage.silenced))
         end = time.monotonic() + RECOVERY
         with Watch(self.hosts_are_well) as watch:
             while not (watch.well and self.all_on()):
                 self.send(PACE)
                 if time.monotonic() > end:
-                    raise TooLong("%s: not all is as it was within %g s" % (damage.what, RECOVERY))
+                    text = "%s: not all is as it was within %g s"
+                    raise TooLong(text % (damage.what, RECOVERY))
         self.figures.add(damage.what, damage.began, time.monotonic())
         print("  %-34s %5.1f s until all was as before" % (
             damage.what, time.monotonic() - damage.began), flush=True)
+
+    def starts_of(self, gateway: str) -> int:
+        return self.machine.supervisor.services[gateway].starts if gateway else 0
 
     def hosts_are_well(self) -> bool:
         following = self.machine.following()
@@ -142,65 +150,55 @@ class Day:
     # ------------------------------------------------------------ its end
 
     def settled(self) -> list[str]:
-        self.wait_all_on(120)
-        ledger = self.ledger()
-        for _ in range(5):
-            within(20, lambda: not any(True for firm in self.firms for _ in unlogged(firm, self.ledger())))
+        """What is wrong in the end."""
+        self.wait_all_on()
+        for _ in range(LOOKS):
             self.wait_still()
-            ledger = self.ledger()
-            wanted = answers(self.venue, ledger.day())
-            within(30, lambda: all([self.has_all(firm, wanted) for firm in self.firms]))
-            if last_place(self.machine, self.schema) == ledger.entries[-1].place:
+            if [side.caught_up(self.venue) - 1 for side in self.sides] == self.places():
                 break
         for gateway in (self.machine.following(), self.machine.speaking()):
             if gateway:
                 gateway.service.stop(20)
-        return self.problems + self.faults(self.ledger())
+        return self.problems + [self.told_of(side, fault) for side in self.sides
+                                for fault in side.faults(self.venue)]
 
-    def ledger(self) -> Ledger:
-        return read_ledger(self.machine, self.schema)
+    def places(self) -> list[int]:
+        """The last place of each log."""
+        return [last_place(self.machine, self.schema(name)) for name in self.names]
 
     def wait_still(self) -> None:
-        seen = [0, time.monotonic()]
+        seen, since = self.places(), time.monotonic()
 
         def still() -> bool:
-            place = last_place(self.machine, self.schema)
-            if place != seen[0]:
-                seen[:] = [place, time.monotonic()]
-            return time.monotonic() - seen[1] > STILL
+            nonlocal seen, since
+            places = self.places()
+            if places != seen:
+                seen, since = places, time.monotonic()
+            return time.monotonic() - since > STILL
 
         within(STILL + 30, still)
 
     @staticmethod
-    def has_all(firm: Firm, wanted: dict[str, list[bytes]]) -> bool:
-        firm.look()
-        return count_of(firm) >= len(wanted.get(firm.name, []))
-
-    def faults(self, ledger: Ledger) -> list[str]:
-        day, found = ledger.day(), []
-        wanted = answers(self.venue, day)
-        for firm in self.firms:
-            firm.look()
-            found += differences(firm, wanted.get(firm.name, []), ledger)
-            found += unlogged(firm, ledger)
-        found += unkept(ledger, wanted)
-        found += [each for each in clock_faults(ledger, marks(self.venue, day)) if LATE not in each]
-        return found
+    def told_of(side: Side, fault: str) -> str:
+        return "%s: %s" % (side.name, fault) if side.name else fault
 
     def tell(self) -> None:
-        ledger = self.ledger()
-        distinct, came = sum(count_of(firm) for firm in self.firms), sum(len(firm.received) for firm in self.firms)
-        print("  %d messages of firms, %d entries, %d terms, %d faults; %d messages to firms, %d came again" % (
-            self.acts, len(ledger.entries), terms(self.machine, self.schema), len(self.figures.faults),
-            distinct, came - distinct))
-        moments = [message.moment / 1e9 for firm in self.firms for message in firm.received]
+        for side in self.sides:
+            ledger = side.read()
+            distinct = sum(count_of(firm) for firm in side.firms)
+            again = sum(len(firm.received) for firm in side.firms) - distinct
+            text = "%d messages of firms, %d entries, %d terms; %d messages to firms, %d came again"
+            print("  " + self.told_of(side, text % (
+                side.sent, len(ledger.entries), terms(self.machine, self.schema(side.name)),
+                distinct, again)))
+        firms = [firm for side in self.sides for firm in side.firms]
+        moments = [message.moment / 1e9 for firm in firms for message in firm.received]
         for line in self.figures.lines(moments):
             print("  without an answer: %s" % line, flush=True)
 
     def close(self) -> None:
-        for firm in self.firms:
-            if firm.process:
-                firm.kill()
+        for side in self.sides:
+            side.close()
         self.machine.down()
 
 
@@ -212,11 +210,14 @@ def one_day(words: argparse.Namespace, folder: Path, seed: int) -> list[str]:
         day.play()
         found = day.settled()
         day.tell()
-        print("day %d: %.0f s" % (seed, time.monotonic() - began), flush=True)
+        took, load = time.monotonic() - began, os.getloadavg()[2]
+        text = "day %d: %d faults, %.0f s, load %.0f"
+        print(text % (seed, len(day.figures.faults), took, load), flush=True)
         return found
     except (TooLong, Fault, RuntimeError) as fault:
-        words_of = ["%s's last words: %s" % (each.name, each.last_words()) for each in day.machine.gateways]
-        return ["%s; %s" % (fault, "; ".join(words_of))]
+        told = ["%s's last words: %s" % (each.name, each.last_words())
+                for each in day.machine.gateways]
+        return ["%s; %s" % (fault, "; ".join(told))]
     finally:
         day.close()
 
@@ -227,6 +228,8 @@ def read_words() -> argparse.Namespace:
     parser.add_argument("player", type=Path)
     for name, usual in (("--days", 3), ("--messages", 2000), ("--faults", 30), ("--seed", 1)):
         parser.add_argument(name, type=int, default=usual)
+    parser.add_argument("--venues", type=int, default=1, choices=range(1, len(NAMES) + 1))
+    parser.add_argument("--upkeep", action="store_true", help="what an operator does, four faults")
     parser.add_argument("--wrong", choices=SET_UPS, default="")
     parser.add_argument("--images", type=Path, default=Path("/dev/shm/mireseason"))
     parser.add_argument("--keep", type=Path, help="where the logs of days with a fault are put")
@@ -244,8 +247,10 @@ def main() -> None:
             folder.chmod(0o755)
             faults = one_day(words, folder, seed)
             failed += bool(faults)
-            for fault in faults[:20]:
+            for fault in faults[:TOLD_FAULTS]:
                 print("day %d: %s" % (seed, fault), flush=True)
+            if len(faults) > TOLD_FAULTS:
+                print("day %d: %d faults in all" % (seed, len(faults)), flush=True)
             if faults and words.keep:
                 shutil.copytree(folder, words.keep / ("day%d" % seed), dirs_exist_ok=True)
     print("%d passed, %d failed" % (words.days - failed, failed))

@@ -2,8 +2,10 @@
 
 from book import primary
 from parts.machine import Machine
+from parts.run import Fault
 
-# Tables as they would be without terms: whoever comes may write, as many as there are, and each counts for itself.
+# Tables as they would be without terms: whoever comes may write, as many as there are, and each
+# counts for itself.
 WITHOUT_TERMS = """
 SET search_path TO {schema};
 DROP TRIGGER one_term ON entry;
@@ -27,4 +29,6 @@ def synchronous_of(wrong: str) -> str:
 def spoil(machine: Machine, schema: str, wrong: str) -> None:
     """What of a wrong set-up is in the database."""
     if wrong == "terms":
-        primary(machine).asked(WITHOUT_TERMS.format(schema=schema), limit=30)
+        done = primary(machine).asked(WITHOUT_TERMS.format(schema=schema), limit=30)
+        if done is None:
+            raise Fault("the terms of %s can't be taken out" % schema)

@@ -1,9 +1,9 @@
 //! The driver of the program's commands: runs over an input that is given line by line.
 use crate::inputs::Inputs;
-use crate::laws::{each_read, each_write, same_alone, same_live};
+use crate::laws::{each, same};
 use crate::process::ended_process;
 use crate::runs::{Ended, first_lines, ran, words_of};
-use case_lines::{CaseFault, Report, Running, Step, Words, text_of_cases};
+use case_lines::{Call, CaseFault, Report, Running, Step, text_of_cases};
 use std::alloc::Global;
 use std::marker::Sync;
 use std::sync::Wait;
@@ -43,80 +43,40 @@ impl Commands {
     fn show<H: Threads + Wait + Sync>(
         &mut self,
         rt: &H,
-        alloc: Global,
-        words: &str,
-        answer: &mut String,
+        call: &mut Call<'_>,
     ) -> Result<(), CaseFault> {
-        self.run(rt, alloc, words)?;
-        self.last.show(alloc, answer)
+        self.run(rt, call.alloc, call.words.rest())?;
+        self.last.show(call.alloc, &mut call.answer)
     }
 
     /// `ends FIRST LAST WORDS`: the same with the first and the last lines of what was printed.
     fn show_ends<H: Threads + Wait + Sync>(
         &mut self,
         rt: &H,
-        alloc: Global,
-        words: &mut Words<'_>,
-        answer: &mut String,
+        call: &mut Call<'_>,
     ) -> Result<(), CaseFault> {
-        let first = words.number()?;
-        let last = words.number()?;
-        self.run(rt, alloc, words.rest())?;
-        self.last.show_ends(alloc, first, last, answer)
+        let first = call.words.number()?;
+        let last = call.words.number()?;
+        self.run(rt, call.alloc, call.words.rest())?;
+        self.last
+            .show_ends(call.alloc, first, last, &mut call.answer)
     }
 
     /// `process WORDS`: the same of a process with these arguments, which may be any bytes.
     fn show_process<H: Threads + Wait + Sync>(
         &mut self,
         rt: &H,
-        alloc: Global,
-        words: &str,
-        answer: &mut String,
+        call: &mut Call<'_>,
     ) -> Result<(), CaseFault> {
         let input = self.inputs.bytes.as_slice();
-        self.last = ended_process(rt, alloc, words, input)?;
-        self.last.show(alloc, answer)
+        self.last = ended_process(rt, call.alloc, call.words.rest(), input)?;
+        self.last.show(call.alloc, &mut call.answer)
     }
 
     /// `told LINES`: the first lines that the last run told on standard error.
-    fn told(&self, words: &mut Words<'_>, answer: &mut String) -> Result<(), CaseFault> {
-        let lines = words.number()?;
-        words.end()?;
-        first_lines(self.last.err.as_slice(), lines, answer)
-    }
-
-    /// `each read STEP WORDS`, `each write STEP WORDS` or `each stop STEP WORDS`: a run for each count
-    /// of bytes behind which a stream fails.
-    fn each<H: Threads + Wait + Sync>(
-        &self,
-        rt: &H,
-        alloc: Global,
-        words: &mut Words<'_>,
-        answer: &mut String,
-    ) -> Result<(), CaseFault> {
-        let input = self.inputs.bytes.as_slice();
-        match words.word()? {
-            "read" => each_read(rt, alloc, words, input, answer),
-            "write" => each_write(rt, alloc, words, input, false, answer),
-            "stop" => each_write(rt, alloc, words, input, true, answer),
-            _ => Err(CaseFault::Form),
-        }
-    }
-
-    /// `same live ..` or `same alone ..`: what one command prints is held against another.
-    fn same<H: Threads + Wait + Sync>(
-        &self,
-        rt: &H,
-        alloc: Global,
-        words: &mut Words<'_>,
-        answer: &mut String,
-    ) -> Result<(), CaseFault> {
-        let input = self.inputs.bytes.as_slice();
-        match words.word()? {
-            "live" => same_live(rt, alloc, words.rest(), input, answer),
-            "alone" => same_alone(rt, alloc, words.rest(), input, answer),
-            _ => Err(CaseFault::Form),
-        }
+    fn told(&self, call: &mut Call<'_>) -> Result<(), CaseFault> {
+        let lines = call.words.number()?;
+        first_lines(self.last.err.as_slice(), lines, &mut call.answer)
     }
 
     /// A case begins: nothing is left of the case before it.
@@ -129,22 +89,18 @@ impl Commands {
     fn call<H: Threads + Wait + Sync>(
         &mut self,
         rt: &H,
-        alloc: Global,
-        call: &str,
-        answer: &mut String,
+        call: &mut Call<'_>,
     ) -> Result<(), CaseFault> {
-        let mut words = Words::of(call);
-        let word = words.word()?;
-        if self.inputs.take(alloc, word, &mut words)? {
+        if self.inputs.take(call)? {
             return Ok(());
         }
-        match word {
-            "run" => self.show(rt, alloc, words.rest(), answer),
-            "ends" => self.show_ends(rt, alloc, &mut words, answer),
-            "process" => self.show_process(rt, alloc, words.rest(), answer),
-            "told" => self.told(&mut words, answer),
-            "each" => self.each(rt, alloc, &mut words, answer),
-            "same" => self.same(rt, alloc, &mut words, answer),
+        match call.name {
+            "run" => self.show(rt, call),
+            "ends" => self.show_ends(rt, call),
+            "process" => self.show_process(rt, call),
+            "told" => self.told(call),
+            "each" => each(rt, call, self.inputs.bytes.as_slice()),
+            "same" => same(rt, call, self.inputs.bytes.as_slice()),
             _ => Err(CaseFault::Form),
         }
     }
@@ -180,10 +136,18 @@ fn take_step<H: Threads + Wait + Sync>(
     match step {
         Step::Nothing => {}
         Step::Begin => commands.begin(alloc),
-        Step::Call(call) => {
-            if let Err(fault) = commands.call(rt, alloc, call, running.answer()) {
-                running.fail(fault);
-            }
-        }
+        Step::Call(line) => running.hear(made(rt, Call::of(alloc, line), commands)),
     }
+}
+
+/// What the program answers to a call, each word of which has to be read.
+fn made<H: Threads + Wait + Sync>(
+    rt: &H,
+    mut call: Call<'_>,
+    commands: &mut Commands,
+) -> Result<String, CaseFault> {
+    commands.call(rt, &mut call)?;
+    call.words.end()?;
+    let Call { answer, .. } = call;
+    Ok(answer)
 }

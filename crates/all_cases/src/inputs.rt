@@ -1,7 +1,7 @@
 //! What a case gives to its runs: the input, and how the streams behave.
 use crate::runs::Paces;
 use crate::streams::Pace;
-use case_lines::{CaseFault, Words, bytes_of};
+use case_lines::{Call, CaseFault, Words, bytes_of};
 use std::alloc::Global;
 
 /// How many times at most a text is put into an input by one call.
@@ -26,22 +26,17 @@ impl Inputs {
         }
     }
 
-    /// Makes a call that begins with this word, where it is one on the input or the streams.
-    pub(crate) fn take(
-        &mut self,
-        alloc: Global,
-        word: &str,
-        words: &mut Words<'_>,
-    ) -> Result<bool, CaseFault> {
-        match word {
-            "<" => self.put(alloc, words.rest(), "\n")?,
-            "<+" => self.put(alloc, words.rest(), "")?,
-            "<*" => self.put_often(alloc, words, "\n")?,
-            "<+*" => self.put_often(alloc, words, "")?,
-            "empty" => self.empty(words)?,
-            "reader" => set(&mut self.paces.input, words)?,
-            "writer" => set(&mut self.paces.out, words)?,
-            "error" => set(&mut self.paces.err, words)?,
+    /// Makes a call, where it is one on the input or the streams. It answers whether it is.
+    pub(crate) fn take(&mut self, call: &mut Call<'_>) -> Result<bool, CaseFault> {
+        match call.name {
+            "<" => self.put(call.alloc, call.words.rest(), "\n")?,
+            "<+" => self.put(call.alloc, call.words.rest(), "")?,
+            "<*" => self.put_often(call, "\n")?,
+            "<+*" => self.put_often(call, "")?,
+            "empty" => self.bytes.clear(),
+            "reader" => set(&mut self.paces.input, &mut call.words)?,
+            "writer" => set(&mut self.paces.out, &mut call.words)?,
+            "error" => set(&mut self.paces.err, &mut call.words)?,
             _ => return Ok(false),
         }
         Ok(true)
@@ -56,28 +51,16 @@ impl Inputs {
     }
 
     /// `<* TIMES TEXT`.
-    fn put_often(
-        &mut self,
-        alloc: Global,
-        words: &mut Words<'_>,
-        end: &str,
-    ) -> Result<(), CaseFault> {
-        let times = words.number()?;
+    fn put_often(&mut self, call: &mut Call<'_>, end: &str) -> Result<(), CaseFault> {
+        let times = call.words.number()?;
         if times > MOST_TIMES {
             return Err(CaseFault::Condition);
         }
-        let mut text = bytes_of(alloc, words.rest())?;
+        let mut text = bytes_of(call.alloc, call.words.rest())?;
         text.extend_from_slice(end.as_bytes())?;
-        let many = repeated(alloc, text.as_slice(), AT_ONCE)?;
+        let many = repeated(call.alloc, text.as_slice(), AT_ONCE)?;
         put_repeated(&mut self.bytes, many.as_slice(), times / AT_ONCE)?;
         put_repeated(&mut self.bytes, text.as_slice(), times % AT_ONCE)
-    }
-
-    /// `empty`: the input is empty again.
-    fn empty(&mut self, words: &Words<'_>) -> Result<(), CaseFault> {
-        words.end()?;
-        self.bytes.clear();
-        Ok(())
     }
 }
 
@@ -101,7 +84,7 @@ fn set(pace: &mut Pace, words: &mut Words<'_>) -> Result<(), CaseFault> {
     let word = words.word()?;
     if word == "unflushed" {
         pace.unflushed = true;
-        return words.end();
+        return Ok(());
     }
     let number = words.number()?;
     let count = usize::try_from(number).map_err(|_| CaseFault::Condition)?;
@@ -114,5 +97,5 @@ fn set(pace: &mut Pace, words: &mut Words<'_>) -> Result<(), CaseFault> {
         }
         _ => return Err(CaseFault::Form),
     }
-    words.end()
+    Ok(())
 }

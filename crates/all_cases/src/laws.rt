@@ -4,7 +4,7 @@ ghost use Rattle.std.specs.Prelude.{◌<◌, IfOk};
 use crate::in_row::InRow;
 use crate::runs::{Ended, Paces, ran, words_of};
 use crate::streams::Pace;
-use case_lines::{CaseFault, Words};
+use case_lines::{Call, CaseFault, Words};
 use std::alloc::Global;
 use std::marker::Sync;
 use std::sync::Wait;
@@ -13,50 +13,61 @@ use std::thread::Threads;
 /// `STEP WORDS`: runs the program once for each count of bytes, a multiple of the step, behind which
 /// its reader fails, up to all of them. Each answer stands behind the first and the last count that
 /// has it.
-pub(crate) fn each_read<H: Threads + Wait + Sync>(
+fn each_read<H: Threads + Wait + Sync>(
     rt: &H,
-    alloc: Global,
-    words: &mut Words<'_>,
+    call: &mut Call<'_>,
     input: &[u8],
-    answer: &mut String,
 ) -> Result<(), CaseFault> {
-    let step = step_of(words)?;
-    let words = words_of(alloc, words.rest())?;
-    let mut in_row = InRow::new(alloc);
+    let step = step_of(&mut call.words)?;
+    let words = words_of(call.alloc, call.words.rest())?;
+    let mut in_row = InRow::new(call.alloc);
     let mut paces = Paces::whole();
     for count in (0..=input.len()).step_by(step) {
         paces.input = Pace::up_to(count);
-        let ended = ran(rt, alloc, words.as_slice(), input, paces);
-        let mut text = String::new(alloc);
-        ended.show(alloc, &mut text)?;
-        in_row.take(count, text, answer)?;
+        let ended = ran(rt, call.alloc, words.as_slice(), input, paces);
+        let mut text = String::new(call.alloc);
+        ended.show(call.alloc, &mut text)?;
+        in_row.take(count, text, &mut call.answer)?;
     }
-    in_row.end(answer)
+    in_row.end(&mut call.answer)
 }
 
 /// `STEP WORDS`: the same with a writer that fails, or takes nothing any more. Each answer says
 /// whether the writer holds these first bytes of what is printed whole.
-pub(crate) fn each_write<H: Threads + Wait + Sync>(
+fn each_write<H: Threads + Wait + Sync>(
     rt: &H,
-    alloc: Global,
-    words: &mut Words<'_>,
+    call: &mut Call<'_>,
     input: &[u8],
     stops: bool,
-    answer: &mut String,
 ) -> Result<(), CaseFault> {
-    let step = step_of(words)?;
-    let words = words_of(alloc, words.rest())?;
+    let step = step_of(&mut call.words)?;
+    let words = words_of(call.alloc, call.words.rest())?;
     let mut paces = Paces::whole();
-    let whole = ran(rt, alloc, words.as_slice(), input, paces);
-    let mut in_row = InRow::new(alloc);
+    let whole = ran(rt, call.alloc, words.as_slice(), input, paces);
+    let mut in_row = InRow::new(call.alloc);
     paces.out.stops = stops;
     for count in (0..whole.out.len()).step_by(step) {
         paces.out.left = count;
-        let ended = ran(rt, alloc, words.as_slice(), input, paces);
-        let text = told_of_prefix(alloc, &ended, whole.out.as_slice(), count)?;
-        in_row.take(count, text, answer)?;
+        let ended = ran(rt, call.alloc, words.as_slice(), input, paces);
+        let text = told_of_prefix(call.alloc, &ended, whole.out.as_slice(), count)?;
+        in_row.take(count, text, &mut call.answer)?;
     }
-    in_row.end(answer)
+    in_row.end(&mut call.answer)
+}
+
+/// `each read STEP WORDS`, `each write STEP WORDS` or `each stop STEP WORDS`: a run for each count of
+/// bytes behind which a stream fails.
+pub(crate) fn each<H: Threads + Wait + Sync>(
+    rt: &H,
+    call: &mut Call<'_>,
+    input: &[u8],
+) -> Result<(), CaseFault> {
+    match call.words.word()? {
+        "read" => each_read(rt, call, input),
+        "write" => each_write(rt, call, input, false),
+        "stop" => each_write(rt, call, input, true),
+        _ => Err(CaseFault::Form),
+    }
 }
 
 /// The step between two counts.
@@ -91,45 +102,57 @@ fn told_of_prefix(
     Ok(text)
 }
 
+/// `same live ..` or `same alone ..`: what one command prints is held against another.
+pub(crate) fn same<H: Threads + Wait + Sync>(
+    rt: &H,
+    call: &mut Call<'_>,
+    input: &[u8],
+) -> Result<(), CaseFault> {
+    let command = call.words.word()?;
+    match command {
+        "live" => same_live(rt, call, input),
+        "alone" => same_alone(rt, call, input),
+        _ => Err(CaseFault::Form),
+    }
+}
+
 /// `[--frames] FIRM..`: `live` over an input without its turns sends each firm what `replay` has
 /// for it with them.
-pub(crate) fn same_live<H: Threads + Wait + Sync>(
+fn same_live<H: Threads + Wait + Sync>(
     rt: &H,
-    alloc: Global,
-    words: &str,
+    call: &mut Call<'_>,
     input: &[u8],
-    answer: &mut String,
 ) -> Result<(), CaseFault> {
-    let (frames, firms) = form_of(words);
+    let alloc = call.alloc;
+    let (frames, firms) = form_of(call.words.rest());
     let lines = without_turns(alloc, input)?;
     let live = ran_in_form(rt, alloc, &["live"], frames, lines.as_slice())?;
-    live.tell(alloc, answer)?;
+    live.tell(alloc, &mut call.answer)?;
     for firm in words_of(alloc, firms)?.as_slice() {
         let own = lines_of(alloc, live.out.as_slice(), firm)?;
         let replayed = ran_in_form(rt, alloc, &["replay", firm], frames, input)?;
         let is_same = replayed.status == 0 && own.as_slice() == replayed.out.as_slice();
-        push_same(alloc, answer, firm, is_same)?;
+        push_same(alloc, &mut call.answer, firm, is_same)?;
     }
     Ok(())
 }
 
 /// `[--frames] DEALER..`: `alone` over what `due` prints of each dealer prints what `replay` has
 /// for it.
-pub(crate) fn same_alone<H: Threads + Wait + Sync>(
+fn same_alone<H: Threads + Wait + Sync>(
     rt: &H,
-    alloc: Global,
-    words: &str,
+    call: &mut Call<'_>,
     input: &[u8],
-    answer: &mut String,
 ) -> Result<(), CaseFault> {
-    let (frames, dealers) = form_of(words);
+    let (frames, dealers) = form_of(call.words.rest());
+    let alloc = call.alloc;
     for dealer in words_of(alloc, dealers)?.as_slice() {
         let due = ran(rt, alloc, &["due", dealer], input, Paces::whole());
         let alone = ran_in_form(rt, alloc, &["alone"], frames, due.out.as_slice())?;
         let replayed = ran_in_form(rt, alloc, &["replay", dealer], frames, input)?;
         let are_done = due.status == 0 && alone.status == 0 && replayed.status == 0;
         let is_same = are_done && alone.out.as_slice() == replayed.out.as_slice();
-        push_same(alloc, answer, dealer, is_same)?;
+        push_same(alloc, &mut call.answer, dealer, is_same)?;
     }
     Ok(())
 }

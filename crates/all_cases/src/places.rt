@@ -33,18 +33,6 @@ pub(crate) fn run_place(
         "plain_words" => run_file::<RowPlace>(alloc, text, report),
         "board" => run_file::<BoardPlace>(alloc, text, report),
         "venue_steps" => run_file::<StepPlace>(alloc, text, report),
-        place => run_day_place(alloc, place, text, report),
-    }
-}
-
-/// The same of the places of a whole day.
-fn run_day_place(
-    alloc: Global,
-    place: &str,
-    text: &str,
-    report: &mut Report,
-) -> Result<(), CaseFault> {
-    match place {
         "replay" => run_file::<Replays>(alloc, text, report),
         "view" => run_file::<Views>(alloc, text, report),
         "record" => run_file::<Records>(alloc, text, report),

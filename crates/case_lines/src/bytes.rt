@@ -9,20 +9,16 @@ const SOH: u8 = 1;
 
 /// The bytes of a text, in which `\xHH` stands for any byte, and `\\` for a backslash.
 pub fn bytes_of(alloc: Global, text: &str) -> Result<Vec<u8>, CaseFault> {
-    let mut bytes = Vec::new(alloc);
-    let mut left = text.as_bytes();
-    for _ in 0..text.len() {
-        let Some((byte, behind)) = next_byte(left)? else {
-            break;
-        };
-        bytes.push(byte)?;
-        left = behind;
-    }
-    Ok(bytes)
+    bytes_with(alloc, text, b'|')
 }
 
 /// The same, where a bar stands for SOH, and `\x7c` for a bar.
 pub fn piped_bytes_of(alloc: Global, text: &str) -> Result<Vec<u8>, CaseFault> {
+    bytes_with(alloc, text, SOH)
+}
+
+/// The bytes of a text, in which a bar stands for the byte `bar`.
+fn bytes_with(alloc: Global, text: &str, bar: u8) -> Result<Vec<u8>, CaseFault> {
     let mut bytes = Vec::new(alloc);
     let mut left = text.as_bytes();
     for _ in 0..text.len() {
@@ -30,7 +26,7 @@ pub fn piped_bytes_of(alloc: Global, text: &str) -> Result<Vec<u8>, CaseFault> {
             break;
         };
         let is_bar = left.first() == Some(&b'|');
-        bytes.push(if is_bar { SOH } else { byte })?;
+        bytes.push(if is_bar { bar } else { byte })?;
         left = behind;
     }
     Ok(bytes)

@@ -1,6 +1,6 @@
 //! Frames of texts.
 use crate::faults::CaseFault;
-use fix_fields::Date;
+use fix_fields::{Date, StreamFault};
 use std::alloc::Global;
 
 /// 14 March 2025, the day of the cases.
@@ -14,9 +14,15 @@ pub fn frame_of(alloc: Global, body: &[u8]) -> Result<Vec<u8>, CaseFault> {
     let front = format!(in alloc; "8=FIXT.1.1\u{1}9={}\u{1}", body.len())?;
     let mut bytes = front.into_bytes();
     bytes.extend_from_slice(body)?;
-    let end = format!(in alloc; "10={:03}\u{1}", sum_of(bytes.as_slice()))?;
+    let end = check_sum_of(alloc, bytes.as_slice())?;
     bytes.extend_from_slice(end.as_bytes())?;
     Ok(bytes)
+}
+
+/// CheckSum (10) of bytes, with its separator.
+pub fn check_sum_of(alloc: Global, bytes: &[u8]) -> Result<String, CaseFault> {
+    let end = format!(in alloc; "10={:03}\u{1}", sum_of(bytes))?;
+    Ok(end)
 }
 
 /// The sum of bytes, modulo 256.
@@ -26,4 +32,15 @@ fn sum_of(bytes: &[u8]) -> u8 {
         sum = sum.wrapping_add(*byte);
     }
     sum
+}
+
+/// The name of a stream's fault.
+pub fn stream_fault_name(fault: StreamFault) -> &'static str {
+    match fault {
+        StreamFault::Start => "Start",
+        StreamFault::Length => "Length",
+        StreamFault::TooLong => "TooLong",
+        StreamFault::End => "End",
+        StreamFault::Memory => "Memory",
+    }
 }

@@ -1,4 +1,5 @@
 //! What is driven by calls.
+use crate::call::Call;
 use crate::faults::CaseFault;
 use std::alloc::Global;
 
@@ -8,5 +9,5 @@ pub trait Place: Drop {
     fn new(alloc: Global) -> Result<Self, CaseFault>;
 
     /// Makes one call, and appends the lines of its answer, each with its line feed.
-    fn call(&mut self, alloc: Global, call: &str, answer: &mut String) -> Result<(), CaseFault>;
+    fn call(&mut self, call: &mut Call<'_>) -> Result<(), CaseFault>;
 }

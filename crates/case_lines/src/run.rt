@@ -1,8 +1,10 @@
 //! A file of cases is run.
+use crate::call::Call;
 use crate::expanded::expanded;
 use crate::faults::CaseFault;
 use crate::place::Place;
 use crate::report::Report;
+use crate::words::Words;
 use std::alloc::Global;
 
 /// How far a case has come.
@@ -22,8 +24,7 @@ pub enum Step<'a> {
     Nothing,
     /// A case begins: nothing is left of the case before it.
     Begin,
-    /// This call is made: its answer goes to [`Running::answer`], and a fault to
-    /// [`Running::fail`].
+    /// The call that this line is has to be made: what comes of it goes to [`Running::hear`].
     Call(&'a str),
 }
 
@@ -71,26 +72,47 @@ fn take_step<P: Place>(
             *place = Some(P::new(alloc)?);
             Ok(())
         }
-        Step::Call(call) => {
-            if let Err(fault) = call_place(alloc, call, place, running.answer()) {
-                running.fail(fault);
-            }
+        Step::Call(line) => {
+            running.hear(made(alloc, line, place));
             Ok(())
         }
     }
 }
 
-/// Makes a call on a place, where there is one.
-fn call_place<P: Place>(
-    alloc: Global,
-    call: &str,
-    place: &mut Option<P>,
-    answer: &mut String,
-) -> Result<(), CaseFault> {
+/// What a place answers to the call that a line is.
+fn made<P: Place>(alloc: Global, line: &str, place: &mut Option<P>) -> Result<String, CaseFault> {
     let Some(place) = place else {
         return Err(CaseFault::NotOpen);
     };
-    place.call(alloc, call, answer)
+    if let Some(repeated) = line.strip_prefix("repeat ") {
+        return made_often(alloc, repeated, place);
+    }
+    made_once(alloc, line, place)
+}
+
+/// `FROM TO CALL`: makes CALL once for each number from FROM to TO, which stands in it for `<n>`. It
+/// gives what the last one answers.
+fn made_often<P: Place>(alloc: Global, line: &str, place: &mut P) -> Result<String, CaseFault> {
+    let mut words = Words::of(line);
+    let from = words.number()?;
+    let to = words.number()?;
+    let call = words.rest();
+    let mut last = String::new(alloc);
+    for n in from..=to {
+        let number = format!(in alloc; "{n}")?;
+        let call = call.replace(alloc, "<n>", number.as_str())?;
+        last = made_once(alloc, call.as_str(), place)?;
+    }
+    Ok(last)
+}
+
+/// What a place answers to one call, each word of which it has to read.
+fn made_once<P: Place>(alloc: Global, line: &str, place: &mut P) -> Result<String, CaseFault> {
+    let mut call = Call::of(alloc, line);
+    place.call(&mut call)?;
+    call.words.end()?;
+    let Call { answer, .. } = call;
+    Ok(answer)
 }
 
 /// The lines of a file, without comments, names and blocks. A file at fault is told, and has none.
@@ -122,14 +144,12 @@ impl<'a> Running<'a> {
         }
     }
 
-    /// Where the answer of the last call goes.
-    pub fn answer(&mut self) -> &mut String {
-        &mut self.answer
-    }
-
-    /// The last call could not be made.
-    pub fn fail(&mut self, fault: CaseFault) {
-        self.fault = Some(fault);
+    /// What the last call answered, or why it could not be made.
+    pub fn hear(&mut self, made: Result<String, CaseFault>) {
+        match made {
+            Ok(answer) => self.answer = answer,
+            Err(fault) => self.fault = Some(fault),
+        }
     }
 
     /// The next line, and what it asks for.

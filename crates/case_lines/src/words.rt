@@ -31,6 +31,18 @@ impl<'a> Words<'a> {
         word.parse::<u64>().map_err(|_| CaseFault::Form)
     }
 
+    /// The next word, as a number of 32 bits in decimal.
+    pub fn short_number(&mut self) -> Result<u32, CaseFault> {
+        let word = self.word()?;
+        word.parse::<u32>().map_err(|_| CaseFault::Form)
+    }
+
+    /// The next word, as the number of a firm in decimal.
+    pub fn firm(&mut self) -> Result<u16, CaseFault> {
+        let word = self.word()?;
+        word.parse::<u16>().map_err(|_| CaseFault::Form)
+    }
+
     /// The next word, as a moment of the day: `HH:MM:SS` or `HH:MM:SS.sss`.
     pub fn moment(&mut self) -> Result<Moment, CaseFault> {
         let word = self.word()?;

@@ -1,6 +1,6 @@
 //! Events at a dealer's desk that words of a call spell.
-use crate::values::{close_in, firm_in, last_moment, small_in};
-use case_lines::{CaseFault, Words, frame_of, piped_bytes_of};
+use crate::values::settled_named;
+use case_lines::{Call, CaseFault, Words, close_of, frame_of, piped_bytes_of};
 use dealer_desk::DealerEvent;
 use fix_fields::Moment;
 use market_terms::RoomRef;
@@ -16,16 +16,12 @@ pub(crate) fn is_event(word: &str) -> bool {
 }
 
 /// The event, behind its word and the number of the dealer.
-pub(crate) fn event_in(
-    alloc: Global,
-    word: &str,
-    words: &mut Words<'_>,
-) -> Result<DealerEvent, CaseFault> {
-    match word {
-        "own" => own_in(alloc, words),
-        "shown" => shown_in(alloc, words),
-        "closed" => closed_in(words),
-        _ => drop_in(words),
+pub(crate) fn event_in(call: &mut Call<'_>) -> Result<DealerEvent, CaseFault> {
+    match call.name {
+        "own" => own_in(call.alloc, &mut call.words),
+        "shown" => shown_in(call.alloc, &mut call.words),
+        "closed" => closed_in(&mut call.words),
+        _ => drop_in(&mut call.words),
     }
 }
 
@@ -44,8 +40,8 @@ fn own_in(alloc: Global, words: &mut Words<'_>) -> Result<DealerEvent, CaseFault
 
 /// `INVESTOR N LINE`.
 fn shown_in(alloc: Global, words: &mut Words<'_>) -> Result<DealerEvent, CaseFault> {
-    let investor = firm_in(words)?;
-    let n = small_in(words)?;
+    let investor = words.firm()?;
+    let n = words.short_number()?;
     let room = RoomRef { investor, n };
     let (ask, moment) = ask_in(alloc, words.rest())?;
     Ok(DealerEvent::Shown { room, ask, moment })
@@ -69,8 +65,8 @@ fn ask_in(alloc: Global, line: &str) -> Result<(Ask, Moment), CaseFault> {
 /// `N CODE TIME`.
 fn closed_in(words: &mut Words<'_>) -> Result<DealerEvent, CaseFault> {
     let request = words.number()?;
-    let close = close_in(words)?;
-    let moment = last_moment(words)?;
+    let close = close_of(words)?;
+    let moment = words.moment()?;
     Ok(DealerEvent::Told {
         request,
         close,
@@ -80,10 +76,9 @@ fn closed_in(words: &mut Words<'_>) -> Result<DealerEvent, CaseFault> {
 
 /// `LAST TIME ANSWER`.
 fn drop_in(words: &mut Words<'_>) -> Result<DealerEvent, CaseFault> {
-    let last = small_in(words)?;
+    let last = words.short_number()?;
     let moment = words.moment()?;
     let answer = answer_in(words)?;
-    words.end()?;
     Ok(DealerEvent::Drop {
         last,
         moment,
@@ -95,8 +90,6 @@ fn drop_in(words: &mut Words<'_>) -> Result<DealerEvent, CaseFault> {
 fn answer_in(words: &mut Words<'_>) -> Result<Option<Settled>, CaseFault> {
     match words.word()? {
         "-" => Ok(None),
-        "lifted" => Ok(Some(Settled::Lifted)),
-        "withdrawn" => Ok(Some(Settled::Withdrawn)),
-        _ => Err(CaseFault::Form),
+        word => Ok(Some(settled_named(word)?)),
     }
 }

@@ -1,7 +1,7 @@
 //! Streams of bytes as inboxes.
 use crate::answers::{put, put_bytes, put_time};
-use case_lines::{CaseFault, Place, Words, piped_bytes_of};
-use fix_fields::{Moment, StreamFault};
+use case_lines::{Call, CaseFault, Place, piped_bytes_of, stream_fault_name};
+use fix_fields::Moment;
 use quote_messages::Message;
 use recorded_days::Inbound;
 use session_worker::inbox_of;
@@ -21,21 +21,19 @@ pub struct Inboxes {
 
 impl Place for Inboxes {
     fn new(alloc: Global) -> Result<Self, CaseFault> {
-        Ok(Inboxes {
-            pieces: Vec::new(alloc),
-        })
+        let pieces = Vec::new(alloc);
+        Ok(Inboxes { pieces })
     }
 
-    fn call(&mut self, alloc: Global, call: &str, answer: &mut String) -> Result<(), CaseFault> {
-        let mut words = Words::of(call);
-        match words.word()? {
+    fn call(&mut self, call: &mut Call<'_>) -> Result<(), CaseFault> {
+        match call.name {
             "piece" => {
-                let moment = words.moment()?;
-                let bytes = piped_bytes_of(alloc, words.rest())?;
+                let moment = call.words.moment()?;
+                let bytes = piped_bytes_of(call.alloc, call.words.rest())?;
                 self.put(moment, bytes)
             }
-            "bytes" => self.put_bytes(alloc, words.rest()),
-            "inbox" => self.tell(alloc, answer),
+            "bytes" => self.put_bytes(call.alloc, call.words.rest()),
+            "inbox" => self.tell(call.alloc, &mut call.answer),
             _ => Err(CaseFault::Form),
         }
     }
@@ -74,18 +72,7 @@ impl Inboxes {
         }
         match fault {
             None => Ok(()),
-            Some(fault) => put(answer, name_of(fault)),
+            Some(fault) => put(answer, stream_fault_name(fault)),
         }
-    }
-}
-
-/// The name of a fault.
-fn name_of(fault: StreamFault) -> &'static str {
-    match fault {
-        StreamFault::Start => "Start",
-        StreamFault::Length => "Length",
-        StreamFault::TooLong => "TooLong",
-        StreamFault::End => "End",
-        StreamFault::Memory => "Memory",
     }
 }

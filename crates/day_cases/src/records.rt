@@ -3,9 +3,9 @@ use crate::answers::{put, put_count, put_steps, put_text};
 use crate::cycles::put_cycle;
 use crate::empty_days::{empty_dealer, empty_investor, empty_room};
 use crate::events::{event_in, is_event};
-use crate::values::{actor_in, firm_in, kind_in, last_moment, only_firm, settled_in, small_in};
+use crate::values::{actor_in, kind_in, settled_named};
 use crate::venues::Venue;
-use case_lines::{CaseFault, Place, Words, frame_of, piped_bytes_of};
+use case_lines::{Call, CaseFault, Place, Words, frame_of, piped_bytes_of};
 use dealer_desk::DealerEvent;
 use investor_desk::InvestorDesk;
 use quote_messages::{Message, SentMessage};
@@ -66,57 +66,44 @@ impl Place for Records {
         })
     }
 
-    fn call(&mut self, alloc: Global, call: &str, answer: &mut String) -> Result<(), CaseFault> {
-        let mut words = Words::of(call);
-        match words.word()? {
-            "begin" => self.begin(alloc),
-            "end" => self.end(alloc),
-            "count" => self.tell_count(alloc, only_firm(&mut words)?, answer),
-            "due" => self.tell_due(alloc, only_firm(&mut words)?, answer),
-            "weave" => self.tell_steps(alloc, answer),
-            other => self.changes(alloc, other, &mut words, answer),
+    fn call(&mut self, call: &mut Call<'_>) -> Result<(), CaseFault> {
+        match call.name {
+            "begin" => self.begin(call.alloc),
+            "end" => self.end(call.alloc),
+            "count" => self.tell_count(call.alloc, call.words.firm()?, &mut call.answer),
+            "due" => self.tell_due(call.alloc, call.words.firm()?, &mut call.answer),
+            "weave" => self.tell_steps(call.alloc, &mut call.answer),
+            _ => self.changes(call),
         }
     }
 }
 
 impl Records {
     /// A call that puts something into the record.
-    fn changes(
-        &mut self,
-        alloc: Global,
-        word: &str,
-        words: &mut Words<'_>,
-        answer: &mut String,
-    ) -> Result<(), CaseFault> {
-        if is_event(word) {
-            return self.put_event(alloc, word, words);
+    fn changes(&mut self, call: &mut Call<'_>) -> Result<(), CaseFault> {
+        if is_event(call.name) {
+            return self.put_event(call);
         }
-        match word {
-            "action" => self.put_action(words),
-            "at" => self.put_at_desk(words),
-            "room" => self.put_in_room(words),
-            "inbox" => self.put_message(alloc, words),
+        match call.name {
+            "action" => self.put_action(&mut call.words),
+            "at" => self.put_at_desk(&mut call.words),
+            "room" => self.put_in_room(&mut call.words),
+            "inbox" => self.put_message(call.alloc, &mut call.words),
             "without" => self.leave_out(),
-            "more" => self.put_room(alloc, only_firm(words)?),
-            other => self.sends(alloc, other, words, answer),
+            "more" => self.put_room(call.alloc, call.words.firm()?),
+            _ => self.sends(call),
         }
     }
 
     /// A call about what firms were sent, or one that all places with a venue know.
-    fn sends(
-        &mut self,
-        alloc: Global,
-        word: &str,
-        words: &mut Words<'_>,
-        answer: &mut String,
-    ) -> Result<(), CaseFault> {
-        match word {
-            "replayed" => self.put_replayed(alloc, only_firm(words)?),
-            "desk" => self.open_desk(alloc, only_firm(words)?),
-            "take" => self.take(alloc, words),
-            "closes" => self.close(words),
-            "told" => self.put_told(only_firm(words)?),
-            other => self.venue.call(alloc, other, words, answer),
+    fn sends(&mut self, call: &mut Call<'_>) -> Result<(), CaseFault> {
+        match call.name {
+            "replayed" => self.put_replayed(call.alloc, call.words.firm()?),
+            "desk" => self.open_desk(call.alloc, call.words.firm()?),
+            "take" => self.take(call.alloc, &mut call.words),
+            "closes" => self.close(&mut call.words),
+            "told" => self.put_told(call.words.firm()?),
+            _ => self.venue.call(call),
         }
     }
 
@@ -171,6 +158,14 @@ impl Records {
         usize::from(firm) < self.dealers.len()
     }
 
+    /// An event at a dealer's desk.
+    fn put_event(&mut self, call: &mut Call<'_>) -> Result<(), CaseFault> {
+        let firm = call.words.firm()?;
+        let event: DealerEvent = event_in(call)?;
+        self.dealer(firm)?.events.push(event)?;
+        Ok(())
+    }
+
     /// `action ACTOR KIND TIME`, and the word and its answer.
     fn put_action(&mut self, words: &mut Words<'_>) -> Result<(), CaseFault> {
         let by = actor_in(words)?;
@@ -192,10 +187,9 @@ impl Records {
 
     /// `at FIRM ACTOR N`.
     fn put_at_desk(&mut self, words: &mut Words<'_>) -> Result<(), CaseFault> {
-        let firm = firm_in(words)?;
+        let firm = words.firm()?;
         let by = actor_in(words)?;
         let number = words.number()?;
-        words.end()?;
         if self.is_dealer(firm) {
             self.dealer(firm)?.order.push((by, number))?;
             return Ok(());
@@ -206,11 +200,10 @@ impl Records {
 
     /// `room FIRM R ACTOR N`.
     fn put_in_room(&mut self, words: &mut Words<'_>) -> Result<(), CaseFault> {
-        let firm = firm_in(words)?;
-        let room = small_in(words)?;
+        let firm = words.firm()?;
+        let room = words.short_number()?;
         let by = actor_in(words)?;
         let number = words.number()?;
-        words.end()?;
         let Some(index) = (room as usize).checked_sub(1) else {
             return Err(CaseFault::Form);
         };
@@ -223,7 +216,7 @@ impl Records {
 
     /// `inbox FIRM TIME BODY`.
     fn put_message(&mut self, alloc: Global, words: &mut Words<'_>) -> Result<(), CaseFault> {
-        let firm = firm_in(words)?;
+        let firm = words.firm()?;
         let moment = words.moment()?;
         let body = piped_bytes_of(alloc, words.rest())?;
         let bytes = Message::new(frame_of(alloc, body.as_slice())?);
@@ -233,19 +226,6 @@ impl Records {
             return Ok(());
         }
         self.investor(firm)?.inbox.push(inbound)?;
-        Ok(())
-    }
-
-    /// An event at a dealer's desk.
-    fn put_event(
-        &mut self,
-        alloc: Global,
-        word: &str,
-        words: &mut Words<'_>,
-    ) -> Result<(), CaseFault> {
-        let firm = firm_in(words)?;
-        let event: DealerEvent = event_in(alloc, word, words)?;
-        self.dealer(firm)?.events.push(event)?;
         Ok(())
     }
 
@@ -296,8 +276,8 @@ impl Records {
 
     /// `closes N TIME`.
     fn close(&mut self, words: &mut Words<'_>) -> Result<(), CaseFault> {
-        let n = small_in(words)?;
-        let moment = last_moment(words)?;
+        let n = words.short_number()?;
+        let moment = words.moment()?;
         let Some(desk) = &mut self.desk else {
             return Err(CaseFault::NotOpen);
         };
@@ -356,9 +336,8 @@ fn word_in(words: &mut Words<'_>) -> Result<Option<(u32, quote_word::Settled)>, 
     if words.is_at_end() {
         return Ok(None);
     }
-    let word = small_in(words)?;
-    let settled = settled_in(words)?;
-    words.end()?;
+    let word = words.short_number()?;
+    let settled = settled_named(words.word()?)?;
     Ok(Some((word, settled)))
 }
 

@@ -2,10 +2,9 @@
 use crate::answers::{
     put, put_bytes, put_count, put_frames, put_replay_fault, put_steps, put_text,
 };
-use crate::values::only_firm;
 use crate::venues::Venue;
 use blotter::blotter_text;
-use case_lines::{CaseFault, Place, Words};
+use case_lines::{Call, CaseFault, Place};
 use market_terms::FirmLines;
 use quote_messages::SentMessage;
 use std::alloc::Global;
@@ -53,21 +52,21 @@ impl Place for Replays {
         })
     }
 
-    fn call(&mut self, alloc: Global, call: &str, answer: &mut String) -> Result<(), CaseFault> {
-        let mut words = Words::of(call);
-        match words.word()? {
-            "run" => self.runs(alloc, answer),
+    fn call(&mut self, call: &mut Call<'_>) -> Result<(), CaseFault> {
+        let alloc = call.alloc;
+        match call.name {
+            "run" => self.runs(alloc, &mut call.answer),
             "live" => self.opens_live(alloc),
-            "take" => self.takes(alloc, answer),
-            "steps" => put_steps(alloc, answer, self.venue.steps.as_slice()),
-            "sent" => self.tell_sent(alloc, only_firm(&mut words)?, answer),
-            "frames" => self.tell_frames(only_firm(&mut words)?, answer),
-            "last" => self.tell_last(only_firm(&mut words)?, answer),
-            "count" => self.tell_count(alloc, only_firm(&mut words)?, answer),
-            "blotter" => self.tell_blotter(alloc, only_firm(&mut words)?, answer),
-            "due" => self.tell_due(alloc, only_firm(&mut words)?, answer),
-            "view" => self.tell_view(alloc, only_firm(&mut words)?, answer),
-            other => self.venue.call(alloc, other, &mut words, answer),
+            "take" => self.takes(alloc, &mut call.answer),
+            "steps" => put_steps(alloc, &mut call.answer, self.venue.steps.as_slice()),
+            "sent" => self.tell_sent(alloc, call.words.firm()?, &mut call.answer),
+            "frames" => self.tell_frames(call.words.firm()?, &mut call.answer),
+            "last" => self.tell_last(call.words.firm()?, &mut call.answer),
+            "count" => self.tell_count(alloc, call.words.firm()?, &mut call.answer),
+            "blotter" => self.tell_blotter(alloc, call.words.firm()?, &mut call.answer),
+            "due" => self.tell_due(alloc, call.words.firm()?, &mut call.answer),
+            "view" => self.tell_view(alloc, call.words.firm()?, &mut call.answer),
+            _ => self.venue.call(call),
         }
     }
 }

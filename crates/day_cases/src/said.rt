@@ -1,7 +1,7 @@
 //! What firms say: `TRADER TIME TYPE BODY` and `TIME FRAME`.
 use crate::answers::{put, put_bytes, put_time};
 use crate::texts::day;
-use case_lines::{CaseFault, Words, bytes_of, push_text};
+use case_lines::{Call, CaseFault, bytes_of, push_text};
 use std::alloc::Global;
 use venue_config::Name;
 use venue_text::{Said, read_fields, read_received};
@@ -23,17 +23,15 @@ pub(crate) fn tell_fields(alloc: Global, text: &str, answer: &mut String) -> Res
 }
 
 /// `said FIRM N TEXT`: whether BODY has its number, the moment, and the frame.
-pub(crate) fn tell_said(
-    alloc: Global,
-    words: &mut Words<'_>,
-    answer: &mut String,
-) -> Result<(), CaseFault> {
-    let Some(firm) = Name::of_firm(words.word()?.as_bytes()) else {
+pub(crate) fn tell_said(call: &mut Call<'_>) -> Result<(), CaseFault> {
+    let Some(firm) = Name::of_firm(call.words.word()?.as_bytes()) else {
         return Err(CaseFault::Form);
     };
-    let number = words.number()?;
+    let number = call.words.number()?;
     let date = day()?;
-    let text = bytes_of(alloc, words.rest())?;
+    let alloc = call.alloc;
+    let text = bytes_of(alloc, call.words.rest())?;
+    let answer = &mut call.answer;
     let said = Said::read(alloc, &date, text.as_slice())?;
     let Some(said) = &said else {
         return put(answer, "none");

@@ -2,7 +2,7 @@
 use crate::answers::{put, put_count, put_fault, put_steps, put_text};
 use crate::said::{tell_fields, tell_received, tell_said};
 use crate::told::told_fault;
-use case_lines::{CaseFault, Place, Words, bytes_of};
+use case_lines::{Call, CaseFault, Place, Words, bytes_of};
 use fix_fields::Date;
 use quote_messages::Side;
 use std::alloc::Global;
@@ -48,22 +48,22 @@ impl Place for Texts {
         })
     }
 
-    fn call(&mut self, alloc: Global, call: &str, answer: &mut String) -> Result<(), CaseFault> {
-        let mut words = Words::of(call);
-        match words.word()? {
-            "<" => self.put_line(alloc, words.rest()),
-            "<+" => self.put_times(alloc, 1, words.rest()),
+    fn call(&mut self, call: &mut Call<'_>) -> Result<(), CaseFault> {
+        let alloc = call.alloc;
+        match call.name {
+            "<" => self.put_line(alloc, call.words.rest()),
+            "<+" => self.put_times(alloc, 1, call.words.rest()),
             "<+*" => {
-                let count = words.number()?;
-                self.put_times(alloc, count, words.rest())
+                let count = call.words.number()?;
+                self.put_times(alloc, count, call.words.rest())
             }
-            "spoken" => self.tell_spoken(alloc, answer),
-            "divider" => put(answer, yes_or_no(has_divider(self.input.as_slice()))),
-            "steps" => self.tell_steps(alloc, answer),
-            "days" => self.tell_days(alloc, answer),
-            "firm" | "asked" | "dealer" => self.tell_firm(alloc, call, answer),
-            "fault" => tell_fault(alloc, &mut words, answer),
-            other => tell_text(alloc, other, &mut words, answer),
+            "spoken" => self.tell_spoken(alloc, &mut call.answer),
+            "divider" => self.tell_divider(&mut call.answer),
+            "steps" => self.tell_steps(alloc, &mut call.answer),
+            "days" => self.tell_days(alloc, &mut call.answer),
+            "firm" | "asked" | "dealer" => self.tell_firm(call),
+            "fault" => tell_fault(alloc, &mut call.words, &mut call.answer),
+            _ => tell_text(call),
         }
     }
 }
@@ -84,6 +84,11 @@ impl Texts {
             self.input.extend_from_slice(bytes.as_slice())?;
         }
         Ok(())
+    }
+
+    /// Whether a line `%%` stands in the input.
+    fn tell_divider(&self, answer: &mut String) -> Result<(), CaseFault> {
+        put(answer, yes_or_no(has_divider(self.input.as_slice())))
     }
 
     /// The lines that are spoken.
@@ -131,18 +136,17 @@ impl Texts {
     }
 
     /// `firm NAME`, `asked NAME` or `dealer NAME`.
-    fn tell_firm(&self, alloc: Global, call: &str, answer: &mut String) -> Result<(), CaseFault> {
+    fn tell_firm(&self, call: &mut Call<'_>) -> Result<(), CaseFault> {
         let Ok(day) = self.day()? else {
             return Err(CaseFault::Condition);
         };
-        let Ok(config) = read_venue(alloc, day.config) else {
+        let Ok(config) = read_venue(call.alloc, day.config) else {
             return Err(CaseFault::Condition);
         };
-        let mut words = Words::of(call);
-        let which = words.word()?;
-        let name = words.rest().as_bytes();
-        match found(&config, which, name) {
-            Ok(Some(firm)) => put_count(alloc, answer, usize::from(firm), "is its number"),
+        let name = call.words.rest().as_bytes();
+        let answer = &mut call.answer;
+        match found(&config, call.name, name) {
+            Ok(Some(firm)) => put_count(call.alloc, answer, usize::from(firm), "is its number"),
             Ok(None) => put(answer, "none"),
             Err(fault) => put_fault(answer, &fault),
         }
@@ -172,26 +176,23 @@ fn found(config: &VenueConfig, which: &str, name: &[u8]) -> Result<Option<u16>, 
 }
 
 /// A call about a text of one line.
-fn tell_text(
-    alloc: Global,
-    word: &str,
-    words: &mut Words<'_>,
-    answer: &mut String,
-) -> Result<(), CaseFault> {
-    match word {
-        "fields" => tell_fields(alloc, words.rest(), answer),
-        "said" => tell_said(alloc, words, answer),
-        "received" => tell_received(alloc, words.rest(), answer),
-        "same" => tell_same(alloc, words, answer),
-        other => tell_part(alloc, other, words.rest(), answer),
+fn tell_text(call: &mut Call<'_>) -> Result<(), CaseFault> {
+    match call.name {
+        "fields" => tell_fields(call.alloc, call.words.rest(), &mut call.answer),
+        "said" => tell_said(call),
+        "received" => tell_received(call.alloc, call.words.rest(), &mut call.answer),
+        "same" => tell_same(call.alloc, &mut call.words, &mut call.answer),
+        _ => tell_part(call),
     }
 }
 
 /// `cut TEXT`, `parts TEXT`, `side TEXT` or `time TEXT`.
-fn tell_part(alloc: Global, word: &str, text: &str, answer: &mut String) -> Result<(), CaseFault> {
-    let bytes = bytes_of(alloc, text)?;
+fn tell_part(call: &mut Call<'_>) -> Result<(), CaseFault> {
+    let bytes = bytes_of(call.alloc, call.words.rest())?;
     let text = bytes.as_slice();
-    match word {
+    let alloc = call.alloc;
+    let answer = &mut call.answer;
+    match call.name {
         "cut" => {
             let (part, rest) = cut_part(text);
             put_quoted(answer, part)?;

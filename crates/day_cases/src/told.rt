@@ -13,8 +13,8 @@ pub(crate) fn told_fault(words: &mut Words<'_>) -> Result<ProgramFault, CaseFaul
         "Memory" => Ok(ProgramFault::Memory),
         "Write" => Ok(ProgramFault::Write),
         "Config" => config_fault(words),
-        "Day" => day_fault(words),
-        "Weave" => weave_fault(words),
+        "Day" => Ok(ProgramFault::Day(unkept_day(words.word()?)?)),
+        "Weave" => Ok(ProgramFault::Weave(unwoven_day(words.word()?)?)),
         other => line_fault(other, words),
     }
 }
@@ -45,23 +45,21 @@ fn config_fault(words: &mut Words<'_>) -> Result<ProgramFault, CaseFault> {
 }
 
 /// What does not agree after a day on threads.
-fn day_fault(words: &mut Words<'_>) -> Result<ProgramFault, CaseFault> {
-    let what = match words.word()? {
-        "Inbox" => UnkeptDay::Inbox,
-        "Told" => UnkeptDay::Told,
-        "Sweep" => UnkeptDay::Sweep,
-        _ => return Err(CaseFault::Form),
-    };
-    Ok(ProgramFault::Day(what))
+fn unkept_day(name: &str) -> Result<UnkeptDay, CaseFault> {
+    match name {
+        "Inbox" => Ok(UnkeptDay::Inbox),
+        "Told" => Ok(UnkeptDay::Told),
+        "Sweep" => Ok(UnkeptDay::Sweep),
+        _ => Err(CaseFault::Form),
+    }
 }
 
 /// Why a day is not woven.
-fn weave_fault(words: &mut Words<'_>) -> Result<ProgramFault, CaseFault> {
-    let why = match words.word()? {
-        "Malformed" => UnwovenDay::Malformed,
-        "Cycle" => UnwovenDay::Cycle,
-        "Differs" => UnwovenDay::Differs,
-        _ => return Err(CaseFault::Form),
-    };
-    Ok(ProgramFault::Weave(why))
+fn unwoven_day(name: &str) -> Result<UnwovenDay, CaseFault> {
+    match name {
+        "Malformed" => Ok(UnwovenDay::Malformed),
+        "Cycle" => Ok(UnwovenDay::Cycle),
+        "Differs" => Ok(UnwovenDay::Differs),
+        _ => Err(CaseFault::Form),
+    }
 }

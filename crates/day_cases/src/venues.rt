@@ -1,8 +1,8 @@
 //! A configuration, and steps that lines of a day spell.
 use crate::answers::{put, put_count, put_fault};
 use crate::steps::put_spelled;
-use crate::values::{actor_in, firm_in, last_moment, small_in};
-use case_lines::{CaseFault, Words, frame_of, piped_bytes_of};
+use crate::values::actor_in;
+use case_lines::{Call, CaseFault, Words, frame_of, piped_bytes_of};
 use market_terms::RoomRef;
 use quote_messages::Message;
 use std::alloc::Global;
@@ -53,23 +53,17 @@ impl Venue {
     }
 
     /// Makes a call that all places with a venue know.
-    pub(crate) fn call(
-        &mut self,
-        alloc: Global,
-        word: &str,
-        words: &mut Words<'_>,
-        answer: &mut String,
-    ) -> Result<(), CaseFault> {
-        match word {
-            "<" => put(&mut self.text, words.rest()),
-            "-" => put(&mut self.lines, words.rest()),
-            "*" => put(&mut self.pattern, words.rest()),
-            "each" => self.put_each(alloc, words),
-            "open" => self.open(alloc, answer),
-            "read" => self.read(alloc, answer),
-            "in" => self.comes(alloc, words),
-            "turn" => self.turns(words),
-            "expire" => self.sweeps(words),
+    pub(crate) fn call(&mut self, call: &mut Call<'_>) -> Result<(), CaseFault> {
+        match call.name {
+            "<" => put(&mut self.text, call.words.rest()),
+            "-" => put(&mut self.lines, call.words.rest()),
+            "*" => put(&mut self.pattern, call.words.rest()),
+            "each" => self.put_each(call.alloc, &mut call.words),
+            "open" => self.open(call.alloc, &mut call.answer),
+            "read" => self.read(call.alloc, &mut call.answer),
+            "in" => self.comes(call.alloc, &mut call.words),
+            "turn" => self.turns(&mut call.words),
+            "expire" => self.sweeps(&mut call.words),
             _ => Err(CaseFault::Form),
         }
     }
@@ -88,9 +82,8 @@ impl Venue {
     /// Puts the pattern for each number from one to another, with `{k}` for the number and `{2k}`
     /// for its double.
     fn put_each(&mut self, alloc: Global, words: &mut Words<'_>) -> Result<(), CaseFault> {
-        let first = small_in(words)?;
-        let last = small_in(words)?;
-        words.end()?;
+        let first = words.short_number()?;
+        let last = words.short_number()?;
         for k in first..last.saturating_add(1) {
             self.put_once(alloc, k)?;
         }
@@ -133,7 +126,7 @@ impl Venue {
 
     /// `in FIRM TIME BODY`: the frame of a body comes.
     fn comes(&mut self, alloc: Global, words: &mut Words<'_>) -> Result<(), CaseFault> {
-        let firm = firm_in(words)?;
+        let firm = words.firm()?;
         let moment = words.moment()?;
         let body = piped_bytes_of(alloc, words.rest())?;
         let message = Message::new(frame_of(alloc, body.as_slice())?);
@@ -144,16 +137,15 @@ impl Venue {
     /// `turn FIRM` or `turn CLOCK`.
     fn turns(&mut self, words: &mut Words<'_>) -> Result<(), CaseFault> {
         let by = actor_in(words)?;
-        words.end()?;
         self.steps.push(Step::Turn(by))?;
         Ok(())
     }
 
     /// `expire FIRM N TIME`.
     fn sweeps(&mut self, words: &mut Words<'_>) -> Result<(), CaseFault> {
-        let investor = firm_in(words)?;
-        let n = small_in(words)?;
-        let moment = last_moment(words)?;
+        let investor = words.firm()?;
+        let n = words.short_number()?;
+        let moment = words.moment()?;
         self.steps
             .push(Step::Expire(RoomRef { investor, n }, moment))?;
         Ok(())

@@ -1,7 +1,6 @@
 //! What a dealer is sent for a list.
 use crate::answers::{put_count, put_fault, put_text};
-use crate::values::{close_in, last_moment, small_in};
-use case_lines::{CaseFault, Place, Words};
+use case_lines::{Call, CaseFault, Place, Words, close_of};
 use std::alloc::Global;
 use step_replay::{Due, alone};
 use venue_text::{DueText, MOST_INPUT, due_lines, messages_text, read_due_text};
@@ -29,16 +28,15 @@ impl Place for Views {
         })
     }
 
-    fn call(&mut self, alloc: Global, call: &str, answer: &mut String) -> Result<(), CaseFault> {
-        let mut words = Words::of(call);
-        match words.word()? {
-            "<" => crate::answers::put(&mut self.text, words.rest()),
-            "read" => self.read(alloc, answer),
-            "lifted" => self.put_lifted(&mut words),
-            "closed" => self.put_closed(&mut words),
-            "drop" => self.put_drop(&mut words),
-            "items" => self.tell_items(alloc, answer),
-            "sent" => self.tell_sent(alloc, answer),
+    fn call(&mut self, call: &mut Call<'_>) -> Result<(), CaseFault> {
+        match call.name {
+            "<" => crate::answers::put(&mut self.text, call.words.rest()),
+            "read" => self.read(call.alloc, &mut call.answer),
+            "lifted" => self.put_lifted(&mut call.words),
+            "closed" => self.put_closed(&mut call.words),
+            "drop" => self.put_drop(&mut call.words),
+            "items" => self.tell_items(call.alloc, &mut call.answer),
+            "sent" => self.tell_sent(call.alloc, &mut call.answer),
             _ => Err(CaseFault::Form),
         }
     }
@@ -72,23 +70,22 @@ impl Views {
 
     /// `lifted N`.
     fn put_lifted(&mut self, words: &mut Words<'_>) -> Result<(), CaseFault> {
-        let quote = small_in(words)?;
-        words.end()?;
+        let quote = words.short_number()?;
         self.put(Due::Lifted(quote))
     }
 
     /// `closed N CODE TIME`.
     fn put_closed(&mut self, words: &mut Words<'_>) -> Result<(), CaseFault> {
         let request = words.number()?;
-        let close = close_in(words)?;
-        let moment = last_moment(words)?;
+        let close = close_of(words)?;
+        let moment = words.moment()?;
         self.put(Due::Closed(request, close, moment))
     }
 
     /// `drop N TIME`.
     fn put_drop(&mut self, words: &mut Words<'_>) -> Result<(), CaseFault> {
-        let last = small_in(words)?;
-        let moment = last_moment(words)?;
+        let last = words.short_number()?;
+        let moment = words.moment()?;
         self.put(Due::Drop(last, moment))
     }
 

@@ -1,35 +1,57 @@
 //! The lines of a blotter.
-use crate::terms::nth;
+use crate::replies::{push_number, push_time, push_word, side_name};
+use crate::terms::nth_of;
 use case_lines::{CaseFault, Words};
-use std::alloc::Global;
+use fix_fields::Moment;
+use market_terms::{Quantity, Side};
+use venue_config::{BondId, Name};
 
 /// A line of a blotter.
 pub(crate) trait BlotterLine {
     /// Appends it, with its line feed.
-    fn push(&self, alloc: Global, answer: &mut String) -> Result<(), CaseFault>;
+    fn push(&self, answer: &mut String) -> Result<(), CaseFault>;
 }
 
 /// The lines of a blotter.
 pub(crate) fn push_lines<L: BlotterLine>(
-    alloc: Global,
     answer: &mut String,
     lines: &[L],
 ) -> Result<(), CaseFault> {
     for line in lines {
-        line.push(alloc, answer)?;
+        line.push(answer)?;
     }
     Ok(())
 }
 
 /// `N`: the n-th line of a blotter.
 pub(crate) fn push_line_numbered<L: BlotterLine>(
-    alloc: Global,
     answer: &mut String,
     lines: &[L],
     words: &mut Words<'_>,
 ) -> Result<(), CaseFault> {
-    let Some(line) = lines.get(nth(words)?) else {
-        return Err(CaseFault::Condition);
-    };
-    line.push(alloc, answer)
+    nth_of(lines, words)?.push(answer)
+}
+
+/// The number of a line, its time, and its trader.
+pub(crate) fn push_front(
+    answer: &mut String,
+    number: u32,
+    moment: Moment,
+    trader: &Name,
+) -> Result<(), CaseFault> {
+    write!(answer, "{number}")?;
+    push_time(answer, moment)?;
+    push_word(answer, trader.as_str())
+}
+
+/// What a line is about, behind a space: the side, the bond, and the quantity.
+pub(crate) fn push_terms(
+    answer: &mut String,
+    side: Side,
+    bond: &BondId,
+    quantity: Quantity,
+) -> Result<(), CaseFault> {
+    push_word(answer, side_name(side))?;
+    push_word(answer, bond.as_str())?;
+    push_number(answer, quantity.get())
 }

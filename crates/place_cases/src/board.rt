@@ -5,15 +5,14 @@ ghost use Rattle.place_cases.specs.declared.board.NamedReceipt.{NamedReceipt};
 
 use crate::replies::{entry_name, push_line, push_number, push_word, settled_name};
 use crate::row::push_length;
-use crate::terms::short_number;
-use case_lines::{CaseFault, Place, Words};
+use case_lines::{Call, CaseFault, Place, Words};
 use quote_word::{Board, BoardPass, BoardSeen, Met, Receipt, Settled, Words as _};
 use std::alloc::Global;
 
 /// How many words one pass asks at most.
 const MOST_ASKED: u32 = 16;
 
-/// A board of words, none before the first call. Each call that gives a token keeps it under a
+/// A board of words, of which there are none before the first call. Each call that gives a token keeps it under a
 /// name: a receipt's is kept with it, and that of the opening is `opening`.
 ///
 /// | call | answer |
@@ -29,32 +28,21 @@ const MOST_ASKED: u32 = 16;
 /// | `pass TOKEN NAME ASK WORD ..`, where ASK is `withdraw` or `lift` | what each word is, asked one behind the other through one pass |
 #[derive(Drop)]
 pub struct BoardPlace {
-    board: Option<KnownBoard>,
+    board: KnownBoard,
 }
 
 impl Place for BoardPlace {
-    fn new(_alloc: Global) -> Result<Self, CaseFault> {
-        Ok(BoardPlace { board: None })
+    fn new(alloc: Global) -> Result<Self, CaseFault> {
+        let board = opened(alloc, 0)?;
+        Ok(BoardPlace { board })
     }
 
-    fn call(&mut self, alloc: Global, call: &str, answer: &mut String) -> Result<(), CaseFault> {
-        let mut words = Words::of(call);
-        let name = words.word()?;
-        if name == "open" {
-            return self.open(alloc, &mut words);
+    fn call(&mut self, call: &mut Call<'_>) -> Result<(), CaseFault> {
+        if call.name != "open" {
+            return self.board.call(call);
         }
-        let Some(board) = &mut self.board else {
-            return Err(CaseFault::NotOpen);
-        };
-        board.call(alloc, name, &mut words, answer)
-    }
-}
-
-impl BoardPlace {
-    fn open(&mut self, alloc: Global, words: &mut Words) -> Result<(), CaseFault> {
-        let count = short_number(words)?;
-        let board = opened(alloc, count)?;
-        self.board = Some(board);
+        let count = call.words.short_number()?;
+        self.board = opened(call.alloc, count)?;
         Ok(())
     }
 }
@@ -99,24 +87,18 @@ fn opened(alloc: Global, count: u32) -> Result<KnownBoard, CaseFault> {
 
 impl KnownBoard {
     /// A call on an open board.
-    fn call(
-        &mut self,
-        alloc: Global,
-        name: &str,
-        words: &mut Words,
-        answer: &mut String,
-    ) -> Result<(), CaseFault> {
-        match name {
-            "length" => push_length(answer, self.board.len()),
-            "pass_length" => self.pass_length(words, answer),
-            "withdraw" => self.settle(alloc, Settled::Withdrawn, words, answer),
-            "lift" => self.settle(alloc, Settled::Lifted, words, answer),
-            "look" => self.look(alloc, words, answer),
-            "looks" => self.looks(words, answer),
-            "again" => self.again(alloc, words),
-            "both" => self.both(alloc, words),
-            "meet" => self.meet(alloc, words, answer),
-            "pass" => self.pass(alloc, words, answer),
+    fn call(&mut self, call: &mut Call<'_>) -> Result<(), CaseFault> {
+        match call.name {
+            "length" => push_length(&mut call.answer, self.board.len()),
+            "pass_length" => self.pass_length(&mut call.words, &mut call.answer),
+            "withdraw" => self.settle(Settled::Withdrawn, call),
+            "lift" => self.settle(Settled::Lifted, call),
+            "look" => self.look(call),
+            "looks" => self.looks(&mut call.words, &mut call.answer),
+            "again" => self.again(call.alloc, &mut call.words),
+            "both" => self.both(call.alloc, &mut call.words),
+            "meet" => self.meet(call),
+            "pass" => self.pass(call),
             _ => Err(CaseFault::Form),
         }
     }
@@ -170,41 +152,30 @@ impl KnownBoard {
     fn word(&self, words: &mut Words) -> Result<u32, CaseFault>
         ensures { IfOk result (λ word. word < self.now.board.words) }
     {
-        let word = short_number(words)?;
+        let word = words.short_number()?;
         if word >= self.board.len() {
             return Err(CaseFault::Condition);
         }
         Ok(word)
     }
 
-    fn settle(
-        &mut self,
-        alloc: Global,
-        wish: Settled,
-        words: &mut Words,
-        answer: &mut String,
-    ) -> Result<(), CaseFault> {
-        let seen = self.token(words.word()?)?;
-        let word = self.word(words)?;
+    fn settle(&mut self, wish: Settled, call: &mut Call<'_>) -> Result<(), CaseFault> {
+        let seen = self.token(call.words.word()?)?;
+        let word = self.word(&mut call.words)?;
         let receipt = match wish {
             Settled::Withdrawn => self.board.withdraw(seen, word),
             Settled::Lifted => self.board.lift(seen, word),
         };
-        push_receipt(answer, &receipt)?;
-        self.keep_receipt(alloc, words.word()?, receipt)
+        push_receipt(&mut call.answer, &receipt)?;
+        self.keep_receipt(call.alloc, call.words.word()?, receipt)
     }
 
-    fn look(
-        &mut self,
-        alloc: Global,
-        words: &mut Words,
-        answer: &mut String,
-    ) -> Result<(), CaseFault> {
-        let seen = self.token(words.word()?)?;
-        let word = self.word(words)?;
+    fn look(&mut self, call: &mut Call<'_>) -> Result<(), CaseFault> {
+        let seen = self.token(call.words.word()?)?;
+        let word = self.word(&mut call.words)?;
         let (entry, seen) = self.board.look(seen, word);
-        push_line(answer, entry_name(entry))?;
-        self.keep(alloc, words.word()?, seen)
+        push_line(&mut call.answer, entry_name(entry))?;
+        self.keep(call.alloc, call.words.word()?, seen)
     }
 
     fn looks(&self, words: &mut Words, answer: &mut String) -> Result<(), CaseFault> {
@@ -230,17 +201,12 @@ impl KnownBoard {
         self.keep(alloc, words.word()?, seen)
     }
 
-    fn meet(
-        &mut self,
-        alloc: Global,
-        words: &mut Words,
-        answer: &mut String,
-    ) -> Result<(), CaseFault> {
-        let first = self.take_receipt(words.word()?)?;
-        let second = self.take_receipt(words.word()?)?;
+    fn meet(&mut self, call: &mut Call<'_>) -> Result<(), CaseFault> {
+        let first = self.take_receipt(call.words.word()?)?;
+        let second = self.take_receipt(call.words.word()?)?;
         let met = self.board.meet(first, second);
-        push_met(answer, &met)?;
-        self.keep(alloc, words.word()?, met.front())
+        push_met(&mut call.answer, &met)?;
+        self.keep(call.alloc, call.words.word()?, met.front())
     }
 
     fn pass_length(&self, words: &mut Words, answer: &mut String) -> Result<(), CaseFault> {
@@ -248,16 +214,11 @@ impl KnownBoard {
         push_length(answer, BoardPass::new(&self.board, seen).len())
     }
 
-    fn pass(
-        &mut self,
-        alloc: Global,
-        words: &mut Words,
-        answer: &mut String,
-    ) -> Result<(), CaseFault> {
-        let seen = self.token(words.word()?)?;
-        let name = words.word()?;
-        let seen = passed(&self.board, seen, words, answer)?;
-        self.keep(alloc, name, seen)
+    fn pass(&mut self, call: &mut Call<'_>) -> Result<(), CaseFault> {
+        let seen = self.token(call.words.word()?)?;
+        let name = call.words.word()?;
+        let seen = passed(&self.board, seen, &mut call.words, &mut call.answer)?;
+        self.keep(call.alloc, name, seen)
     }
 }
 
@@ -307,7 +268,7 @@ fn pass_one(pass: &mut BoardPass<'_>, words: &mut Words) -> Result<Settled, Case
     ensures { pass.new.board ≡ pass.old.board }
 {
     let wish = wish(words)?;
-    let word = short_number(words)?;
+    let word = words.short_number()?;
     if word >= pass.len() {
         return Err(CaseFault::Condition);
     }

@@ -18,16 +18,14 @@
 //! | `was_shown ROOM`, `exposure`, `events`, `sent`, `lines`, `states`, `date`, `row` | the reader of this name; `sent` counts the messages, `states` the lines of each state | |
 //! | `line N`, `frames N` | the N-th line; the messages from the N-th on, byte by byte | |
 //! | `into_sent`, `into_parts` | the desk is taken apart | how many messages; events, messages and lines |
-//! | `repeat FROM TO CALL` | CALL for each number, which stands for `<n>` | what the last one answers |
 
 mod calls;
 mod lines;
 mod many;
 mod opened;
 
-use crate::repeating::{Calls, make};
 use calls::called;
-use case_lines::{CaseFault, Place, Words};
+use case_lines::{Call, CaseFault, Place};
 use lines::taken_apart;
 use opened::Opened;
 use std::alloc::Global;
@@ -43,30 +41,21 @@ impl Place for DealerPlace {
         Ok(DealerPlace { opened: None })
     }
 
-    fn call(&mut self, alloc: Global, call: &str, answer: &mut String) -> Result<(), CaseFault> {
-        make(self, alloc, call, answer)
-    }
-}
-
-impl Calls for DealerPlace {
-    fn one(&mut self, alloc: Global, call: &str, answer: &mut String) -> Result<(), CaseFault> {
-        let mut words = Words::of(call);
-        let word = words.word()?;
-        if word == "open" {
-            let opened = Opened::read(alloc, &mut words)?;
+    fn call(&mut self, call: &mut Call<'_>) -> Result<(), CaseFault> {
+        if call.name == "open" {
+            let opened = Opened::read(call.alloc, &mut call.words)?;
             self.opened = Some(opened);
             return Ok(());
         }
-        if word == "into_sent" || word == "into_parts" {
-            words.end()?;
+        if call.name == "into_sent" || call.name == "into_parts" {
             let Some(opened) = self.opened.take() else {
                 return Err(CaseFault::NotOpen);
             };
-            return taken_apart(opened, word, answer);
+            return taken_apart(opened, call.name, &mut call.answer);
         }
         let Some(opened) = &mut self.opened else {
             return Err(CaseFault::NotOpen);
         };
-        called(opened, alloc, word, &mut words, answer)
+        called(opened, call)
     }
 }

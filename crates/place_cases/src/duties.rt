@@ -3,7 +3,7 @@ use crate::events::push_until;
 use crate::replies::{push_ask, push_firms, push_number, push_time, push_word, reply_name};
 use case_lines::{CaseFault, frame_of, push_bytes};
 use fix_fields::Moment;
-use market_terms::{Duty, Reply, ResponseRef, RoomRef};
+use market_terms::{Duty, ResponseRef, RoomRef};
 use quote_messages::SentMessage;
 use std::alloc::Global;
 
@@ -26,149 +26,112 @@ pub(crate) fn push_left(answer: &mut String, left: &Option<Duty>) -> Result<(), 
     Ok(())
 }
 
-/// A duty of the opening of a request; or another one.
+/// What a duty is, its moment, its room, and what else it bears.
 fn push_duty(answer: &mut String, duty: &Duty) -> Result<(), CaseFault> {
+    if let Duty::Drop { last, moment } = duty {
+        answer.push_str("drop")?;
+        push_time(answer, *moment)?;
+        return push_number(answer, u64::from(*last));
+    }
+    push_head(answer, duty)?;
+    push_content(answer, duty)
+}
+
+/// What a duty is, its moment, and its room: the number of the investor, and that of its request.
+fn push_head(answer: &mut String, duty: &Duty) -> Result<(), CaseFault> {
+    let (what, room, moment) = head_of(duty).ok_or(CaseFault::Form)?;
+    answer.push_str(what)?;
+    push_time(answer, moment)?;
+    push_number(answer, u64::from(room.investor))?;
+    push_number(answer, u64::from(room.n))
+}
+
+/// What a duty is, its room, and its moment, where it has a room.
+fn head_of(duty: &Duty) -> Option<(&'static str, RoomRef, Moment)> {
     match duty {
-        Duty::Open {
-            room,
-            ask,
-            dealers,
-            moment,
-        } => {
-            push_head(answer, "open", *room, *moment)?;
+        Duty::Open { room, moment, .. } => Some(("open", *room, *moment)),
+        Duty::Show { room, moment, .. } => Some(("show", *room, *moment)),
+        Duty::Ready { room, moment } => Some(("ready", *room, *moment)),
+        Duty::Post { room, moment, .. } => Some(("post", *room, *moment)),
+        Duty::Relay { room, moment, .. } => Some(("relay", *room, *moment)),
+        Duty::Unpost { room, moment, .. } => Some(("unpost", *room, *moment)),
+        Duty::Gone { room, moment, .. } => Some(("gone", *room, *moment)),
+        Duty::Decline { room, moment } => Some(("decline", *room, *moment)),
+        Duty::Declined { room, moment } => Some(("declined", *room, *moment)),
+        Duty::Hit { room, moment, .. } => Some(("hit", *room, *moment)),
+        Duty::Pass { room, moment, .. } => Some(("pass", *room, *moment)),
+        Duty::Answer { room, moment, .. } => Some(("answer", *room, *moment)),
+        Duty::Close { room, moment } => Some(("close", *room, *moment)),
+        Duty::Tell { room, moment, .. } => Some(("tell", *room, *moment)),
+        Duty::Drop { .. } => None,
+    }
+}
+
+/// What else a duty of the opening of a request bears, or another one.
+fn push_content(answer: &mut String, duty: &Duty) -> Result<(), CaseFault> {
+    match duty {
+        Duty::Open { ask, dealers, .. } => {
             push_ask(answer, ask)?;
             answer.push_str(" of")?;
             push_firms(answer, dealers.as_slice())
         }
-        Duty::Show {
-            dealer,
-            room,
-            ask,
-            moment,
-        } => {
-            push_head(answer, "show", *room, *moment)?;
+        Duty::Show { dealer, ask, .. } => {
             push_number(answer, u64::from(*dealer))?;
             push_ask(answer, ask)
         }
-        Duty::Ready { room, moment } => push_head(answer, "ready", *room, *moment),
-        other => push_of_dealer(answer, other),
+        Duty::Tell { dealer, close, .. } => {
+            push_number(answer, u64::from(*dealer))?;
+            write!(answer, " 694={}", close.code())?;
+            Ok(())
+        }
+        other => push_quoted(answer, other),
     }
 }
 
-/// A duty of what a dealer did; or another one.
-fn push_of_dealer(answer: &mut String, duty: &Duty) -> Result<(), CaseFault> {
+/// What else a duty of a quote bears, or another one.
+fn push_quoted(answer: &mut String, duty: &Duty) -> Result<(), CaseFault> {
     match duty {
         Duty::Post {
-            room,
             quote,
             price,
             valid_until,
-            moment,
+            ..
         } => {
-            push_head(answer, "post", *room, *moment)?;
             push_number(answer, u64::from(*quote))?;
             push_number(answer, u64::from(price.get()))?;
             push_until(answer, *valid_until)
         }
-        Duty::Unpost {
-            room,
-            quote,
-            moment,
-        } => {
-            push_head(answer, "unpost", *room, *moment)?;
-            push_number(answer, u64::from(*quote))
-        }
-        Duty::Decline { room, moment } => push_head(answer, "decline", *room, *moment),
-        Duty::Drop { last, moment } => {
-            answer.push_str("drop")?;
-            push_time(answer, *moment)?;
-            push_number(answer, u64::from(*last))
-        }
-        other => push_for_investor(answer, other),
-    }
-}
-
-/// A duty that is for the investor's desk; or another one.
-fn push_for_investor(answer: &mut String, duty: &Duty) -> Result<(), CaseFault> {
-    match duty {
-        Duty::Relay {
-            room,
-            offer,
-            moment,
-        } => {
-            push_head(answer, "relay", *room, *moment)?;
+        Duty::Relay { offer, .. } => {
             push_word(answer, offer.dealer.as_str())?;
             push_number(answer, u64::from(offer.word))?;
             push_number(answer, u64::from(offer.price.get()))?;
             push_until(answer, offer.valid_until)
         }
-        Duty::Gone { room, word, moment } => {
-            push_head(answer, "gone", *room, *moment)?;
-            push_number(answer, u64::from(*word))
-        }
-        Duty::Declined { room, moment } => push_head(answer, "declined", *room, *moment),
-        Duty::Close { room, moment } => push_head(answer, "close", *room, *moment),
-        other => push_of_end(answer, other),
+        Duty::Unpost { quote, .. } => push_number(answer, u64::from(*quote)),
+        Duty::Gone { word, .. } => push_number(answer, u64::from(*word)),
+        other => push_answered(answer, other),
     }
 }
 
-/// A duty of a response, or of the end of a request.
-fn push_of_end(answer: &mut String, duty: &Duty) -> Result<(), CaseFault> {
+/// The response that a duty bears, and the word that it asks or what the room replied to it. The
+/// others bear nothing more.
+fn push_answered(answer: &mut String, duty: &Duty) -> Result<(), CaseFault> {
     match duty {
-        Duty::Hit {
-            room,
-            response,
-            word,
-            moment,
-        } => {
-            push_head(answer, "hit", *room, *moment)?;
+        Duty::Hit { response, word, .. } => {
             push_response(answer, response)?;
             push_number(answer, u64::from(*word))
         }
-        Duty::Pass {
-            room,
-            response,
-            moment,
-        } => {
-            push_head(answer, "pass", *room, *moment)?;
-            push_response(answer, response)
-        }
+        Duty::Pass { response, .. } => push_response(answer, response),
         Duty::Answer {
-            room,
             response,
             reply,
-            moment,
+            ..
         } => {
-            push_head(answer, "answer", *room, *moment)?;
-            push_answered(answer, response, *reply)
+            push_response(answer, response)?;
+            push_word(answer, reply_name(*reply))
         }
-        Duty::Tell {
-            dealer,
-            room,
-            close,
-            moment,
-        } => {
-            push_head(answer, "tell", *room, *moment)?;
-            push_number(answer, u64::from(*dealer))?;
-            answer.push_str(" 694=")?;
-            write!(answer, "{}", close.code())?;
-            Ok(())
-        }
-        _ => Err(CaseFault::Form),
+        _ => Ok(()),
     }
-}
-
-/// What a duty is, its moment, and its room: the number of the investor, and that of its request.
-fn push_head(
-    answer: &mut String,
-    what: &str,
-    room: RoomRef,
-    moment: Moment,
-) -> Result<(), CaseFault> {
-    answer.push_str(what)?;
-    push_time(answer, moment)?;
-    push_number(answer, u64::from(room.investor))?;
-    push_number(answer, u64::from(room.n))
 }
 
 /// A response: its QuoteRespID (693), and the number of the quote that it hits, or `pass`.
@@ -181,16 +144,6 @@ fn push_response(answer: &mut String, response: &ResponseRef) -> Result<(), Case
         Some(quote) => push_number(answer, quote),
         None => push_word(answer, "pass"),
     }
-}
-
-/// A response, and what the room replied to it.
-fn push_answered(
-    answer: &mut String,
-    response: &ResponseRef,
-    reply: Reply,
-) -> Result<(), CaseFault> {
-    push_response(answer, response)?;
-    push_word(answer, reply_name(reply))
 }
 
 /// A line for each message behind the first ones, its body: behind BodyLength (9) and before

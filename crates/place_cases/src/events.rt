@@ -1,6 +1,7 @@
 //! The events of a room, printed as the calls that they are of, and tried on another room.
 use crate::replies::{push_ask, push_firms, push_number, push_time, push_word, settled_name};
 use crate::room::{declined, hit, opened, posted, readied, unposted};
+use bond_prices::Ticks;
 use case_lines::CaseFault;
 use fix_fields::Moment;
 use quote_word::Settled;
@@ -16,20 +17,32 @@ pub(crate) fn room_again(alloc: Global, room: &Room) -> Result<Room, CaseFault> 
     Ok(again)
 }
 
+/// A quote that was posted: the dealer, the word, the price, and its validity.
+type Posted = (u16, u32, Ticks, Option<Moment>);
+
+/// The quote that an event posts, if it does.
+fn posted_by(event: &RoomEvent) -> Option<Posted> {
+    let RoomEvent::Post {
+        dealer,
+        word,
+        price,
+        valid_until,
+    } = event
+    else {
+        return None;
+    };
+    Some((*dealer, *word, *price, *valid_until))
+}
+
 /// Tries on a room what was tried on another.
 fn tries(room: &mut Room, event: &RoomEvent) -> Result<(), CaseFault> {
+    if let Some((dealer, word, price, valid_until)) = posted_by(event) {
+        posted(room, dealer, word, price, valid_until)?;
+        return Ok(());
+    }
     match event {
         RoomEvent::Open(request) => opened(room, request.ask.copy(), request.dealers.copy()),
         RoomEvent::Ready => readied(room),
-        RoomEvent::Post {
-            dealer,
-            word,
-            price,
-            valid_until,
-        } => {
-            posted(room, *dealer, *word, *price, *valid_until)?;
-            Ok(())
-        }
         other => tries_rest(room, other),
     }
 }
@@ -67,23 +80,29 @@ fn tries_rest(room: &mut Room, event: &RoomEvent) -> Result<(), CaseFault> {
 
 /// A line for an event.
 pub(crate) fn push_event(answer: &mut String, event: &RoomEvent) -> Result<(), CaseFault> {
-    match event {
-        RoomEvent::Open(request) => push_open(answer, request)?,
-        RoomEvent::Ready => answer.push_str("ready")?,
-        RoomEvent::Post {
-            dealer,
-            word,
-            price,
-            valid_until,
-        } => {
-            push_of_dealer(answer, "post", *dealer)?;
-            push_number(answer, u64::from(*word))?;
-            push_number(answer, u64::from(price.get()))?;
-            push_until(answer, *valid_until)?;
-        }
-        other => push_rest(answer, other)?,
-    }
+    push_tried(answer, event)?;
     answer.push('\n')?;
+    Ok(())
+}
+
+/// An event.
+fn push_tried(answer: &mut String, event: &RoomEvent) -> Result<(), CaseFault> {
+    if let Some((dealer, word, price, valid_until)) = posted_by(event) {
+        push_of_dealer(answer, "post", dealer)?;
+        push_number(answer, u64::from(word))?;
+        push_number(answer, u64::from(price.get()))?;
+        return push_until(answer, valid_until);
+    }
+    match event {
+        RoomEvent::Open(request) => push_open(answer, request),
+        RoomEvent::Ready => push_named(answer, "ready"),
+        other => push_rest(answer, other),
+    }
+}
+
+/// What was tried.
+fn push_named(answer: &mut String, tried: &str) -> Result<(), CaseFault> {
+    answer.push_str(tried)?;
     Ok(())
 }
 

@@ -1,34 +1,11 @@
 //! The places that steps are done at.
-use case_lines::CaseFault;
+use case_lines::{CaseFault, VENUE};
 use dealer_desk::DealerDesk;
 use investor_desk::InvestorDesk;
 use market_terms::RoomRef;
 use request_room::Room;
 use std::alloc::Global;
 use venue_config::{VenueConfig, read_config};
-
-/// The venue: the dealers DLR1 and DLR2, firms 0 and 1, each with 4 quotes a day, and INV1, firm 2.
-const VENUE: &str = "version = 1
-date = \"20250314\"
-[[bond]]
-id = \"BONDA0000001\"
-[[dealer]]
-name = \"DLR1\"
-traders = [\"T1\"]
-quotes = 4
-exposure = 10000000
-[[dealer]]
-name = \"DLR2\"
-traders = [\"T2\"]
-quotes = 4
-exposure = 10000000
-[[investor]]
-name = \"INV1\"
-traders = [\"T8\"]
-requests = 3
-open = 2
-quantity = 5000000
-";
 
 /// The number of INV1 among the firms.
 pub(crate) const INVESTOR: u16 = 2;

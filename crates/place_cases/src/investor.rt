@@ -12,7 +12,6 @@
 //! | `knows N`, `knows N QUOTE`, `events`, `sent`, `lines`, `date`, `firm`, `row` | the reader of this name; `sent` counts the messages | |
 //! | `event N`, `line N`, `frames N` | the N-th event or line; the messages from the N-th on, byte by byte | |
 //! | `into_parts` | the desk is taken apart | how many events, messages and lines |
-//! | `repeat FROM TO CALL` | CALL for each number, which stands for `<n>` | what the last one answers |
 
 mod calls;
 mod lines;
@@ -20,9 +19,8 @@ mod many;
 mod opened;
 mod venue;
 
-use crate::repeating::{Calls, make};
 use calls::called;
-use case_lines::{CaseFault, Place, Words};
+use case_lines::{Call, CaseFault, Place};
 use lines::taken_apart;
 use opened::Opened;
 use std::alloc::Global;
@@ -41,33 +39,24 @@ impl Place for InvestorPlace {
         Ok(InvestorPlace { rows, opened: None })
     }
 
-    fn call(&mut self, alloc: Global, call: &str, answer: &mut String) -> Result<(), CaseFault> {
-        make(self, alloc, call, answer)
-    }
-}
-
-impl Calls for InvestorPlace {
-    fn one(&mut self, alloc: Global, call: &str, answer: &mut String) -> Result<(), CaseFault> {
-        let mut words = Words::of(call);
-        let word = words.word()?;
-        if self.rows.add(alloc, word, &mut words)? {
+    fn call(&mut self, call: &mut Call<'_>) -> Result<(), CaseFault> {
+        if self.rows.add(call)? {
             return Ok(());
         }
-        if word == "open" {
-            let opened = Opened::read(alloc, &self.rows, &mut words)?;
+        if call.name == "open" {
+            let opened = Opened::read(call.alloc, &self.rows, &mut call.words)?;
             self.opened = Some(opened);
             return Ok(());
         }
-        if word == "into_parts" {
-            words.end()?;
+        if call.name == "into_parts" {
             let Some(opened) = self.opened.take() else {
                 return Err(CaseFault::NotOpen);
             };
-            return taken_apart(opened, answer);
+            return taken_apart(opened, &mut call.answer);
         }
         let Some(opened) = &mut self.opened else {
             return Err(CaseFault::NotOpen);
         };
-        called(opened, alloc, word, &mut words, answer)
+        called(opened, call)
     }
 }

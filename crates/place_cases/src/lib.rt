@@ -38,7 +38,6 @@ mod events;
 mod floor;
 mod investor;
 mod messages;
-mod repeating;
 mod replies;
 mod room;
 mod row;

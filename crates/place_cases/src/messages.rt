@@ -2,10 +2,9 @@
 use crate::replies::push_line;
 use crate::terms::nth;
 use case_lines::{CaseFault, Words, push_bytes};
-use fix_fields::{Date, Fields, Moment, time_text};
+use fix_fields::{Date, Fields};
 use itoa::Buffer;
 use quote_messages::SentMessage;
-use std::alloc::Global;
 use venue_config::Traders;
 
 /// The lines of the messages behind the first `shown` ones. It answers how many there are in all.
@@ -102,12 +101,6 @@ pub(crate) fn push_count_line(answer: &mut String, count: usize) -> Result<(), C
     push_line(answer, digits.format(count))
 }
 
-/// The time of day of a moment, `HH:MM:SS.sss`.
-pub(crate) fn clock(alloc: Global, moment: Moment) -> Result<String, CaseFault> {
-    let text = String::from_str(alloc, time_text(moment).as_str())?;
-    Ok(text)
-}
-
 /// The day.
 pub(crate) fn push_date(answer: &mut String, date: &Date) -> Result<(), CaseFault> {
     push_bytes(answer, date.digits().as_slice())?;
@@ -115,7 +108,7 @@ pub(crate) fn push_date(answer: &mut String, date: &Date) -> Result<(), CaseFaul
     Ok(())
 }
 
-/// Traders, a space before each.
+/// Traders, a space before each, up to the line's end.
 pub(crate) fn push_traders(answer: &mut String, traders: &Traders) -> Result<(), CaseFault> {
     for n in 0..traders.len() {
         if let Some(trader) = traders.get(n) {
@@ -123,5 +116,6 @@ pub(crate) fn push_traders(answer: &mut String, traders: &Traders) -> Result<(),
             push_bytes(answer, trader)?;
         }
     }
+    answer.push('\n')?;
     Ok(())
 }

@@ -1,11 +1,9 @@
 //! A room.
 use crate::events::{push_event, push_request, room_again};
 use crate::replies::{push_firms, push_line, push_number, push_truth, refusal_name, reply_name};
-use crate::terms::{
-    ask_for, dealers, firm_number, last_moment, settled, short_number, side, ticks,
-};
+use crate::terms::{dealers, last_moment, request, settled};
 use bond_prices::Ticks;
-use case_lines::{CaseFault, Place, Words};
+use case_lines::{Call, CaseFault, Place, Words, price_of, side_of};
 use fix_fields::Moment;
 use market_terms::{Ask, AskedDealers, Reply};
 use quote_word::Settled;
@@ -42,74 +40,69 @@ impl Place for RoomPlace {
         Ok(RoomPlace { room })
     }
 
-    fn call(&mut self, alloc: Global, call: &str, answer: &mut String) -> Result<(), CaseFault> {
-        let mut words = Words::of(call);
-        match words.word()? {
-            "open" => self.open(alloc, &mut words),
+    fn call(&mut self, call: &mut Call<'_>) -> Result<(), CaseFault> {
+        let answer = &mut call.answer;
+        match call.name {
+            "open" => self.open(call.alloc, &mut call.words),
             "ready" => readied(&mut self.room),
-            "post" => self.post(&mut words, answer),
-            "unpost" => self.unpost(&mut words, answer),
-            "decline" => self.decline(&mut words, answer),
-            "hit" => self.hit(&mut words, answer),
-            "pass" => self.pass(&mut words, answer),
-            "expire" => self.expire(&mut words, answer),
-            other => self.reads(alloc, other, &mut words, answer),
+            "post" => self.post(&mut call.words, answer),
+            "unpost" => self.unpost(&mut call.words, answer),
+            "decline" => self.decline(&mut call.words, answer),
+            "hit" => self.hit(&mut call.words, answer),
+            "pass" => self.pass(&mut call.words, answer),
+            "expire" => self.expire(&mut call.words, answer),
+            _ => self.reads(call),
         }
     }
 }
 
 impl RoomPlace {
     /// What changes nothing.
-    fn reads(
-        &self,
-        alloc: Global,
-        reader: &str,
-        words: &mut Words,
-        answer: &mut String,
-    ) -> Result<(), CaseFault> {
-        match reader {
-            "question_hit" => self.question_hit(words, answer),
+    fn reads(&self, call: &mut Call<'_>) -> Result<(), CaseFault> {
+        let answer = &mut call.answer;
+        match call.name {
+            "question_hit" => self.question_hit(&mut call.words, answer),
             "state" => self.state(answer),
-            "named" => self.named(words, answer),
-            "request_names" => self.request_names(words, answer),
+            "named" => self.named(&mut call.words, answer),
+            "request_names" => self.request_names(&mut call.words, answer),
             "request" => self.request(answer),
             "end" => push_end(answer, &self.room.end()),
             "length" => self.length(answer),
             "events" => self.events(answer),
-            "book" => self.book(alloc, words, answer),
+            "book" => self.book(call.alloc, &mut call.words, answer),
             _ => Err(CaseFault::Form),
         }
     }
 
     fn open(&mut self, alloc: Global, words: &mut Words) -> Result<(), CaseFault> {
-        let side = side(words)?;
-        let deadline = words.moment()?;
-        let ask = ask_for(side, deadline).ok_or(CaseFault::Form)?;
+        let mut ask = request()?;
+        ask.side = side_of(words)?;
+        ask.deadline = words.moment()?;
         let dealers = dealers(alloc, words)?;
         opened(&mut self.room, ask, dealers)
     }
 
     fn post(&mut self, words: &mut Words, answer: &mut String) -> Result<(), CaseFault> {
-        let dealer = firm_number(words)?;
-        let word = short_number(words)?;
-        let price = ticks(words)?;
+        let dealer = words.firm()?;
+        let word = words.short_number()?;
+        let price = price_of(words)?;
         let until = last_moment(words)?;
         push_truth(answer, posted(&mut self.room, dealer, word, price, until)?)
     }
 
     fn unpost(&mut self, words: &mut Words, answer: &mut String) -> Result<(), CaseFault> {
-        let dealer = firm_number(words)?;
-        let word = short_number(words)?;
+        let dealer = words.firm()?;
+        let word = words.short_number()?;
         push_truth(answer, unposted(&mut self.room, dealer, word)?)
     }
 
     fn decline(&mut self, words: &mut Words, answer: &mut String) -> Result<(), CaseFault> {
-        let dealer = firm_number(words)?;
+        let dealer = words.firm()?;
         push_truth(answer, declined(&mut self.room, dealer)?)
     }
 
     fn hit(&mut self, words: &mut Words, answer: &mut String) -> Result<(), CaseFault> {
-        let word = short_number(words)?;
+        let word = words.short_number()?;
         let moment = words.moment()?;
         let told = last_settled(words)?;
         push_line(answer, reply_name(hit(&mut self.room, word, moment, told)?))
@@ -126,7 +119,7 @@ impl RoomPlace {
     }
 
     fn question_hit(&self, words: &mut Words, answer: &mut String) -> Result<(), CaseFault> {
-        let word = short_number(words)?;
+        let word = words.short_number()?;
         let moment = words.moment()?;
         match self.room.question_hit(word, moment) {
             Ok(asked) => push_asked(answer, asked),
@@ -145,12 +138,12 @@ impl RoomPlace {
     }
 
     fn named(&self, words: &mut Words, answer: &mut String) -> Result<(), CaseFault> {
-        let dealer = firm_number(words)?;
+        let dealer = words.firm()?;
         push_truth(answer, self.room.named(dealer))
     }
 
     fn request_names(&self, words: &mut Words, answer: &mut String) -> Result<(), CaseFault> {
-        let dealer = firm_number(words)?;
+        let dealer = words.firm()?;
         let Some(request) = self.room.request() else {
             return push_line(answer, "none");
         };

@@ -1,7 +1,7 @@
 //! A row of words in a list.
 use crate::replies::{push_line, push_number, push_truth, settled_name};
-use crate::terms::{settled, short_number};
-use case_lines::{CaseFault, Place};
+use crate::terms::settled;
+use case_lines::{Call, CaseFault, Place};
 use quote_word::{PlainWords, Settled, Words};
 use std::alloc::Global;
 
@@ -24,15 +24,15 @@ impl Place for RowPlace {
         Ok(RowPlace { row })
     }
 
-    fn call(&mut self, alloc: Global, call: &str, answer: &mut String) -> Result<(), CaseFault> {
-        let mut words = case_lines::Words::of(call);
-        match words.word()? {
-            "new" => self.open(alloc, &mut words),
+    fn call(&mut self, call: &mut Call<'_>) -> Result<(), CaseFault> {
+        let answer = &mut call.answer;
+        match call.name {
+            "new" => self.open(call.alloc, &mut call.words),
             "length" => push_length(answer, self.row.len()),
-            "withdraw" => self.settle(Settled::Withdrawn, &mut words, answer),
-            "lift" => self.settle(Settled::Lifted, &mut words, answer),
-            "is_withdrawn" => push_truth(answer, settled(&mut words)?.is_withdrawn()),
-            "is_lifted" => push_truth(answer, settled(&mut words)?.is_lifted()),
+            "withdraw" => self.settle(Settled::Withdrawn, &mut call.words, answer),
+            "lift" => self.settle(Settled::Lifted, &mut call.words, answer),
+            "is_withdrawn" => push_truth(answer, settled(&mut call.words)?.is_withdrawn()),
+            "is_lifted" => push_truth(answer, settled(&mut call.words)?.is_lifted()),
             _ => Err(CaseFault::Form),
         }
     }
@@ -40,7 +40,7 @@ impl Place for RowPlace {
 
 impl RowPlace {
     fn open(&mut self, alloc: Global, words: &mut case_lines::Words) -> Result<(), CaseFault> {
-        let count = short_number(words)?;
+        let count = words.short_number()?;
         self.row = PlainWords::new(alloc, count)?;
         Ok(())
     }
@@ -51,7 +51,7 @@ impl RowPlace {
         words: &mut case_lines::Words,
         answer: &mut String,
     ) -> Result<(), CaseFault> {
-        let word = short_number(words)?;
+        let word = words.short_number()?;
         let settled = exchanged(&mut self.row, word, wish)?;
         push_line(answer, settled_name(settled))
     }

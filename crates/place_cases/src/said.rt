@@ -1,5 +1,5 @@
 //! What comes to a desk of its own firm.
-use case_lines::{CaseFault, Words, frame_of, piped_bytes_of};
+use case_lines::{Call, CaseFault, frame_of, piped_bytes_of};
 use fix_fields::{Moment, moment_text};
 use std::alloc::Global;
 
@@ -24,27 +24,23 @@ impl Speaker {
         Ok(Speaker { name, numbered: 0 })
     }
 
-    /// What comes by a line of this word: of `own` bytes, of `long` a text many times, and of any
+    /// What comes by a call of this name: by `own` bytes, by `long` a text many times, and by any
     /// other a message.
-    pub(crate) fn came(
-        &mut self,
-        alloc: Global,
-        word: &str,
-        words: &mut Words<'_>,
-    ) -> Result<Came, CaseFault> {
-        match word {
-            "own" => own(alloc, words),
-            "long" => long(alloc, words),
-            _ => self.say(alloc, words),
+    pub(crate) fn came(&mut self, call: &mut Call<'_>) -> Result<Came, CaseFault> {
+        match call.name {
+            "own" => own(call),
+            "long" => long(call),
+            _ => self.say(call),
         }
     }
 
     /// `TRADER TIME TYPE BODY`.
-    pub(crate) fn say(&mut self, alloc: Global, words: &mut Words<'_>) -> Result<Came, CaseFault> {
-        let trader = words.word()?;
-        let moment = words.moment()?;
-        let msg_type = words.word()?;
-        self.say_fields(alloc, moment, (trader, msg_type, words.rest()))
+    pub(crate) fn say(&mut self, call: &mut Call<'_>) -> Result<Came, CaseFault> {
+        let trader = call.words.word()?;
+        let moment = call.words.moment()?;
+        let msg_type = call.words.word()?;
+        let said = (trader, msg_type, call.words.rest());
+        self.say_fields(call.alloc, moment, said)
     }
 
     /// A message of this trader and type, with these fields.
@@ -115,18 +111,18 @@ fn framed(alloc: Global, header: String, fields: &str) -> Result<Vec<u8>, CaseFa
 }
 
 /// `TIME BYTES`: bytes as they are.
-pub(crate) fn own(alloc: Global, words: &mut Words<'_>) -> Result<Came, CaseFault> {
-    let moment = words.moment()?;
-    let bytes = piped_bytes_of(alloc, words.rest())?;
+pub(crate) fn own(call: &mut Call<'_>) -> Result<Came, CaseFault> {
+    let moment = call.words.moment()?;
+    let bytes = piped_bytes_of(call.alloc, call.words.rest())?;
     Ok(Came { moment, bytes })
 }
 
 /// `COUNT TIME TEXT`: a text so many times, one behind another.
-fn long(alloc: Global, words: &mut Words<'_>) -> Result<Came, CaseFault> {
-    let count = words.number()?;
-    let moment = words.moment()?;
-    let text = words.rest();
-    let mut bytes = Vec::new(alloc);
+fn long(call: &mut Call<'_>) -> Result<Came, CaseFault> {
+    let count = call.words.number()?;
+    let moment = call.words.moment()?;
+    let text = call.words.rest();
+    let mut bytes = Vec::new(call.alloc);
     for _ in 0..count {
         bytes.extend_from_slice(text.as_bytes())?;
     }

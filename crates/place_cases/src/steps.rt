@@ -7,14 +7,13 @@ ghost use Rattle.std.specs.Prelude.{◌≡◌};
 use crate::duties::{push_duties, push_sent};
 use crate::floor::{Counts, Floor, INVESTOR, ROOM, counts_of, new_floor};
 use crate::replies::{push_line, push_number};
-use crate::terms::{close, name, response, short_number, ticks};
-use at_room::{does_in_room, request};
-use case_lines::{CaseFault, Place, Words, frame_of, piped_bytes_of};
+use crate::terms::{request, response};
+use at_room::does_in_room;
+use case_lines::{Call, CaseFault, Place, Words, close_of, frame_of, piped_bytes_of};
 use dealer_desk::DealerDesk;
-use fix_fields::Moment;
-use market_terms::{Offer, ResponseRef, RoomRef};
+use fix_fields::Memory;
+use market_terms::RoomRef;
 use quote_word::{Board, BoardPass, BoardSeen, PlainWords};
-use request_room::Room;
 use std::alloc::Global;
 use venue_steps::{Duties, do_drop, do_hit, do_show, do_tell, own_dealer, own_investor};
 
@@ -81,45 +80,39 @@ impl Place for StepPlace {
         })
     }
 
-    fn call(&mut self, alloc: Global, call: &str, answer: &mut String) -> Result<(), CaseFault> {
-        let mut words = Words::of(call);
-        match words.word()? {
-            "words" => self.plain(alloc, &mut words),
-            "board" => self.shared(alloc, &mut words),
-            "seen" => push_seen(answer, &counts_of(&self.floor)),
-            other => self.step(alloc, other, &mut words, answer),
+    fn call(&mut self, call: &mut Call<'_>) -> Result<(), CaseFault> {
+        match call.name {
+            "words" => self.plain(call.alloc, &mut call.words),
+            "board" => self.shared(call.alloc, &mut call.words),
+            "seen" => push_seen(&mut call.answer, &counts_of(&self.floor)),
+            _ => self.step(call),
         }
     }
 }
 
 impl StepPlace {
     fn plain(&mut self, alloc: Global, words: &mut Words) -> Result<(), CaseFault> {
-        let count = short_number(words)?;
+        let count = words.short_number()?;
         let row = PlainWords::new(alloc, count)?;
         self.row = Row::Plain(row);
         Ok(())
     }
 
     fn shared(&mut self, alloc: Global, words: &mut Words) -> Result<(), CaseFault> {
-        let count = short_number(words)?;
+        let count = words.short_number()?;
         let row = SharedRow::new(alloc, count)?;
         self.row = Row::Shared(row);
         Ok(())
     }
 
     /// A step, with all that it leaves.
-    fn step(
-        &mut self,
-        alloc: Global,
-        name: &str,
-        words: &mut Words,
-        answer: &mut String,
-    ) -> Result<(), CaseFault> {
+    fn step(&mut self, call: &mut Call<'_>) -> Result<(), CaseFault> {
         let before = counts_of(&self.floor);
-        let duties = self.does(alloc, name, words)?;
+        let duties = self.does(call.alloc, call.name, &mut call.words)?;
+        let answer = &mut call.answer;
         push_done(answer, &before, &counts_of(&self.floor))?;
         push_duties(answer, duties.as_slice())?;
-        push_all_sent(alloc, answer, &self.floor, &before)
+        push_all_sent(call.alloc, answer, &self.floor, &before)
     }
 
     /// Does a step.
@@ -139,34 +132,35 @@ impl StepPlace {
         let moment = words.moment()?;
         let body = piped_bytes_of(alloc, words.rest())?;
         let bytes = frame_of(alloc, body.as_slice())?;
+        let bytes = bytes.as_slice();
         if firm == "INV1" {
-            return own_investors(&mut self.floor, moment, bytes.as_slice());
+            return done(own_investor(&mut self.floor.investor, moment, bytes));
         }
-        let (desk, first_word) = dealer_at(&mut self.floor, firm)?;
+        let (desk, first) = dealer_at(&mut self.floor, firm)?;
         match &mut self.row {
-            Row::Plain(row) => comes(desk, row, first_word, moment, bytes.as_slice()),
-            Row::Shared(row) => comes(desk, &mut row.pass(), first_word, moment, bytes.as_slice()),
+            Row::Plain(row) => done(own_dealer(desk, row, first, moment, bytes)),
+            Row::Shared(row) => done(own_dealer(desk, &mut row.pass(), first, moment, bytes)),
         }
     }
 
     fn drop_one(&mut self, words: &mut Words) -> Result<Duties, CaseFault> {
-        let (desk, first_word) = dealer_at(&mut self.floor, words.word()?)?;
+        let (desk, first) = dealer_at(&mut self.floor, words.word()?)?;
         let moment = words.moment()?;
-        let last = short_number(words)?;
+        let last = words.short_number()?;
         match &mut self.row {
-            Row::Plain(row) => drops(desk, row, first_word, last, moment),
-            Row::Shared(row) => drops(desk, &mut row.pass(), first_word, last, moment),
+            Row::Plain(row) => done(do_drop(desk, row, first, last, moment)),
+            Row::Shared(row) => done(do_drop(desk, &mut row.pass(), first, last, moment)),
         }
     }
 
     fn hit(&mut self, words: &mut Words) -> Result<Duties, CaseFault> {
         let moment = words.moment()?;
         let response = response(words)?;
-        let word = short_number(words)?;
+        let word = words.short_number()?;
         let room = &mut self.floor.room;
         match &mut self.row {
-            Row::Plain(row) => hits(room, row, response, word, moment),
-            Row::Shared(row) => hits(room, &mut row.pass(), response, word, moment),
+            Row::Plain(row) => done(do_hit(room, row, ROOM, response, word, moment)),
+            Row::Shared(row) => done(do_hit(room, &mut row.pass(), ROOM, response, word, moment)),
         }
     }
 
@@ -174,22 +168,20 @@ impl StepPlace {
         let (desk, _) = dealer_at(&mut self.floor, words.word()?)?;
         let moment = words.moment()?;
         let room = room(words)?;
-        let duties = do_show(desk, room, request()?, moment)?;
-        Ok(duties)
+        done(do_show(desk, room, request()?, moment))
     }
 
     fn tell(&mut self, words: &mut Words) -> Result<Duties, CaseFault> {
         let (desk, _) = dealer_at(&mut self.floor, words.word()?)?;
         let moment = words.moment()?;
         let room = room(words)?;
-        let duties = do_tell(desk, room, close(words)?, moment)?;
-        Ok(duties)
+        done(do_tell(desk, room, close_of(words)?, moment))
     }
 }
 
 /// The room of a request of INV1.
 fn room(words: &mut Words) -> Result<RoomRef, CaseFault> {
-    let n = short_number(words)?;
+    let n = words.short_number()?;
     Ok(RoomRef {
         investor: INVESTOR,
         n,
@@ -205,58 +197,9 @@ fn dealer_at<'a>(floor: &'a mut Floor, firm: &str) -> Result<(&'a mut DealerDesk
     }
 }
 
-/// A quote as INV1 is shown it.
-fn offer(words: &mut Words) -> Result<Offer, CaseFault> {
-    let dealer = name(words)?;
-    let word = short_number(words)?;
-    let price = ticks(words)?;
-    Ok(Offer {
-        dealer,
-        word,
-        price,
-        valid_until: None,
-    })
-}
-
-/// A message comes to the desk of INV1.
-fn own_investors(floor: &mut Floor, moment: Moment, bytes: &[u8]) -> Result<Duties, CaseFault> {
-    let duties = own_investor(&mut floor.investor, moment, bytes)?;
-    Ok(duties)
-}
-
-/// A message comes to the desk of a dealer.
-fn comes<W: quote_word::Words>(
-    desk: &mut DealerDesk,
-    row: &mut W,
-    first_word: u32,
-    moment: Moment,
-    bytes: &[u8],
-) -> Result<Duties, CaseFault> {
-    let duties = own_dealer(desk, row, first_word, moment, bytes)?;
-    Ok(duties)
-}
-
-/// The next quote of a cancel of all is dropped.
-fn drops<W: quote_word::Words>(
-    desk: &mut DealerDesk,
-    row: &mut W,
-    first_word: u32,
-    last: u32,
-    moment: Moment,
-) -> Result<Duties, CaseFault> {
-    let duties = do_drop(desk, row, first_word, last, moment)?;
-    Ok(duties)
-}
-
-/// INV1 hits a quote.
-fn hits<W: quote_word::Words>(
-    room: &mut Room,
-    row: &mut W,
-    response: ResponseRef,
-    word: u32,
-    moment: Moment,
-) -> Result<Duties, CaseFault> {
-    let duties = do_hit(room, row, ROOM, response, word, moment)?;
+/// What a step leaves, where memory was not refused.
+fn done(left: Result<Duties, Memory>) -> Result<Duties, CaseFault> {
+    let duties = left?;
     Ok(duties)
 }
 

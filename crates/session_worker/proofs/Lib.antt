@@ -1,4 +1,5 @@
 pub mod AwardLemmas
+pub mod BroughtLemmas
 pub mod CheckLemmas
 pub mod DealerLockLemmas
 pub mod InboxLemmas

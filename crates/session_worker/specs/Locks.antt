@@ -1,5 +1,6 @@
 -- What lies under the locks of a venue, and what holds of it whenever a lock is free.
-use Rattle.std.specs.Prelude.{◌≡◌, ℕ, List, ◌∷◌, [], ◌++◌, map, Option, Some, None, All}
+use Rattle.std.specs.Prelude.{◌≡◌, ℕ, ◌-◌, nat_lt, List, ◌∷◌, [], ◌++◌, map, slice_get}
+use Rattle.std.specs.Prelude.{Option, Some, None, All, if◌then◌else◌}
 use Rattle.std.specs.List.{filter_map}
 use Rattle.std.specs.Option.{option_map}
 use Rattle.dealer_desk.specs.DealerOutput as dealer
@@ -91,6 +92,13 @@ KeepsInvestor config desk = market_for config desk.market.firm ≡ Some desk.mar
 pub record KeepsRoom (board : BoardName) (events : List RoomEvent) (seen : Front) : Type 0 where
   pub of_board : seen.board ≡ board
   pub answers_stand : All (StandsIn seen.log) (answers_in events)
+
+-- Places. Which place is which is said by its number.
+
+-- the place with this number, of places that are numbered onward from another number
+abbrev pub numbered_from : {P : Type 0} → ℕ → List P → ℕ → Option P
+numbered_from first places number =
+    if nat_lt number first then None else slice_get places (number - first)
 
 -- the order of the actions at a place after one more
 abbrev pub with_action : List ActionRef → ActionRef → List ActionRef

@@ -1,5 +1,7 @@
 //! The sessions of firms and the clock.
-ghost use Rattle.std.specs.Prelude.{◌≡◌};
+ghost use Rattle.std.specs.Prelude.{◌≡◌, [], ◌∷◌, ◌++◌, OnOk};
+ghost use Rattle.recorded_days.specs.Kinds.{kind_of};
+ghost use Rattle.session_worker.specs.Shifts as spec;
 
 use crate::done::Done;
 use crate::gates::{Gate, Point};
@@ -12,6 +14,7 @@ use recorded_days::{Action, Inbound, Kind, Sweep};
 use std::collections::VecDeque;
 use std::sync::Wait;
 use step_replay::Actor;
+use venue_steps::Duties;
 
 /// An actor at work: what it shares with the others, its queue of duties and what it did.
 #[derive(Drop)]
@@ -50,18 +53,24 @@ impl<'v, J: Naming, R: Wait, G: Gate> Shift<'v, J, R, G> {
     }
 
     /// Notes an action that was done, and leaves its duties at the end of the queue.
-    fn note(&mut self, kind: Kind, moment: Moment, done: Done) -> Result<(), Memory> {
+    fn note(&mut self, kind: Kind, moment: Moment, done: Done) -> Result<(), Memory>
+        ensures actions { OnOk result (self.new.actions.items
+            ≡ self.old.actions.items ++ spec.action_of kind moment done.word ∷ []) }
+        ensures queue { OnOk result
+            (self.new.queue.items ≡ self.old.queue.items ++ done.duties.items) }
+    {
         self.gate.at(Point::After(self.by, kind));
         let Done { duties, word } = done;
         self.actions.push(Action { kind, moment, word })?;
-        for duty in duties {
-            self.queue.push_back(duty)?;
-        }
+        leave(&mut self.queue, duties)?;
         Ok(())
     }
 
     /// A message of the firm comes.
-    fn come(&mut self, inbound: &Inbound) -> Result<(), Memory> {
+    fn come(&mut self, inbound: &Inbound) -> Result<(), Memory>
+        ensures { OnOk result (spec.IsNoted Kind.In inbound.now.moment self.old.actions.items
+            self.new.actions.items) }
+    {
         self.gate.at(Point::Before(self.by, Kind::In));
         let acting = self.acting();
         let bytes = inbound.bytes.as_bytes();
@@ -71,19 +80,24 @@ impl<'v, J: Naming, R: Wait, G: Gate> Shift<'v, J, R, G> {
     }
 
     /// The clock sweeps a room.
-    fn sweep(&mut self, sweep: Sweep) -> Result<(), Memory> {
+    fn sweep(&mut self, sweep: Sweep) -> Result<(), Memory>
+        ensures { OnOk result (spec.IsNoted Kind.Expire sweep.moment self.old.actions.items
+            self.new.actions.items) }
+    {
         self.gate.at(Point::Before(self.by, Kind::Expire));
         let acting = self.acting();
-        let action = (acting.by, acting.number);
         let done = self
             .venue
-            .expire(self.rt, action, sweep.room, sweep.moment)?;
+            .sweep(self.rt, &acting, sweep.room, sweep.moment)?;
         self.note(Kind::Expire, sweep.moment, done)?;
         Ok(())
     }
 
     /// Does one duty.
-    fn turn(&mut self, duty: Duty) -> Result<(), Memory> {
+    fn turn(&mut self, duty: Duty) -> Result<(), Memory>
+        ensures { OnOk result (spec.IsNoted (kind_of duty) (spec.moment_of duty)
+            self.old.actions.items self.new.actions.items) }
+    {
         let kind = Kind::of(&duty);
         let moment = moment_of(&duty);
         self.gate.at(Point::Before(self.by, kind));
@@ -94,7 +108,9 @@ impl<'v, J: Naming, R: Wait, G: Gate> Shift<'v, J, R, G> {
     }
 
     /// Does all pending duties, and those that follow from them.
-    fn turns(&mut self) -> Result<(), Memory> {
+    fn turns(&mut self) -> Result<(), Memory>
+        ensures { OnOk result (self.new.queue.items ≡ []) }
+    {
         for _ in self.rt.forever() {
             let Some(duty) = self.queue.pop_front() else {
                 return Ok(());
@@ -105,8 +121,20 @@ impl<'v, J: Naming, R: Wait, G: Gate> Shift<'v, J, R, G> {
     }
 }
 
+/// Puts duties at the end of a queue, in their order.
+fn leave(queue: &mut VecDeque<Duty>, duties: Duties) -> Result<(), Memory>
+    ensures { OnOk result (queue.new.items ≡ queue.old.items ++ duties.items) }
+{
+    for duty in duties {
+        queue.push_back(duty)?;
+    }
+    Ok(())
+}
+
 /// The moment that a duty bears.
-fn moment_of(duty: &Duty) -> Moment {
+fn moment_of(duty: &Duty) -> Moment
+    ensures { result ≡ spec.moment_of duty.now }
+{
     match duty {
         Duty::Open { moment, .. } => *moment,
         Duty::Show { moment, .. } => *moment,

@@ -1,7 +1,6 @@
 //! What lies under the lock of a dealer's desk.
 ghost use Rattle.std.specs.Prelude.{◌≡◌, [], Some, None, All, IfOk, OnOk};
-ghost use Rattle.dealer_desk.specs.DealerOutput.{book_at, dealer_output, number_in, rooms_at};
-ghost use Rattle.dealer_desk.specs.DealerOutput.{with_notice_in};
+ghost use Rattle.dealer_desk.specs.DealerOutput.{book_at, dealer_output};
 ghost use Rattle.dealer_desk.specs.QuoteLines.{lines_of};
 ghost use Rattle.quote_word.specs.SettleLog.{entry_of, IsLegal};
 ghost use Rattle.session_worker.specs.KeptDays.{DealerKeeps, DealerStands};
@@ -9,6 +8,7 @@ ghost use Rattle.session_worker.specs.Locks.{KeepsDealer, StandsIn, answers_at, 
 ghost use Rattle.step_replay.specs.Actions as actions;
 ghost use Rattle.step_replay.specs.Actions.{dealer_of};
 ghost use Rattle.venue_config.specs.Rows.{dealer_numbered};
+ghost use Rattle.venue_places.specs.Brought as spec;
 ghost use Rattle.venue_steps.specs.DealerSteps as steps;
 ghost use Rattle.venue_steps.specs.Words.{answer_in, has_word};
 
@@ -21,7 +21,6 @@ use crate::naming::Naming;
 use crate::watched::{Acting, WatchedWords};
 use dealer_desk::{DealerDesk, words_are_asked_event_by_event};
 use fix_fields::{Memory, Moment};
-use market_terms::{Ask, Close, RoomRef};
 use quote_word::BoardSeen;
 use recorded_days::{
     DealerDay, events_are_answered_one_by_one, recorded_dealers_are_sent_their_view,
@@ -30,7 +29,8 @@ use std::alloc::Global;
 use std::marker::{Model, PhantomData};
 use step_replay::Actor;
 use venue_config::{DealerRow, VenueConfig};
-use venue_steps::{do_drop, do_show, do_tell, own_dealer};
+use venue_places::{ForDealer, bring_to_dealer};
+use venue_steps::{do_drop, own_dealer};
 
 /// A dealer's desk, the token that has seen what its words were answered, and the order of the
 /// actions on it.
@@ -153,16 +153,9 @@ impl<J: Naming> LockedDealer<J> {
         Ok(Done { duties, word })
     }
 
-    /// The dealer is shown a request.
-    pub(crate) fn show(
-        &mut self,
-        action: (Actor, u64),
-        room: RoomRef,
-        ask: Ask,
-        moment: Moment,
-    ) -> Result<Done, Memory>
-        ensures desk { OnOk result
-            (self.new.desk ≡ steps.desk_after_show self.old.desk room ask moment) }
+    /// What comes to the dealer's desk for a duty, and asks no word.
+    pub(crate) fn bring(&mut self, action: (Actor, u64), what: ForDealer) -> Result<Done, Memory>
+        ensures desk { OnOk result (self.new.desk ≡ spec.dealer_with self.old.desk what) }
         ensures duties { IfOk result (λ done. done.duties.items ≡ []) }
         ensures unasked { IfOk result (λ done. done.word ≡ None) }
         ensures order { OnOk result (self.new.order ≡ with_action self.old.order action) }
@@ -170,29 +163,7 @@ impl<J: Naming> LockedDealer<J> {
         words_are_asked_event_by_event();
         events_are_answered_one_by_one();
         self.order.reserve(1)?;
-        let duties = do_show(&mut self.desk, room, ask, moment)?;
-        self.order.push(action)?;
-        Ok(Done::unasked(duties))
-    }
-
-    /// The dealer is told how a request ended for it.
-    pub(crate) fn tell(
-        &mut self,
-        action: (Actor, u64),
-        room: RoomRef,
-        close: Close,
-        moment: Moment,
-    ) -> Result<Done, Memory>
-        ensures desk { OnOk result (self.new.desk ≡ with_notice_in self.old.desk
-            (number_in (rooms_at self.old.desk) room) close moment) }
-        ensures duties { IfOk result (λ done. done.duties.items ≡ []) }
-        ensures unasked { IfOk result (λ done. done.word ≡ None) }
-        ensures order { OnOk result (self.new.order ≡ with_action self.old.order action) }
-    {
-        words_are_asked_event_by_event();
-        events_are_answered_one_by_one();
-        self.order.reserve(1)?;
-        let duties = do_tell(&mut self.desk, room, close, moment)?;
+        let duties = bring_to_dealer(&mut self.desk, what)?;
         self.order.push(action)?;
         Ok(Done::unasked(duties))
     }

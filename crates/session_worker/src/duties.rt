@@ -1,4 +1,5 @@
-//! What a duty does, whichever it is.
+//! What an action does: it takes the lock of the one place that the market's table gives, and brings
+//! it what comes there.
 ghost use Rattle.std.specs.Prelude.{◌≡◌};
 
 use crate::done::Done;
@@ -7,9 +8,10 @@ use crate::naming::Naming;
 use crate::venue::SharedVenue;
 use crate::watched::Acting;
 use fix_fields::{Memory, Moment};
-use market_terms::Duty;
+use market_terms::{Duty, ResponseRef, RoomRef};
 use std::sync::Wait;
 use step_replay::Actor;
+use venue_places::{Arrival, ForDealer, ForInvestor, ForRoom, placed, swept};
 
 impl<J: Naming> SharedVenue<J> {
     /// An actor does a duty, at its one place.
@@ -21,67 +23,134 @@ impl<J: Naming> SharedVenue<J> {
     ) -> Result<Done, Memory>
         requires { acting.now.board.now ≡ J.board }
     {
+        let Some(arrival) = placed(&self.config, acting.by, duty) else {
+            return Ok(Done::nothing());
+        };
+        let done = self.bring(rt, acting, arrival)?;
+        Ok(done)
+    }
+
+    /// The clock sweeps a room.
+    pub(crate) fn sweep<R: Wait, G: Gate>(
+        &self,
+        rt: &R,
+        acting: &Acting<'_, G>,
+        room: RoomRef,
+        moment: Moment,
+    ) -> Result<Done, Memory>
+        requires { acting.now.board.now ≡ J.board }
+    {
+        let Some(arrival) = swept(&self.config, room, moment) else {
+            return Ok(Done::nothing());
+        };
+        let done = self.bring(rt, acting, arrival)?;
+        Ok(done)
+    }
+
+    /// Brings to a place what comes there.
+    fn bring<R: Wait, G: Gate>(
+        &self,
+        rt: &R,
+        acting: &Acting<'_, G>,
+        arrival: Arrival,
+    ) -> Result<Done, Memory>
+        requires { acting.now.board.now ≡ J.board }
+    {
         let action = (acting.by, acting.number);
-        match duty {
-            Duty::Open {
-                room,
-                ask,
-                dealers,
-                moment,
-            } => self.open(rt, action, room, ask, dealers, moment),
-            Duty::Show {
-                dealer,
-                room,
-                ask,
-                moment,
-            } => self.show(rt, action, dealer, room, ask, moment),
-            Duty::Ready { room, .. } => self.ready(rt, action, room),
-            Duty::Post {
-                room,
-                quote,
-                price,
-                valid_until,
-                moment,
-            } => self.post(rt, action, room, quote, price, valid_until, moment),
-            Duty::Relay {
-                room,
-                offer,
-                moment,
-            } => self.relay(rt, action, room, &offer, moment),
-            Duty::Unpost {
-                room,
-                quote,
-                moment,
-            } => self.unpost(rt, action, room, quote, moment),
-            Duty::Gone { room, word, moment } => self.gone(rt, action, room, word, moment),
-            Duty::Decline { room, moment } => self.decline(rt, action, room, moment),
-            Duty::Declined { room, moment } => self.declined(rt, action, room, moment),
-            Duty::Hit {
+        match arrival {
+            Arrival::Dealer { firm, what } => self.to_dealer(rt, action, firm, what),
+            Arrival::Drop { firm, last, moment } => self.to_drop(rt, acting, firm, last, moment),
+            Arrival::Investor { firm, what } => self.to_investor(rt, action, firm, what),
+            Arrival::Room { room, what } => self.to_room(rt, action, room, what),
+            Arrival::Hit {
                 room,
                 response,
                 word,
                 moment,
-            } => self.hit(rt, acting, room, response, word, moment),
-            Duty::Pass {
-                room,
-                response,
-                moment,
-            } => self.pass(rt, action, room, response, moment),
-            Duty::Answer {
-                room,
-                response,
-                reply,
-                moment,
-            } => self.answer(rt, action, room, &response, reply, moment),
-            Duty::Close { room, moment } => self.close(rt, action, room, moment),
-            Duty::Tell {
-                dealer,
-                room,
-                close,
-                moment,
-            } => self.tell(rt, action, dealer, room, close, moment),
-            Duty::Drop { last, moment } => self.drop_next(rt, acting, last, moment),
+            } => self.to_hit(rt, acting, room, response, word, moment),
         }
+    }
+
+    /// The same at a dealer's desk.
+    fn to_dealer<R: Wait>(
+        &self,
+        rt: &R,
+        action: (Actor, u64),
+        firm: u16,
+        what: ForDealer,
+    ) -> Result<Done, Memory> {
+        let Some(place) = self.dealer(firm) else {
+            return Ok(Done::nothing());
+        };
+        let done = place.desk.lock(rt).bring(action, what)?;
+        Ok(done)
+    }
+
+    /// The same of a drop.
+    fn to_drop<R: Wait, G: Gate>(
+        &self,
+        rt: &R,
+        acting: &Acting<'_, G>,
+        firm: u16,
+        last: u32,
+        moment: Moment,
+    ) -> Result<Done, Memory>
+        requires { acting.now.board.now ≡ J.board }
+    {
+        let Some(place) = self.dealer(firm) else {
+            return Ok(Done::nothing());
+        };
+        let done = place.desk.lock(rt).drop_next(acting, last, moment)?;
+        Ok(done)
+    }
+
+    /// The same at an investor's desk.
+    fn to_investor<R: Wait>(
+        &self,
+        rt: &R,
+        action: (Actor, u64),
+        firm: u16,
+        what: ForInvestor,
+    ) -> Result<Done, Memory> {
+        let Some(place) = self.investor(firm) else {
+            return Ok(Done::nothing());
+        };
+        let done = place.desk.lock(rt).bring(action, what)?;
+        Ok(done)
+    }
+
+    /// The same in a room.
+    fn to_room<R: Wait>(
+        &self,
+        rt: &R,
+        action: (Actor, u64),
+        room: RoomRef,
+        what: ForRoom,
+    ) -> Result<Done, Memory> {
+        let Some(place) = self.room(room) else {
+            return Ok(Done::nothing());
+        };
+        let done = place.lock(rt).bring(action, what)?;
+        Ok(done)
+    }
+
+    /// The same of a hit.
+    fn to_hit<R: Wait, G: Gate>(
+        &self,
+        rt: &R,
+        acting: &Acting<'_, G>,
+        room: RoomRef,
+        response: ResponseRef,
+        word: u32,
+        moment: Moment,
+    ) -> Result<Done, Memory>
+        requires { acting.now.board.now ≡ J.board }
+    {
+        let Some(place) = self.room(room) else {
+            return Ok(Done::nothing());
+        };
+        let done = place.lock(rt).hit(acting, response, word, moment)?;
+        Ok(done)
     }
 
     /// A message of a firm comes to its own desk, that of a dealer or of an investor.
@@ -97,11 +166,28 @@ impl<J: Naming> SharedVenue<J> {
         let Actor::Firm(firm) = acting.by else {
             return Ok(Done::nothing());
         };
-        if usize::from(firm) < self.dealers.len() {
-            let done = self.dealer_says(rt, acting, firm, moment, bytes)?;
+        let Some(place) = self.dealer(firm) else {
+            let done = self.investor_says(rt, acting, firm, moment, bytes)?;
             return Ok(done);
-        }
-        let done = self.investor_says(rt, (acting.by, acting.number), firm, moment, bytes)?;
+        };
+        let done = place.desk.lock(rt).own(acting, moment, bytes)?;
+        Ok(done)
+    }
+
+    /// The same of an investor.
+    fn investor_says<R: Wait, G: Gate>(
+        &self,
+        rt: &R,
+        acting: &Acting<'_, G>,
+        firm: u16,
+        moment: Moment,
+        bytes: &[u8],
+    ) -> Result<Done, Memory> {
+        let Some(place) = self.investor(firm) else {
+            return Ok(Done::nothing());
+        };
+        let action = (acting.by, acting.number);
+        let done = place.desk.lock(rt).own(action, moment, bytes)?;
         Ok(done)
     }
 }

@@ -4,20 +4,33 @@ ghost use Rattle.session_worker.specs.declared.faults.DayFault.TheVariants.{Memo
 
 use market_terms::RoomRef;
 use std::alloc::{AllocError, AllocFailed};
+use std::fmt;
+use thiserror::Error;
 
-/// Why a day on threads has no record: the first of these in this order.
-#[derive(Clone, Copy)]
+/// Why a day on threads has no record: the first of these that is met. What is behind `Memory` is
+/// looked at in this order, once all threads have ended; the looking itself takes memory, too.
+#[derive(Clone, Copy, Error)]
 pub enum DayFault {
     /// Memory was refused.
+    #[error("out of memory")]
     Memory,
     /// The desk of the firm with this number is another firm's, or its own events are not its
     /// inbox. Of several such firms it is the first.
+    #[error("the desk of firm {0} does not have the messages that came to it")]
     Inbox(u16),
     /// The closing notices of the dealer with this number do not agree with how the rooms of its
     /// requests ended.
+    #[error("dealer {0} was not told how its requests ended")]
     Told(u16),
     /// The expire events of this room are not its sweeps in their order.
+    #[error("request {} of firm {} was not swept as the clock was told", .0.n, .0.investor)]
     Sweep(RoomRef),
+}
+
+impl fmt::Debug for DayFault {
+    fn fmt<W: fmt::Write>(&self, f: &mut fmt::Formatter<W>) -> fmt::Result {
+        write!(f, "{self}")
+    }
 }
 
 impl From<AllocError> for DayFault {

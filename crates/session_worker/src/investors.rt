@@ -5,6 +5,7 @@ ghost use Rattle.investor_desk.specs.RequestLines.{lines_of};
 ghost use Rattle.session_worker.specs.KeptDays.{InvestorKeeps};
 ghost use Rattle.session_worker.specs.Locks.{with_action};
 ghost use Rattle.venue_config.specs.Rows.{investor_numbered};
+ghost use Rattle.venue_places.specs.Brought as spec;
 ghost use Rattle.venue_steps.specs.InvestorSteps as steps;
 
 use crate::day_checks::is_inbox_of_investor;
@@ -14,13 +15,13 @@ use crate::joined::Session;
 use crate::naming::Naming;
 use fix_fields::{Memory, Moment};
 use investor_desk::InvestorDesk;
-use market_terms::{Offer, Reply, ResponseRef};
 use recorded_days::{InvestorDay, RoomDay};
 use std::alloc::Global;
 use std::marker::{Model, PhantomData};
 use step_replay::Actor;
-use venue_config::{Name, VenueConfig};
-use venue_steps::{do_answer, do_close, do_declined, do_gone, do_relay, own_investor};
+use venue_config::VenueConfig;
+use venue_places::{ForInvestor, bring_to_investor};
+use venue_steps::own_investor;
 
 /// An investor's desk, and the order of the actions on it. No action there asks a word, so no token
 /// lies beside it.
@@ -75,102 +76,15 @@ impl<J: Naming> LockedInvestor<J> {
         Ok(Done::unasked(duties))
     }
 
-    /// The investor is shown a quote on its request with this number.
-    pub(crate) fn relay(
-        &mut self,
-        action: (Actor, u64),
-        request: u32,
-        offer: &Offer,
-        moment: Moment,
-    ) -> Result<Done, Memory>
-        ensures desk { OnOk result
-            (self.new.desk ≡ steps.desk_after_relay self.old.desk request offer.now moment) }
+    /// What comes to the investor's desk for a duty.
+    pub(crate) fn bring(&mut self, action: (Actor, u64), what: ForInvestor) -> Result<Done, Memory>
+        ensures desk { OnOk result (self.new.desk ≡ spec.investor_with self.old.desk what) }
         ensures duties { IfOk result (λ done. done.duties.items ≡ []) }
         ensures unasked { IfOk result (λ done. done.word ≡ None) }
         ensures order { OnOk result (self.new.order ≡ with_action self.old.order action) }
     {
         self.order.reserve(1)?;
-        let duties = do_relay(&mut self.desk, request, offer, moment)?;
-        self.order.push(action)?;
-        Ok(Done::unasked(duties))
-    }
-
-    /// The investor is told that a quote on its request is gone.
-    pub(crate) fn gone(
-        &mut self,
-        action: (Actor, u64),
-        request: u32,
-        word: u32,
-        moment: Moment,
-    ) -> Result<Done, Memory>
-        ensures desk { OnOk result
-            (self.new.desk ≡ steps.desk_after_gone self.old.desk request word moment) }
-        ensures duties { IfOk result (λ done. done.duties.items ≡ []) }
-        ensures unasked { IfOk result (λ done. done.word ≡ None) }
-        ensures order { OnOk result (self.new.order ≡ with_action self.old.order action) }
-    {
-        self.order.reserve(1)?;
-        let duties = do_gone(&mut self.desk, request, word, moment)?;
-        self.order.push(action)?;
-        Ok(Done::unasked(duties))
-    }
-
-    /// The investor is told that a dealer declined its request.
-    pub(crate) fn declined(
-        &mut self,
-        action: (Actor, u64),
-        request: u32,
-        dealer: Name,
-        moment: Moment,
-    ) -> Result<Done, Memory>
-        ensures desk { OnOk result
-            (self.new.desk ≡ steps.desk_after_declined self.old.desk request dealer moment) }
-        ensures duties { IfOk result (λ done. done.duties.items ≡ []) }
-        ensures unasked { IfOk result (λ done. done.word ≡ None) }
-        ensures order { OnOk result (self.new.order ≡ with_action self.old.order action) }
-    {
-        self.order.reserve(1)?;
-        let duties = do_declined(&mut self.desk, request, dealer, moment)?;
-        self.order.push(action)?;
-        Ok(Done::unasked(duties))
-    }
-
-    /// The investor is answered to a hit or a pass of its request.
-    pub(crate) fn answer(
-        &mut self,
-        action: (Actor, u64),
-        request: u32,
-        response: &ResponseRef,
-        reply: Reply,
-        moment: Moment,
-    ) -> Result<Done, Memory>
-        ensures desk { OnOk result (self.new.desk
-            ≡ steps.desk_after_answer self.old.desk request response.now reply moment) }
-        ensures duties { IfOk result (λ done. done.duties.items ≡ []) }
-        ensures unasked { IfOk result (λ done. done.word ≡ None) }
-        ensures order { OnOk result (self.new.order ≡ with_action self.old.order action) }
-    {
-        self.order.reserve(1)?;
-        let duties = do_answer(&mut self.desk, request, response, reply, moment)?;
-        self.order.push(action)?;
-        Ok(Done::unasked(duties))
-    }
-
-    /// The investor is told that its request expired.
-    pub(crate) fn close(
-        &mut self,
-        action: (Actor, u64),
-        request: u32,
-        moment: Moment,
-    ) -> Result<Done, Memory>
-        ensures desk { OnOk result
-            (self.new.desk ≡ steps.desk_after_close self.old.desk request moment) }
-        ensures duties { IfOk result (λ done. done.duties.items ≡ []) }
-        ensures unasked { IfOk result (λ done. done.word ≡ None) }
-        ensures order { OnOk result (self.new.order ≡ with_action self.old.order action) }
-    {
-        self.order.reserve(1)?;
-        let duties = do_close(&mut self.desk, request, moment)?;
+        let duties = bring_to_investor(&mut self.desk, what)?;
         self.order.push(action)?;
         Ok(Done::unasked(duties))
     }

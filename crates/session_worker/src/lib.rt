@@ -3,9 +3,6 @@
 #![tactic(auto)]
 
 mod actors;
-mod at_dealers;
-mod at_investors;
-mod at_rooms;
 mod day_checks;
 mod day_rooms;
 mod days;

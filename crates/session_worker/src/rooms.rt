@@ -1,10 +1,10 @@
 //! What lies under the lock of a room.
-ghost use Rattle.std.specs.Prelude.{◌≡◌, [], ◌∷◌, ◌++◌, None, All, IfOk, OnOk};
+ghost use Rattle.std.specs.Prelude.{◌≡◌, None, All, IfOk, OnOk};
 ghost use Rattle.quote_word.specs.SettleLog.{entry_of};
 ghost use Rattle.request_room.specs.Book.{room_after};
-ghost use Rattle.request_room.specs.RoomFacts.{hears, is_opening};
 ghost use Rattle.request_room.specs.declared.events.RoomEvent.TheVariants as event;
 ghost use Rattle.session_worker.specs.Locks.{StandsIn, answers_in, with_action};
+ghost use Rattle.venue_places.specs.Brought as spec;
 ghost use Rattle.venue_steps.specs.RoomSteps as steps;
 ghost use Rattle.venue_steps.specs.Words.{answer_in, has_word};
 
@@ -14,13 +14,14 @@ use crate::gates::Gate;
 use crate::naming::Naming;
 use crate::watched::{Acting, WatchedWords};
 use fix_fields::{Memory, Moment};
-use market_terms::{Ask, AskedDealers, Offer, ResponseRef, RoomRef};
+use market_terms::{ResponseRef, RoomRef};
 use quote_word::BoardSeen;
 use request_room::Room;
 use std::alloc::Global;
 use std::marker::{Model, PhantomData};
 use step_replay::Actor;
-use venue_steps::{do_decline, do_expire, do_hit, do_open, do_pass, do_post, do_ready, do_unpost};
+use venue_places::{ForRoom, bring_to_room};
+use venue_steps::do_hit;
 
 /// A room, the token that has seen what the words hit there were answered, and the order of the
 /// actions on it.
@@ -62,112 +63,16 @@ impl<J: Naming> LockedRoom<J> {
         }
     }
 
-    /// The room is opened for its request.
-    pub(crate) fn open(
-        &mut self,
-        action: (Actor, u64),
-        ask: Ask,
-        dealers: AskedDealers,
-        moment: Moment,
-    ) -> Result<Done, Memory>
-        ensures room { OnOk result (self.new.events
-            ≡ steps.room_after_open self.old.events ask dealers) }
+    /// What comes to the room for a duty or a sweep, and asks no word.
+    pub(crate) fn bring(&mut self, action: (Actor, u64), what: ForRoom) -> Result<Done, Memory>
+        ensures room { OnOk result (self.new.events ≡ spec.room_with self.old.events what) }
         ensures duties { IfOk result (λ done. done.duties.items
-            ≡ steps.duties_of_open (room_after self.old.events) self.old.at
-            ask dealers moment) }
+            ≡ spec.duties_in_room self.old.at self.old.events what) }
         ensures unasked { IfOk result (λ done. done.word ≡ None) }
-        ensures order { OnOk result
-            (self.new.order ≡ with_action self.old.order action) }
+        ensures order { OnOk result (self.new.order ≡ with_action self.old.order action) }
     {
         self.order.reserve(1)?;
-        let duties = do_open(&mut self.room, self.at, ask, dealers, moment)?;
-        self.order.push(action)?;
-        Ok(Done::unasked(duties))
-    }
-
-    /// Each named dealer was shown the request.
-    pub(crate) fn ready(&mut self, action: (Actor, u64)) -> Result<Done, Memory>
-        ensures room { OnOk result (self.new.events
-            ≡ steps.where_done (is_opening (room_after self.old.events)) self.old.events
-            event.Ready) }
-        ensures duties { IfOk result (λ done. done.duties.items ≡ []) }
-        ensures unasked { IfOk result (λ done. done.word ≡ None) }
-        ensures order { OnOk result
-            (self.new.order ≡ with_action self.old.order action) }
-    {
-        self.order.reserve(1)?;
-        let duties = do_ready(&mut self.room)?;
-        self.order.push(action)?;
-        Ok(Done::unasked(duties))
-    }
-
-    /// A quote of a dealer is posted.
-    pub(crate) fn post(
-        &mut self,
-        action: (Actor, u64),
-        dealer: u16,
-        offer: Offer,
-        moment: Moment,
-    ) -> Result<Done, Memory>
-        ensures room { OnOk result (self.new.events
-            ≡ steps.where_done (hears (room_after self.old.events) dealer) self.old.events
-            (event.Post dealer offer.word offer.price offer.valid_until)) }
-        ensures duties { IfOk result (λ done. done.duties.items
-            ≡ steps.duties_of_post (room_after self.old.events) self.old.at
-            dealer offer moment) }
-        ensures unasked { IfOk result (λ done. done.word ≡ None) }
-        ensures order { OnOk result
-            (self.new.order ≡ with_action self.old.order action) }
-    {
-        self.order.reserve(1)?;
-        let duties = do_post(&mut self.room, self.at, dealer, offer, moment)?;
-        self.order.push(action)?;
-        Ok(Done::unasked(duties))
-    }
-
-    /// A quote of a dealer is taken out.
-    pub(crate) fn unpost(
-        &mut self,
-        action: (Actor, u64),
-        dealer: u16,
-        word: u32,
-        moment: Moment,
-    ) -> Result<Done, Memory>
-        ensures room { OnOk result (self.new.events
-            ≡ steps.where_done (hears (room_after self.old.events) dealer) self.old.events
-            (event.Unpost dealer word)) }
-        ensures duties { IfOk result (λ done. done.duties.items
-            ≡ steps.duties_of_unpost (room_after self.old.events) self.old.at
-            dealer word moment) }
-        ensures unasked { IfOk result (λ done. done.word ≡ None) }
-        ensures order { OnOk result
-            (self.new.order ≡ with_action self.old.order action) }
-    {
-        self.order.reserve(1)?;
-        let duties = do_unpost(&mut self.room, self.at, dealer, word, moment)?;
-        self.order.push(action)?;
-        Ok(Done::unasked(duties))
-    }
-
-    /// A dealer declines.
-    pub(crate) fn decline(
-        &mut self,
-        action: (Actor, u64),
-        dealer: u16,
-        moment: Moment,
-    ) -> Result<Done, Memory>
-        ensures room { OnOk result (self.new.events
-            ≡ steps.where_done (hears (room_after self.old.events) dealer) self.old.events
-            (event.Decline dealer)) }
-        ensures duties { IfOk result (λ done. done.duties.items
-            ≡ steps.duties_of_decline (room_after self.old.events) self.old.at
-            dealer moment) }
-        ensures unasked { IfOk result (λ done. done.word ≡ None) }
-        ensures order { OnOk result
-            (self.new.order ≡ with_action self.old.order action) }
-    {
-        self.order.reserve(1)?;
-        let duties = do_decline(&mut self.room, self.at, dealer, moment)?;
+        let duties = bring_to_room(&mut self.room, self.at, what)?;
         self.order.push(action)?;
         Ok(Done::unasked(duties))
     }
@@ -206,44 +111,6 @@ impl<J: Naming> LockedRoom<J> {
             duties,
             word: asked,
         })
-    }
-
-    /// The investor passes its request.
-    pub(crate) fn pass(
-        &mut self,
-        action: (Actor, u64),
-        response: ResponseRef,
-        moment: Moment,
-    ) -> Result<Done, Memory>
-        ensures room { OnOk result (self.new.events
-            ≡ self.old.events ++ event.Pass moment ∷ []) }
-        ensures duties { IfOk result (λ done. done.duties.items
-            ≡ steps.duties_of_pass (room_after self.old.events) self.old.at
-            response moment) }
-        ensures unasked { IfOk result (λ done. done.word ≡ None) }
-        ensures order { OnOk result
-            (self.new.order ≡ with_action self.old.order action) }
-    {
-        self.order.reserve(1)?;
-        let duties = do_pass(&mut self.room, self.at, response, moment)?;
-        self.order.push(action)?;
-        Ok(Done::unasked(duties))
-    }
-
-    /// A sweep comes.
-    pub(crate) fn expire(&mut self, action: (Actor, u64), moment: Moment) -> Result<Done, Memory>
-        ensures room { OnOk result (self.new.events
-            ≡ self.old.events ++ event.Expire moment ∷ []) }
-        ensures duties { IfOk result (λ done. done.duties.items
-            ≡ steps.duties_of_expire (room_after self.old.events) self.old.at moment) }
-        ensures unasked { IfOk result (λ done. done.word ≡ None) }
-        ensures order { OnOk result
-            (self.new.order ≡ with_action self.old.order action) }
-    {
-        self.order.reserve(1)?;
-        let duties = do_expire(&mut self.room, self.at, moment)?;
-        self.order.push(action)?;
-        Ok(Done::unasked(duties))
     }
 
     /// A copy of the token.

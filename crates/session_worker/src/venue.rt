@@ -1,6 +1,9 @@
 //! The venue that threads share.
-ghost use Rattle.std.specs.Prelude.{◌≡◌, ◌<◌, ◌^◌, length, map, IfOk};
+ghost use Rattle.std.specs.Prelude.{◌≡◌, ◌<◌, ◌^◌, length, map, slice_get, IfOk};
+ghost use Rattle.std.specs.Prelude.{option_and_then};
+ghost use Rattle.std.specs.Option.{option_copied};
 ghost use Rattle.session_worker.specs.KeptDays.{requests_of};
+ghost use Rattle.session_worker.specs.Locks.{numbered_from};
 ghost use Rattle.step_replay.specs.Actions.{words_of};
 
 use crate::dealers::LockedDealer;
@@ -18,8 +21,6 @@ use venue_config::VenueConfig;
 /// The place of a dealer.
 #[derive(Drop)]
 pub(crate) struct DealerPlace<J: Naming> {
-    /// The word of its first quote.
-    pub(crate) first_word: u32,
     /// Its desk.
     pub(crate) desk: Mutex<LockedDealer<J>>,
 }
@@ -76,33 +77,32 @@ impl<J: Naming> SharedVenue<J> {
         })
     }
 
-    /// The lock of a room, where the venue has it.
-    pub(crate) fn room(&self, room: RoomRef) -> Option<&Mutex<LockedRoom<J>>> {
-        let investor = self.investor(room.investor)?;
-        let index = (room.n as usize).checked_sub(1)?;
-        investor.rooms.get(index)
+    /// The place of the dealer with this number among the firms.
+    pub(crate) fn dealer(&self, firm: u16) -> Option<&DealerPlace<J>>
+        ensures { option_copied result ≡ slice_get self.now.dealers.items firm }
+    {
+        self.dealers.get(usize::from(firm))
     }
 
     /// The place of the investor with this number among the firms.
-    pub(crate) fn investor(&self, firm: u16) -> Option<&InvestorPlace<J>> {
+    pub(crate) fn investor(&self, firm: u16) -> Option<&InvestorPlace<J>>
+        ensures { option_copied result
+            ≡ numbered_from (length self.now.dealers.items) self.now.investors.items firm }
+    {
         let index = usize::from(firm).checked_sub(self.dealers.len())?;
         self.investors.get(index)
     }
 
-    /// The word of a quote of a dealer, where the board has it.
-    pub(crate) fn word_of(&self, dealer: u16, quote: u32) -> Option<u32> {
-        let place = self.dealers.get(usize::from(dealer))?;
-        let word = self.word_at(place.first_word, quote)?;
-        Some(word)
-    }
-
-    /// The same of a dealer with this first word.
-    fn word_at(&self, first_word: u32, quote: u32) -> Option<u32> {
-        let word = u64::from(first_word) + u64::from(quote.saturating_sub(1));
-        if word >= u64::from(self.board.len()) {
-            return None;
-        }
-        Some(word as u32)
+    /// The lock of a room, where the venue has it.
+    pub(crate) fn room(&self, room: RoomRef) -> Option<&Mutex<LockedRoom<J>>>
+        ensures { option_copied result
+            ≡ option_and_then (λ place. numbered_from 1 place.rooms.items room.n)
+            (numbered_from (length self.now.dealers.items) self.now.investors.items
+            room.investor) }
+    {
+        let investor = self.investor(room.investor)?;
+        let index = (room.n as usize).checked_sub(1)?;
+        investor.rooms.get(index)
     }
 }
 
@@ -121,10 +121,8 @@ fn dealers_at_start<J: Naming>(
     let mut first_word = 0;
     for row in config.dealers() {
         let desk = LockedDealer::new(alloc, config, firm, row, first_word, seen.again())?;
-        places.push(DealerPlace {
-            first_word,
-            desk: Mutex::new(desk),
-        })?;
+        let desk = Mutex::new(desk);
+        places.push(DealerPlace { desk })?;
         firm += 1;
         first_word += row.quotes;
     }

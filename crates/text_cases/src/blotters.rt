@@ -1,12 +1,11 @@
 //! Blotters of lines.
 
-use crate::parts::{bond_of, name_of, quantity_of, side_of};
-use crate::prices::price_of;
 use crate::printing::{len_of, push_number, u32_of};
 use blotter::blotter_text;
-use case_lines::{CaseFault, Words};
-use market_terms::{FirmLines, QuoteLine, QuoteState, RequestLine, RequestState};
+use case_lines::{Call, CaseFault, Words, bond_of, name_of, price_of, quantity_of, side_of};
+use market_terms::{FirmLines, Quantity, QuoteLine, QuoteState, RequestLine, RequestState, Side};
 use std::alloc::Global;
+use venue_config::BondId;
 
 /// The place `blotters`: blotters of lines.
 ///
@@ -31,21 +30,16 @@ impl BlotterCases {
     }
 
     /// Makes a call.
-    pub(crate) fn make(
-        &mut self,
-        alloc: Global,
-        words: &mut Words,
-        answer: &mut String,
-    ) -> Result<(), CaseFault> {
-        match words.word()? {
-            "quote" => self.add_quotes(1, words.rest()),
-            "quote_times" => self.add_quotes(len_of(words.number()?)?, words.rest()),
-            "request" => self.add_requests(1, words.rest()),
-            "request_times" => self.add_requests(len_of(words.number()?)?, words.rest()),
-            "dealer" => push_blotter(alloc, answer, &FirmLines::Dealer(&self.quotes)),
-            "dealer_len" => push_length(alloc, answer, &FirmLines::Dealer(&self.quotes)),
-            "investor" => push_blotter(alloc, answer, &FirmLines::Investor(&self.requests)),
-            "investor_len" => push_length(alloc, answer, &FirmLines::Investor(&self.requests)),
+    pub(crate) fn make(&mut self, call: &mut Call<'_>) -> Result<(), CaseFault> {
+        match call.name {
+            "quote" => self.add_quotes(1, call.words.rest()),
+            "quote_times" => self.add_quotes(len_of(call.words.number()?)?, call.words.rest()),
+            "request" => self.add_requests(1, call.words.rest()),
+            "request_times" => self.add_requests(len_of(call.words.number()?)?, call.words.rest()),
+            "dealer" => push_blotter(call, &FirmLines::Dealer(&self.quotes)),
+            "dealer_len" => push_length(call, &FirmLines::Dealer(&self.quotes)),
+            "investor" => push_blotter(call, &FirmLines::Investor(&self.requests)),
+            "investor_len" => push_length(call, &FirmLines::Investor(&self.requests)),
             _ => Err(CaseFault::Form),
         }
     }
@@ -70,16 +64,16 @@ impl BlotterCases {
 }
 
 /// A blotter.
-fn push_blotter(alloc: Global, answer: &mut String, lines: &FirmLines) -> Result<(), CaseFault> {
-    let text = blotter_text(alloc, lines)?;
-    answer.push_str(text.as_str())?;
+fn push_blotter(call: &mut Call<'_>, lines: &FirmLines) -> Result<(), CaseFault> {
+    let text = blotter_text(call.alloc, lines)?;
+    call.answer.push_str(text.as_str())?;
     Ok(())
 }
 
 /// The bytes of a blotter.
-fn push_length(alloc: Global, answer: &mut String, lines: &FirmLines) -> Result<(), CaseFault> {
-    let text = blotter_text(alloc, lines)?;
-    push_number(answer, text.len() as u64)
+fn push_length(call: &mut Call<'_>, lines: &FirmLines) -> Result<(), CaseFault> {
+    let text = blotter_text(call.alloc, lines)?;
+    push_number(&mut call.answer, text.len() as u64)
 }
 
 /// NUMBER MOMENT TRADER REQUEST BOND SIDE QUANTITY PRICE STATE.
@@ -88,9 +82,7 @@ fn quote_of(words: &mut Words) -> Result<QuoteLine, CaseFault> {
     let moment = words.moment()?;
     let trader = name_of(words)?;
     let request = words.number()?;
-    let bond = bond_of(words)?;
-    let side = side_of(words)?;
-    let quantity = quantity_of(words)?;
+    let (bond, side, quantity) = traded_of(words)?;
     let price = price_of(words)?;
     let state = quote_state_of(words.word()?)?;
     words.end()?;
@@ -105,6 +97,14 @@ fn quote_of(words: &mut Words) -> Result<QuoteLine, CaseFault> {
         price,
         state,
     })
+}
+
+/// BOND SIDE QUANTITY.
+fn traded_of(words: &mut Words) -> Result<(BondId, Side, Quantity), CaseFault> {
+    let bond = bond_of(words)?;
+    let side = side_of(words)?;
+    let quantity = quantity_of(words)?;
+    Ok((bond, side, quantity))
 }
 
 /// What became of a quote.
@@ -124,9 +124,7 @@ fn request_of(words: &mut Words) -> Result<RequestLine, CaseFault> {
     let n = u32_of(words.number()?)?;
     let moment = words.moment()?;
     let trader = name_of(words)?;
-    let bond = bond_of(words)?;
-    let side = side_of(words)?;
-    let quantity = quantity_of(words)?;
+    let (bond, side, quantity) = traded_of(words)?;
     let state = request_state_of(words)?;
     words.end()?;
     Ok(RequestLine {

@@ -1,7 +1,7 @@
 //! Bytes that calls put together.
 
 use crate::printing::len_of;
-use case_lines::{CaseFault, Words, piped_bytes_of};
+use case_lines::{CaseFault, Words, check_sum_of, piped_bytes_of};
 use std::alloc::Global;
 
 /// Bytes that calls put together.
@@ -44,9 +44,9 @@ impl ByteBuffer {
     }
 
     /// `add_sum`: CheckSum (10) of the bytes.
-    pub(crate) fn add_sum(&mut self) -> Result<(), CaseFault> {
-        let end = end_of(sum_of(self.bytes.as_slice()));
-        self.bytes.extend_from_slice(&end)?;
+    pub(crate) fn add_sum(&mut self, alloc: Global) -> Result<(), CaseFault> {
+        let end = check_sum_of(alloc, self.bytes.as_slice())?;
+        self.bytes.extend_from_slice(end.as_bytes())?;
         Ok(())
     }
 }
@@ -66,26 +66,4 @@ fn repeated(alloc: Global, bytes: &[u8], count: usize) -> Result<Vec<u8>, CaseFa
         all.extend_from_slice(bytes)?;
     }
     Ok(all)
-}
-
-/// The sum of bytes, modulo 256.
-pub(crate) fn sum_of(bytes: &[u8]) -> u8 {
-    let mut sum: u8 = 0;
-    for c in bytes {
-        sum = sum.wrapping_add(*c);
-    }
-    sum
-}
-
-/// CheckSum (10) of a sum.
-pub(crate) fn end_of(sum: u8) -> [u8; 7] {
-    [
-        b'1',
-        b'0',
-        b'=',
-        b'0' + sum / 100,
-        b'0' + sum / 10 % 10,
-        b'0' + sum % 10,
-        1,
-    ]
 }

@@ -1,13 +1,10 @@
 //! Configurations that are read.
 
-use crate::configuration_rows::{
-    push_bond, push_bond_rows, push_dealer, push_dealer_rows, push_investor, push_investor_rows,
-    push_place_of_trader, push_trader,
-};
+use crate::configuration_rows::{push_place_of_trader, push_row_or_none, push_rows, push_trader};
 use crate::printing::{
     len_of, push_line, push_number, push_number_or_none, push_truth, u16_of, u32_of,
 };
-use case_lines::{CaseFault, Words, bytes_of, push_text};
+use case_lines::{Call, CaseFault, Words, bytes_of, push_text};
 use std::alloc::Global;
 use std::fmt::Write;
 use std::str;
@@ -44,25 +41,20 @@ impl ConfigCases {
     }
 
     /// Makes a call.
-    pub(crate) fn make(
-        &mut self,
-        alloc: Global,
-        words: &mut Words,
-        answer: &mut String,
-    ) -> Result<(), CaseFault> {
-        match words.word()? {
-            "read" => self.read(alloc, words.rest(), answer),
-            "begin" => self.begin(alloc),
-            "add" => self.add(alloc, words.rest()),
-            "add_times" => self.add_times(words),
-            "len" => push_number(answer, self.text.len() as u64),
-            "read_lines" => self.read_lines(alloc, answer),
-            "copy" => self.copy(alloc),
+    pub(crate) fn make(&mut self, call: &mut Call<'_>) -> Result<(), CaseFault> {
+        match call.name {
+            "read" => self.read(call.alloc, call.words.rest(), &mut call.answer),
+            "begin" => self.begin(call.alloc),
+            "add" => self.add(call.alloc, call.words.rest()),
+            "add_times" => self.add_times(&mut call.words),
+            "len" => push_number(&mut call.answer, self.text.len() as u64),
+            "read_lines" => self.read_lines(call.alloc, &mut call.answer),
+            "copy" => self.copy(call.alloc),
             "keep" => self.keep(),
-            "is_same" => self.is_same(words, answer),
-            "limits" => push_limits(answer),
-            "faults" => push_faults(answer),
-            name => push_found(answer, self.read_before()?, name, words),
+            "is_same" => self.is_same(&mut call.words, &mut call.answer),
+            "limits" => push_limits(&mut call.answer),
+            "faults" => push_faults(&mut call.answer),
+            name => push_found(&mut call.answer, self.read_before()?, name, &mut call.words),
         }
     }
 
@@ -174,12 +166,12 @@ fn push_found(
         "date" => push_date(answer, config),
         "counts" => push_counts(answer, config),
         "dealer_count" => push_number(answer, u64::from(config.dealer_count())),
-        "bonds" => push_bond_rows(answer, config),
-        "dealers" => push_dealer_rows(answer, config),
-        "investors" => push_investor_rows(answer, config),
-        "bond" => push_bond(answer, config, words),
-        "dealer" => push_dealer(answer, config, words),
-        "investor" => push_investor(answer, config, words),
+        "bonds" => push_rows(answer, config.bonds()),
+        "dealers" => push_rows(answer, config.dealers()),
+        "investors" => push_rows(answer, config.investors()),
+        "bond" => push_row_or_none(answer, config.bond(words.rest().as_bytes()).as_ref()),
+        "dealer" => push_row_or_none(answer, config.dealer(words.firm()?)),
+        "investor" => push_row_or_none(answer, config.investor(words.firm()?)),
         "dealer_named" => push_dealer_named(answer, config, words.rest()),
         "firm" => push_firm(answer, config, words.rest()),
         "has_room" => push_has_room(answer, config, words),

@@ -1,34 +1,43 @@
 //! The rows of a configuration as lines.
 
-use crate::printing::{len_of, push_line, push_value_or_none, u16_of};
+use crate::printing::{len_of, push_line, push_value_or_none};
 use case_lines::{CaseFault, Words, push_text};
 use std::fmt::Write;
-use venue_config::{BondRow, DealerRow, InvestorRow, Traders, VenueConfig};
+use venue_config::{BondRow, DealerRow, InvestorRow, Traders};
 
-/// A bond: ID GRID.
-fn push_bond_row(answer: &mut String, row: &BondRow) -> Result<(), CaseFault> {
-    writeln!(answer, "{} {}", row.id.as_str(), row.grid.get())?;
-    Ok(())
+/// A row of a configuration.
+pub(crate) trait Row {
+    /// Appends it as a line.
+    fn push(&self, answer: &mut String) -> Result<(), CaseFault>;
 }
 
-/// A dealer: NAME TRADERS QUOTES EXPOSURE.
-fn push_dealer_row(answer: &mut String, row: &DealerRow) -> Result<(), CaseFault> {
-    push_text(answer, row.name.as_bytes())?;
-    push_traders(answer, &row.traders)?;
-    writeln!(answer, " {} {}", row.quotes, row.exposure)?;
-    Ok(())
+impl Row for BondRow {
+    /// ID GRID.
+    fn push(&self, answer: &mut String) -> Result<(), CaseFault> {
+        writeln!(answer, "{} {}", self.id.as_str(), self.grid.get())?;
+        Ok(())
+    }
 }
 
-/// An investor: NAME TRADERS REQUESTS OPEN QUANTITY.
-fn push_investor_row(answer: &mut String, row: &InvestorRow) -> Result<(), CaseFault> {
-    answer.push_str(row.name.as_str())?;
-    push_traders(answer, &row.traders)?;
-    writeln!(
-        answer,
-        " {} {} {}",
-        row.requests, row.open_limit, row.quantity
-    )?;
-    Ok(())
+impl Row for DealerRow {
+    /// NAME TRADERS QUOTES EXPOSURE.
+    fn push(&self, answer: &mut String) -> Result<(), CaseFault> {
+        push_text(answer, self.name.as_bytes())?;
+        push_traders(answer, &self.traders)?;
+        writeln!(answer, " {} {}", self.quotes, self.exposure)?;
+        Ok(())
+    }
+}
+
+impl Row for InvestorRow {
+    /// NAME TRADERS REQUESTS OPEN QUANTITY.
+    fn push(&self, answer: &mut String) -> Result<(), CaseFault> {
+        answer.push_str(self.name.as_str())?;
+        push_traders(answer, &self.traders)?;
+        write!(answer, " {} {}", self.requests, self.open_limit)?;
+        writeln!(answer, " {}", self.quantity)?;
+        Ok(())
+    }
 }
 
 /// Traders, divided by commas.
@@ -40,67 +49,21 @@ fn push_traders(answer: &mut String, traders: &Traders) -> Result<(), CaseFault>
     Ok(())
 }
 
-/// `bonds`: all of them.
-pub(crate) fn push_bond_rows(answer: &mut String, config: &VenueConfig) -> Result<(), CaseFault> {
-    for row in config.bonds() {
-        push_bond_row(answer, row)?;
+/// Rows, each as a line.
+pub(crate) fn push_rows<R: Row>(answer: &mut String, rows: &[R]) -> Result<(), CaseFault> {
+    for row in rows {
+        row.push(answer)?;
     }
     Ok(())
 }
 
-/// `dealers`: all of them.
-pub(crate) fn push_dealer_rows(answer: &mut String, config: &VenueConfig) -> Result<(), CaseFault> {
-    for row in config.dealers() {
-        push_dealer_row(answer, row)?;
-    }
-    Ok(())
-}
-
-/// `investors`: all of them.
-pub(crate) fn push_investor_rows(
+/// A row that may be absent.
+pub(crate) fn push_row_or_none<R: Row>(
     answer: &mut String,
-    config: &VenueConfig,
+    row: Option<&R>,
 ) -> Result<(), CaseFault> {
-    for row in config.investors() {
-        push_investor_row(answer, row)?;
-    }
-    Ok(())
-}
-
-/// `bond ID`: its row.
-pub(crate) fn push_bond(
-    answer: &mut String,
-    config: &VenueConfig,
-    words: &mut Words,
-) -> Result<(), CaseFault> {
-    match config.bond(words.rest().as_bytes()) {
-        Some(row) => push_bond_row(answer, &row),
-        None => push_line(answer, "none"),
-    }
-}
-
-/// `dealer NUMBER`: its row.
-pub(crate) fn push_dealer(
-    answer: &mut String,
-    config: &VenueConfig,
-    words: &mut Words,
-) -> Result<(), CaseFault> {
-    let firm = u16_of(words.number()?)?;
-    match config.dealer(firm) {
-        Some(row) => push_dealer_row(answer, row),
-        None => push_line(answer, "none"),
-    }
-}
-
-/// `investor NUMBER`: its row.
-pub(crate) fn push_investor(
-    answer: &mut String,
-    config: &VenueConfig,
-    words: &mut Words,
-) -> Result<(), CaseFault> {
-    let firm = u16_of(words.number()?)?;
-    match config.investor(firm) {
-        Some(row) => push_investor_row(answer, row),
+    match row {
+        Some(row) => row.push(answer),
         None => push_line(answer, "none"),
     }
 }

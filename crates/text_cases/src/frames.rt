@@ -4,7 +4,7 @@ use crate::buffers::ByteBuffer;
 use crate::printing::{
     garbled_name, push_field, push_line, push_number, push_value_or_none, u32_of,
 };
-use case_lines::{CaseFault, Words};
+use case_lines::{Call, CaseFault, Words};
 use fix_fields::{Frame, Garbled, read_frame};
 use std::alloc::Global;
 use std::fmt::Write;
@@ -33,25 +33,24 @@ impl FrameCases {
     }
 
     /// Makes a call.
-    pub(crate) fn make(
-        &mut self,
-        alloc: Global,
-        words: &mut Words,
-        answer: &mut String,
-    ) -> Result<(), CaseFault> {
-        match words.word()? {
-            "bytes" => self.buffer.set(alloc, words.rest()),
-            "add" => self.buffer.add(alloc, words.rest()),
-            "add_times" => self.buffer.add_times(alloc, words),
-            "add_sum" => self.buffer.add_sum(),
-            "len" => push_number(answer, self.buffer.as_slice().len() as u64),
-            "read" => push_reading(answer, self.buffer.as_slice()),
-            "fault" => push_fault(answer, self.buffer.as_slice()),
-            "get" => push_first(answer, self.buffer.as_slice(), words),
-            "get_len" => push_first_len(answer, self.buffer.as_slice(), words),
-            "times" => push_times(answer, self.buffer.as_slice(), words),
-            "fronts" => push_fronts(answer, self.buffer.as_slice()),
-            "each_byte_changed" => push_changed(alloc, answer, self.buffer.as_slice()),
+    pub(crate) fn make(&mut self, call: &mut Call<'_>) -> Result<(), CaseFault> {
+        match call.name {
+            "bytes" => self.buffer.set(call.alloc, call.words.rest()),
+            "add" => self.buffer.add(call.alloc, call.words.rest()),
+            "add_times" => self.buffer.add_times(call.alloc, &mut call.words),
+            "add_sum" => self.buffer.add_sum(call.alloc),
+            "len" => push_number(&mut call.answer, self.buffer.as_slice().len() as u64),
+            "read" => push_reading(&mut call.answer, self.buffer.as_slice()),
+            "fault" => push_fault(&mut call.answer, self.buffer.as_slice()),
+            "get" => push_first(&mut call.answer, self.buffer.as_slice(), &mut call.words),
+            "get_len" => push_first_len(&mut call.answer, self.buffer.as_slice(), &mut call.words),
+            "times" => push_times(&mut call.answer, self.buffer.as_slice(), &mut call.words),
+            "fronts" => push_fronts(&mut call.answer, self.buffer.as_slice()),
+            "each_byte_changed" => push_changed(
+                call.alloc,
+                &mut call.answer,
+                self.buffer.as_slice(),
+            ),
             _ => Err(CaseFault::Form),
         }
     }

@@ -1,7 +1,7 @@
 //! Dates and moments.
 
 use crate::printing::{push_line, push_number, push_number_or_none, push_truth, u32_of};
-use case_lines::{CaseFault, Words, bytes_of};
+use case_lines::{Call, CaseFault, Words, bytes_of};
 use fix_fields::{Date, Moment, MomentFault, moment_text, read_moment, time_text};
 use std::alloc::Global;
 use std::str;
@@ -22,19 +22,14 @@ impl MomentCases {
     }
 
     /// Makes a call.
-    pub(crate) fn make(
-        &mut self,
-        alloc: Global,
-        words: &mut Words,
-        answer: &mut String,
-    ) -> Result<(), CaseFault> {
-        match words.word()? {
-            "date" => push_date(alloc, answer, words.rest()),
-            "moment" => push_moment(answer, words),
-            "read" => push_reading(alloc, answer, words),
-            "text" => push_text(answer, words),
-            "time" => push_time(answer, words),
-            "earlier" => push_earlier(answer, words),
+    pub(crate) fn make(&mut self, call: &mut Call<'_>) -> Result<(), CaseFault> {
+        match call.name {
+            "date" => push_date(call.alloc, &mut call.answer, call.words.rest()),
+            "moment" => push_moment(&mut call.answer, &mut call.words),
+            "read" => push_reading(call.alloc, &mut call.answer, &mut call.words),
+            "text" => push_text(&mut call.answer, &mut call.words),
+            "time" => push_time(&mut call.answer, &mut call.words),
+            "earlier" => push_earlier(&mut call.answer, &mut call.words),
             _ => Err(CaseFault::Form),
         }
     }

@@ -1,39 +1,10 @@
 //! Parts of calls that are terms of the market.
 
-use crate::prices::{grid_of, price_of};
-use bond_prices::Ticks;
-use case_lines::{CaseFault, Words};
+use crate::prices::grid_of;
+use case_lines::{CaseFault, Words, ask_of, price_of};
 use fix_fields::Moment;
-use market_terms::{Ask, Close, HitRefusal, Id, IdBuf, Quantity, Side};
+use market_terms::{Ask, Id, IdBuf};
 use quote_messages::{QuoteRejectReason, QuotedPrice, RequestRejectReason, SessionRejectReason};
-use venue_config::{BondId, Name};
-
-/// A name.
-pub(crate) fn name_of(words: &mut Words) -> Result<Name, CaseFault> {
-    let word = words.word()?;
-    Name::new(word.as_bytes()).ok_or(CaseFault::Condition)
-}
-
-/// A bond.
-pub(crate) fn bond_of(words: &mut Words) -> Result<BondId, CaseFault> {
-    let word = words.word()?;
-    BondId::new(word.as_bytes()).ok_or(CaseFault::Condition)
-}
-
-/// A quantity.
-pub(crate) fn quantity_of(words: &mut Words) -> Result<Quantity, CaseFault> {
-    let units = words.number()?;
-    Quantity::new(units).ok_or(CaseFault::Condition)
-}
-
-/// A side by its code: 1 buys, 2 sells.
-pub(crate) fn side_of(words: &mut Words) -> Result<Side, CaseFault> {
-    match words.word()? {
-        "1" => Ok(Side::Buy),
-        "2" => Ok(Side::Sell),
-        _ => Err(CaseFault::Form),
-    }
-}
 
 /// An identifier.
 pub(crate) fn id_of<'a>(words: &mut Words<'a>) -> Result<Id<'a>, CaseFault> {
@@ -61,45 +32,10 @@ pub(crate) fn word_or_none<'a>(words: &mut Words<'a>) -> Result<Option<&'a str>,
 }
 
 /// What a request asks for: INVESTOR BOND SIDE QUANTITY DEADLINE GRID.
-pub(crate) fn ask_of(words: &mut Words) -> Result<Ask, CaseFault> {
-    let investor = name_of(words)?;
-    let bond = bond_of(words)?;
-    let side = side_of(words)?;
-    let quantity = quantity_of(words)?;
-    let deadline = words.moment()?;
-    let grid = grid_of(words)?;
-    Ok(Ask {
-        investor,
-        bond,
-        side,
-        quantity,
-        deadline,
-        grid,
-    })
-}
-
-/// How a request ended, by its code.
-pub(crate) fn close_of(words: &mut Words) -> Result<Close, CaseFault> {
-    match words.word()? {
-        "1" => Ok(Close::Hit),
-        "3" => Ok(Close::Expired),
-        "4" => Ok(Close::Cover),
-        "5" => Ok(Close::DoneAway),
-        "6" => Ok(Close::Pass),
-        _ => Err(CaseFault::Form),
-    }
-}
-
-/// Why a hit is refused, by its name.
-pub(crate) fn refusal_of(word: &str) -> Result<HitRefusal, CaseFault> {
-    match word {
-        "NotOpen" => Ok(HitRefusal::NotOpen),
-        "Deadline" => Ok(HitRefusal::Deadline),
-        "Gone" => Ok(HitRefusal::Gone),
-        "Expired" => Ok(HitRefusal::Expired),
-        "Withdrawn" => Ok(HitRefusal::Withdrawn),
-        _ => Err(CaseFault::Form),
-    }
+pub(crate) fn ask_with_grid(words: &mut Words) -> Result<Ask, CaseFault> {
+    let mut ask = ask_of(words)?;
+    ask.grid = grid_of(words)?;
+    Ok(ask)
 }
 
 /// Why a message is rejected, by its name.

@@ -1,10 +1,10 @@
-//! The places as what runs a file of cases sees them. Each call is a line whose words are all read.
+//! The places as what runs a file of cases sees them.
 
 use crate::{
     BlotterCases, ConfigCases, FrameCases, MomentCases, PriceCases, ReceivedCases, StreamCases,
     TermCases, ValueCases, WriterCases, WrittenCases,
 };
-use case_lines::{CaseFault, Place, Words};
+use case_lines::{Call, CaseFault, Place};
 use std::alloc::Global;
 
 impl Place for FrameCases {
@@ -12,10 +12,8 @@ impl Place for FrameCases {
         Ok(Self::begun(alloc))
     }
 
-    fn call(&mut self, alloc: Global, call: &str, answer: &mut String) -> Result<(), CaseFault> {
-        let mut words = Words::of(call);
-        self.make(alloc, &mut words, answer)?;
-        words.end()
+    fn call(&mut self, call: &mut Call<'_>) -> Result<(), CaseFault> {
+        self.make(call)
     }
 }
 
@@ -24,10 +22,8 @@ impl Place for WriterCases {
         Ok(Self::begun(alloc))
     }
 
-    fn call(&mut self, alloc: Global, call: &str, answer: &mut String) -> Result<(), CaseFault> {
-        let mut words = Words::of(call);
-        self.make(alloc, &mut words, answer)?;
-        words.end()
+    fn call(&mut self, call: &mut Call<'_>) -> Result<(), CaseFault> {
+        self.make(call)
     }
 }
 
@@ -36,10 +32,8 @@ impl Place for StreamCases {
         Ok(Self::begun(alloc))
     }
 
-    fn call(&mut self, alloc: Global, call: &str, answer: &mut String) -> Result<(), CaseFault> {
-        let mut words = Words::of(call);
-        self.make(alloc, &mut words, answer)?;
-        words.end()
+    fn call(&mut self, call: &mut Call<'_>) -> Result<(), CaseFault> {
+        self.make(call)
     }
 }
 
@@ -48,10 +42,8 @@ impl Place for MomentCases {
         Ok(Self::begun(alloc))
     }
 
-    fn call(&mut self, alloc: Global, call: &str, answer: &mut String) -> Result<(), CaseFault> {
-        let mut words = Words::of(call);
-        self.make(alloc, &mut words, answer)?;
-        words.end()
+    fn call(&mut self, call: &mut Call<'_>) -> Result<(), CaseFault> {
+        self.make(call)
     }
 }
 
@@ -60,10 +52,8 @@ impl Place for PriceCases {
         Ok(Self::begun(alloc))
     }
 
-    fn call(&mut self, alloc: Global, call: &str, answer: &mut String) -> Result<(), CaseFault> {
-        let mut words = Words::of(call);
-        self.make(alloc, &mut words, answer)?;
-        words.end()
+    fn call(&mut self, call: &mut Call<'_>) -> Result<(), CaseFault> {
+        self.make(call)
     }
 }
 
@@ -72,10 +62,8 @@ impl Place for ConfigCases {
         Ok(Self::begun(alloc))
     }
 
-    fn call(&mut self, alloc: Global, call: &str, answer: &mut String) -> Result<(), CaseFault> {
-        let mut words = Words::of(call);
-        self.make(alloc, &mut words, answer)?;
-        words.end()
+    fn call(&mut self, call: &mut Call<'_>) -> Result<(), CaseFault> {
+        self.make(call)
     }
 }
 
@@ -84,10 +72,8 @@ impl Place for TermCases {
         Ok(Self::begun(alloc))
     }
 
-    fn call(&mut self, alloc: Global, call: &str, answer: &mut String) -> Result<(), CaseFault> {
-        let mut words = Words::of(call);
-        self.make(alloc, &mut words, answer)?;
-        words.end()
+    fn call(&mut self, call: &mut Call<'_>) -> Result<(), CaseFault> {
+        self.make(call)
     }
 }
 
@@ -96,10 +82,8 @@ impl Place for ReceivedCases {
         Ok(Self::begun(alloc))
     }
 
-    fn call(&mut self, alloc: Global, call: &str, answer: &mut String) -> Result<(), CaseFault> {
-        let mut words = Words::of(call);
-        self.make(alloc, &mut words, answer)?;
-        words.end()
+    fn call(&mut self, call: &mut Call<'_>) -> Result<(), CaseFault> {
+        self.make(call)
     }
 }
 
@@ -108,10 +92,8 @@ impl Place for ValueCases {
         Ok(Self::begun(alloc))
     }
 
-    fn call(&mut self, alloc: Global, call: &str, answer: &mut String) -> Result<(), CaseFault> {
-        let mut words = Words::of(call);
-        self.make(alloc, &mut words, answer)?;
-        words.end()
+    fn call(&mut self, call: &mut Call<'_>) -> Result<(), CaseFault> {
+        self.make(call)
     }
 }
 
@@ -120,10 +102,8 @@ impl Place for WrittenCases {
         Ok(Self::begun(alloc))
     }
 
-    fn call(&mut self, alloc: Global, call: &str, answer: &mut String) -> Result<(), CaseFault> {
-        let mut words = Words::of(call);
-        self.make(alloc, &mut words, answer)?;
-        words.end()
+    fn call(&mut self, call: &mut Call<'_>) -> Result<(), CaseFault> {
+        self.make(call)
     }
 }
 
@@ -132,9 +112,7 @@ impl Place for BlotterCases {
         Ok(Self::begun(alloc))
     }
 
-    fn call(&mut self, alloc: Global, call: &str, answer: &mut String) -> Result<(), CaseFault> {
-        let mut words = Words::of(call);
-        self.make(alloc, &mut words, answer)?;
-        words.end()
+    fn call(&mut self, call: &mut Call<'_>) -> Result<(), CaseFault> {
+        self.make(call)
     }
 }

@@ -2,7 +2,7 @@
 
 use crate::printing::{push_line, push_number, push_number_or_none, push_truth, u32_of};
 use bond_prices::{Grid, PriceFault, Ticks, on_grid, price_text, read_price, thirty_seconds};
-use case_lines::{CaseFault, Words, bytes_of};
+use case_lines::{Call, CaseFault, Words, bytes_of, price_of};
 use std::alloc::Global;
 use std::fmt::Write;
 
@@ -27,25 +27,20 @@ impl PriceCases {
     }
 
     /// Makes a call.
-    pub(crate) fn make(
-        &mut self,
-        alloc: Global,
-        words: &mut Words,
-        answer: &mut String,
-    ) -> Result<(), CaseFault> {
-        match words.word()? {
-            "read" => push_reading(alloc, answer, words.rest()),
-            "fault" => push_fault(alloc, answer, words.rest()),
-            "price" => push_price(answer, words),
-            "text" => push_text(answer, words),
-            "said" => push_said(answer, words),
-            "every_price" => push_every_price(answer),
-            "below" => push_below(answer, words),
-            "same" => push_same(answer, words),
-            "grid" => push_grid(answer, words),
-            "finest" => push_number(answer, u64::from(Grid::FINEST.get())),
-            "same_grid" => push_same_grid(answer, words),
-            "on" => push_on(answer, words),
+    pub(crate) fn make(&mut self, call: &mut Call<'_>) -> Result<(), CaseFault> {
+        match call.name {
+            "read" => push_reading(call.alloc, &mut call.answer, call.words.rest()),
+            "fault" => push_fault(call.alloc, &mut call.answer, call.words.rest()),
+            "price" => push_price(&mut call.answer, &mut call.words),
+            "text" => push_text(&mut call.answer, &mut call.words),
+            "said" => push_said(&mut call.answer, &mut call.words),
+            "every_price" => push_every_price(&mut call.answer),
+            "below" => push_below(&mut call.answer, &mut call.words),
+            "same" => push_same(&mut call.answer, &mut call.words),
+            "grid" => push_grid(&mut call.answer, &mut call.words),
+            "finest" => push_number(&mut call.answer, u64::from(Grid::FINEST.get())),
+            "same_grid" => push_same_grid(&mut call.answer, &mut call.words),
+            "on" => push_on(&mut call.answer, &mut call.words),
             _ => Err(CaseFault::Form),
         }
     }
@@ -77,12 +72,6 @@ fn push_fault(alloc: Global, answer: &mut String, text: &str) -> Result<(), Case
         .ok_or(CaseFault::Condition)?;
     writeln!(answer, "{fault}")?;
     Ok(())
-}
-
-/// The price that a number is.
-pub(crate) fn price_of(words: &mut Words) -> Result<Ticks, CaseFault> {
-    let number = u32_of(words.number()?)?;
-    Ticks::new(number).ok_or(CaseFault::Condition)
 }
 
 /// The grid that a number is.
@@ -143,13 +132,6 @@ fn push_same(answer: &mut String, words: &mut Words) -> Result<(), CaseFault> {
     push_truth(answer, first == second)
 }
 
-/// `grid STEPS`: the steps, where they are a grid.
-fn push_grid(answer: &mut String, words: &mut Words) -> Result<(), CaseFault> {
-    let steps = u32_of(words.number()?)?;
-    let grid = Grid::new(steps).map(|grid| u64::from(grid.get()));
-    push_number_or_none(answer, grid)
-}
-
 /// `same_grid STEPS STEPS`: whether the grids are the same.
 fn push_same_grid(answer: &mut String, words: &mut Words) -> Result<(), CaseFault> {
     let first = grid_of(words)?;
@@ -162,4 +144,11 @@ fn push_on(answer: &mut String, words: &mut Words) -> Result<(), CaseFault> {
     let grid = grid_of(words)?;
     let price = price_of(words)?;
     push_truth(answer, on_grid(price, grid))
+}
+
+/// `grid STEPS`: the steps, where they are a grid.
+fn push_grid(answer: &mut String, words: &mut Words) -> Result<(), CaseFault> {
+    let steps = u32_of(words.number()?)?;
+    let grid = Grid::new(steps).map(|grid| u64::from(grid.get()));
+    push_number_or_none(answer, grid)
 }

@@ -1,7 +1,7 @@
 //! Lines of answers.
 
 use case_lines::{CaseFault, push_bytes};
-use fix_fields::{Garbled, Moment, StreamFault, time_text};
+use fix_fields::{Garbled, Moment, time_text};
 use std::fmt::Write;
 
 /// A line of text.
@@ -108,16 +108,5 @@ pub(crate) fn garbled_name(fault: Garbled) -> &'static str {
         Garbled::Field => "Field",
         Garbled::End => "End",
         Garbled::Sum => "Sum",
-    }
-}
-
-/// The name of a stream's fault.
-pub(crate) fn stream_fault_name(fault: StreamFault) -> &'static str {
-    match fault {
-        StreamFault::Start => "Start",
-        StreamFault::Length => "Length",
-        StreamFault::TooLong => "TooLong",
-        StreamFault::End => "End",
-        StreamFault::Memory => "Memory",
     }
 }

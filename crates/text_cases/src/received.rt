@@ -3,7 +3,7 @@
 use crate::printing::{push_field, push_line, push_number_field};
 use crate::received_from_dealers::{dealer_row, push_dealer_message};
 use crate::received_from_investors::{investor_row, push_investor_message};
-use case_lines::{CaseFault, Words, day, frame_of, piped_bytes_of};
+use case_lines::{Call, CaseFault, Words, day, frame_of, piped_bytes_of};
 use fix_fields::{Date, read_frame};
 use quote_messages::{
     Arrival, Reject, SessionFault, read_dealer, read_investor, receive_dealer, receive_investor,
@@ -37,25 +37,46 @@ impl ReceivedCases {
     }
 
     /// Makes a call.
-    pub(crate) fn make(
-        &mut self,
-        alloc: Global,
-        words: &mut Words,
-        answer: &mut String,
-    ) -> Result<(), CaseFault> {
-        match words.word()? {
-            "body" => self.set_body(alloc, words.rest()),
-            "change" => self.change(alloc, words),
-            "dealer" => push_from_dealer(alloc, answer, self.body.as_str()),
-            "dealer_with" => { push_from_dealer(alloc, answer, self.with(alloc, words)?.as_str()) }
-            "investor" => push_from_investor(alloc, answer, self.body.as_str()),
-            "investor_with" => {
-                push_from_investor(alloc, answer, self.with(alloc, words)?.as_str())
+    pub(crate) fn make(&mut self, call: &mut Call<'_>) -> Result<(), CaseFault> {
+        match call.name {
+            "body" => self.set_body(call.alloc, call.words.rest()),
+            "change" => self.change(call.alloc, &mut call.words),
+            "dealer" => push_from_dealer(call.alloc, &mut call.answer, self.body.as_str()),
+            "dealer_with" => {
+                push_from_dealer(
+                    call.alloc,
+                    &mut call.answer,
+                    self.with(call.alloc, &mut call.words)?.as_str(),
+                )
             }
-            "from_dealer" => push_dealer_arrival(answer, words, &self.framed(alloc)?),
-            "from_investor" => push_investor_arrival(answer, words, &self.framed(alloc)?),
-            "raw_from_dealer" => push_dealer_arrival(answer, words, &self.raw(alloc)?),
-            "raw_from_investor" => push_investor_arrival(answer, words, &self.raw(alloc)?),
+            "investor" => push_from_investor(call.alloc, &mut call.answer, self.body.as_str()),
+            "investor_with" => {
+                push_from_investor(
+                    call.alloc,
+                    &mut call.answer,
+                    self.with(call.alloc, &mut call.words)?.as_str(),
+                )
+            }
+            "from_dealer" => push_dealer_arrival(
+                &mut call.answer,
+                &mut call.words,
+                &self.framed(call.alloc)?,
+            ),
+            "from_investor" => push_investor_arrival(
+                &mut call.answer,
+                &mut call.words,
+                &self.framed(call.alloc)?,
+            ),
+            "raw_from_dealer" => push_dealer_arrival(
+                &mut call.answer,
+                &mut call.words,
+                &self.raw(call.alloc)?,
+            ),
+            "raw_from_investor" => push_investor_arrival(
+                &mut call.answer,
+                &mut call.words,
+                &self.raw(call.alloc)?,
+            ),
             _ => Err(CaseFault::Form),
         }
     }

@@ -55,11 +55,21 @@ fn push_named(answer: &mut String, request: &QuoteRequest) -> Result<(), CaseFau
     push_line(answer, "")
 }
 
+/// What a response is, its trader and its QuoteRespID (693).
+fn push_response(
+    answer: &mut String,
+    what: &str,
+    trader: &[u8],
+    id: &[u8],
+) -> Result<(), CaseFault> {
+    answer.push_str(what)?;
+    push_field(answer, 50, trader)?;
+    push_field(answer, 693, id)
+}
+
 /// A hit.
 fn push_hit(answer: &mut String, hit: &QuoteHit) -> Result<(), CaseFault> {
-    answer.push_str("hit ")?;
-    push_field(answer, 50, hit.trader.as_bytes())?;
-    push_field(answer, 693, hit.id.as_bytes())?;
+    push_response(answer, "hit ", hit.trader.as_bytes(), hit.id.as_bytes())?;
     push_field(answer, 117, hit.quote.as_bytes())?;
     push_id_if(answer, 131, &hit.request)?;
     push_line(answer, "")
@@ -67,9 +77,7 @@ fn push_hit(answer: &mut String, hit: &QuoteHit) -> Result<(), CaseFault> {
 
 /// A pass.
 fn push_pass(answer: &mut String, pass: &RequestPass) -> Result<(), CaseFault> {
-    answer.push_str("pass ")?;
-    push_field(answer, 50, pass.trader.as_bytes())?;
-    push_field(answer, 693, pass.id.as_bytes())?;
+    push_response(answer, "pass ", pass.trader.as_bytes(), pass.id.as_bytes())?;
     push_field(answer, 131, pass.request.as_bytes())?;
     push_id_if(answer, 117, &pass.quote)?;
     push_line(answer, "")

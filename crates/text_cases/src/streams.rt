@@ -1,8 +1,8 @@
 //! Streams that are cut.
 
 use crate::buffers::ByteBuffer;
-use crate::printing::{len_of, push_bytes_line, push_line, push_number, stream_fault_name};
-use case_lines::{CaseFault, Words, piped_bytes_of};
+use crate::printing::{len_of, push_bytes_line, push_line, push_number};
+use case_lines::{Call, CaseFault, Words, piped_bytes_of, stream_fault_name};
 use fix_fields::{Messages, Splitter, StreamFault};
 use std::alloc::Global;
 use std::fmt::Write;
@@ -37,22 +37,21 @@ impl StreamCases {
     }
 
     /// Makes a call.
-    pub(crate) fn make(
-        &mut self,
-        alloc: Global,
-        words: &mut Words,
-        answer: &mut String,
-    ) -> Result<(), CaseFault> {
-        match words.word()? {
-            "open" => self.open(alloc),
-            "feed" => self.feed(alloc, words.rest(), answer),
-            "bytes" => self.buffer.set(alloc, words.rest()),
-            "add" => self.buffer.add(alloc, words.rest()),
-            "add_times" => self.buffer.add_times(alloc, words),
-            "feed_stream" => self.feed_stream(answer),
-            "in_pieces" => self.in_pieces(alloc, words, answer),
-            "in_two" => push_in_two(alloc, answer, self.buffer.as_slice()),
-            "byte_by_byte" => push_byte_by_byte(alloc, answer, self.buffer.as_slice()),
+    pub(crate) fn make(&mut self, call: &mut Call<'_>) -> Result<(), CaseFault> {
+        match call.name {
+            "open" => self.open(call.alloc),
+            "feed" => self.feed(call.alloc, call.words.rest(), &mut call.answer),
+            "bytes" => self.buffer.set(call.alloc, call.words.rest()),
+            "add" => self.buffer.add(call.alloc, call.words.rest()),
+            "add_times" => self.buffer.add_times(call.alloc, &mut call.words),
+            "feed_stream" => self.feed_stream(&mut call.answer),
+            "in_pieces" => self.in_pieces(call.alloc, &mut call.words, &mut call.answer),
+            "in_two" => push_in_two(call.alloc, &mut call.answer, self.buffer.as_slice()),
+            "byte_by_byte" => push_byte_by_byte(
+                call.alloc,
+                &mut call.answer,
+                self.buffer.as_slice(),
+            ),
             _ => Err(CaseFault::Form),
         }
     }

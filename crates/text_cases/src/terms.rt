@@ -1,11 +1,11 @@
 //! The terms of the market at their limits.
 
-use crate::parts::{ask_of, id_of};
+use crate::parts::{ask_with_grid, id_of};
 use crate::printing::{
     push_bytes_line, push_field, push_line, push_number, push_number_field, push_number_or_none,
     push_time_field, push_truth, u16_of,
 };
-use case_lines::{CaseFault, Words, bytes_of};
+use case_lines::{Call, CaseFault, Words, bytes_of};
 use market_terms::{Ask, AskedDealers, Close, HitRefusal, Id, IdBuf, Quantity, Side};
 use std::alloc::Global;
 use std::cmp::Ordering;
@@ -30,24 +30,19 @@ impl TermCases {
     }
 
     /// Makes a call.
-    pub(crate) fn make(
-        &mut self,
-        alloc: Global,
-        words: &mut Words,
-        answer: &mut String,
-    ) -> Result<(), CaseFault> {
-        match words.word()? {
-            "quantity" => push_quantity(answer, words),
-            "most_quantity" => push_number(answer, Quantity::MOST),
-            "most_dealers" => push_number(answer, AskedDealers::MOST as u64),
-            "id" => push_id(alloc, answer, words.rest()),
-            "order" => push_order(answer, words),
-            "dealers" => push_dealers(alloc, answer, words.rest()),
-            "names" => push_names(alloc, answer, words),
-            "sides" => push_sides(answer),
-            "closes" => push_closes(answer),
-            "refusals" => push_refusals(answer),
-            "ask" => push_ask(answer, words),
+    pub(crate) fn make(&mut self, call: &mut Call<'_>) -> Result<(), CaseFault> {
+        match call.name {
+            "quantity" => push_quantity(&mut call.answer, &mut call.words),
+            "most_quantity" => push_number(&mut call.answer, Quantity::MOST),
+            "most_dealers" => push_number(&mut call.answer, AskedDealers::MOST as u64),
+            "id" => push_id(call.alloc, &mut call.answer, call.words.rest()),
+            "order" => push_order(&mut call.answer, &mut call.words),
+            "dealers" => push_dealers(call.alloc, &mut call.answer, call.words.rest()),
+            "names" => push_names(call.alloc, &mut call.answer, &mut call.words),
+            "sides" => push_sides(&mut call.answer),
+            "closes" => push_closes(&mut call.answer),
+            "refusals" => push_refusals(&mut call.answer),
+            "ask" => push_ask(&mut call.answer, &mut call.words),
             _ => Err(CaseFault::Form),
         }
     }
@@ -154,7 +149,7 @@ fn push_refusals(answer: &mut String) -> Result<(), CaseFault> {
 
 /// `ask ..`: the copy of an ask.
 fn push_ask(answer: &mut String, words: &mut Words) -> Result<(), CaseFault> {
-    let copy = ask_of(words)?.copy();
+    let copy = ask_with_grid(words)?.copy();
     push_ask_fields(answer, &copy)?;
     writeln!(answer, "grid={}", copy.grid.get())?;
     Ok(())

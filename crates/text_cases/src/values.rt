@@ -3,7 +3,7 @@
 use crate::buffers::bytes_times;
 use crate::parts::{quote_reason_of, request_reason_of, session_reason_of};
 use crate::printing::{push_bytes_line, push_line, push_number, push_number_or_none};
-use case_lines::{CaseFault, Words, bytes_of, piped_bytes_of};
+use case_lines::{Call, CaseFault, Words, bytes_of, piped_bytes_of};
 use quote_messages::{
     Message, MsgType, SeqNum, expected_number, read_long_number, read_number, read_quantity,
 };
@@ -30,24 +30,42 @@ impl ValueCases {
     }
 
     /// Makes a call.
-    pub(crate) fn make(
-        &mut self,
-        alloc: Global,
-        words: &mut Words,
-        answer: &mut String,
-    ) -> Result<(), CaseFault> {
-        match words.word()? {
-            "number" => push_short(answer, &bytes_of(alloc, words.rest())?),
-            "long_number" => push_long(answer, &bytes_of(alloc, words.rest())?),
-            "quantity" => push_quantity(answer, &bytes_of(alloc, words.rest())?),
-            "msg_type" => push_msg_type(answer, &bytes_of(alloc, words.rest())?),
-            "seq_num" => push_seq_num(answer, &bytes_of(alloc, words.rest())?),
-            "expected" => push_expected(answer, words),
-            "session_reason" => push_number(answer, session_reason_of(words.word()?)?.code()),
-            "quote_reason" => push_number(answer, quote_reason_of(words.word()?)?.code()),
-            "request_reason" => push_number(answer, request_reason_of(words.word()?)?.code()),
-            "message" => push_message(alloc, answer, &piped_bytes_of(alloc, words.rest())?),
-            "message_times" => push_message_len(alloc, answer, &bytes_times(alloc, words)?),
+    pub(crate) fn make(&mut self, call: &mut Call<'_>) -> Result<(), CaseFault> {
+        match call.name {
+            "number" => push_short(&mut call.answer, &bytes_of(call.alloc, call.words.rest())?),
+            "long_number" => push_long(&mut call.answer, &bytes_of(call.alloc, call.words.rest())?),
+            "quantity" => push_quantity(
+                &mut call.answer,
+                &bytes_of(call.alloc, call.words.rest())?,
+            ),
+            "msg_type" => push_msg_type(
+                &mut call.answer,
+                &bytes_of(call.alloc, call.words.rest())?,
+            ),
+            "seq_num" => push_seq_num(&mut call.answer, &bytes_of(call.alloc, call.words.rest())?),
+            "expected" => push_expected(&mut call.answer, &mut call.words),
+            "session_reason" => push_number(
+                &mut call.answer,
+                session_reason_of(call.words.word()?)?.code(),
+            ),
+            "quote_reason" => push_number(
+                &mut call.answer,
+                quote_reason_of(call.words.word()?)?.code(),
+            ),
+            "request_reason" => push_number(
+                &mut call.answer,
+                request_reason_of(call.words.word()?)?.code(),
+            ),
+            "message" => push_message(
+                call.alloc,
+                &mut call.answer,
+                &piped_bytes_of(call.alloc, call.words.rest())?,
+            ),
+            "message_times" => push_message_len(
+                call.alloc,
+                &mut call.answer,
+                &bytes_times(call.alloc, &mut call.words)?,
+            ),
             _ => Err(CaseFault::Form),
         }
     }

@@ -2,7 +2,7 @@
 
 use crate::buffers::bytes_times;
 use crate::printing::{len_of, push_bytes_line, push_line, push_number, push_truth, u32_of};
-use case_lines::{CaseFault, Words, piped_bytes_of};
+use case_lines::{Call, CaseFault, Words, piped_bytes_of};
 use fix_fields::{
     FrameWriter, MOST_BODY, MOST_FRAME, decimal_len, fits, is_tag, is_value, read_frame,
 };
@@ -28,31 +28,42 @@ impl WriterCases {
     }
 
     /// Makes a call.
-    pub(crate) fn make(
-        &mut self,
-        alloc: Global,
-        words: &mut Words,
-        answer: &mut String,
-    ) -> Result<(), CaseFault> {
-        match words.word()? {
-            "new" => self.begin(alloc, piped_bytes_of(alloc, words.rest())?, answer),
-            "new_times" => self.begin(alloc, bytes_times(alloc, words)?, answer),
+    pub(crate) fn make(&mut self, call: &mut Call<'_>) -> Result<(), CaseFault> {
+        match call.name {
+            "new" => self.begin(
+                call.alloc,
+                piped_bytes_of(call.alloc, call.words.rest())?,
+                &mut call.answer,
+            ),
+            "new_times" => self.begin(
+                call.alloc,
+                bytes_times(call.alloc, &mut call.words)?,
+                &mut call.answer,
+            ),
             "text" => {
-                let tag = tag_of(words)?;
-                self.text(tag, piped_bytes_of(alloc, words.rest())?, answer)
+                let tag = tag_of(&mut call.words)?;
+                self.text(
+                    tag,
+                    piped_bytes_of(call.alloc, call.words.rest())?,
+                    &mut call.answer,
+                )
             }
             "text_times" => {
-                let tag = tag_of(words)?;
-                self.text(tag, bytes_times(alloc, words)?, answer)
+                let tag = tag_of(&mut call.words)?;
+                self.text(
+                    tag,
+                    bytes_times(call.alloc, &mut call.words)?,
+                    &mut call.answer,
+                )
             }
-            "number" => self.number(words, answer),
-            "finish" => self.finish(answer),
-            "finish_len" => self.finish_len(answer),
-            "is_tag" => push_is_tag(answer, words),
-            "is_value" => push_is_value(alloc, answer, words.rest()),
-            "fits" => push_fits(answer, words),
-            "decimal_len" => push_decimal_len(answer, words),
-            "limits" => push_limits(answer),
+            "number" => self.number(&mut call.words, &mut call.answer),
+            "finish" => self.finish(&mut call.answer),
+            "finish_len" => self.finish_len(&mut call.answer),
+            "is_tag" => push_is_tag(&mut call.answer, &mut call.words),
+            "is_value" => push_is_value(call.alloc, &mut call.answer, call.words.rest()),
+            "fits" => push_fits(&mut call.answer, &mut call.words),
+            "decimal_len" => push_decimal_len(&mut call.answer, &mut call.words),
+            "limits" => push_limits(&mut call.answer),
             _ => Err(CaseFault::Form),
         }
     }

@@ -1,6 +1,5 @@
 //! Messages that a firm is sent.
 
-use crate::parts::name_of;
 use crate::printing::{push_bytes_line, push_number, u32_of};
 use crate::written_to_dealers::{
     cancel_answer, closing_notice, decline_answer, quote_answer, reject, shown_request,
@@ -9,7 +8,7 @@ use crate::written_to_investors::{
     dealer_declined, hit_answer, hit_unknown, pass_answer, quote_gone, request_accepted,
     request_expired, request_refused, shown_quote,
 };
-use case_lines::{CaseFault, Words, day};
+use case_lines::{Call, CaseFault, Words, day, name_of};
 use fix_fields::Memory;
 use quote_messages::{Head, OutMessage, SentMessage, write_out};
 use std::alloc::Global;
@@ -43,16 +42,15 @@ impl WrittenCases {
     }
 
     /// Makes a call.
-    pub(crate) fn make(
-        &mut self,
-        alloc: Global,
-        words: &mut Words,
-        answer: &mut String,
-    ) -> Result<(), CaseFault> {
-        match words.word()? {
-            "to" => self.take_head(words),
-            "times" => self.times(words, answer),
-            name => self.write(alloc, &message_of(name, words)?, answer),
+    pub(crate) fn make(&mut self, call: &mut Call<'_>) -> Result<(), CaseFault> {
+        match call.name {
+            "to" => self.take_head(&mut call.words),
+            "times" => self.times(&mut call.words, &mut call.answer),
+            name => self.write(
+                call.alloc,
+                &message_of(name, &mut call.words)?,
+                &mut call.answer,
+            ),
         }
     }
 

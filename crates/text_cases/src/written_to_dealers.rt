@@ -1,11 +1,11 @@
 //! The messages that a dealer is sent, as calls say them.
 
 use crate::parts::{
-    ask_of, close_of, id_of, id_or_none, quote_reason_of, quote_reason_or_none, quoted_or_none,
+    ask_with_grid, id_of, id_or_none, quote_reason_of, quote_reason_or_none, quoted_or_none,
     session_reason_of, word_or_none,
 };
 use crate::printing::u32_of;
-use case_lines::{CaseFault, Words};
+use case_lines::{CaseFault, Words, close_of};
 use quote_messages::{
     CancelStatus, ClosingNotice, MsgType, OutMessage, Reject, Request, SeqNum, SessionFault,
 };
@@ -36,7 +36,7 @@ fn msg_type_or_none<'a>(words: &mut Words<'a>) -> Result<Option<MsgType<'a>>, Ca
 /// A request that a dealer was shown: NUMBER ASK.
 fn request_of(words: &mut Words) -> Result<Request, CaseFault> {
     let number = words.number()?;
-    let ask = ask_of(words)?;
+    let ask = ask_with_grid(words)?;
     Ok(Request { number, ask })
 }
 
@@ -87,10 +87,11 @@ pub(crate) fn closing_notice<'a>(words: &mut Words<'a>) -> Result<OutMessage<'a>
     let close = close_of(words)?;
     let request = request_of(words)?;
     let quote = quoted_or_none(words)?;
-    Ok(OutMessage::ClosingNotice(ClosingNotice {
+    let notice = ClosingNotice {
         number,
         request,
         close,
         quote,
-    }))
+    };
+    Ok(OutMessage::ClosingNotice(notice))
 }

@@ -1,11 +1,7 @@
 //! The messages that an investor is sent, as calls say them.
 
-use crate::parts::{
-    bond_of, id_of, moment_or_none, name_of, quantity_of, refusal_of, request_reason_of, side_of,
-    word_or_none,
-};
-use crate::prices::price_of;
-use case_lines::{CaseFault, Words};
+use crate::parts::{id_of, moment_or_none, request_reason_of, word_or_none};
+use case_lines::{CaseFault, Words, bond_of, name_of, price_of, quantity_of, refusal_of, side_of};
 use quote_messages::{HitRefusal, OutMessage, PassStatus, ShownQuote};
 
 /// `accepted REQUEST`.

@@ -3,7 +3,7 @@ use Rattle.std.proofs.Common.{◌≡◌, ◌<◌, ◌||◌, ◌⊎◌, ◌==◌,
 use Rattle.std.proofs.Common.{false, List, [], ◌∷◌, length, map, arith, Option, Some, None}
 use Rattle.std.proofs.lemmas.Bool.{false≢true}
 use Rattle.std.specs.List.{list_any}
-use Rattle.std.specs.Prelude.{is_some}
+use Rattle.std.specs.Prelude.{is_some, option_map}
 use Rattle.clap.specs.declared.error.Error.{Error}
 use Rattle.clap.specs.declared.error.kind.ErrorKind.{ErrorKind}
 use Rattle.clap.specs.declared.error.kind.ErrorKind.TheVariants.{OutOfMemory}
@@ -11,12 +11,12 @@ use Rattle.clap.specs.Words.{HasKind, IsAmong, Kinds, Text, kind_of}
 use Rattle.std.specs.Option.{IfSome}
 use Rattle.venue_text.specs.Lines.{lines_of}
 use Rattle.venue_text.specs.declared.faults.ProgramFault.TheVariants.{Memory}
-use Rattle.venue_text.specs.declared.live_form.LiveForm.{LiveForm}
-use Rattle.venue_commands.specs.Arguments.{Command, arguments_fault, command_of, is_help, is_mistake}
-use Rattle.venue_commands.specs.Arguments.{live_form, may_be_help, may_be_mistake}
+use Rattle.venue_commands.specs.Arguments.{Command, LineForm, arguments_fault, command_of, is_help, is_mistake}
+use Rattle.venue_commands.specs.Arguments.{line_form, may_be_help, may_be_mistake, meant_form}
 use Rattle.venue_commands.specs.LiveRuns.{EndsInLive, EndsOver}
-use Rattle.venue_commands.specs.Runs.{EndsAsAsked, EndsBy, EndsInCommand, EndsInMemory, EndsOf, EndsTold}
+use Rattle.venue_commands.specs.Runs.{EndsAsAsked, EndsBy, EndsInCommand, EndsInMemory, EndsOf, EndsTold, word_of}
 use Rattle.venue_commands.specs.Written.{Streams, Written}
+use Rattle.venue_commands.specs.declared.command.LineForm.{LineForm as RustForm}
 use Rattle.venue_commands.proofs.StreamLemmas.{keeps_same}
 use Rattle.venue_commands.proofs.LawfulArguments.{lawful_arguments}
 
@@ -54,10 +54,10 @@ memory_alone status streams (inr (inl help)) = absurd (false≢true help.0)
 memory_alone status streams (inr (inr mistake)) = absurd (false≢true mistake.0)
 
 -- no line was answered then
-before_lines : (form : LiveForm) (known : Option (List ℕ)) (status : ℕ) (streams : Streams) → EndsInMemory status streams.out streams.err
-    → IfSome known (λ all. EndsOver form all status streams)
-before_lines form None status streams memory = tt
-before_lines form (Some all) status streams memory = inr (
+before_lines : (form : LineForm) (word : List ℕ) (known : Option (List ℕ)) (status : ℕ) (streams : Streams) → EndsInMemory status streams.out streams.err
+    → IfSome known (λ all. EndsOver form word all status streams)
+before_lines form word None status streams memory = tt
+before_lines form word (Some all) status streams memory = inr (
   memory.0,
   record {
     fault = Memory;
@@ -73,17 +73,17 @@ before_lines form (Some all) status streams memory = inr (
   },
 )
 
-of_memory : (form : Option LiveForm) (command : Command) (status : ℕ) (streams : Streams) → EndsInMemory status streams.out streams.err
+of_memory : (form : Option LineForm) (command : Command) (status : ℕ) (streams : Streams) → EndsInMemory status streams.out streams.err
     → EndsOf form command status streams
 of_memory None command status streams memory = inr (memory.0, record { fault = Memory; left = memory.1; told = memory.2 })
 of_memory (Some form) command status streams memory =
-    (inr memory.0, before_lines form streams.input status streams memory)
+    (inr memory.0, before_lines form (word_of command) streams.input status streams memory)
 
 ends_by : (asked : Option Command) (kinds : Kinds) (status : ℕ) (streams : Streams) → (is_some asked ≡ true → kinds ≡ [])
     → EndsTold kinds status streams.out streams.err → EndsBy asked kinds status streams
 ends_by None kinds status streams none ends = ends
 ends_by (Some command) kinds status streams none ends =
-    of_memory (live_form command) command status streams (memory_alone status streams
+    of_memory (line_form command) command status streams (memory_alone status streams
     (subst (λ (ks : Kinds). EndsTold ks status streams.out streams.err) (none refl) ends))
 
 -- a run whose arguments are no command, or for whose arguments memory was refused
@@ -98,7 +98,7 @@ asked_told text (argument ∷ arguments) error status streams some is ends =
 
 -- a run of a command
 pub asked_command : (words : List Text) (command : Command) (status : ℕ) (streams : Streams) → command_of words ≡ Some command
-    → EndsOf (live_form command) command status streams → EndsAsAsked words status streams
+    → EndsOf (line_form command) command status streams → EndsAsAsked words status streams
 asked_command words command status streams is ends =
     subst (λ (asked : Option Command). EndsBy asked (arguments_fault words) status streams) (sym is) ends
 
@@ -107,11 +107,14 @@ pub some_arguments : {A : Type 0} (arguments : List A) → false ≡ (length arg
 some_arguments [] e = absurd (false≢true e)
 some_arguments (argument ∷ arguments) e = omega arith
 
--- a run of a command that prints one text, and a run of `live`, by the form of the command
-pub in_text : (form : Option LiveForm) (command : Command) (status : ℕ) (streams : Streams) → None ≡ form
+-- a run of a command that prints one text, and one that takes a day line by line, by the form of the command
+pub in_text : (form : Option LineForm) (command : Command) (status : ℕ) (streams : Streams) → None ≡ form
     → EndsInCommand command status streams → EndsOf form command status streams
-in_text form command status streams none ends = subst (λ (f : Option LiveForm). EndsOf f command status streams) none ends
+in_text form command status streams none ends = subst (λ (f : Option LineForm). EndsOf f command status streams) none ends
 
-pub in_live : (live_in : LiveForm) (form : Option LiveForm) (command : Command) (status : ℕ) (streams : Streams) → Some live_in ≡ form
-    → EndsInLive live_in status streams → EndsOf form command status streams
-in_live live_in form command status streams some ends = subst (λ (f : Option LiveForm). EndsOf f command status streams) some ends
+pub in_live : (live_in : RustForm) (form : Option LineForm) (command : Command) (word : List ℕ) (status : ℕ) (streams : Streams)
+    → option_map meant_form (Some live_in) ≡ form → word ≡ word_of command
+    → EndsInLive (meant_form live_in) word status streams → EndsOf form command status streams
+in_live live_in form command word status streams some is ends =
+    subst (λ (f : Option LineForm). EndsOf f command status streams) some
+    (subst (λ (w : List ℕ). EndsInLive (meant_form live_in) w status streams) is ends)

@@ -326,17 +326,19 @@ pub record AreFound (flags : Flags) (rows : List Row) : Type 0 where
   pub frames : FlagIs (one_of (codes "frames") rows) flags.frames
   pub woven : FlagIs (one_of (codes "woven") rows) flags.woven
   pub marks : FlagIs (one_of (codes "marks") rows) flags.marks
+  pub live : FlagIs (one_of (codes "live") rows) flags.live
 
-abbrev these_flags : Bool → Bool → Bool → Flags
-these_flags frames woven marks = record { frames = frames; woven = woven; marks = marks }
+abbrev these_flags : Bool → Bool → Bool → Bool → Flags
+these_flags frames woven marks live = record { frames = frames; woven = woven; marks = marks; live = live }
 
 same_flags : (words given_flags : List Text) (rows : List Row) (flags : Flags) → AreRead words given_flags rows → AreFound flags rows → flags ≡ given given_flags
 same_flags words given_flags rows flags read found =
     let frames = same_flag _ _ flags.frames (read.flag (codes "frames") refl) found.frames in
     let woven = same_flag _ _ flags.woven (read.flag (codes "woven") refl) found.woven in
     let marks = same_flag _ _ flags.marks (read.flag (codes "marks") refl) found.marks in
-    ap₂ (λ f w. these_flags f w flags.marks) frames woven
-    ∙ ap (these_flags (given given_flags).frames (given given_flags).woven) marks
+    let live = same_flag _ _ flags.live (read.flag (codes "live") refl) found.live in
+    ap₂ (λ f w. these_flags f w flags.marks flags.live) frames woven
+    ∙ ap₂ (these_flags (given given_flags).frames (given given_flags).woven) marks live
 
 -- each command of a table asks for what its name does
 abbrev AskByName : List Line → Type 0

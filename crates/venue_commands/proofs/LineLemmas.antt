@@ -13,8 +13,10 @@ use Rattle.venue_text.specs.DueText.{Lines}
 use Rattle.venue_text.specs.Lines.{is_skipped, lines_of, spoken_from}
 use Rattle.venue_text.specs.LiveInput.{are_divided, as_part, configuration_in, lines_text, numbered_from, numbered_in, steps_in, taken_in, taken_of, text_in}
 use Rattle.venue_text.specs.LiveLines.{Taken, line_text, nothing_taken, with_any_line, with_line}
-use Rattle.venue_text.specs.VenueParts.{is_divider, part_behind, text_of_lines}
+use Rattle.venue_text.specs.VenueParts.{InputPart, is_divided, is_divider, part_before, part_behind, spoken_in, text_of, text_of_lines}
 use Rattle.venue_text.specs.declared.live_form.LiveForm.{LiveForm}
+use Rattle.venue_commands.specs.LiveRuns.{are_four, behind_one, first_taken, second_configuration, second_day, second_taken}
+use Rattle.venue_commands.specs.LiveStages.{taken_at}
 
 -- The first element of a list that passes a test.
 
@@ -164,6 +166,115 @@ module _ (config : Configuration) (lines : List (List ℕ)) (line : List ℕ) (d
         | inl skipped ↦ taken_more ∙ rw skipped refl
         | inr spoken ↦ taken_more ∙ rw spoken refl
       ]
+
+-- The same behind a configuration whose first line has number k.
+
+module _ (config : Configuration) (k : ℕ) (lines : List (List ℕ)) (line : List ℕ) where
+  pub nothing_at : are_divided lines ≡ false → is_divider line ≡ true → taken_at config k (lines ++ line ∷ []) ≡ nothing_taken (values_of config)
+  unfolding taken_of
+  nothing_at undivided here =
+      ap (λ l. fold (with_line (values_of config)) (nothing_taken (values_of config)) (spoken_from (k + length (before_first is_divider (lines ++ line ∷ [])) + 1) l))
+      (after_more is_divider lines (line ∷ []) undivided ∙ after_here is_divider line [] here)
+
+  module _ (divided : are_divided lines ≡ true) where
+    steps_at : spoken_in (part_behind (record { first = k; lines = lines ++ line ∷ [] }))
+        ≡ spoken_in (part_behind (record { first = k; lines = lines })) ++ spoken_from (k + length lines) (line ∷ [])
+    steps_at =
+        let stay = parts_stay is_divider lines (line ∷ []) divided in
+        let first = k + length (before_first is_divider lines) + 1 in
+        let place : first + length (after_first is_divider lines) ≡ k + length lines = omega (arith, stay.count) in
+        ap₂ (λ (b a : List (List ℕ)). spoken_from (k + length b + 1) a) stay.before stay.after
+        ∙ spoken_more first (after_first is_divider lines) line
+        ∙ ap (λ n. spoken_from first (after_first is_divider lines) ++ spoken_from n (line ∷ [])) place
+
+    taken_more_at : taken_at config k (lines ++ line ∷ []) ≡ fold (with_line (values_of config)) (taken_at config k lines) (spoken_from (k + length lines) (line ∷ []))
+    unfolding taken_of
+    taken_more_at =
+        ap (fold (with_line (values_of config)) (nothing_taken (values_of config))) steps_at
+        ∙ fold-append (with_line (values_of config)) (nothing_taken (values_of config)) (spoken_in (part_behind (record { first = k; lines = lines })))
+        (spoken_from (k + length lines) (line ∷ []))
+
+    pub taken_any_at : taken_at config k (lines ++ line ∷ []) ≡ with_any_line (values_of config) (taken_at config k lines) (k + length lines, line)
+    taken_any_at =
+        elim (cases_Bool (is_skipped line)) [
+          | inl skipped ↦ taken_more_at ∙ rw skipped refl
+          | inr spoken ↦ taken_more_at ∙ rw spoken refl
+        ]
+
+-- Two days, one behind the other.
+
+abbrev part_of : ℕ → List (List ℕ) → InputPart
+part_of k lines = record { first = k; lines = lines }
+
+before_none : {X : Type 0} (p : X → Bool) (xs : List X) → list_any p xs ≡ false → before_first p xs ≡ xs
+before_none p xs none = ap (before_first p) (sym (append-nil xs)) ∙ before_more p xs [] none ∙ append-nil xs
+
+after_none : {X : Type 0} (p : X → Bool) (xs : List X) → list_any p xs ≡ false → after_first p xs ≡ []
+after_none p xs none = ap (after_first p) (sym (append-nil xs)) ∙ after_more p xs [] none
+
+pub undivided_alone : (lines : List (List ℕ)) → are_divided lines ≡ false → are_four lines ≡ false
+undivided_alone lines undivided = ap (λ l. list_any is_divider (after_first is_divider l)) (after_none is_divider lines undivided)
+
+pub first_alone : (lines : List (List ℕ)) → is_divided (behind_one lines) ≡ false → are_four lines ≡ false
+first_alone lines alone = ap (list_any is_divider) (after_none is_divider (behind_one lines).lines alone)
+
+pub first_taken_alone : (config : Configuration) (lines : List (List ℕ)) → is_divided (behind_one lines) ≡ false
+    → first_taken config lines ≡ taken_in config lines
+first_taken_alone config lines alone =
+    ap (λ l. taken_of (values_of config) (spoken_in (part_of (behind_one lines).first l))) (before_none is_divider (behind_one lines).lines alone)
+
+-- the first steps of a day
+pub none_behind : (lines : List (List ℕ)) (line : List ℕ) → are_divided lines ≡ false → is_divider line ≡ true
+    → is_divided (behind_one (lines ++ line ∷ [])) ≡ false
+none_behind lines line undivided here =
+    ap (list_any is_divider) (after_more is_divider lines (line ∷ []) undivided ∙ after_here is_divider line [] here)
+
+-- a line more of them
+pub alone_still : (lines : List (List ℕ)) (line : List ℕ) → are_divided lines ≡ true → is_divided (behind_one lines) ≡ false
+    → is_divider line ≡ false → is_divided (behind_one (lines ++ line ∷ [])) ≡ false
+alone_still lines line divided alone other =
+    ap (list_any is_divider) (parts_stay is_divider lines (line ∷ []) divided).after
+    ∙ still_undivided (behind_one lines).lines line alone other
+
+module _ (first : List (List ℕ)) (divider : List ℕ) (behind : List (List ℕ)) (divided : are_divided first ≡ true)
+    (alone : is_divided (behind_one first) ≡ false) (divides : is_divider divider ≡ true) where
+  abbrev own_steps : List (List ℕ)
+  own_steps = after_first is_divider first
+
+  behind_is : behind_one (first ++ divider ∷ behind) ≡ part_of (behind_one first).first (own_steps ++ divider ∷ behind)
+  behind_is =
+      let stay = parts_stay is_divider first (divider ∷ behind) divided in
+      ap₂ (λ (b a : List (List ℕ)). part_of (1 + length b + 1) a) stay.before stay.after
+
+  before_is : before_first is_divider (own_steps ++ divider ∷ behind) ≡ own_steps
+  before_is =
+      before_more is_divider own_steps (divider ∷ behind) alone ∙ ap (λ l. own_steps ++ l) (before_here is_divider divider behind divides)
+      ∙ append-nil own_steps
+
+  after_is : after_first is_divider (own_steps ++ divider ∷ behind) ≡ behind
+  after_is = after_more is_divider own_steps (divider ∷ behind) alone ∙ after_here is_divider divider behind divides
+
+  second_is : second_day (first ++ divider ∷ behind) ≡ part_of (length first + 2) behind
+  second_is =
+      let stay = parts_stay is_divider first [] divided in
+      let number : (behind_one first).first + length own_steps + 1 ≡ length first + 2 = omega (arith, stay.count) in
+      ap (λ (p : InputPart). part_behind p) behind_is
+      ∙ ap₂ (λ (b a : List (List ℕ)). part_of ((behind_one first).first + length b + 1) a) before_is after_is
+      ∙ ap (λ n. part_of n behind) number
+
+  pub four_is : are_four (first ++ divider ∷ behind) ≡ are_divided behind
+  four_is = ap (λ (p : InputPart). is_divided p) second_is
+
+  pub second_configuration_is : second_configuration (first ++ divider ∷ behind) ≡ configuration_in behind
+  second_configuration_is = ap (λ (p : InputPart). text_of (part_before p)) second_is
+
+  pub first_taken_is : (config : Configuration) → first_taken config (first ++ divider ∷ behind) ≡ taken_in config first
+  first_taken_is config =
+      ap (λ (p : InputPart). taken_of (values_of config) (spoken_in (part_before p))) behind_is
+      ∙ ap (λ l. taken_of (values_of config) (spoken_in (part_of (behind_one first).first l))) before_is
+
+  pub second_taken_is : (config : Configuration) → second_taken config (first ++ divider ∷ behind) ≡ taken_at config (length first + 2) behind
+  second_taken_is config = ap (λ (p : InputPart). taken_of (values_of config) (spoken_in (part_behind p))) second_is
 
 -- lines that are skipped bring nothing
 any_lines : (config : ConfigValues) (taken : Taken) (k : ℕ) (lines : List (List ℕ))

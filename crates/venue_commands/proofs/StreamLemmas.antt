@@ -8,7 +8,7 @@ use Rattle.std.proofs.lemmas.List.{append-nil, take-append-drop, take_all, lengt
 use Rattle.std.proofs.lemmas.List.{length-append}
 use Rattle.std.proofs.Math.Seq.{take-append_seam}
 use Rattle.venue_text.specs.declared.lines.TheConstants.{MOST_INPUT}
-use Rattle.venue_commands.specs.Arguments.{Command, alone, blotter, compare, day, due, live, replay}
+use Rattle.venue_commands.specs.Arguments.{Command, alone, blotter, compare, compared, day, due, kept, live, replay}
 use Rattle.venue_commands.specs.Runs.{FaultLeaves, HasPrinted, HasPrintedPart, IsFaultOf, IsReadOf, IsTextOf}
 use Rattle.venue_commands.specs.Written.{Gains, GainsPart, Written}
 use Rattle.venue_text.specs.declared.faults.ProgramFault.{ProgramFault}
@@ -28,10 +28,10 @@ appends_both (Some xs) (Some ys) None a b first second = absurd second
 appends_both (Some xs) (Some ys) (Some zs) a b first second = second ∙ ap (λ l. l ++ b) first ∙ append_assoc xs a b
 
 pub appends_kept : (old mid new : Option (List ℕ)) (a : List ℕ) → Appends old mid a → Keeps mid new → Appends old new a
-appends_kept None mid new a first kept = tt
-appends_kept (Some xs) None new a first kept = absurd first
-appends_kept (Some xs) (Some ys) None a first kept = absurd kept
-appends_kept (Some xs) (Some ys) (Some zs) a first kept = kept ∙ first
+appends_kept None mid new a first stays = tt
+appends_kept (Some xs) None new a first stays = absurd first
+appends_kept (Some xs) (Some ys) None a first stays = absurd stays
+appends_kept (Some xs) (Some ys) (Some zs) a first stays = stays ∙ first
 
 -- what was taken of a text
 pub prefix_taken : (out : Written) (text written rest : List ℕ) → Gains written out → text ≡ written ++ rest → GainsPart text out
@@ -57,8 +57,8 @@ nothing_taken (Some xs) text = record { taken = 0; gained = sym (append-nil xs) 
 
 pub all_taken : (old mid new : Option (List ℕ)) (text : List ℕ) → Appends old mid text → Keeps mid new
     → GainsPart text (record { before = old; after = new })
-all_taken old mid new text all kept =
-    prefix_taken (record { before = old; after = new }) text text [] (appends_kept old mid new text all kept) (sym (append-nil text))
+all_taken old mid new text all stays =
+    prefix_taken (record { before = old; after = new }) text text [] (appends_kept old mid new text all stays) (sym (append-nil text))
 
 -- what was read, unless it is too long, is all
 all_read : (all bytes : List ℕ) → IsReadOf all bytes → length bytes ≤ MOST_INPUT → bytes ≡ all
@@ -72,7 +72,9 @@ long_fault (replay firm with_frames) input fault long is = let same : Err Input 
 long_fault (day with_frames woven) input fault long (inl is) = let same : Err Input ≡ Err fault = rw long at is in cc
 long_fault (day with_frames woven) input fault long (inr (inl unkept)) = let lawful = unkept.lawful in absurd (false≢true (rw long at lawful))
 long_fault (day with_frames woven) input fault long (inr (inr unwoven)) = let same = unwoven.recorded.spelled in cc (rw long at same)
-long_fault (live with_frames) input fault long is = absurd is
+long_fault (live form) input fault long is = absurd is
+long_fault (kept wanted) input fault long is = absurd is
+long_fault (compared dealer) input fault long is = absurd is
 long_fault (due dealer) input fault long is = let same : Err Input ≡ Err fault = rw long at is in cc
 long_fault (compare dealer) input fault long is = let same : Err Input ≡ Err fault = rw long at is in cc
 long_fault (blotter firm) input fault long is = let same : Err Input ≡ Err fault = rw long at is in cc
@@ -82,7 +84,9 @@ too_long : (command : Command) (input bytes : List ℕ) (fault : ProgramFault) �
 too_long (alone with_frames) input bytes fault long is = rw long refl
 too_long (replay firm with_frames) input bytes fault long is = rw long refl
 too_long (day with_frames woven) input bytes fault long is = inl (rw long refl)
-too_long (live with_frames) input bytes fault long is = absurd is
+too_long (live form) input bytes fault long is = absurd is
+too_long (kept wanted) input bytes fault long is = absurd is
+too_long (compared dealer) input bytes fault long is = absurd is
 too_long (due dealer) input bytes fault long is = rw long refl
 too_long (compare dealer) input bytes fault long is = rw long refl
 too_long (blotter firm) input bytes fault long is = rw long refl
@@ -92,7 +96,9 @@ no_text : (command : Command) (input text : List ℕ) → nat_lt MOST_INPUT (len
 no_text (alone with_frames) input text long is = let fits = is.fits in grind (arith, nat_tests)
 no_text (replay firm with_frames) input text long is = let same = is.spelled in cc (rw long at same)
 no_text (day with_frames woven) input text long is = let same = is.recorded.spelled in cc (rw long at same)
-no_text (live with_frames) input text long is = absurd is
+no_text (live form) input text long is = absurd is
+no_text (kept wanted) input text long is = absurd is
+no_text (compared dealer) input text long is = absurd is
 no_text (due dealer) input text long is = let same = is.spelled in cc (rw long at same)
 no_text (compare dealer) input text long is = let same = is.spelled in cc (rw long at same)
 no_text (blotter firm) input text long is = let same = is.spelled in cc (rw long at same)

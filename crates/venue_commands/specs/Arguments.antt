@@ -43,6 +43,8 @@ pub data Command : Type 0 where
   due : Text → Command
   -- what differs for the dealer with this name between two days
   compare : Text → Command
+  -- the same of two days that come line by line, as `live` takes them
+  compared : Text → Command
   -- the blotter of the firm with this name
   blotter : Text → Command
 
@@ -51,6 +53,8 @@ pub data Command : Type 0 where
 pub data LineForm : Type 0 where
   answered : LiveForm → LineForm
   kept_for : Wanted → LineForm
+  -- two days, and at the end of the second what differs for the dealer with this name
+  compared_for : Text → LineForm
 
 -- whether a command takes a day line by line, and what it prints then
 abbrev pub line_form : Command → Option LineForm
@@ -61,6 +65,7 @@ line_form (live form) = Some (answered form)
 line_form (kept wanted) = Some (kept_for wanted)
 line_form (due dealer) = None
 line_form (compare dealer) = None
+line_form (compared dealer) = Some (compared_for dealer)
 line_form (blotter firm) = None
 
 -- The words behind a command's name.
@@ -148,13 +153,16 @@ marks_flag = codes "marks"
 abbrev pub live_flag : Text
 live_flag = codes "live"
 
--- a replay, a due text and a blotter, by the flags
+-- a replay, a due text, a comparison and a blotter, by the flags
 abbrev pub replay_by : Option Text → Flags → Command
 replay_by word flags =
     if flags.live then kept (messages word flags.frames) else replay word flags.frames
 
 abbrev pub due_by : Text → Flags → Command
 due_by dealer flags = if flags.live then kept (dues dealer) else due dealer
+
+abbrev pub compare_by : Text → Flags → Command
+compare_by dealer flags = if flags.live then compared dealer else compare dealer
 
 abbrev pub blotter_by : Text → Flags → Command
 blotter_by firm flags = if flags.live then kept (kept_days.blotter firm) else blotter firm
@@ -173,7 +181,8 @@ commands =
     ∷ line (codes "day") (frames_flag ∷ woven_flag ∷ []) no_word
     (λ word flags. day flags.frames flags.woven)
     ∷ line (codes "due") (live_flag ∷ []) one_word (λ word flags. due_by (unwrap_or word []) flags)
-    ∷ line (codes "compare") [] one_word (λ word flags. compare (unwrap_or word []))
+    ∷ line (codes "compare") (live_flag ∷ []) one_word
+    (λ word flags. compare_by (unwrap_or word []) flags)
     ∷ line (codes "blotter") (live_flag ∷ []) one_word
     (λ word flags. blotter_by (unwrap_or word []) flags)
     ∷ line (codes "live") (frames_flag ∷ marks_flag ∷ []) no_word (λ word flags. live (form_by flags))
@@ -204,7 +213,7 @@ named_command name firm flags =
     else (if bytes_eq name (codes "day") then day flags.frames flags.woven
     else (if bytes_eq name (codes "live") then live (form_by flags)
     else (if bytes_eq name (codes "due") then due_by (unwrap_or firm []) flags
-    else (if bytes_eq name (codes "compare") then compare (unwrap_or firm [])
+    else (if bytes_eq name (codes "compare") then compare_by (unwrap_or firm []) flags
     else blotter_by (unwrap_or firm []) flags)))))
 
 -- the command of the code's type
@@ -216,12 +225,14 @@ meant (rust.Day frames woven) = day frames woven
 meant (rust.Live form) = live form
 meant (rust.Due dealer) = due dealer.now
 meant (rust.Compare dealer) = compare dealer.now
+meant (rust.Compared dealer) = compared dealer.now
 meant (rust.Blotter firm) = blotter firm.now
 
 -- the same of what it prints
 abbrev pub meant_form : RustForm → LineForm
 meant_form (rust_form.Answered form) = answered form
 meant_form (rust_form.Kept wanted) = kept_for (kept_days.meant wanted)
+meant_form (rust_form.Compared dealer) = compared_for dealer.now
 
 -- The same as clap reads it.
 

@@ -16,10 +16,10 @@ use Rattle.venue_text.specs.ReplayText.{IsReplayed}
 use Rattle.venue_text.specs.declared.faults.ProgramFault.{ProgramFault}
 use Rattle.venue_text.specs.declared.faults.ProgramFault.TheVariants.{Read, Memory, Write}
 use Rattle.venue_text.specs.declared.lines.TheConstants.{MOST_INPUT}
-use Rattle.venue_text.specs.declared.line_form.LiveForm.{LiveForm}
-use Rattle.venue_commands.specs.Arguments.{Command, LineForm, alone, arguments_fault, blotter, command_of, kept}
-use Rattle.venue_commands.specs.Arguments.{compare, day, due, live, line_form, may_be_help}
-use Rattle.venue_commands.specs.Arguments.{may_be_mistake, replay}
+use Rattle.venue_commands.specs.Arguments.{Command, LineForm, alone, arguments_fault, blotter}
+use Rattle.venue_commands.specs.Arguments.{command_of, compare, compared, day, due, kept, live}
+use Rattle.venue_commands.specs.Arguments.{line_form}
+use Rattle.venue_commands.specs.Arguments.{may_be_help, may_be_mistake, replay}
 use Rattle.venue_commands.specs.LiveRuns.{EndsInLive}
 use Rattle.venue_commands.specs.ThreadedDays.{IsDay, IsDayFault}
 use Rattle.venue_commands.specs.Written.{Streams, Written, Gains, GainsPart, IsUntouched}
@@ -35,6 +35,7 @@ IsTextOf (live form) input text = ⊥  -- it is taken line by line
 IsTextOf (kept wanted) input text = ⊥  -- the same
 IsTextOf (due dealer) input text = IsDueText dealer input text
 IsTextOf (compare dealer) input text = IsCompared dealer input text
+IsTextOf (compared dealer) input text = ⊥  -- line by line, too
 IsTextOf (blotter firm) input text = IsBlotter firm input text
 
 -- the first fault of an input, for a command
@@ -45,6 +46,7 @@ IsFaultOf (day with_frames woven) input fault = IsDayFault woven input fault
 IsFaultOf (live form) input fault = ⊥  -- it tells line by line
 IsFaultOf (kept wanted) input fault = ⊥  -- the same
 IsFaultOf (due dealer) input fault = one_day (dealer_by dealer) input ≡ Err fault
+IsFaultOf (compared dealer) input fault = ⊥  -- line by line, too
 IsFaultOf (compare dealer) input fault = two_days (dealer_by dealer) input ≡ Err fault
 IsFaultOf (blotter firm) input fault = one_day (firm_by firm) input ≡ Err fault
 
@@ -64,6 +66,7 @@ word_of (live form) = []
 word_of (kept wanted) = word_in wanted
 word_of (due dealer) = dealer
 word_of (compare dealer) = dealer
+word_of (compared dealer) = dealer
 word_of (blotter firm) = firm
 
 -- What was read of all bytes: their front, and all of them unless there are more than an input has.

@@ -54,6 +54,11 @@ pub(crate) enum VenueCommand<'a> {
         /// Its name.
         dealer: &'a str,
     },
+    /// The same of two days that come line by line, as `live` takes them.
+    Compared {
+        /// Its name.
+        dealer: &'a str,
+    },
     /// The blotter of a firm.
     Blotter {
         /// Its name.
@@ -68,6 +73,8 @@ pub(crate) enum LineForm<'a> {
     Answered(LiveForm),
     /// What is asked for, at the end.
     Kept(Wanted<'a>),
+    /// Two days, and at the end of the second what differs for the dealer with this name.
+    Compared(&'a [u8]),
 }
 
 /// What is told of arguments that are not those of a command.
@@ -152,7 +159,7 @@ fn command_named<'a>(name: &str, firm: Option<&'a str>, flags: Flags) -> VenueCo
         return due_by(word, flags);
     }
     if name == "compare" {
-        return VenueCommand::Compare { dealer: word };
+        return compare_by(word, flags);
     }
     blotter_by(word, flags)
 }
@@ -165,6 +172,16 @@ fn due_by<'a>(dealer: &'a str, flags: Flags) -> VenueCommand<'a>
         return VenueCommand::Kept(Wanted::Due(dealer.as_bytes()));
     }
     VenueCommand::Due { dealer }
+}
+
+/// A comparison, by the flags that are given.
+fn compare_by<'a>(dealer: &'a str, flags: Flags) -> VenueCommand<'a>
+    ensures { spec.meant result ≡ spec.compare_by dealer.now flags }
+{
+    if flags.live {
+        return VenueCommand::Compared { dealer };
+    }
+    VenueCommand::Compare { dealer }
 }
 
 /// A blotter, by the flags that are given.
@@ -207,6 +224,7 @@ pub(crate) fn line_form<'a>(command: &VenueCommand<'a>) -> Option<LineForm<'a>>
     match command {
         VenueCommand::Live { form } => Some(LineForm::Answered(*form)),
         VenueCommand::Kept(wanted) => Some(LineForm::Kept(*wanted)),
+        VenueCommand::Compared { dealer } => Some(LineForm::Compared(dealer.as_bytes())),
         VenueCommand::Alone { .. } => None,
         VenueCommand::Replay { .. } => None,
         VenueCommand::Day { .. } => None,

@@ -40,8 +40,8 @@ pub(crate) const DEALER: &str = "The name of a dealer of the configuration";
 pub(crate) const READS: &str = "\
 Everything is read from standard input, at most 16,777,216 bytes: due text for `alone`, a day of
 the venue for `replay`, `due` and `blotter`, one without turns for `day`, two days for `compare`;
-for `live` a day of the venue line by line, without this limit. The help of a command tells its
-form. No arguments at all mean `alone`.
+for `live`, and with `--live`, a day of the venue line by line, without this limit. The help of a
+command tells its form. No arguments at all mean `alone`.
 
 The status is 0 when done, 1 for a fault, with one line on standard error, and 2 for wrong
 arguments.";
@@ -55,6 +55,7 @@ and then, in the order in which it happens,
                                                     a request that the dealer is shown
   say TRADER TIME TYPE BODY                         a message of the dealer's own
   own TIME FRAME                                    its bytes, with a vertical bar for each SOH
+  hex TIME HEX                                      its bytes, two hexadecimal digits each
   lifted N                                          the dealer's quote N is lifted
   closed N KIND TIME                                the dealer is told how its request N ended:
                                                     1 hit, 3 expired, 4 cover, 5 done away, 6 passed
@@ -93,9 +94,11 @@ Standard input is a day of the venue, at most 16,777,216 bytes: a configuration 
 and in the order in which they happen the steps of the day, a line each:
   say FIRM TRADER TIME TYPE BODY    a message of a firm
   in FIRM TIME FRAME                its bytes, with a vertical bar for each SOH
+  hex FIRM TIME HEX                 its bytes, two hexadecimal digits each
   piece FIRM TIME BYTES             the next bytes of a firm, in which its messages may end
   turn ACTOR N                      a firm, or CLOCK, does its N oldest duties, 1 to 1000
   expire FIRM N TIME                the sweep of the room of an investor's request N
+  clock TIME                        the sweep of every room
 One space divides the parts of a line. Empty lines and lines that begin with # are skipped.
 
   TIME            HH:MM:SS or HH:MM:SS.sss
@@ -105,6 +108,10 @@ One space divides the parts of a line. Empty lines and lines that begin with # a
 
 The configuration has `version`, `date`, and the tables `bond` (id), `dealer` (name, traders,
 quotes, exposure) and `investor` (name, traders, requests, open, quantity).
+
+With --live each step is followed by the turns that leave no duty, as `live` does them, and a line
+`turn` is of no form. A line of steps at fault is told on standard error, as `line K: form`, and
+skipped; the input has no limit but those of `live`.
 
 Example:
   version = 1
@@ -129,7 +136,8 @@ Example:
 pub(crate) const THREADS: &str = "\
 Standard input is a day of the venue, at most 16,777,216 bytes: a configuration in TOML, a line %%,
 and lines of steps as the help of `replay` has them, but no `turn`. The lines of a firm with `say`,
-`in` and `piece` are its inbox in their order, and those with `expire` the sweeps of the clock.
+`in`, `hex` and `piece` are its inbox in their order, and those with `expire` and `clock` the sweeps
+of the clock.
 
 The firms take their inboxes at the same time, each on a thread of its own, and each does its duties
 as they come; the clock makes its sweeps on another. So what is printed may be another day on
@@ -165,4 +173,6 @@ Standard input is two days of the venue, at most 16,777,216 bytes in all: a conf
 Three lines are printed: `row equal` or `row differs`, by the date and the row of the dealer; `due
 equal` or `due differs at K`, by what is due to it; `messages equal` or `messages differ at K`, by
 what it is sent. K is the first position, from 1, at which one list has something else, or has
-ended.";
+ended.
+
+With --live both days are taken as `live` takes them, as the help of `replay` says.";

@@ -1,12 +1,9 @@
 //! The commands that take a day line by line: `live`, which answers each line as it comes, and
 //! `replay --live`, which prints the messages of the firms at the end.
-ghost use Rattle.std.specs.Prelude.{◌≡◌, ◌≢◌, ◌==◌, ◌<◌, ◌≤◌, ◌+◌, ◌++◌, ◌⊎◌, [], ◌∷◌, length, Ok, Err, Some};
+ghost use Rattle.std.specs.Prelude.{◌≡◌, ◌≢◌, ◌==◌, ◌<◌, ◌≤◌, ◌++◌, ◌⊎◌, [], ◌∷◌, length};
 ghost use Rattle.std.specs.Prelude.{IfOk, IfErr, IfSome, OnOk, OnErr};
 ghost use Rattle.std.specs.Io.KnownBytes.{Appends};
 ghost use Rattle.std.specs.Option.{option_to_list};
-ghost use Rattle.venue_config.specs.Rows.{Configuration, values_of};
-ghost use Rattle.venue_text.specs.Lines.{lines_of};
-ghost use Rattle.venue_text.specs.VenueParts.{venue_of};
 ghost use Rattle.venue_commands.specs.Arguments.{meant_form};
 ghost use Rattle.venue_commands.specs.LiveRuns as spec;
 ghost use Rattle.venue_commands.specs.LiveStages as stages;
@@ -17,7 +14,7 @@ use crate::program::{print_text, report};
 use std::alloc::Global;
 use std::io::{Read, Write};
 use std::mem;
-use venue_text::{KeptDay, LiveDay, MOST_INPUT, ProgramFault, same_text};
+use venue_text::{KeptDay, LiveDay, MOST_INPUT, ProgramFault, Wanted, compared_text, same_text};
 
 /// How many lines a day that goes on may have.
 pub const MOST_LINES: usize = 1_000_000_000_000_000;
@@ -34,6 +31,12 @@ enum Stage {
     Day(LiveDay),
     /// The day goes on, and its messages are kept.
     Kept(KeptDay),
+    /// The first of two days goes on.
+    First(KeptDay),
+    /// The first of two days has ended, and these are the lines of the second's configuration.
+    Between(KeptDay, Vec<u8>),
+    /// The second of two days goes on.
+    Both(KeptDay, KeptDay),
 }
 
 /// A run of `live`: what was read so far.
@@ -59,7 +62,7 @@ pub(crate) fn run_live<R: Read, W: Write, E: Write>(
     out: &mut W,
     err: &mut E,
 ) -> u8
-    ensures { spec.EndsInLive (meant_form form) word.now result (record {
+    ensures { spec.EndsInLive (meant_form form.entry) word.now result (record {
       input = R.remaining input.old;
       left = R.remaining input.new;
       out = record { before = W.contents out.old; after = W.contents out.new };
@@ -107,7 +110,7 @@ fn answer_all<R: Read, W: Write, E: Write>(
 impl<'a> LiveRun<'a> {
     /// Nothing was read.
     fn new(alloc: Global, form: LineForm<'a>) -> Self
-        ensures first { stages.StandsFirst (meant_form form) result }
+        ensures first { stages.StandsFirst (meant_form form.entry) result }
     {
         LiveRun {
             alloc,
@@ -241,6 +244,13 @@ fn close<W: Write>(alloc: Global, stage: Stage, out: &mut W) -> Result<(), Progr
             print_text(out, text.as_slice())?;
             Ok(())
         }
+        Stage::First(_) => Err(ProgramFault::Parts),
+        Stage::Between(_, _) => Err(ProgramFault::Parts),
+        Stage::Both(one, other) => {
+            let text = compared_text(alloc, one, other)?;
+            print_text(out, text.as_slice())?;
+            Ok(())
+        }
     }
 }
 
@@ -254,14 +264,19 @@ fn answer_at<W: Write, E: Write>(
     out: &mut W,
     err: &mut E,
 ) -> Result<(), ProgramFault>
-    ensures ok { OnOk result (stages.StageTakes (meant_form form) number line.now stage.old stage.new
+    ensures ok { OnOk result (stages.StageTakes (meant_form form.entry) number line.now
+        stage.old stage.new
         (record { before = W.contents out.old; after = W.contents out.new })
         (record { before = E.contents err.old; after = E.contents err.new })) }
     ensures err { IfErr result (λ fault.
-        stages.StageFails (meant_form form) number line.now stage.old fault
+        stages.StageFails (meant_form form.entry) number line.now stage.old fault
         (record { before = W.contents out.old; after = W.contents out.new })
         (record { before = E.contents err.old; after = E.contents err.new })) }
 {
+    if is_turn(stage, line) {
+        turn(alloc, form, stage)?;
+        return Ok(());
+    }
     match stage {
         Stage::Configuration(text) => {
             let Some(next) = next_stage(alloc, form, text, line)? else {
@@ -275,10 +290,63 @@ fn answer_at<W: Write, E: Write>(
             Ok(())
         }
         Stage::Kept(day) => {
-            let fault = day.take(alloc, number, line)?;
-            tell_fault(err, &fault);
+            keep_step(alloc, number, day, line, err)?;
             Ok(())
         }
+        Stage::First(day) => {
+            keep_step(alloc, number, day, line, err)?;
+            Ok(())
+        }
+        Stage::Between(_, text) => {
+            put_line(text, line)?;
+            Ok(())
+        }
+        Stage::Both(_, day) => {
+            keep_step(alloc, number, day, line, err)?;
+            Ok(())
+        }
+    }
+}
+
+/// Whether a line ends the first of two days, or the configuration of the second.
+fn is_turn(stage: &Stage, line: &[u8]) -> bool
+    ensures { result ≡ stages.is_turn stage.now line.now }
+{
+    match stage {
+        Stage::First(_) => same_text(line, b"%%"),
+        Stage::Between(_, _) => same_text(line, b"%%"),
+        Stage::Configuration(_) => false,
+        Stage::Day(_) => false,
+        Stage::Kept(_) => false,
+        Stage::Both(_, _) => false,
+    }
+}
+
+/// The line that divides two days came, or the one behind the configuration of the second.
+fn turn(alloc: Global, form: LineForm<'_>, stage: &mut Stage) -> Result<(), ProgramFault>
+    ensures ok { OnOk result (stages.Turns (meant_form form.entry) stage.old stage.new) }
+    ensures err { IfErr result (stages.TurnFails (meant_form form.entry) stage.old) }
+{
+    let before = mem::replace(stage, Stage::Configuration(Vec::new(alloc)));
+    *stage = turned(alloc, form, before)?;
+    Ok(())
+}
+
+/// The stage behind such a line.
+fn turned(alloc: Global, form: LineForm<'_>, before: Stage) -> Result<Stage, ProgramFault>
+    ensures ok { IfOk result (stages.Turns (meant_form form.entry) before) }
+    ensures err { IfErr result (stages.TurnFails (meant_form form.entry) before) }
+{
+    let LineForm::Compared(dealer) = form else {
+        return Ok(before);
+    };
+    match before {
+        Stage::First(day) => Ok(Stage::Between(day, Vec::new(alloc))),
+        Stage::Between(one, text) => {
+            let other = KeptDay::open(alloc, Wanted::Due(dealer), text.as_slice())?;
+            Ok(Stage::Both(one, other))
+        }
+        other => Ok(other),
     }
 }
 
@@ -289,8 +357,9 @@ fn next_stage(
     text: &mut Vec<u8>,
     line: &[u8],
 ) -> Result<Option<Stage>, ProgramFault>
-    ensures ok { IfOk result (stages.IsNext (meant_form form) line.now text.old.items text.new.items) }
-    ensures err { IfErr result (stages.IsBad (meant_form form) line.now text.old.items) }
+    ensures ok { IfOk result (stages.IsNext (meant_form form.entry) line.now text.old.items
+        text.new.items) }
+    ensures err { IfErr result (stages.IsBad (meant_form form.entry) line.now text.old.items) }
 {
     if !same_text(line, b"%%") {
         put_line(text, line)?;
@@ -302,11 +371,9 @@ fn next_stage(
 
 /// The day that a configuration opens.
 fn open_stage(alloc: Global, form: LineForm<'_>, text: &[u8]) -> Result<Stage, ProgramFault>
-    ensures ok { IfOk result (stages.OpensStage (meant_form form) text.now) }
+    ensures ok { IfOk result (stages.OpensStage (meant_form form.entry) text.now) }
     ensures err { IfErr result (λ fault. fault ≢ ProgramFault.Memory
-        → (venue_of text.now ≡ Err fault) ⊎ ((config : Configuration)
-        × (venue_of text.now ≡ Ok (values_of config))
-        × (spec.name_fault (meant_form form) (values_of config) ≡ Some fault))) }
+        → stages.OpensNone (meant_form form.entry) text.now fault) }
 {
     match form {
         LineForm::Answered(form) => {
@@ -316,6 +383,10 @@ fn open_stage(alloc: Global, form: LineForm<'_>, text: &[u8]) -> Result<Stage, P
         LineForm::Kept(wanted) => {
             let day = KeptDay::open(alloc, wanted, text)?;
             Ok(Stage::Kept(day))
+        }
+        LineForm::Compared(dealer) => {
+            let day = KeptDay::open(alloc, Wanted::Due(dealer), text)?;
+            Ok(Stage::First(day))
         }
     }
 }
@@ -354,6 +425,24 @@ fn answer_step<W: Write, E: Write>(
     let answer = day.answer(alloc, number, line)?;
     tell_fault(err, &answer.fault);
     print_answer(out, answer.text.as_slice())?;
+    Ok(())
+}
+
+/// A line of steps of a day that is kept is taken, and its fault told, if it has one.
+fn keep_step<E: Write>(
+    alloc: Global,
+    number: usize,
+    day: &mut KeptDay,
+    line: &[u8],
+    err: &mut E,
+) -> Result<(), ProgramFault>
+    ensures ok { OnOk result (stages.KeepsStep number line.now day.old day.new
+        (record { before = E.contents err.old; after = E.contents err.new })) }
+    ensures err { IfErr result (λ fault. (fault ≡ ProgramFault.Memory)
+        × (E.contents err.new ≡ E.contents err.old)) }
+{
+    let fault = day.take(alloc, number, line)?;
+    tell_fault(err, &fault);
     Ok(())
 }
 

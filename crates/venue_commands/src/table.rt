@@ -108,7 +108,7 @@ pub(crate) const COMMANDS: [CommandLine; 7] = [
         name: "compare",
         about: COMPARE,
         input: DAYS,
-        flags: &[],
+        flags: &[WITH_LIVE],
         word: Some(OF_DEALER),
     },
     CommandLine {

@@ -38,6 +38,7 @@ pub(crate) fn command_text<H: Threads + Wait + Sync>(
         VenueCommand::Day { frames, woven } => day_text(rt, alloc, *frames, *woven, input),
         VenueCommand::Live { .. } => unreachable!(),
         VenueCommand::Kept(_) => unreachable!(),
+        VenueCommand::Compared { .. } => unreachable!(),
         VenueCommand::Due { dealer } => due_command_text(alloc, dealer.as_bytes(), input),
         VenueCommand::Compare { dealer } => compare_text(alloc, dealer.as_bytes(), input),
         VenueCommand::Blotter { firm } => blotter_command_text(alloc, firm.as_bytes(), input),
@@ -56,7 +57,7 @@ pub(crate) fn word_bytes(word: Option<&str>) -> Option<&[u8]>
 
 /// The word in what is asked for at the end of a day.
 fn wanted_word<'a>(wanted: Wanted<'a>) -> &'a [u8]
-    ensures { result.now ≡ spec.word_in (kept.meant wanted) }
+    ensures { result.now ≡ spec.word_in (kept.meant wanted.entry) }
 {
     match wanted {
         Wanted::Messages(firm, _) => firm.unwrap_or(b""),
@@ -77,6 +78,7 @@ pub(crate) fn command_word<'a>(command: &VenueCommand<'a>) -> &'a [u8]
         VenueCommand::Kept(wanted) => wanted_word(*wanted),
         VenueCommand::Due { dealer } => dealer.as_bytes(),
         VenueCommand::Compare { dealer } => dealer.as_bytes(),
+        VenueCommand::Compared { dealer } => dealer.as_bytes(),
         VenueCommand::Blotter { firm } => firm.as_bytes(),
     }
 }

@@ -1,5 +1,5 @@
 //! Two threads on one board.
-ghost use Rattle.std.specs.Prelude.{◌≡◌, IfOk, All};
+ghost use Rattle.std.specs.Prelude.{◌≡◌, ◌<◌, IfOk, All};
 ghost use Rattle.quote_word.specs.Board.{Answered};
 
 use quote_word::{Board, BoardSeen, Receipt, Settled};
@@ -24,11 +24,12 @@ fn begins(here: &AtomicU64) {
     }
 }
 
-/// Withdraws each word, from the first to the last.
-fn withdraws_all(
+/// Withdraws or lifts each word, from the first to the last.
+fn settles_all(
     alloc: Global,
     board: &Board,
     seen: BoardSeen,
+    wish: Settled,
     here: &AtomicU64,
 ) -> Result<Vec<Receipt>, AllocError>
     requires { seen.board ≡ board.now }
@@ -37,27 +38,21 @@ fn withdraws_all(
     let mut receipts = Vec::with_capacity(alloc, board.len() as usize)?;
     begins(here);
     for w in 0..board.len() {
-        receipts.push(board.withdraw(seen.again(), w))?;
+        receipts.push(settles(board, seen.again(), wish, w))?;
     }
     Ok(receipts)
 }
 
-/// Lifts each word, from the first to the last.
-fn lifts_all(
-    alloc: Global,
-    board: &Board,
-    seen: BoardSeen,
-    here: &AtomicU64,
-) -> Result<Vec<Receipt>, AllocError>
-    requires { seen.board ≡ board.now }
-    ensures { IfOk result (λ v. All (λ (r : Answered). r.seen.board ≡ board.now) v.items) }
+/// Withdraws or lifts a word.
+fn settles(board: &Board, seen: BoardSeen, wish: Settled, w: u32) -> Receipt
+    requires seen { seen.board ≡ board.now }
+    requires word { w < board.now.words }
+    ensures { result.seen.board ≡ board.now }
 {
-    let mut receipts = Vec::with_capacity(alloc, board.len() as usize)?;
-    begins(here);
-    for w in 0..board.len() {
-        receipts.push(board.lift(seen.again(), w))?;
+    match wish {
+        Settled::Withdrawn => board.withdraw(seen, w),
+        Settled::Lifted => board.lift(seen, w),
     }
-    Ok(receipts)
 }
 
 /// Brings the receipts of each word together, and counts the withdrawals and the lifts.
@@ -94,8 +89,8 @@ fn a_word_has_one_answer_for_two_threads(rt: HostRuntime) -> Result<(), Fail> {
     let alloc = rt.alloc();
     let (withdrawals, lifts) = join(
         &rt,
-        || withdraws_all(alloc, &board, dealer, &here),
-        || lifts_all(alloc, &board, investor, &here),
+        || settles_all(alloc, &board, dealer, Settled::Withdrawn, &here),
+        || settles_all(alloc, &board, investor, Settled::Lifted, &here),
     );
     let (withdrawals, lifts) = (withdrawals?, lifts?);
     assert_eq!(rt;

@@ -43,14 +43,18 @@ pub same_found : {A : Type 0} (one other : List A) (place : ℕ) (x y : A) (test
 same_found one other place x y test is there same =
     (λ t. sym is ∙ ap (λ v. Some v) (same.0 t) ∙ there, λ e. same.1 (let equal : x ≡ y = cc in equal))
 
--- rows that two runs have are one where their dates are
-pub same_row : (one other : Run) (row there : DealerRow) (test : Bool) → one.config.date ≡ other.config.date
-    → dealer_numbered one.config one.dealer ≡ Some row → dealer_numbered other.config other.dealer ≡ Some there
-    → IsTrue test ↔ (row ≡ there) → IsTrue test ↔ HaveSameRow one other
-same_row one other row there test dates is there_is same = (
-  λ t. (dates, is ∙ ap (λ v. Some v) (same.0 t) ∙ sym there_is),
-  λ have. same.1 (let rows = have.1 in let equal : row ≡ there = cc in equal),
+-- whether two rows that may be there are one
+pub same_rows : (one other : Option DealerRow) (row there : DealerRow) (test : Bool) → Some row ≡ one → Some there ≡ other
+    → IsTrue test ↔ (row ≡ there) → IsTrue test ↔ (one ≡ other)
+same_rows one other row there test is there_is same = (
+  λ t. sym is ∙ ap (λ v. Some v) (same.0 t) ∙ there_is,
+  λ rows. same.1 (let equal : row ≡ there = cc in equal),
 )
+
+-- rows of runs of one date
+pub row_alone : (one other : Run) (test : Bool) → one.config.date ≡ other.config.date
+    → IsTrue test ↔ (dealer_numbered one.config one.dealer ≡ dealer_numbered other.config other.dealer) → IsTrue test ↔ HaveSameRow one other
+row_alone one other test dates same = (λ t. (dates, same.0 t), λ have. same.1 have.1)
 
 -- runs of two dates have not the same row
 pub another_date : (one other : Run) → one.config.date ≢ other.config.date → IsTrue false ↔ HaveSameRow one other

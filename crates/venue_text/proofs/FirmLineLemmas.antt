@@ -50,10 +50,10 @@ module _ (config : Configuration) (taken : Taken) (line : ℕ × List ℕ) where
   line_grows =
       elim (cases_Bool (is_skipped line.1)) [
         | inl skipped ↦ (
-            [],
-            ap (λ (t : Taken). t.steps) (any_skipped config taken line.0 line.1 skipped)
-                ∙ sym (append-nil taken.steps),
-          )
+          [],
+          ap (λ (t : Taken). t.steps) (any_skipped config taken line.0 line.1 skipped)
+              ∙ sym (append-nil taken.steps),
+        )
         | inr spoken ↦
             (let read = live_steps_of (values_of config) taken.heard line.0 line.1 in
             let grown = read_grows taken read in (

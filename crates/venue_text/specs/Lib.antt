@@ -10,6 +10,7 @@ pub mod DueLines
 pub mod DueText
 pub mod Faults
 pub mod FirmLines
+pub mod KeptComparison
 pub mod KeptDays
 pub mod Lines
 pub mod LiveAnswers

@@ -7,7 +7,7 @@ ghost use Rattle.venue_text.specs.AskedDays as asked;
 ghost use Rattle.venue_text.specs.CompareCuts as cuts;
 ghost use Rattle.venue_text.specs.CompareText as spec;
 
-use crate::asked_days::{AskedDay, dealer_row, due_on, read_dealers_day, replayed};
+use crate::asked_days::{AskedDay, due_on, read_dealers_day, replayed};
 use crate::faults::ProgramFault;
 use crate::lines::MOST_INPUT;
 use crate::same_dues::is_same_due;
@@ -17,6 +17,7 @@ use itoa::Buffer;
 use quote_messages::SentMessage;
 use std::alloc::Global;
 use step_replay::{Due, World};
+use venue_config::VenueConfig;
 
 /// Whether two venues agree on a dealer, in three lines: its row and the date (`row equal` or `row
 /// differs`), what was due to it (`due equal` or `due differs at K`) and the messages that it was
@@ -39,22 +40,31 @@ pub fn compare_text(alloc: Global, dealer: &[u8], input: &[u8]) -> Result<Vec<u8
     let other = read_dealers_day(alloc, second, dealer)?;
     let due = dues_differ(alloc, &one, &other)?;
     let messages = messages_differ(alloc, &one, &other)?;
-    let text = three_lines(alloc, has_same_row(&one, &other), due, messages)?;
+    let row = has_same_row(&one.venue, one.firm, &other.venue, other.firm);
+    let text = three_lines(alloc, row, due, messages)?;
     Ok(text)
 }
 
-/// Whether the date and the dealer's row are the same in two runs.
-#[tactic(auto, using(crate::proofs::CompareLemmas::same_row, crate::proofs::CompareLemmas::another_date))]
-fn has_same_row(one: &AskedDay, other: &AskedDay) -> bool
-    requires one { IsSome (dealer_numbered one.now.venue one.now.firm) }
-    requires other { IsSome (dealer_numbered other.now.venue other.now.firm) }
-    ensures { IsTrue result ↔ spec.HaveSameRow (cuts.run_of one.now) (cuts.run_of other.now) }
+/// Whether the date and a dealer's row are the same in two venues.
+pub(crate) fn has_same_row(
+    one: &VenueConfig,
+    dealer: u16,
+    other: &VenueConfig,
+    other_dealer: u16,
+) -> bool
+    ensures { IsTrue result ↔ spec.HaveSameRow (cuts.row_of one.now dealer)
+        (cuts.row_of other.now other_dealer) }
 {
-    if one.venue.date().digits().as_slice() != other.venue.date().digits().as_slice() {
+    if one.date().digits().as_slice() != other.date().digits().as_slice() {
         return false;
     }
-    let row = dealer_row(&one.venue, one.firm);
-    row.is_same(dealer_row(&other.venue, other.firm))
+    let Some(row) = one.dealer(dealer) else {
+        return other.dealer(other_dealer).is_none();
+    };
+    let Some(there) = other.dealer(other_dealer) else {
+        return false;
+    };
+    row.is_same(there)
 }
 
 /// The first position at which what was due to the dealer differs in two runs.
@@ -96,7 +106,7 @@ fn messages_differ(
 }
 
 /// What a firm was sent: nothing where no firm has this number.
-fn sent_in(world: &World, firm: u16) -> &[SentMessage]
+pub(crate) fn sent_in(world: &World, firm: u16) -> &[SentMessage]
     ensures { result.now ≡ spec.sent_on (slice_get world.now firm) }
 {
     let Some(messages) = world.sent(firm) else {
@@ -106,7 +116,7 @@ fn sent_in(world: &World, firm: u16) -> &[SentMessage]
 }
 
 /// The first position, from 1, at which two lists of what is due differ.
-fn due_difference(one: &[Due], other: &[Due]) -> Option<usize>
+pub(crate) fn due_difference(one: &[Due], other: &[Due]) -> Option<usize>
     ensures { spec.IsFirstDifference one.now other.now result }
 {
     let longest = one.len().max(other.len());
@@ -133,7 +143,7 @@ fn is_same_due_at(one: &[Due], other: &[Due], place: usize) -> bool
 }
 
 /// The first position, from 1, at which two lists of messages differ.
-fn message_difference(one: &[SentMessage], other: &[SentMessage]) -> Option<usize>
+pub(crate) fn message_difference(one: &[SentMessage], other: &[SentMessage]) -> Option<usize>
     ensures { spec.IsFirstDifference one.now other.now result }
 {
     let longest = one.len().max(other.len());
@@ -167,7 +177,7 @@ fn is_same_message(one: &SentMessage, other: &SentMessage) -> bool
 }
 
 /// The three lines.
-fn three_lines(
+pub(crate) fn three_lines(
     alloc: Global,
     is_same_row: bool,
     due: Option<usize>,

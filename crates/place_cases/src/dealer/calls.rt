@@ -6,76 +6,58 @@ use crate::blotters::{push_line_numbered, push_lines};
 use crate::duties::push_left;
 use crate::messages::{push_count_line, push_date, push_frames, push_new, push_number_line};
 use crate::replies::{push_line, push_truth};
-use crate::terms::{ask, close, room, short_number};
-use case_lines::{CaseFault, Words};
+use crate::terms::{ask, room};
+use case_lines::{Call, CaseFault, Words, close_of};
 use market_terms::RoomRef;
 use std::alloc::Global;
 
 /// Makes a call of an open desk.
-pub(crate) fn called(
-    opened: &mut Opened,
-    alloc: Global,
-    word: &str,
-    words: &mut Words<'_>,
-    answer: &mut String,
-) -> Result<(), CaseFault> {
-    match word {
-        "shown" => shown(opened, words)?,
-        "show" => show(opened, words, answer)?,
-        "say" | "own" | "long" => comes(opened, alloc, word, words)?,
-        "take" => take(opened, alloc, words, answer)?,
-        "judge" => judge(opened, alloc, words, answer)?,
-        "lifted" => lifted(opened, words)?,
-        "closed" => closed(opened, words)?,
-        "tell" => tell(opened, words, answer)?,
-        "tell_request" => tell_request(opened, words, answer)?,
-        "drop" => drop_quietly(opened, words)?,
-        "drop_one" => drop_one(opened, alloc, words, answer)?,
-        _ => return called_many(opened, alloc, word, words, answer),
+pub(crate) fn called(opened: &mut Opened, call: &mut Call<'_>) -> Result<(), CaseFault> {
+    match call.name {
+        "shown" => shown(opened, &mut call.words)?,
+        "show" => show(opened, call)?,
+        "say" | "own" | "long" => comes(opened, call)?,
+        "take" => take(opened, call)?,
+        "judge" => judge(opened, call)?,
+        "lifted" => lifted(opened, &mut call.words)?,
+        "closed" => closed(opened, &mut call.words)?,
+        "tell" => push_truth(&mut call.answer, tell(opened, &mut call.words)?)?,
+        "tell_request" => push_truth(&mut call.answer, tell_request(opened, &mut call.words)?)?,
+        "drop" => drop_quietly(opened, &mut call.words)?,
+        "drop_one" => push_dropped(opened, call)?,
+        _ => return called_many(opened, call),
     }
-    words.end()?;
-    opened.shown = push_new(answer, opened.desk.sent(), opened.shown)?;
+    opened.shown = push_new(&mut call.answer, opened.desk.sent(), opened.shown)?;
     Ok(())
 }
 
 /// Makes a call that stands for many, or one of a reader.
-fn called_many(
-    opened: &mut Opened,
-    alloc: Global,
-    word: &str,
-    words: &mut Words<'_>,
-    answer: &mut String,
-) -> Result<(), CaseFault> {
-    match word {
-        "fronts" => push_fronts(opened, alloc, words, answer),
-        "forged" => push_forged(opened, alloc, words, answer),
-        "quotes" => push_quotes(opened, alloc, words, answer),
-        _ => read(opened, alloc, word, words, answer),
+fn called_many(opened: &mut Opened, call: &mut Call<'_>) -> Result<(), CaseFault> {
+    match call.name {
+        "fronts" => push_fronts(opened, call),
+        "forged" => push_forged(opened, call),
+        "quotes" => push_quotes(opened, call),
+        _ => read(opened, call),
     }
 }
 
 /// Makes a call of a reader.
-fn read(
-    opened: &Opened,
-    alloc: Global,
-    word: &str,
-    words: &mut Words<'_>,
-    answer: &mut String,
-) -> Result<(), CaseFault> {
-    match word {
-        "was_shown" => push_truth(answer, opened.desk.was_shown(room(words)?))?,
-        "exposure" => push_number_line(answer, opened.desk.exposure())?,
-        "events" => push_count_line(answer, opened.desk.events().len())?,
-        "sent" => push_count_line(answer, opened.desk.sent().len())?,
-        "frames" => push_frames(answer, opened.desk.sent(), words)?,
-        "lines" => push_lines(alloc, answer, opened.desk.lines())?,
-        "line" => push_line_numbered(alloc, answer, opened.desk.lines(), words)?,
-        "states" => push_states(alloc, answer, opened.desk.lines())?,
-        "date" => push_date(answer, opened.desk.date())?,
-        "row" => push_row(alloc, answer, opened.desk.row())?,
-        _ => return Err(CaseFault::Form),
+fn read(opened: &Opened, call: &mut Call<'_>) -> Result<(), CaseFault> {
+    let desk = &opened.desk;
+    let answer = &mut call.answer;
+    match call.name {
+        "was_shown" => push_truth(answer, desk.was_shown(room(&mut call.words)?)),
+        "exposure" => push_number_line(answer, desk.exposure()),
+        "events" => push_count_line(answer, desk.events().len()),
+        "sent" => push_count_line(answer, desk.sent().len()),
+        "frames" => push_frames(answer, desk.sent(), &mut call.words),
+        "lines" => push_lines(answer, desk.lines()),
+        "line" => push_line_numbered(answer, desk.lines(), &mut call.words),
+        "states" => push_states(call.alloc, answer, desk.lines()),
+        "date" => push_date(answer, desk.date()),
+        "row" => push_row(answer, desk.row()),
+        _ => Err(CaseFault::Form),
     }
-    words.end()
 }
 
 /// `INVESTOR BOND SIDE QUANTITY DEADLINE TIME [GRID]`.
@@ -91,47 +73,32 @@ fn shown(opened: &mut Opened, words: &mut Words<'_>) -> Result<(), CaseFault> {
 }
 
 /// `ROOM INVESTOR ..`.
-fn show(opened: &mut Opened, words: &mut Words<'_>, answer: &mut String) -> Result<(), CaseFault> {
-    let room = room(words)?;
-    let (ask, moment) = ask(words)?;
+fn show(opened: &mut Opened, call: &mut Call<'_>) -> Result<(), CaseFault> {
+    let room = room(&mut call.words)?;
+    let (ask, moment) = ask(&mut call.words)?;
     let number = opened.desk.show(room, ask, moment)?;
-    push_number_line(answer, number)
+    push_number_line(&mut call.answer, number)
 }
 
 /// A message comes, or bytes.
-fn comes(
-    opened: &mut Opened,
-    alloc: Global,
-    word: &str,
-    words: &mut Words<'_>,
-) -> Result<(), CaseFault> {
-    let came = opened.speaker.came(alloc, word, words)?;
+fn comes(opened: &mut Opened, call: &mut Call<'_>) -> Result<(), CaseFault> {
+    let came = opened.speaker.came(call)?;
     opened.take(&came)?;
     Ok(())
 }
 
 /// `TRADER TIME TYPE BODY`.
-fn take(
-    opened: &mut Opened,
-    alloc: Global,
-    words: &mut Words<'_>,
-    answer: &mut String,
-) -> Result<(), CaseFault> {
-    let came = opened.speaker.say(alloc, words)?;
+fn take(opened: &mut Opened, call: &mut Call<'_>) -> Result<(), CaseFault> {
+    let came = opened.speaker.say(call)?;
     let taken = opened.take(&came)?;
-    push_taken(alloc, answer, &taken)
+    push_taken(call.alloc, &mut call.answer, &taken)
 }
 
 /// `TRADER TIME TYPE BODY`.
-fn judge(
-    opened: &mut Opened,
-    alloc: Global,
-    words: &mut Words<'_>,
-    answer: &mut String,
-) -> Result<(), CaseFault> {
-    let came = opened.speaker.say(alloc, words)?;
+fn judge(opened: &mut Opened, call: &mut Call<'_>) -> Result<(), CaseFault> {
+    let came = opened.speaker.say(call)?;
     let taken = opened.take_judged(&came)?;
-    push_taken(alloc, answer, &taken)
+    push_taken(call.alloc, &mut call.answer, &taken)
 }
 
 /// The word that was asked, and what is left to be done.
@@ -151,66 +118,52 @@ fn push_word(alloc: Global, answer: &mut String, asked: Option<u32>) -> Result<(
 
 /// `N`.
 fn lifted(opened: &mut Opened, words: &mut Words<'_>) -> Result<(), CaseFault> {
-    let quote = short_number(words)?;
+    let quote = words.short_number()?;
     opened.lifted.push(quote)?;
     Ok(())
 }
 
-/// `N KIND TIME`.
-fn closed(opened: &mut Opened, words: &mut Words<'_>) -> Result<(), CaseFault> {
+/// `N KIND TIME`: whether a notice is due.
+fn tell_request(opened: &mut Opened, words: &mut Words<'_>) -> Result<bool, CaseFault> {
     let number = words.number()?;
-    let close = close(words)?;
-    let moment = words.moment()?;
-    opened.desk.tell_request(number, close, moment)?;
-    Ok(())
-}
-
-/// `N KIND TIME`.
-fn tell_request(
-    opened: &mut Opened,
-    words: &mut Words<'_>,
-    answer: &mut String,
-) -> Result<(), CaseFault> {
-    let number = words.number()?;
-    let close = close(words)?;
+    let close = close_of(words)?;
     let moment = words.moment()?;
     let told = opened.desk.tell_request(number, close, moment)?;
-    push_truth(answer, told)
+    Ok(told)
 }
 
-/// `ROOM KIND TIME`.
-fn tell(opened: &mut Opened, words: &mut Words<'_>, answer: &mut String) -> Result<(), CaseFault> {
+/// `ROOM KIND TIME`: the same.
+fn tell(opened: &mut Opened, words: &mut Words<'_>) -> Result<bool, CaseFault> {
     let room = room(words)?;
-    let close = close(words)?;
+    let close = close_of(words)?;
     let moment = words.moment()?;
     let told = opened.desk.tell(room, close, moment)?;
-    push_truth(answer, told)
+    Ok(told)
 }
 
-/// `LAST TIME`.
-fn drop_quietly(opened: &mut Opened, words: &mut Words<'_>) -> Result<(), CaseFault> {
-    let last = short_number(words)?;
-    let moment = words.moment()?;
-    opened.drop_one(last, moment)?;
+/// `N KIND TIME`, and nothing is told of it.
+fn closed(opened: &mut Opened, words: &mut Words<'_>) -> Result<(), CaseFault> {
+    tell_request(opened, words)?;
     Ok(())
 }
 
 /// `LAST TIME`.
-fn drop_one(
-    opened: &mut Opened,
-    alloc: Global,
-    words: &mut Words<'_>,
-    answer: &mut String,
-) -> Result<(), CaseFault> {
-    let last = short_number(words)?;
+fn drop_one(opened: &mut Opened, words: &mut Words<'_>) -> Result<Dropped, CaseFault> {
+    let last = words.short_number()?;
     let moment = words.moment()?;
-    let dropped = opened.drop_one(last, moment)?;
-    push_dropped(alloc, answer, &dropped)
+    opened.drop_one(last, moment)
+}
+
+/// The same, and nothing is told of it.
+fn drop_quietly(opened: &mut Opened, words: &mut Words<'_>) -> Result<(), CaseFault> {
+    drop_one(opened, words)?;
+    Ok(())
 }
 
 /// The word that was asked, what is left to be done in the room, and of the drop.
-fn push_dropped(alloc: Global, answer: &mut String, dropped: &Dropped) -> Result<(), CaseFault> {
-    push_word(alloc, answer, dropped.0)?;
-    push_left(answer, &dropped.1)?;
-    push_left(answer, &dropped.2)
+fn push_dropped(opened: &mut Opened, call: &mut Call<'_>) -> Result<(), CaseFault> {
+    let (asked, unpost, further) = drop_one(opened, &mut call.words)?;
+    push_word(call.alloc, &mut call.answer, asked)?;
+    push_left(&mut call.answer, &unpost)?;
+    push_left(&mut call.answer, &further)
 }

@@ -1,10 +1,10 @@
 //! What a desk knows, as lines.
 use super::opened::Opened;
-use crate::blotters::BlotterLine;
-use crate::messages::{clock, push_count_line, push_traders};
-use crate::replies::{push_line, side_name};
+use crate::blotters::{BlotterLine, push_front, push_terms};
+use crate::messages::{push_count_line, push_traders};
+use crate::replies::{push_line, push_number, push_word};
 use crate::tally::Tally;
-use crate::terms::{ascii, quote_word};
+use crate::terms::quote_word;
 use case_lines::CaseFault;
 use market_terms::QuoteLine;
 use std::alloc::Global;
@@ -12,19 +12,13 @@ use venue_config::DealerRow;
 
 impl BlotterLine for QuoteLine {
     /// `N TIME TRADER REQUEST SIDE BOND QUANTITY PRICE STATE`: the price in 256ths.
-    fn push(&self, alloc: Global, answer: &mut String) -> Result<(), CaseFault> {
-        let time = clock(alloc, self.moment)?;
-        let trader = ascii(self.trader.as_bytes());
-        let side = side_name(self.side);
-        let bond = ascii(self.bond.as_bytes());
-        let quantity = self.quantity.get();
-        let price = self.price.get();
-        let state = quote_word(self.state);
-        let (q, request) = (self.q, self.request);
-        let front = format!(in alloc; "{q} {time} {trader} R{request} ")?;
-        let behind = format!(in alloc; "{side} {bond} {quantity} {price} {state}")?;
-        answer.push_str(front.as_str())?;
-        push_line(answer, behind.as_str())
+    fn push(&self, answer: &mut String) -> Result<(), CaseFault> {
+        push_front(answer, self.q, self.moment, &self.trader)?;
+        write!(answer, " R{}", self.request)?;
+        push_terms(answer, self.side, &self.bond, self.quantity)?;
+        push_number(answer, u64::from(self.price.get()))?;
+        push_word(answer, quote_word(self.state))?;
+        push_line(answer, "")
     }
 }
 
@@ -43,18 +37,10 @@ pub(crate) fn push_states(
 }
 
 /// `NAME QUOTES EXPOSURE TRADER ..`.
-pub(crate) fn push_row(
-    alloc: Global,
-    answer: &mut String,
-    row: &DealerRow,
-) -> Result<(), CaseFault> {
-    let name = row.name.as_str();
-    let (quotes, exposure) = (row.quotes, row.exposure);
-    let text = format!(in alloc; "{name} {quotes} {exposure}")?;
-    answer.push_str(text.as_str())?;
-    push_traders(answer, &row.traders)?;
-    answer.push('\n')?;
-    Ok(())
+pub(crate) fn push_row(answer: &mut String, row: &DealerRow) -> Result<(), CaseFault> {
+    answer.push_str(row.name.as_str())?;
+    write!(answer, " {} {}", row.quotes, row.exposure)?;
+    push_traders(answer, &row.traders)
 }
 
 /// How many messages a desk gives away, or how many events, messages and lines.

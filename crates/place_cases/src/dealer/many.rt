@@ -4,38 +4,29 @@ use crate::messages::push_new;
 use crate::replies::push_line;
 use crate::said::{Came, own};
 use crate::tally::Tally;
-use case_lines::{CaseFault, Words};
+use case_lines::{Call, CaseFault};
 use fix_fields::Moment;
 use std::alloc::Global;
 
 /// `TIME BYTES`: each front of the bytes comes in turn, and last the whole.
-pub(crate) fn push_fronts(
-    opened: &mut Opened,
-    alloc: Global,
-    words: &mut Words<'_>,
-    answer: &mut String,
-) -> Result<(), CaseFault> {
-    let whole = own(alloc, words)?;
+pub(crate) fn push_fronts(opened: &mut Opened, call: &mut Call<'_>) -> Result<(), CaseFault> {
+    let whole = own(call)?;
     let mut front = Came {
         moment: whole.moment,
-        bytes: Vec::new(alloc),
+        bytes: Vec::new(call.alloc),
     };
     for byte in whole.bytes.as_slice() {
         front.bytes.push(*byte)?;
         opened.take(&front)?;
     }
-    opened.shown = push_new(answer, opened.desk.sent(), opened.shown)?;
+    opened.shown = push_new(&mut call.answer, opened.desk.sent(), opened.shown)?;
     Ok(())
 }
 
 /// `TRADER TIME TYPE BODY`: the message comes with each of its bits changed in turn.
-pub(crate) fn push_forged(
-    opened: &mut Opened,
-    alloc: Global,
-    words: &mut Words<'_>,
-    answer: &mut String,
-) -> Result<(), CaseFault> {
-    let whole = opened.speaker.say(alloc, words)?;
+pub(crate) fn push_forged(opened: &mut Opened, call: &mut Call<'_>) -> Result<(), CaseFault> {
+    let alloc = call.alloc;
+    let whole = opened.speaker.say(call)?;
     let count = whole.bytes.len();
     let mut seen: u64 = 0;
     for n in 0..count {
@@ -43,8 +34,8 @@ pub(crate) fn push_forged(
         seen = seen.saturating_add(more);
     }
     let text = format!(in alloc; "{count} bytes, {seen} forgeries seen")?;
-    push_line(answer, text.as_str())?;
-    opened.shown = push_new(answer, opened.desk.sent(), opened.shown)?;
+    push_line(&mut call.answer, text.as_str())?;
+    opened.shown = push_new(&mut call.answer, opened.desk.sent(), opened.shown)?;
     Ok(())
 }
 
@@ -80,21 +71,16 @@ fn with_bit(alloc: Global, whole: &Came, n: usize, bit: u8) -> Result<Came, Case
 }
 
 /// `COUNT TIME`: so many quotes, on R1 and R2 in turn.
-pub(crate) fn push_quotes(
-    opened: &mut Opened,
-    alloc: Global,
-    words: &mut Words<'_>,
-    answer: &mut String,
-) -> Result<(), CaseFault> {
-    let count = words.number()?;
-    let moment = words.moment()?;
-    let mut tally = Tally::nothing(alloc);
+pub(crate) fn push_quotes(opened: &mut Opened, call: &mut Call<'_>) -> Result<(), CaseFault> {
+    let count = call.words.number()?;
+    let moment = call.words.moment()?;
+    let mut tally = Tally::nothing(call.alloc);
     for n in 1..=count {
-        let text = quoted(opened, alloc, n, moment)?;
-        tally.add(text, answer)?;
+        let text = quoted(opened, call.alloc, n, moment)?;
+        tally.add(text, &mut call.answer)?;
     }
     opened.shown = opened.desk.sent().len();
-    tally.end(answer)
+    tally.end(&mut call.answer)
 }
 
 /// The n-th quote: whether it is posted, how far before it the quote stands whose word it asks, and

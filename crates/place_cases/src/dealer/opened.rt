@@ -1,7 +1,6 @@
 //! A desk of a dealer with the words of its quotes, and what comes to it.
 use crate::said::{Came, Speaker};
-use crate::terms::{name, short_number};
-use case_lines::{CaseFault, Words, day};
+use case_lines::{CaseFault, Words, day, name_of};
 use dealer_desk::DealerDesk;
 use fix_fields::Moment;
 use market_terms::Duty;
@@ -14,10 +13,10 @@ use venue_config::{DealerRow, Name, Traders};
 pub(crate) struct Opened {
     pub(crate) desk: DealerDesk,
     pub(crate) speaker: Speaker,
-    /// The own numbers of the quotes whose words are lifted.
-    pub(crate) lifted: Vec<u32>,
     /// How many requests were shown without a room.
     pub(crate) rooms: u32,
+    /// The own numbers of the quotes whose words are lifted.
+    pub(crate) lifted: Vec<u32>,
     /// How many messages were answered.
     pub(crate) shown: usize,
 }
@@ -33,8 +32,8 @@ pub(crate) type Dropped = (Option<u32>, Option<Duty>, Option<Duty>);
 impl Opened {
     /// `NAME QUOTES EXPOSURE TRADER ..`.
     pub(crate) fn read(alloc: Global, words: &mut Words<'_>) -> Result<Opened, CaseFault> {
-        let firm = name(words)?;
-        let quotes = short_number(words)?;
+        let firm = name_of(words)?;
+        let quotes = words.short_number()?;
         let exposure = words.number()?;
         let traders = traders(words)?;
         let speaker = Speaker::of(alloc, firm.as_str())?;
@@ -44,8 +43,8 @@ impl Opened {
         Ok(Opened {
             desk,
             speaker,
-            lifted: Vec::new(alloc),
             rooms: 0,
+            lifted: Vec::new(alloc),
             shown: 0,
         })
     }
@@ -104,7 +103,7 @@ fn traders(words: &mut Words<'_>) -> Result<Traders, CaseFault> {
         if words.is_at_end() {
             return Ok(traders);
         }
-        let trader = name(words)?;
+        let trader = name_of(words)?;
         if !traders.push(&trader) {
             return Err(CaseFault::Form);
         }

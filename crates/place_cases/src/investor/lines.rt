@@ -1,83 +1,58 @@
 //! What a desk knows, as lines.
 use super::opened::Opened;
-use crate::blotters::BlotterLine;
-use crate::messages::{clock, push_count_line, push_traders};
-use crate::replies::{push_line, side_name};
-use crate::terms::{ascii, nth};
+use crate::blotters::{BlotterLine, push_front, push_terms};
+use crate::messages::{push_count_line, push_traders};
+use crate::replies::{push_line, push_number, push_time, push_word};
+use crate::terms::nth_of;
 use case_lines::{CaseFault, Words, push_bytes};
 use fix_fields::Moment;
 use investor_desk::InvestorEvent;
 use market_terms::{RequestLine, RequestState};
-use std::alloc::Global;
 use venue_config::InvestorRow;
 
 impl BlotterLine for RequestLine {
     /// `N TIME TRADER SIDE BOND QUANTITY STATE`.
-    fn push(&self, alloc: Global, answer: &mut String) -> Result<(), CaseFault> {
-        let time = clock(alloc, self.moment)?;
-        let trader = ascii(self.trader.as_bytes());
-        let side = side_name(self.side);
-        let bond = ascii(self.bond.as_bytes());
-        let (n, quantity) = (self.n, self.quantity.get());
-        let state = state_text(alloc, &self.state)?;
-        let front = format!(in alloc; "{n} {time} {trader} {side} ")?;
-        let behind = format!(in alloc; "{bond} {quantity} {state}")?;
-        answer.push_str(front.as_str())?;
-        push_line(answer, behind.as_str())
+    fn push(&self, answer: &mut String) -> Result<(), CaseFault> {
+        push_front(answer, self.n, self.moment, &self.trader)?;
+        push_terms(answer, self.side, &self.bond, self.quantity)?;
+        push_state(answer, &self.state)?;
+        push_line(answer, "")
     }
 }
 
-/// What became of a request.
-fn state_text(alloc: Global, state: &RequestState) -> Result<String, CaseFault> {
+/// What became of a request, behind a space. Of a hit that was awarded it is `won DEALER PRICE`,
+/// the price in 256ths.
+fn push_state(answer: &mut String, state: &RequestState) -> Result<(), CaseFault> {
     match state {
-        RequestState::Open => text_of(alloc, "open"),
-        RequestState::Passed => text_of(alloc, "passed"),
-        RequestState::Expired => text_of(alloc, "expired"),
-        RequestState::Won { dealer, price } => won_text(alloc, dealer.as_str(), price.get()),
+        RequestState::Open => push_word(answer, "open"),
+        RequestState::Passed => push_word(answer, "passed"),
+        RequestState::Expired => push_word(answer, "expired"),
+        RequestState::Won { dealer, price } => {
+            push_word(answer, "won")?;
+            push_word(answer, dealer.as_str())?;
+            push_number(answer, u64::from(price.get()))
+        }
     }
-}
-
-/// A text of its own.
-fn text_of(alloc: Global, text: &str) -> Result<String, CaseFault> {
-    let text = String::from_str(alloc, text)?;
-    Ok(text)
-}
-
-/// `won DEALER PRICE`: the price in 256ths.
-fn won_text(alloc: Global, dealer: &str, price: u32) -> Result<String, CaseFault> {
-    let text = format!(in alloc; "won {dealer} {price}")?;
-    Ok(text)
 }
 
 /// `NAME REQUESTS OPEN QUANTITY TRADER ..`.
-pub(crate) fn push_row(
-    alloc: Global,
-    answer: &mut String,
-    row: &InvestorRow,
-) -> Result<(), CaseFault> {
-    let name = row.name.as_str();
-    let (requests, open, quantity) = (row.requests, row.open_limit, row.quantity);
-    let text = format!(in alloc; "{name} {requests} {open} {quantity}")?;
-    answer.push_str(text.as_str())?;
-    push_traders(answer, &row.traders)?;
-    answer.push('\n')?;
-    Ok(())
+pub(crate) fn push_row(answer: &mut String, row: &InvestorRow) -> Result<(), CaseFault> {
+    answer.push_str(row.name.as_str())?;
+    write!(answer, " {} {}", row.requests, row.open_limit)?;
+    push_number(answer, row.quantity)?;
+    push_traders(answer, &row.traders)
 }
 
 /// `N`: the n-th event, by its kind and its moment, and of a message its bytes.
 pub(crate) fn push_event(
-    alloc: Global,
     answer: &mut String,
     events: &[InvestorEvent],
     words: &mut Words<'_>,
 ) -> Result<(), CaseFault> {
-    let Some(event) = events.get(nth(words)?) else {
-        return Err(CaseFault::Condition);
-    };
+    let event = nth_of(events, words)?;
     let (kind, moment) = kind_of(event);
-    let time = clock(alloc, moment)?;
-    let text = format!(in alloc; "{kind} {time}")?;
-    answer.push_str(text.as_str())?;
+    answer.push_str(kind)?;
+    push_time(answer, moment)?;
     if let InvestorEvent::Own { message, .. } = event {
         answer.push(' ')?;
         push_bytes(answer, message.as_bytes())?;

@@ -3,30 +3,23 @@ use super::opened::Opened;
 use crate::said::Came;
 use crate::tally::Tally;
 use bond_prices::Ticks;
-use case_lines::{CaseFault, Words};
+use case_lines::{Call, CaseFault};
 use fix_fields::Moment;
 use market_terms::{Duty, Offer};
 use std::alloc::Global;
 
 /// `COUNT TIME`: so many requests of the first dealer, and a quote of each dealer on each.
-pub(crate) fn push_requests(
-    opened: &mut Opened,
-    alloc: Global,
-    words: &mut Words<'_>,
-    answer: &mut String,
-) -> Result<(), CaseFault> {
-    let count = words.number()?;
-    let moment = words.moment()?;
-    words.end()?;
-    let count = u32::try_from(count).map_err(|_| CaseFault::Form)?;
-    let mut tally = Tally::nothing(alloc);
+pub(crate) fn push_requests(opened: &mut Opened, call: &mut Call<'_>) -> Result<(), CaseFault> {
+    let count = call.words.short_number()?;
+    let moment = call.words.moment()?;
+    let mut tally = Tally::nothing(call.alloc);
     for n in 1..=count {
-        let text = asked(opened, alloc, n, moment)?;
+        let text = asked(opened, call.alloc, n, moment)?;
         are_shown(opened, n, moment)?;
-        tally.add(text, answer)?;
+        tally.add(text, &mut call.answer)?;
     }
     opened.shown = opened.desk.sent().len();
-    tally.end(answer)
+    tally.end(&mut call.answer)
 }
 
 /// The n-th request: what it leaves to be done.

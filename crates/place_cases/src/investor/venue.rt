@@ -1,6 +1,5 @@
 //! A configuration, row by row.
-use crate::terms::short_number;
-use case_lines::{CaseFault, Words};
+use case_lines::{Call, CaseFault};
 use std::alloc::Global;
 use venue_config::{VenueConfig, read_config};
 
@@ -17,48 +16,43 @@ impl Rows {
         Ok(Rows { text })
     }
 
-    /// Adds a row, where the word is that of one. It answers whether it is.
-    pub(crate) fn add(
-        &mut self,
-        alloc: Global,
-        word: &str,
-        words: &mut Words<'_>,
-    ) -> Result<bool, CaseFault> {
-        match word {
-            "bond" => self.bond(alloc, words)?,
-            "dealer" => self.dealer(alloc, words)?,
-            "investor" => self.investor(alloc, words)?,
+    /// Adds a row, where the call names one. It answers whether it does.
+    pub(crate) fn add(&mut self, call: &mut Call<'_>) -> Result<bool, CaseFault> {
+        match call.name {
+            "bond" => self.bond(call)?,
+            "dealer" => self.dealer(call)?,
+            "investor" => self.investor(call)?,
             _ => return Ok(false),
         }
-        words.end()?;
         Ok(true)
     }
 
     /// `ID GRID`.
-    fn bond(&mut self, alloc: Global, words: &mut Words<'_>) -> Result<(), CaseFault> {
-        let id = words.word()?;
-        let grid = short_number(words)?;
-        let text = format!(in alloc; "[[bond]]\nid = \"{id}\"\ngrid = {grid}\n")?;
+    fn bond(&mut self, call: &mut Call<'_>) -> Result<(), CaseFault> {
+        let id = call.words.word()?;
+        let grid = call.words.short_number()?;
+        let text = format!(in call.alloc; "[[bond]]\nid = \"{id}\"\ngrid = {grid}\n")?;
         self.text.push_str(text.as_str())?;
         Ok(())
     }
 
     /// `NAME`: a dealer of one trader, whose limits no investor sees.
-    fn dealer(&mut self, alloc: Global, words: &mut Words<'_>) -> Result<(), CaseFault> {
-        let name = words.word()?;
-        let text = format!(in alloc; "[[dealer]]\nname = \"{name}\"\ntraders = [\"T1\"]\n")?;
+    fn dealer(&mut self, call: &mut Call<'_>) -> Result<(), CaseFault> {
+        let name = call.words.word()?;
+        let text = format!(in call.alloc; "[[dealer]]\nname = \"{name}\"\ntraders = [\"T1\"]\n")?;
         self.text.push_str(text.as_str())?;
         self.text.push_str("quotes = 1\nexposure = 1\n")?;
         Ok(())
     }
 
     /// `NAME REQUESTS OPEN QUANTITY TRADER`.
-    fn investor(&mut self, alloc: Global, words: &mut Words<'_>) -> Result<(), CaseFault> {
-        let name = words.word()?;
-        let requests = short_number(words)?;
-        let open = short_number(words)?;
-        let quantity = words.number()?;
-        let trader = words.word()?;
+    fn investor(&mut self, call: &mut Call<'_>) -> Result<(), CaseFault> {
+        let name = call.words.word()?;
+        let requests = call.words.short_number()?;
+        let open = call.words.short_number()?;
+        let quantity = call.words.number()?;
+        let trader = call.words.word()?;
+        let alloc = call.alloc;
         let firm = format!(in alloc;
             "[[investor]]\nname = \"{name}\"\ntraders = [\"{trader}\"]\n"
         )?;

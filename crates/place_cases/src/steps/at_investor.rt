@@ -1,7 +1,7 @@
 //! The steps at the desk of INV1, but for its messages.
-use super::offer;
-use crate::terms::{name, reply, response, short_number};
-use case_lines::{CaseFault, Words};
+use super::done;
+use crate::terms::{offer, reply, response};
+use case_lines::{CaseFault, Words, name_of};
 use investor_desk::InvestorDesk;
 use venue_steps::{Duties, do_answer, do_close, do_declined, do_gone, do_relay};
 
@@ -11,51 +11,14 @@ pub(super) fn does_at_investor(
     name: &str,
     words: &mut Words,
 ) -> Result<Duties, CaseFault> {
+    let moment = words.moment()?;
+    let n = words.short_number()?;
     match name {
-        "relay" => relays(desk, words),
-        "gone" => is_gone(desk, words),
-        "declined" => is_declined(desk, words),
-        "answer" => answers(desk, words),
-        "close" => closes(desk, words),
+        "relay" => done(do_relay(desk, n, &offer(words)?, moment)),
+        "gone" => done(do_gone(desk, n, words.short_number()?, moment)),
+        "declined" => done(do_declined(desk, n, name_of(words)?, moment)),
+        "answer" => done(do_answer(desk, n, &response(words)?, reply(words)?, moment)),
+        "close" => done(do_close(desk, n, moment)),
         _ => Err(CaseFault::Form),
     }
-}
-
-fn relays(desk: &mut InvestorDesk, words: &mut Words) -> Result<Duties, CaseFault> {
-    let moment = words.moment()?;
-    let n = short_number(words)?;
-    let offer = offer(words)?;
-    let duties = do_relay(desk, n, &offer, moment)?;
-    Ok(duties)
-}
-
-fn is_gone(desk: &mut InvestorDesk, words: &mut Words) -> Result<Duties, CaseFault> {
-    let moment = words.moment()?;
-    let n = short_number(words)?;
-    let word = short_number(words)?;
-    let duties = do_gone(desk, n, word, moment)?;
-    Ok(duties)
-}
-
-fn is_declined(desk: &mut InvestorDesk, words: &mut Words) -> Result<Duties, CaseFault> {
-    let moment = words.moment()?;
-    let n = short_number(words)?;
-    let dealer = name(words)?;
-    let duties = do_declined(desk, n, dealer, moment)?;
-    Ok(duties)
-}
-
-fn answers(desk: &mut InvestorDesk, words: &mut Words) -> Result<Duties, CaseFault> {
-    let moment = words.moment()?;
-    let n = short_number(words)?;
-    let response = response(words)?;
-    let duties = do_answer(desk, n, &response, reply(words)?, moment)?;
-    Ok(duties)
-}
-
-fn closes(desk: &mut InvestorDesk, words: &mut Words) -> Result<Duties, CaseFault> {
-    let moment = words.moment()?;
-    let n = short_number(words)?;
-    let duties = do_close(desk, n, moment)?;
-    Ok(duties)
 }

@@ -1,23 +1,13 @@
 //! The steps in the room that ask no word.
 use super::at_investor::does_at_investor;
-use super::offer;
+use super::done;
 use crate::floor::{Floor, ROOM};
-use crate::terms::{ask_for, dealers, firm_number, id, short_number};
+use crate::terms::{dealers, id, offer, request};
 use case_lines::{CaseFault, Words};
-use fix_fields::Moment;
-use market_terms::{Ask, ResponseRef, Side};
+use market_terms::ResponseRef;
 use request_room::Room;
 use std::alloc::Global;
 use venue_steps::{Duties, do_decline, do_expire, do_open, do_pass, do_post, do_ready, do_unpost};
-
-/// The deadline of the request, 09:05.
-const DEADLINE: u32 = 32_700_000;
-
-/// The request of INV1.
-pub(super) fn request() -> Result<Ask, CaseFault> {
-    let deadline = Moment::new(DEADLINE).ok_or(CaseFault::Form)?;
-    ask_for(Side::Buy, deadline).ok_or(CaseFault::Form)
-}
 
 /// Does a step in the room that asks no word; or another one.
 pub(super) fn does_in_room(
@@ -41,47 +31,40 @@ pub(super) fn does_in_room(
 fn opens(alloc: Global, room: &mut Room, words: &mut Words) -> Result<Duties, CaseFault> {
     let moment = words.moment()?;
     let dealers = dealers(alloc, words)?;
-    let duties = do_open(room, ROOM, request()?, dealers, moment)?;
-    Ok(duties)
+    done(do_open(room, ROOM, request()?, dealers, moment))
 }
 
 fn readies(room: &mut Room) -> Result<Duties, CaseFault> {
-    let duties = do_ready(room)?;
-    Ok(duties)
+    done(do_ready(room))
 }
 
 fn posts(room: &mut Room, words: &mut Words) -> Result<Duties, CaseFault> {
     let moment = words.moment()?;
-    let dealer = firm_number(words)?;
+    let dealer = words.firm()?;
     let offer = offer(words)?;
-    let duties = do_post(room, ROOM, dealer, offer, moment)?;
-    Ok(duties)
+    done(do_post(room, ROOM, dealer, offer, moment))
 }
 
 fn unposts(room: &mut Room, words: &mut Words) -> Result<Duties, CaseFault> {
     let moment = words.moment()?;
-    let dealer = firm_number(words)?;
-    let word = short_number(words)?;
-    let duties = do_unpost(room, ROOM, dealer, word, moment)?;
-    Ok(duties)
+    let dealer = words.firm()?;
+    let word = words.short_number()?;
+    done(do_unpost(room, ROOM, dealer, word, moment))
 }
 
 fn declines(room: &mut Room, words: &mut Words) -> Result<Duties, CaseFault> {
     let moment = words.moment()?;
-    let dealer = firm_number(words)?;
-    let duties = do_decline(room, ROOM, dealer, moment)?;
-    Ok(duties)
+    let dealer = words.firm()?;
+    done(do_decline(room, ROOM, dealer, moment))
 }
 
 fn passes(room: &mut Room, words: &mut Words) -> Result<Duties, CaseFault> {
     let moment = words.moment()?;
     let id = id(words)?;
-    let duties = do_pass(room, ROOM, ResponseRef { id, k: None }, moment)?;
-    Ok(duties)
+    done(do_pass(room, ROOM, ResponseRef { id, k: None }, moment))
 }
 
 fn expires(room: &mut Room, words: &mut Words) -> Result<Duties, CaseFault> {
     let moment = words.moment()?;
-    let duties = do_expire(room, ROOM, moment)?;
-    Ok(duties)
+    done(do_expire(room, ROOM, moment))
 }

@@ -3,8 +3,7 @@ ghost use Rattle.std.specs.Prelude.{◌≡◌};
 ghost use Rattle.step_replay.specs.Actions as actions;
 
 use super::fixtures::{Arrivals, VENUE, read_day};
-use super::scripts::Stand::{After, Asks, Before, GoesOn};
-use super::scripts::{CLOCK, Mark, Script};
+use super::scripts::Script;
 use quote_word::{Board, BoardSeen};
 use recorded_days::{Inbound, Sweep};
 use session_worker::{Naming, SharedVenue, clock, session};
@@ -13,10 +12,6 @@ use std::process::Abort;
 use std::sync::Wait;
 use std::test::Fail;
 use venue_config::VenueConfig;
-
-const DLR2: u16 = 1;
-
-const INV1: u16 = 3;
 
 // INV1 asks DLR2, which quotes and cancels; then the clock sweeps the room twice.
 const LINES: &str =
@@ -29,37 +24,37 @@ expire INV1 1 09:06:00
 
 // Where each of them stands, one behind the other: duties are done behind the message or the sweep
 // that they follow from, before the next one.
-const STANDS: &[Mark] = &[
-    Mark(Before, INV1, "In"),
-    Mark(After, INV1, "In"),
-    Mark(Before, INV1, "Open"),
-    Mark(After, INV1, "Open"),
-    Mark(Before, INV1, "Show"),
-    Mark(After, INV1, "Show"),
-    Mark(Before, INV1, "Ready"),
-    Mark(After, INV1, "Ready"),
-    Mark(Before, DLR2, "In"),
-    Mark(After, DLR2, "In"),
-    Mark(Before, DLR2, "Post"),
-    Mark(After, DLR2, "Post"),
-    Mark(Before, DLR2, "Relay"),
-    Mark(After, DLR2, "Relay"),
-    Mark(Before, DLR2, "In"),
-    Mark(Asks, DLR2, ""),
-    Mark(GoesOn, DLR2, ""),
-    Mark(After, DLR2, "In"),
-    Mark(Before, DLR2, "Unpost"),
-    Mark(After, DLR2, "Unpost"),
-    Mark(Before, DLR2, "Gone"),
-    Mark(After, DLR2, "Gone"),
-    Mark(Before, CLOCK, "Expire"),
-    Mark(After, CLOCK, "Expire"),
-    Mark(Before, CLOCK, "Close"),
-    Mark(After, CLOCK, "Close"),
-    Mark(Before, CLOCK, "Tell"),
-    Mark(After, CLOCK, "Tell"),
-    Mark(Before, CLOCK, "Expire"),
-    Mark(After, CLOCK, "Expire"),
+const STANDS: &[&str] = &[
+    "before INV1 In",
+    "after INV1 In",
+    "before INV1 Open",
+    "after INV1 Open",
+    "before INV1 Show",
+    "after INV1 Show",
+    "before INV1 Ready",
+    "after INV1 Ready",
+    "before DLR2 In",
+    "after DLR2 In",
+    "before DLR2 Post",
+    "after DLR2 Post",
+    "before DLR2 Relay",
+    "after DLR2 Relay",
+    "before DLR2 In",
+    "asks DLR2",
+    "goes_on DLR2",
+    "after DLR2 In",
+    "before DLR2 Unpost",
+    "after DLR2 Unpost",
+    "before DLR2 Gone",
+    "after DLR2 Gone",
+    "before CLOCK Expire",
+    "after CLOCK Expire",
+    "before CLOCK Close",
+    "after CLOCK Close",
+    "before CLOCK Tell",
+    "after CLOCK Tell",
+    "before CLOCK Expire",
+    "after CLOCK Expire",
 ];
 
 /// How many words a venue has.

@@ -35,88 +35,74 @@ impl Crowd {
 
 /// The rows of a configuration.
 fn venue<T: AllocGlobal>(rt: &T, crowd: Crowd) -> Result<String, Fail> {
-    let alloc = rt.alloc();
-    let mut text = format!(in alloc;
-        "version = 1\ndate = \"20250314\"\n[[bond]]\nid = \"BONDA0000001\"\n"
-    )?;
+    let mut text = String::new(rt.alloc());
+    text.push_str("version = 1\ndate = \"20250314\"\n[[bond]]\nid = \"BONDA0000001\"\n")?;
     let Crowd {
         pairs,
         requests,
         ..
     } = crowd;
     for dealer in 0..pairs {
-        let row = format!(in alloc;
-            "[[dealer]]\nname = \"DLR{dealer}\"\ntraders = [\"T1\"]\nquotes = 64\nexposure = 10000000\n"
+        writeln!(
+            text,
+            "[[dealer]]\nname = \"DLR{dealer}\"\ntraders = [\"T1\"]\nquotes = 64\nexposure = 10000000"
         )?;
-        text.push_str(row.as_str())?;
     }
     for investor in 0..pairs {
-        let row = format!(in alloc;
-            "[[investor]]\nname = \"INV{investor}\"\ntraders = [\"T8\"]\nrequests = {requests}\nopen = {requests}\nquantity = 5000000\n"
+        writeln!(
+            text,
+            "[[investor]]\nname = \"INV{investor}\"\ntraders = [\"T8\"]\nrequests = {requests}\nopen = {requests}\nquantity = 5000000"
         )?;
-        text.push_str(row.as_str())?;
     }
     text.push_str("%%\n")?;
     Ok(text)
 }
 
 /// Puts the messages of an investor behind a text, and answers how many there are.
-fn investor_says<T: AllocGlobal>(
-    rt: &T,
-    crowd: Crowd,
-    investor: u16,
-    text: &mut String,
-) -> Result<u32, Fail> {
-    let alloc = rt.alloc();
+fn investor_says(crowd: Crowd, investor: u16, text: &mut String) -> Result<u32, Fail> {
     for request in 0..crowd.requests {
-        let line = format!(in alloc;
-            "say INV{investor} T8 09:00:00 R 131=q{request}|146=1|48=BONDA0000001|22=4|54=1|38=1000|126=20250314-09:05:00|453=1|448=DLR{investor}|447=D|452=35\n"
+        writeln!(
+            text,
+            "say INV{investor} T8 09:00:00 R 131=q{request}|146=1|48=BONDA0000001|22=4|54=1|38=1000|126=20250314-09:05:00|453=1|448=DLR{investor}|447=D|452=35"
         )?;
-        text.push_str(line.as_str())?;
     }
     for hit in 0..crowd.hits {
-        let quote = hit.wrapping_add(1);
-        let line = format!(in alloc;
-            "say INV{investor} T8 09:01:00 AJ 693=h{hit}|694=1|117=Q{quote}\n"
+        writeln!(
+            text,
+            "say INV{investor} T8 09:01:00 AJ 693=h{hit}|694=1|117=Q{}",
+            hit.wrapping_add(1)
         )?;
-        text.push_str(line.as_str())?;
     }
     Ok(crowd.requests.wrapping_add(crowd.hits))
 }
 
 /// The same of a dealer.
-fn dealer_says<T: AllocGlobal>(
-    rt: &T,
-    crowd: Crowd,
-    dealer: u16,
-    text: &mut String,
-) -> Result<u32, Fail> {
-    let alloc = rt.alloc();
+fn dealer_says(crowd: Crowd, dealer: u16, text: &mut String) -> Result<u32, Fail> {
     for quote in 0..crowd.quotes {
         let request = quote.wrapping_add(1);
-        let line = format!(in alloc;
-            "say DLR{dealer} T1 09:00:10 S 117=a{quote}|131=R{request}|55=[N/A]|48=BONDA0000001|22=4|133=99.5\n"
+        writeln!(
+            text,
+            "say DLR{dealer} T1 09:00:10 S 117=a{quote}|131=R{request}|55=[N/A]|48=BONDA0000001|22=4|133=99.5"
         )?;
-        text.push_str(line.as_str())?;
     }
     let cancels = crowd.cancels_of(dealer);
     for _ in 0..cancels {
-        let line = format!(in alloc; "say DLR{dealer} T1 09:00:20 Z 298=5|117=x\n")?;
-        text.push_str(line.as_str())?;
+        writeln!(text, "say DLR{dealer} T1 09:00:20 Z 298=5|117=x")?;
     }
     Ok(crowd.quotes.wrapping_add(cancels))
 }
 
-/// The day as a text, and how many messages come in it.
-fn day_of<T: AllocGlobal>(rt: &T, crowd: Crowd) -> Result<(String, u32), Fail> {
+/// The day as a text, in which 2,000 messages come.
+fn day_of<T: Abort + AllocGlobal>(rt: &T, crowd: Crowd) -> Result<String, Fail> {
     let mut text = venue(rt, crowd)?;
     let mut said = 0u32;
     for firm in 0..crowd.pairs {
-        let by_investor = investor_says(rt, crowd, firm, &mut text)?;
-        let by_dealer = dealer_says(rt, crowd, firm, &mut text)?;
+        let by_investor = investor_says(crowd, firm, &mut text)?;
+        let by_dealer = dealer_says(crowd, firm, &mut text)?;
         said = said.wrapping_add(by_investor).wrapping_add(by_dealer);
     }
-    Ok((text, said))
+    assert_eq!(rt; said, 2_000);
+    Ok(text)
 }
 
 // 32 dealers and 32 investors, 30 requests each; and 1,040 cancels, 33 of the first sixteen dealers
@@ -147,8 +133,7 @@ fn counts<T: Abort>(rt: &T, crowd: Crowd, record: &DayRecord) -> Result<(), Fail
 
 #[test]
 fn a_crowd_is_sent_as_much_each_time(rt: HostRuntime) -> Result<(), Fail> {
-    let (text, said) = day_of(&rt, WIDE)?;
-    assert_eq!(rt; said, 2_000);
+    let text = day_of(&rt, WIDE)?;
     for _ in 0..RUNS {
         let (_config, record) = runs(&rt, text.as_str(), &Open)?;
         counts(&rt, WIDE, &record)?;
@@ -169,8 +154,7 @@ const BUSY: Crowd = Crowd {
 
 #[test]
 fn a_busy_day_is_woven_each_time(rt: HostRuntime) -> Result<(), Fail> {
-    let (text, said) = day_of(&rt, BUSY)?;
-    assert_eq!(rt; said, 2_000);
+    let text = day_of(&rt, BUSY)?;
     for _ in 0..RUNS {
         let (config, record) = runs(&rt, text.as_str(), &Open)?;
         is_woven(&rt, &config, &record)?;

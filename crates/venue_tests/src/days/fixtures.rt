@@ -14,37 +14,16 @@ use venue_text::{MOST_INPUT, day_parts, messages_text, read_steps, read_venue};
 /// INV2, firms 3 and 4; and the line that divides it from the lines of a day.
 pub(crate) const VENUE: &str = "version = 1
 date = \"20250314\"
-[[bond]]
-id = \"BONDA0000001\"
-[[bond]]
-id = \"BONDB0000002\"
-[[dealer]]
-name = \"DLR1\"
-traders = [\"T1\"]
-quotes = 4
-exposure = 10000000
-[[dealer]]
-name = \"DLR2\"
-traders = [\"T2\"]
-quotes = 4
-exposure = 10000000
-[[dealer]]
-name = \"DLR3\"
-traders = [\"T3\"]
-quotes = 4
-exposure = 10000000
-[[investor]]
-name = \"INV1\"
-traders = [\"T8\"]
-requests = 3
-open = 2
-quantity = 5000000
-[[investor]]
-name = \"INV2\"
-traders = [\"T9\"]
-requests = 3
-open = 2
-quantity = 5000000
+bond = [{ id = \"BONDA0000001\" }, { id = \"BONDB0000002\" }]
+dealer = [
+  { name = \"DLR1\", traders = [\"T1\"], quotes = 4, exposure = 10000000 },
+  { name = \"DLR2\", traders = [\"T2\"], quotes = 4, exposure = 10000000 },
+  { name = \"DLR3\", traders = [\"T3\"], quotes = 4, exposure = 10000000 },
+]
+investor = [
+  { name = \"INV1\", traders = [\"T8\"], requests = 3, open = 2, quantity = 5000000 },
+  { name = \"INV2\", traders = [\"T9\"], requests = 3, open = 2, quantity = 5000000 },
+]
 %%
 ";
 

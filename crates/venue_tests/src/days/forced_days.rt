@@ -1,14 +1,11 @@
 //! Days that a script forces whole, with what each firm is sent and what each actor did. The words of
 //! DLR2 are 4 to 7, behind those of DLR1.
-use super::scripts::Mark;
-use super::scripts::Stand::{After, Asks, Before, GoesOn};
-
 /// A day of the venue.
 pub(crate) struct ForcedDay {
     /// What happens in it.
     pub(crate) name: &'static str,
     /// The order that is forced.
-    pub(crate) marks: &'static [Mark],
+    pub(crate) marks: &'static [&'static str],
     /// Its lines.
     pub(crate) lines: &'static [&'static str],
     /// What the firms are sent.
@@ -17,10 +14,6 @@ pub(crate) struct ForcedDay {
     /// order of the actions at each desk and in each room.
     pub(crate) done: &'static [&'static str],
 }
-
-const DLR2: u16 = 1;
-
-const INV1: u16 = 3;
 
 pub(crate) const INV1_ASKS_DLR2: &str =
     "say INV1 T8 09:00:00 R 131=A|146=1|48=BONDA0000001|22=4|54=1|38=2000000|126=20250314-09:05:00|453=1|448=DLR2|447=D|452=35";
@@ -35,17 +28,39 @@ pub(crate) const DLR2_IS_SHOWN: &str =
 
 pub(crate) const DLR2_IS_ACCEPTED: &str = "DLR2 2 09:00:10.000 AI 131=R1|117=a1|297=0";
 
-const DLR2_IS_ACCEPTED_AGAIN: &str = "DLR2 3 09:00:20.000 AI 131=R1|117=a2|297=0";
-
 pub(crate) const INV1_IS_ACCEPTED: &str = "INV1 1 09:00:00.000 AI 131=A|297=0";
 
 pub(crate) const INV1_IS_QUOTED: &str =
     "INV1 2 09:00:10.000 S 131=A|117=Q1|55=[N/A]|48=BONDA0000001|22=4|54=1|133=99.5|135=2000000|537=1|453=1|448=DLR2|447=D|452=35";
 
-const INV1_LOSES_THE_FIRST: &str = "INV1 3 09:00:20.000 AI 131=A|117=Q1|297=17";
+/// What they are sent where DLR2 quotes twice and then cancels, up to the end of the second quote.
+const DLR2_QUOTES_TWICE: &str =
+    "DLR2 1 09:00:00.000 R 131=R1|146=1|55=[N/A]|48=BONDA0000001|22=4|54=1|38=2000000|126=20250314-09:05:00.000|453=1|448=INV1|447=D|452=13
+DLR2 2 09:00:10.000 AI 131=R1|117=a1|297=0
+DLR2 3 09:00:20.000 AI 131=R1|117=a2|297=0
+DLR2 4 09:00:30.000 AI 117=a2|297=17";
 
-const INV1_IS_QUOTED_AGAIN: &str =
-    "INV1 4 09:00:20.000 S 131=A|117=Q2|55=[N/A]|48=BONDA0000001|22=4|54=1|133=99.25|135=2000000|537=1|453=1|448=DLR2|447=D|452=35";
+const INV1_IS_QUOTED_TWICE: &str = "INV1 1 09:00:00.000 AI 131=A|297=0
+INV1 2 09:00:10.000 S 131=A|117=Q1|55=[N/A]|48=BONDA0000001|22=4|54=1|133=99.5|135=2000000|537=1|453=1|448=DLR2|447=D|452=35
+INV1 3 09:00:20.000 AI 131=A|117=Q1|297=17
+INV1 4 09:00:20.000 S 131=A|117=Q2|55=[N/A]|48=BONDA0000001|22=4|54=1|133=99.25|135=2000000|537=1|453=1|448=DLR2|447=D|452=35";
+
+/// What they do in such a day.
+const DLR2_QUOTED_TWICE_AND_CANCELLED: &str = "DLR2 1 In 09:00:10.000
+DLR2 2 Post 09:00:10.000
+DLR2 3 Relay 09:00:10.000
+DLR2 4 In 09:00:20.000 4 withdrawn
+DLR2 5 Post 09:00:20.000
+DLR2 6 Relay 09:00:20.000
+DLR2 7 In 09:00:30.000 5 withdrawn
+DLR2 8 Unpost 09:00:30.000
+DLR2 9 Gone 09:00:30.000";
+
+const INV1_ASKED_AND_RESPONDED: &str = "INV1 1 In 09:00:00.000
+INV1 2 Open 09:00:00.000
+INV1 3 Show 09:00:00.000
+INV1 4 Ready 09:00:00.000
+INV1 5 In 09:01:00.000";
 
 const REPLACED_THEN_CANCELLED: &[&str] = &[
     INV1_ASKS_DLR2,
@@ -59,50 +74,32 @@ const REPLACED_THEN_CANCELLED: &[&str] = &[
 pub(crate) const WITHDRAWN_BEFORE_A_HIT: ForcedDay = ForcedDay {
     name: "a second quote is withdrawn before a hit",
     marks: &[
-        Mark(Before, INV1, "In"),
-        Mark(After, INV1, "Ready"),
-        Mark(Before, DLR2, "In"),
-        Mark(After, DLR2, "In"),
-        Mark(After, DLR2, "Relay"),
-        Mark(Before, DLR2, "In"),
-        Mark(After, DLR2, "In"),
-        Mark(After, DLR2, "Relay"),
-        Mark(Before, INV1, "In"),
-        Mark(Asks, INV1, ""),
-        Mark(Before, DLR2, "In"),
-        Mark(After, DLR2, "In"),
-        Mark(GoesOn, INV1, ""),
-        Mark(After, INV1, "Answer"),
-        Mark(Before, DLR2, "Unpost"),
+        "before INV1 In",
+        "after INV1 Ready",
+        "before DLR2 In",
+        "after DLR2 In",
+        "after DLR2 Relay",
+        "before DLR2 In",
+        "after DLR2 In",
+        "after DLR2 Relay",
+        "before INV1 In",
+        "asks INV1",
+        "before DLR2 In",
+        "after DLR2 In",
+        "goes_on INV1",
+        "after INV1 Answer",
+        "before DLR2 Unpost",
     ],
     lines: REPLACED_THEN_CANCELLED,
     sent: &[
-        DLR2_IS_SHOWN,
-        DLR2_IS_ACCEPTED,
-        DLR2_IS_ACCEPTED_AGAIN,
-        "DLR2 4 09:00:30.000 AI 117=a2|297=17",
-        INV1_IS_ACCEPTED,
-        INV1_IS_QUOTED,
-        INV1_LOSES_THE_FIRST,
-        INV1_IS_QUOTED_AGAIN,
+        DLR2_QUOTES_TWICE,
+        INV1_IS_QUOTED_TWICE,
         "INV1 5 09:01:00.000 AI 693=h1|131=A|117=Q2|297=5|300=4|58=Withdrawn",
         "INV1 6 09:00:30.000 AI 131=A|117=Q2|297=17",
     ],
     done: &[
-        "DLR2 1 In 09:00:10.000",
-        "DLR2 2 Post 09:00:10.000",
-        "DLR2 3 Relay 09:00:10.000",
-        "DLR2 4 In 09:00:20.000 4 withdrawn",
-        "DLR2 5 Post 09:00:20.000",
-        "DLR2 6 Relay 09:00:20.000",
-        "DLR2 7 In 09:00:30.000 5 withdrawn",
-        "DLR2 8 Unpost 09:00:30.000",
-        "DLR2 9 Gone 09:00:30.000",
-        "INV1 1 In 09:00:00.000",
-        "INV1 2 Open 09:00:00.000",
-        "INV1 3 Show 09:00:00.000",
-        "INV1 4 Ready 09:00:00.000",
-        "INV1 5 In 09:01:00.000",
+        DLR2_QUOTED_TWICE_AND_CANCELLED,
+        INV1_ASKED_AND_RESPONDED,
         "INV1 6 Hit 09:01:00.000 5 withdrawn",
         "INV1 7 Answer 09:01:00.000",
         "desk DLR2: INV1 3, DLR2 1, DLR2 4, DLR2 7",
@@ -115,40 +112,22 @@ pub(crate) const WITHDRAWN_BEFORE_A_HIT: ForcedDay = ForcedDay {
 pub(crate) const GONE_BEFORE_A_HIT: ForcedDay = ForcedDay {
     name: "a second quote is out of the book before a hit",
     marks: &[
-        Mark(Before, INV1, "In"),
-        Mark(After, INV1, "Ready"),
-        Mark(Before, DLR2, "In"),
-        Mark(After, DLR2, "Gone"),
-        Mark(Before, INV1, "In"),
+        "before INV1 In",
+        "after INV1 Ready",
+        "before DLR2 In",
+        "after DLR2 Gone",
+        "before INV1 In",
     ],
     lines: REPLACED_THEN_CANCELLED,
     sent: &[
-        DLR2_IS_SHOWN,
-        DLR2_IS_ACCEPTED,
-        DLR2_IS_ACCEPTED_AGAIN,
-        "DLR2 4 09:00:30.000 AI 117=a2|297=17",
-        INV1_IS_ACCEPTED,
-        INV1_IS_QUOTED,
-        INV1_LOSES_THE_FIRST,
-        INV1_IS_QUOTED_AGAIN,
+        DLR2_QUOTES_TWICE,
+        INV1_IS_QUOTED_TWICE,
         "INV1 5 09:00:30.000 AI 131=A|117=Q2|297=17",
         "INV1 6 09:01:00.000 AI 693=h1|131=A|117=Q2|297=5|300=4|58=Gone",
     ],
     done: &[
-        "DLR2 1 In 09:00:10.000",
-        "DLR2 2 Post 09:00:10.000",
-        "DLR2 3 Relay 09:00:10.000",
-        "DLR2 4 In 09:00:20.000 4 withdrawn",
-        "DLR2 5 Post 09:00:20.000",
-        "DLR2 6 Relay 09:00:20.000",
-        "DLR2 7 In 09:00:30.000 5 withdrawn",
-        "DLR2 8 Unpost 09:00:30.000",
-        "DLR2 9 Gone 09:00:30.000",
-        "INV1 1 In 09:00:00.000",
-        "INV1 2 Open 09:00:00.000",
-        "INV1 3 Show 09:00:00.000",
-        "INV1 4 Ready 09:00:00.000",
-        "INV1 5 In 09:01:00.000",
+        DLR2_QUOTED_TWICE_AND_CANCELLED,
+        INV1_ASKED_AND_RESPONDED,
         "INV1 6 Hit 09:01:00.000",
         "INV1 7 Answer 09:01:00.000",
         "desk DLR2: INV1 3, DLR2 1, DLR2 4, DLR2 7",
@@ -161,15 +140,15 @@ pub(crate) const GONE_BEFORE_A_HIT: ForcedDay = ForcedDay {
 pub(crate) const HIT_BEFORE_A_CANCEL: ForcedDay = ForcedDay {
     name: "a quote of the second dealer is hit before its cancel",
     marks: &[
-        Mark(Before, INV1, "In"),
-        Mark(After, INV1, "Ready"),
-        Mark(Before, DLR2, "In"),
-        Mark(After, DLR2, "Relay"),
-        Mark(Before, DLR2, "In"),
-        Mark(Asks, DLR2, ""),
-        Mark(Before, INV1, "In"),
-        Mark(After, INV1, "Hit"),
-        Mark(GoesOn, DLR2, ""),
+        "before INV1 In",
+        "after INV1 Ready",
+        "before DLR2 In",
+        "after DLR2 Relay",
+        "before DLR2 In",
+        "asks DLR2",
+        "before INV1 In",
+        "after INV1 Hit",
+        "goes_on DLR2",
     ],
     lines: &[
         INV1_ASKS_DLR2,
@@ -191,11 +170,7 @@ pub(crate) const HIT_BEFORE_A_CANCEL: ForcedDay = ForcedDay {
         "DLR2 2 Post 09:00:10.000",
         "DLR2 3 Relay 09:00:10.000",
         "DLR2 4 In 09:00:20.000 4 lifted",
-        "INV1 1 In 09:00:00.000",
-        "INV1 2 Open 09:00:00.000",
-        "INV1 3 Show 09:00:00.000",
-        "INV1 4 Ready 09:00:00.000",
-        "INV1 5 In 09:01:00.000",
+        INV1_ASKED_AND_RESPONDED,
         "INV1 6 Hit 09:01:00.000 4 lifted",
         "INV1 7 Answer 09:01:00.000",
         "INV1 8 Tell 09:01:00.000",

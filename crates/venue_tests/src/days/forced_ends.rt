@@ -3,31 +3,19 @@ use super::forced_days::{
     DLR2_IS_ACCEPTED, DLR2_IS_SHOWN, DLR2_QUOTES, ForcedDay, INV1_ASKS_DLR2, INV1_IS_ACCEPTED,
     INV1_IS_QUOTED,
 };
-use super::scripts::Stand::{After, Before};
-use super::scripts::{CLOCK, Mark};
-
-const DLR1: u16 = 0;
-
-const DLR2: u16 = 1;
-
-const DLR3: u16 = 2;
-
-const INV1: u16 = 3;
-
-const INV2: u16 = 4;
 
 /// A dealer declines; the quote of the other is no longer valid when it is hit; and then the request
 /// is passed.
 pub(crate) const DECLINED_AND_TOO_LATE: ForcedDay = ForcedDay {
     name: "a decline, a validity that has passed, and a pass",
     marks: &[
-        Mark(Before, INV1, "In"),
-        Mark(After, INV1, "Ready"),
-        Mark(Before, DLR2, "In"),
-        Mark(After, DLR2, "Relay"),
-        Mark(Before, DLR3, "In"),
-        Mark(After, DLR3, "Declined"),
-        Mark(Before, INV1, "In"),
+        "before INV1 In",
+        "after INV1 Ready",
+        "before DLR2 In",
+        "after DLR2 Relay",
+        "before DLR3 In",
+        "after DLR3 Declined",
+        "before INV1 In",
     ],
     lines: &[
         "say INV1 T8 09:00:00 R 131=A|146=1|48=BONDA0000001|22=4|54=1|38=2000000|126=20250314-09:05:00|453=2|448=DLR2|447=D|452=35|448=DLR3|447=D|452=35",
@@ -80,18 +68,18 @@ pub(crate) const DECLINED_AND_TOO_LATE: ForcedDay = ForcedDay {
 pub(crate) const DROPPED_OR_LIFTED: ForcedDay = ForcedDay {
     name: "a drop that withdraws, and one that comes too late",
     marks: &[
-        Mark(Before, INV1, "In"),
-        Mark(After, INV1, "Ready"),
-        Mark(Before, INV2, "In"),
-        Mark(After, INV2, "Ready"),
-        Mark(Before, DLR2, "In"),
-        Mark(Before, DLR2, "Drop"),
-        Mark(After, DLR2, "Drop"),
-        Mark(Before, INV2, "In"),
-        Mark(After, INV2, "Hit"),
-        Mark(Before, DLR2, "Drop"),
-        Mark(After, DLR2, "Drop"),
-        Mark(Before, INV2, "Tell"),
+        "before INV1 In",
+        "after INV1 Ready",
+        "before INV2 In",
+        "after INV2 Ready",
+        "before DLR2 In",
+        "before DLR2 Drop",
+        "after DLR2 Drop",
+        "before INV2 In",
+        "after INV2 Hit",
+        "before DLR2 Drop",
+        "after DLR2 Drop",
+        "before INV2 Tell",
     ],
     lines: &[
         INV1_ASKS_DLR2,
@@ -153,21 +141,21 @@ pub(crate) const DROPPED_OR_LIFTED: ForcedDay = ForcedDay {
 pub(crate) const AWARDED_AND_SWEPT: ForcedDay = ForcedDay {
     name: "an award with a cover, and three sweeps",
     marks: &[
-        Mark(Before, INV1, "In"),
-        Mark(After, INV1, "Ready"),
-        Mark(Before, INV2, "In"),
-        Mark(After, INV2, "Ready"),
-        Mark(Before, DLR1, "In"),
-        Mark(After, DLR1, "Relay"),
-        Mark(Before, DLR2, "In"),
-        Mark(After, DLR2, "Relay"),
-        Mark(Before, DLR3, "In"),
-        Mark(After, DLR3, "Relay"),
-        Mark(Before, INV1, "In"),
-        Mark(After, INV1, "Tell"),
-        Mark(After, INV1, "Tell"),
-        Mark(After, INV1, "Tell"),
-        Mark(Before, CLOCK, "Expire"),
+        "before INV1 In",
+        "after INV1 Ready",
+        "before INV2 In",
+        "after INV2 Ready",
+        "before DLR1 In",
+        "after DLR1 Relay",
+        "before DLR2 In",
+        "after DLR2 Relay",
+        "before DLR3 In",
+        "after DLR3 Relay",
+        "before INV1 In",
+        "after INV1 Tell",
+        "after INV1 Tell",
+        "after INV1 Tell",
+        "before CLOCK Expire",
     ],
     lines: &[
         "say INV1 T8 09:00:00 R 131=A|146=1|48=BONDA0000001|22=4|54=1|38=2000000|126=20250314-09:05:00|453=3|448=DLR1|447=D|452=35|448=DLR2|447=D|452=35|448=DLR3|447=D|452=35",

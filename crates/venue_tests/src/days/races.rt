@@ -48,16 +48,10 @@ enum Place {
     Elsewhere,
 }
 
-/// Who stands where until what.
+/// Who stands where until what: the place at which an actor is held, until another has been at the
+/// second one, who for its part is held at the third one until the first stands at its place.
 #[derive(Clone, Copy)]
-struct Race {
-    /// The place at which an actor is held,
-    held: Place,
-    /// until another has been here,
-    until: Place,
-    /// who for its part is held here until the first stands at its place.
-    other: Place,
-}
+struct Race(Place, Place, Place);
 
 /// A gate that forces a race. It holds a dealer's quote until the request was shown, and a hit until
 /// the quote was.
@@ -146,14 +140,15 @@ impl Gate for Starter {
             Place::QuoteShown => self.quote_shown.raise(),
             _ => (),
         }
-        if place == self.race.other {
+        let Race(held, until, other) = self.race;
+        if place == other {
             self.hold(&self.standing);
         }
-        if place == self.race.held {
+        if place == held {
             self.standing.raise();
             self.hold(&self.passed);
         }
-        if place == self.race.until {
+        if place == until {
             self.passed.raise();
         }
     }
@@ -272,39 +267,19 @@ fn race_ends<T: Threads + Wait + Sync + Abort + AllocGlobal>(
 }
 
 /// The investor, about to ask the word, is held until the dealer's second message has come.
-const DEALER_FIRST: Race = Race {
-    held: Place::InvestorAsks,
-    until: Place::Came,
-    other: Place::Comes,
-};
+const DEALER_FIRST: Race = Race(Place::InvestorAsks, Place::Came, Place::Comes);
 
 /// The dealer, about to ask the word, is held until the investor has hit.
-const INVESTOR_FIRST: Race = Race {
-    held: Place::DealerAsks,
-    until: Place::AfterHit,
-    other: Place::Hits,
-};
+const INVESTOR_FIRST: Race = Race(Place::DealerAsks, Place::AfterHit, Place::Hits);
 
 /// The sweep is held until the investor has hit.
-const HIT_BEFORE_SWEEP: Race = Race {
-    held: Place::BeforeSweep,
-    until: Place::AfterHit,
-    other: Place::Hits,
-};
+const HIT_BEFORE_SWEEP: Race = Race(Place::BeforeSweep, Place::AfterHit, Place::Hits);
 
 /// The hit is held until the clock has swept.
-const SWEEP_BEFORE_HIT: Race = Race {
-    held: Place::BeforeHit,
-    until: Place::AfterSweep,
-    other: Place::BeforeSweep,
-};
+const SWEEP_BEFORE_HIT: Race = Race(Place::BeforeHit, Place::AfterSweep, Place::BeforeSweep);
 
 /// The room is kept opening until the clock has swept.
-const SWEEP_BEFORE_READY: Race = Race {
-    held: Place::BeforeReady,
-    until: Place::AfterSweep,
-    other: Place::BeforeSweep,
-};
+const SWEEP_BEFORE_READY: Race = Race(Place::BeforeReady, Place::AfterSweep, Place::BeforeSweep);
 
 /// A race, the lines of its day behind the quote, and what the firms are sent.
 type Raced = (Race, &'static [&'static str], Ends);

@@ -6,42 +6,29 @@ use std::sync::atomic::{AtomicU64, Ordering};
 use std::thread::yield_now;
 use step_replay::Actor;
 
-/// The clock, beside the numbers of the firms.
-pub(crate) const CLOCK: u16 = u16::MAX;
-
 // How often an actor that is held looks whether it may go on.
 const MOST_LOOKS: u32 = 1_000_000;
 
-/// Where an actor stands.
-#[derive(Clone, Copy, PartialEq)]
-pub(crate) enum Stand {
-    /// Before an action of its kind.
-    Before,
-    /// Under the lock of an action, about to ask a word.
-    Asks,
-    /// At the same place, about to go on.
-    GoesOn,
-    /// Behind an action of its kind.
-    After,
-}
-
-/// A point of a day: where an actor stands, the actor's number among the firms, and the name of the
-/// kind of its action, or no name where it asks a word.
-#[derive(Clone, Copy)]
-pub(crate) struct Mark(pub(crate) Stand, pub(crate) u16, pub(crate) &'static str);
-
 /// A gate that lets these points pass in this order, each once. Whoever comes to one of them waits
 /// for those before it; a point that the list has no more passes at once.
+///
+/// A point is a line: where an actor stands, who it is, and the kind of its action.
+///
+/// | line | the actor stands |
+/// |---|---|
+/// | `before INV1 In`, `after CLOCK Expire` | before an action of its kind, and behind one |
+/// | `asks DLR2` | under the lock of an action, about to ask a word |
+/// | `goes_on DLR2` | at the same place, about to go on |
 #[derive(Drop)]
 pub(crate) struct Script {
-    marks: &'static [Mark],
+    marks: &'static [&'static str],
     passed: AtomicU64,
     ran_out: Flag,
 }
 
 impl Script {
     /// The gate of these points.
-    pub(crate) fn new(marks: &'static [Mark]) -> Self {
+    pub(crate) fn new(marks: &'static [&'static str]) -> Self {
         Script {
             marks,
             passed: AtomicU64::new(0),
@@ -55,11 +42,11 @@ impl Script {
     }
 
     /// The place in the list of the next point that is this one.
-    fn place_of(&self, stand: Stand, by: u16, kind: &str) -> Option<u64> {
+    fn place_of(&self, stand: &str, by: &str, kind: &str) -> Option<u64> {
         let passed = self.passed.load(Ordering::SeqCst);
         for (index, mark) in self.marks.iter().enumerate() {
             let place = index as u64;
-            if place >= passed && mark.0 == stand && mark.1 == by && mark.2 == kind {
+            if place >= passed && is_point(*mark, stand, by, kind) {
                 return Some(place);
             }
         }
@@ -81,8 +68,8 @@ impl Script {
     }
 
     /// An actor stands at this point.
-    fn stands(&self, stand: Stand, by: u16, kind: &str) {
-        let Some(place) = self.place_of(stand, by, kind) else {
+    fn stands(&self, stand: &str, by: Actor, kind: &str) {
+        let Some(place) = self.place_of(stand, actor_name(by), kind) else {
             return;
         };
         if !self.comes(place) {
@@ -96,21 +83,36 @@ impl Script {
 impl Gate for Script {
     fn at(&self, point: Point) {
         match point {
-            Point::Before(by, kind) => self.stands(Stand::Before, number(by), kind_name(kind)),
-            Point::After(by, kind) => self.stands(Stand::After, number(by), kind_name(kind)),
+            Point::Before(by, kind) => self.stands("before", by, kind_name(kind)),
+            Point::After(by, kind) => self.stands("after", by, kind_name(kind)),
             Point::Asked(by) => {
-                self.stands(Stand::Asks, number(by), "");
-                self.stands(Stand::GoesOn, number(by), "");
+                self.stands("asks", by, "");
+                self.stands("goes_on", by, "");
             }
         }
     }
 }
 
-/// The number of an actor among the firms.
-pub(crate) fn number(actor: Actor) -> u16 {
+/// Whether a line is this point.
+fn is_point(mark: &str, stand: &str, by: &str, kind: &str) -> bool {
+    let mut parts = mark.split(' ');
+    for part in [stand, by, kind] {
+        if parts.next().unwrap_or("") != part {
+            return false;
+        }
+    }
+    true
+}
+
+/// The name of an actor of the venue of the tests.
+fn actor_name(actor: Actor) -> &'static str {
     match actor {
-        Actor::Firm(firm) => firm,
-        Actor::Clock => CLOCK,
+        Actor::Firm(0) => "DLR1",
+        Actor::Firm(1) => "DLR2",
+        Actor::Firm(2) => "DLR3",
+        Actor::Firm(3) => "INV1",
+        Actor::Firm(_) => "INV2",
+        Actor::Clock => "CLOCK",
     }
 }
 

@@ -1,5 +1,5 @@
 //! A configuration and a frame.
-use super::investors::VENUE;
+use case_lines::VENUE;
 use fix_fields::{FrameWriter, Memory};
 use std::alloc::{AllocError, Global};
 use std::test::Fail;

@@ -1,5 +1,6 @@
 //! An investor's desk.
 use super::values::{at, name, offer, response};
+use case_lines::VENUE;
 use fix_fields::Memory;
 use investor_desk::InvestorDesk;
 use market_terms::{HitRefusal, Reply};
@@ -7,29 +8,6 @@ use std::alloc::Global;
 use std::process::Abort;
 use std::test::Fail;
 use venue_config::read_config;
-
-/// The venue: INV1 is firm 2.
-pub(crate) const VENUE: &str = "version = 1
-date = \"20250314\"
-[[bond]]
-id = \"BONDA0000001\"
-[[dealer]]
-name = \"DLR1\"
-traders = [\"T1\"]
-quotes = 4
-exposure = 10000000
-[[dealer]]
-name = \"DLR2\"
-traders = [\"T2\"]
-quotes = 4
-exposure = 10000000
-[[investor]]
-name = \"INV1\"
-traders = [\"T8\"]
-requests = 3
-open = 2
-quantity = 5000000
-";
 
 /// A call of a desk.
 enum Call {

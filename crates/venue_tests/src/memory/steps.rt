@@ -1,7 +1,7 @@
 //! The steps of a day: desks, a room and the words.
-use super::investors::VENUE;
 use super::lines::{Line, leaves};
 use super::values::{ask, at, name, offer, response};
+use case_lines::VENUE;
 use dealer_desk::DealerDesk;
 use fix_fields::{Memory, Moment};
 use investor_desk::InvestorDesk;
@@ -64,16 +64,48 @@ enum Step {
 /// A step at a moment, in milliseconds of the day, and what it leaves.
 type Turn = (u32, Step, &'static [Line]);
 
+/// INV1 asks DLR1 and DLR2 for 2,000,000 of BONDA0000001, until 09:05.
+const ASKS: &[u8] = b"8=FIXT.1.1\x019=175\x0135=R\x0149=INV1\x0156=VENUE\x0134=1\x01\
+    52=20250314-09:00:00\x0150=T8\x01131=A\x01146=1\x0148=BONDA0000001\x0122=4\x01\
+    54=1\x0138=2000000\x01126=20250314-09:05:00\x01453=2\x01448=DLR1\x01447=D\x01\
+    452=35\x01448=DLR2\x01447=D\x01452=35\x0110=133\x01";
+
+/// DLR1 quotes 99.50390625.
+const FIRST_QUOTES: &[u8] = b"8=FIXT.1.1\x019=105\x0135=S\x0149=DLR1\x0156=VENUE\x0134=1\x01\
+    52=20250314-09:00:00\x0150=T1\x01117=a1\x01131=R1\x0148=BONDA0000001\x0122=4\x01\
+    133=99.50390625\x0110=100\x01";
+
+/// DLR2 quotes 99.515625.
+const SECOND_QUOTES: &[u8] = b"8=FIXT.1.1\x019=103\x0135=S\x0149=DLR2\x0156=VENUE\x0134=1\x01\
+    52=20250314-09:00:00\x0150=T2\x01117=b1\x01131=R1\x0148=BONDA0000001\x0122=4\x01\
+    133=99.515625\x0110=255\x01";
+
+/// DLR1 cancels its quote.
+const FIRST_CANCELS: &[u8] = b"8=FIXT.1.1\x019=67\x0135=Z\x0149=DLR1\x0156=VENUE\x0134=2\x01\
+    52=20250314-09:00:00\x0150=T1\x01298=5\x01117=a1\x0110=187\x01";
+
+/// It quotes once more, 99.5.
+const FIRST_QUOTES_AGAIN: &[u8] = b"8=FIXT.1.1\x019=98\x0135=S\x0149=DLR1\x0156=VENUE\x0134=3\x01\
+    52=20250314-09:00:00\x0150=T1\x01117=a2\x01131=R1\x0148=BONDA0000001\x0122=4\x01\
+    133=99.5\x0110=217\x01";
+
+/// It cancels all.
+const FIRST_CANCELS_ALL: &[u8] = b"8=FIXT.1.1\x019=60\x0135=Z\x0149=DLR1\x0156=VENUE\x0134=4\x01\
+    52=20250314-09:00:00\x0150=T1\x01298=4\x0110=076\x01";
+
+/// INV1 hits the quote of DLR2.
+const HITS_THE_SECOND: &[u8] = b"8=FIXT.1.1\x019=75\x0135=AJ\x0149=INV1\x0156=VENUE\x0134=2\x01\
+    52=20250314-09:00:00\x0150=T8\x01693=h2\x01117=Q2\x01694=1\x0110=100\x01";
+
+/// DLR1 declines.
+const FIRST_DECLINES: &[u8] = b"8=FIXT.1.1\x019=69\x0135=AG\x0149=DLR1\x0156=VENUE\x0134=5\x01\
+    52=20250314-09:00:00\x0150=T1\x01131=R1\x01658=10\x0110=007\x01";
+
 /// INV1 asks two dealers, and both quote.
 const QUOTED: &[Turn] = &[
     (
         32_400_000,
-        Step::Investor(
-            b"8=FIXT.1.1\x019=175\x0135=R\x0149=INV1\x0156=VENUE\x0134=1\x01\
-        52=20250314-09:00:00\x0150=T8\x01131=A\x01146=1\x0148=BONDA0000001\x0122=4\x01\
-        54=1\x0138=2000000\x01126=20250314-09:05:00\x01453=2\x01448=DLR1\x01447=D\x01\
-        452=35\x01448=DLR2\x01447=D\x01452=35\x0110=133\x01",
-        ),
+        Step::Investor(ASKS),
         &[("open", 1, 2, 2_000_000)],
     ),
     (
@@ -90,11 +122,7 @@ const QUOTED: &[Turn] = &[
     (32_400_000, Step::Ready, &[]),
     (
         32_410_000,
-        Step::First(
-            b"8=FIXT.1.1\x019=105\x0135=S\x0149=DLR1\x0156=VENUE\x0134=1\x01\
-        52=20250314-09:00:00\x0150=T1\x01117=a1\x01131=R1\x0148=BONDA0000001\x0122=4\x01\
-        133=99.50390625\x0110=100\x01",
-        ),
+        Step::First(FIRST_QUOTES),
         &[("post", 1, 1, 25_473)],
     ),
     (
@@ -105,11 +133,7 @@ const QUOTED: &[Turn] = &[
     (32_410_000, Step::Relay(1, "DLR1", 0, 25_473), &[]),
     (
         32_420_000,
-        Step::Second(
-            b"8=FIXT.1.1\x019=103\x0135=S\x0149=DLR2\x0156=VENUE\x0134=1\x01\
-        52=20250314-09:00:00\x0150=T2\x01117=b1\x01131=R1\x0148=BONDA0000001\x0122=4\x01\
-        133=99.515625\x0110=255\x01",
-        ),
+        Step::Second(SECOND_QUOTES),
         &[("post", 1, 1, 25_476)],
     ),
     (
@@ -123,10 +147,7 @@ const QUOTED: &[Turn] = &[
 /// DLR1 cancels its quote: its word is withdrawn.
 const CANCELLED: &[Turn] = &[(
     32_430_000,
-    Step::First(
-        b"8=FIXT.1.1\x019=67\x0135=Z\x0149=DLR1\x0156=VENUE\x0134=2\x01\
-        52=20250314-09:00:00\x0150=T1\x01298=5\x01117=a1\x0110=187\x01",
-    ),
+    Step::First(FIRST_CANCELS),
     &[("unpost", 1, 1, 0)],
 )];
 
@@ -134,19 +155,12 @@ const CANCELLED: &[Turn] = &[(
 const QUOTES_AGAIN: &[Turn] = &[
     (
         32_440_000,
-        Step::First(
-            b"8=FIXT.1.1\x019=98\x0135=S\x0149=DLR1\x0156=VENUE\x0134=3\x01\
-        52=20250314-09:00:00\x0150=T1\x01117=a2\x01131=R1\x0148=BONDA0000001\x0122=4\x01\
-        133=99.5\x0110=217\x01",
-        ),
+        Step::First(FIRST_QUOTES_AGAIN),
         &[("post", 1, 2, 25_472)],
     ),
     (
         32_450_000,
-        Step::First(
-            b"8=FIXT.1.1\x019=60\x0135=Z\x0149=DLR1\x0156=VENUE\x0134=4\x01\
-        52=20250314-09:00:00\x0150=T1\x01298=4\x0110=076\x01",
-        ),
+        Step::First(FIRST_CANCELS_ALL),
         &[("drop", 0, 2, 0)],
     ),
 ];
@@ -157,10 +171,7 @@ const DROPPED: &[Turn] = &[(32_450_000, Step::Drop(2), &[("unpost", 1, 2, 0)])];
 /// INV1 hits the quote of DLR2.
 const HITS: &[Turn] = &[(
     32_460_000,
-    Step::Investor(
-        b"8=FIXT.1.1\x019=75\x0135=AJ\x0149=INV1\x0156=VENUE\x0134=2\x01\
-        52=20250314-09:00:00\x0150=T8\x01693=h2\x01117=Q2\x01694=1\x0110=100\x01",
-    ),
+    Step::Investor(HITS_THE_SECOND),
     &[("hit", 1, 2, 4)],
 )];
 
@@ -179,10 +190,7 @@ const ENDED: &[Turn] = &[
     (32_430_000, Step::Gone(1, 0), &[]),
     (
         32_461_000,
-        Step::First(
-            b"8=FIXT.1.1\x019=69\x0135=AG\x0149=DLR1\x0156=VENUE\x0134=5\x01\
-        52=20250314-09:00:00\x0150=T1\x01131=R1\x01658=10\x0110=007\x01",
-        ),
+        Step::First(FIRST_DECLINES),
         &[("decline", 1, 0, 0)],
     ),
     (32_461_000, Step::Decline(0), &[]),

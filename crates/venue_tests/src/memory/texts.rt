@@ -1,8 +1,8 @@
 //! Texts that are written and read: a message, a blotter, the lines of a day.
-use super::investors::VENUE;
 use super::values::{ask, at, name};
 use blotter::blotter_text;
 use bond_prices::Ticks;
+use case_lines::VENUE;
 use fix_fields::Date;
 use market_terms::{
     FirmLines, Id, IdBuf, Quantity, QuoteLine, QuoteState, RequestLine, RequestState, Side,

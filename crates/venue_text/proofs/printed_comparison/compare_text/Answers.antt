@@ -15,10 +15,10 @@ returns-clause-ok c =
       other = run_of c.in_ok-other.other;
       spelled = two_days_are (dealer_by c.args.dealer.now) c.args.input.now _ _ _ _ small
           c.in_ok-first.ensures.ok c.in_ok-one.ensures.ok c.in_ok-other.ensures.ok;
-      is_same_row = c.has_same_row.result;
+      is_same_row = c.has_same_row-row.result;
       due = c.in_ok-due.due;
       messages = c.in_ok-messages.messages;
-      row_is = c.has_same_row.ensures;
+      row_is = c.has_same_row-row.ensures;
       due_is = c.in_ok-due.ensures.ok;
       messages_is = c.in_ok-messages.ensures.ok;
       printed = c.in_ok-text.ensures;

@@ -1,0 +1,24 @@
+use Rattle.std.proofs.Common.{◌≡◌, ℕ, List, [], ◌∷◌, ◌++◌, Option, subst}
+use Rattle.quote_word.specs.declared.settled.Settled.{Settled}
+use Rattle.recorded_days.specs.declared.actions.Action.{Action}
+use Rattle.recorded_days.specs.declared.actions.Kind.{Kind}
+use Rattle.session_worker.specs.Shifts.{IsNoted, action_of}
+use Rattle.session_worker.proofs.actors.Shift.turn.Goals as goal
+
+-- one action more, by other names of its kind and moment
+noted_as : (before after : List Action) (kind named : Kind) (moment time : ℕ)
+    (word : Option (ℕ × Settled)) → kind ≡ named → moment ≡ time
+    → after ≡ before ++ action_of kind moment word ∷ [] → IsNoted named time before after
+noted_as before after kind named moment time word kind_is time_is more =
+    let with_kind : after ≡ before ++ action_of named moment word ∷ [] =
+    subst (λ (k : Kind). after ≡ before ++ action_of k moment word ∷ []) kind_is more in
+    record {
+      word = word;
+      one_more = subst (λ (m : ℕ). after ≡ before ++ action_of named m word ∷ []) time_is with_kind;
+    }
+
+-- whatever word it asked
+pub returns : goal.returns
+returns g c = noted_as c.args.self.now.actions.items c.note.new.self.actions.items c.of-kind.result
+    _ c.moment_of-moment.result _ c.in_ok-done.done.word c.of-kind.ensures
+    c.moment_of-moment.ensures c.in_ok-note.ensures.actions

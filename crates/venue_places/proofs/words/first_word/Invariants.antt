@@ -1,0 +1,10 @@
+use Rattle.std.proofs.Common.{◌≡◌, ◌≤◌, take}
+use Rattle.step_replay.specs.Actions.{quotes_of}
+use Rattle.venue_places.proofs.words.first_word.Given as goal
+
+abbrev pub invariant-loop-row : goal.invariant-loop-row
+invariant-loop-row l = record {
+  number : l.number ≡ l.row-index;
+  below : l.row-index ≤ l.dealer;
+  first : l.first ≡ quotes_of (take l.row-index l.config.dealers);
+}

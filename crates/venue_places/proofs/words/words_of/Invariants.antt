@@ -1,0 +1,6 @@
+use Rattle.std.proofs.Common.{◌≡◌, take}
+use Rattle.step_replay.specs.Actions.{quotes_of}
+use Rattle.venue_places.proofs.words.words_of.Given as goal
+
+abbrev pub invariant-loop-row : goal.invariant-loop-row
+invariant-loop-row l = l.words ≡ quotes_of (take l.row-index l.config.dealers)

@@ -1,0 +1,293 @@
+//! The table itself.
+ghost use Rattle.std.specs.Prelude.{◌≡◌};
+ghost use Rattle.step_replay.specs.Actions.{dealer_of};
+ghost use Rattle.venue_places.specs.Placed as spec;
+
+use crate::arrivals::{Arrival, ForDealer, ForInvestor, ForRoom};
+use crate::words::word_of;
+use bond_prices::Ticks;
+use fix_fields::Moment;
+use market_terms::{Duty, Offer, ResponseRef, RoomRef};
+use step_replay::Actor;
+use venue_config::VenueConfig;
+
+/// Where a duty of an actor is done, and what comes to that place. It takes no memory.
+pub fn placed(config: &VenueConfig, by: Actor, duty: Duty) -> Option<Arrival>
+    ensures { result ≡ spec.placed config.now by duty }
+{
+    match duty {
+        Duty::Open {
+            room,
+            ask,
+            dealers,
+            moment,
+        } => in_room(
+            config,
+            room,
+            ForRoom::Open {
+                ask,
+                dealers,
+                moment,
+            },
+        ),
+        Duty::Show {
+            dealer,
+            room,
+            ask,
+            moment,
+        } => at_dealer(config, dealer, ForDealer::Show { room, ask, moment }),
+        Duty::Ready { room, moment } => in_room(config, room, ForRoom::Ready { moment }),
+        Duty::Post {
+            room,
+            quote,
+            price,
+            valid_until,
+            moment,
+        } => posted(config, by, room, quote, price, valid_until, moment),
+        Duty::Relay {
+            room,
+            offer,
+            moment,
+        } => {
+            let request = room.n;
+            at_investor(
+                config,
+                room.investor,
+                ForInvestor::Relay {
+                    request,
+                    offer,
+                    moment,
+                },
+            )
+        }
+        Duty::Unpost {
+            room,
+            quote,
+            moment,
+        } => unposted(config, by, room, quote, moment),
+        Duty::Gone { room, word, moment } => {
+            let request = room.n;
+            at_investor(
+                config,
+                room.investor,
+                ForInvestor::Gone {
+                    request,
+                    word,
+                    moment,
+                },
+            )
+        }
+        Duty::Decline { room, moment } => declines(config, by, room, moment),
+        Duty::Declined { room, moment } => declined(config, by, room, moment),
+        Duty::Hit {
+            room,
+            response,
+            word,
+            moment,
+        } => hit_in(config, room, response, word, moment),
+        Duty::Pass {
+            room,
+            response,
+            moment,
+        } => in_room(config, room, ForRoom::Pass { response, moment }),
+        Duty::Answer {
+            room,
+            response,
+            reply,
+            moment,
+        } => {
+            let request = room.n;
+            let what = ForInvestor::Answer {
+                request,
+                response,
+                reply,
+                moment,
+            };
+            at_investor(config, room.investor, what)
+        }
+        Duty::Close { room, moment } => {
+            let request = room.n;
+            at_investor(
+                config,
+                room.investor,
+                ForInvestor::Close { request, moment },
+            )
+        }
+        Duty::Tell {
+            dealer,
+            room,
+            close,
+            moment,
+        } => at_dealer(
+            config,
+            dealer,
+            ForDealer::Tell {
+                room,
+                close,
+                moment,
+            },
+        ),
+        Duty::Drop { last, moment } => drops(config, by, last, moment),
+    }
+}
+
+/// Where a sweep comes. It takes no memory.
+pub fn swept(config: &VenueConfig, room: RoomRef, moment: Moment) -> Option<Arrival>
+    ensures { result ≡ spec.swept config.now room moment }
+{
+    in_room(config, room, ForRoom::Expire { moment })
+}
+
+/// At the desk of a dealer.
+fn at_dealer(config: &VenueConfig, firm: u16, what: ForDealer) -> Option<Arrival>
+    ensures { result ≡ spec.at_dealer config.now firm what }
+{
+    if config.dealer(firm).is_none() {
+        return None;
+    }
+    Some(Arrival::Dealer { firm, what })
+}
+
+/// At the desk of an investor.
+fn at_investor(config: &VenueConfig, firm: u16, what: ForInvestor) -> Option<Arrival>
+    ensures { result ≡ spec.at_investor config.now firm what }
+{
+    if config.investor(firm).is_none() {
+        return None;
+    }
+    Some(Arrival::Investor { firm, what })
+}
+
+/// In a room.
+fn in_room(config: &VenueConfig, room: RoomRef, what: ForRoom) -> Option<Arrival>
+    ensures { result ≡ spec.in_room config.now room what }
+{
+    if !config.has_room(room.investor, room.n) {
+        return None;
+    }
+    Some(Arrival::Room { room, what })
+}
+
+/// In a room that is hit.
+fn hit_in(
+    config: &VenueConfig,
+    room: RoomRef,
+    response: ResponseRef,
+    word: u32,
+    moment: Moment,
+) -> Option<Arrival>
+    ensures { result ≡ spec.hit_in config.now room response word moment }
+{
+    if !config.has_room(room.investor, room.n) {
+        return None;
+    }
+    Some(Arrival::Hit {
+        room,
+        response,
+        word,
+        moment,
+    })
+}
+
+/// A post of the acting dealer's quote.
+fn posted(
+    config: &VenueConfig,
+    by: Actor,
+    room: RoomRef,
+    quote: u32,
+    price: Ticks,
+    valid_until: Option<Moment>,
+    moment: Moment,
+) -> Option<Arrival>
+    ensures { result ≡ spec.by_dealer config.now by
+        (spec.posted config.now room quote price valid_until moment) }
+{
+    let Actor::Firm(dealer) = by else {
+        return None;
+    };
+    let row = config.dealer(dealer)?;
+    let word = word_of(config, dealer, quote)?;
+    let offer = Offer {
+        dealer: row.name.copy(),
+        word,
+        price,
+        valid_until,
+    };
+    in_room(
+        config,
+        room,
+        ForRoom::Post {
+            dealer,
+            offer,
+            moment,
+        },
+    )
+}
+
+/// An unpost of the acting dealer's quote.
+fn unposted(
+    config: &VenueConfig,
+    by: Actor,
+    room: RoomRef,
+    quote: u32,
+    moment: Moment,
+) -> Option<Arrival>
+    ensures { result ≡ spec.by_dealer config.now by (spec.unposted config.now room quote moment) }
+{
+    let Actor::Firm(dealer) = by else {
+        return None;
+    };
+    let _row = config.dealer(dealer)?;
+    let word = word_of(config, dealer, quote)?;
+    in_room(
+        config,
+        room,
+        ForRoom::Unpost {
+            dealer,
+            word,
+            moment,
+        },
+    )
+}
+
+/// The acting dealer's decline of a request.
+fn declines(config: &VenueConfig, by: Actor, room: RoomRef, moment: Moment) -> Option<Arrival>
+    ensures { result ≡ spec.by_dealer config.now by (spec.declines config.now room moment) }
+{
+    let Actor::Firm(dealer) = by else {
+        return None;
+    };
+    let _row = config.dealer(dealer)?;
+    in_room(config, room, ForRoom::Decline { dealer, moment })
+}
+
+/// What the investor is told of the acting dealer's decline.
+fn declined(config: &VenueConfig, by: Actor, room: RoomRef, moment: Moment) -> Option<Arrival>
+    ensures { result ≡ spec.by_dealer config.now by (spec.declined config.now room moment) }
+{
+    let Actor::Firm(dealer) = by else {
+        return None;
+    };
+    let row = config.dealer(dealer)?;
+    let what = ForInvestor::Declined {
+        request: room.n,
+        dealer: row.name.copy(),
+        moment,
+    };
+    at_investor(config, room.investor, what)
+}
+
+/// A drop of the acting dealer's next quote.
+fn drops(config: &VenueConfig, by: Actor, last: u32, moment: Moment) -> Option<Arrival>
+    ensures { result ≡ spec.by_dealer config.now by (spec.drops last moment) }
+{
+    let Actor::Firm(dealer) = by else {
+        return None;
+    };
+    let _row = config.dealer(dealer)?;
+    Some(Arrival::Drop {
+        firm: dealer,
+        last,
+        moment,
+    })
+}

@@ -1,0 +1,53 @@
+#!/usr/bin/env python3
+"""Writes the configurations of one host of an installation.
+
+usage: configure.py SITE HOST FOLDER
+
+SITE is a file as site.toml, which names all hosts. Of a database host etcd.yml, patroni.yml and
+make_database.sh are written into FOLDER, of a gateway host gateway.toml and pgpass; README.md says
+where each has its place.
+"""
+
+import argparse
+import sys
+from pathlib import Path
+
+HERE = Path(__file__).resolve().parent
+sys.dont_write_bytecode = True
+sys.path.insert(0, str(HERE))
+
+from parts.run import Fault
+from parts.site import Folders, read_site
+
+DATABASE_HOST = Folders("/etc/patroni", "/var/lib/mireseason", "/run/mireseason")
+GATEWAY_HOST = Folders("/etc/mireseason")
+MODES = {"make_database.sh": 0o750}  # the others have passwords, too: 0640
+SECRET = 0o640
+
+
+def write(words: argparse.Namespace) -> None:
+    site = read_site(words.site)
+    folders = DATABASE_HOST if words.host in site.databases else GATEWAY_HOST
+    files = site.files(words.host, folders)
+    words.folder.mkdir(parents=True, exist_ok=True)
+    for name, text in files.items():
+        path = words.folder / name
+        path.touch(SECRET)
+        path.write_text(text)
+        path.chmod(MODES.get(name, SECRET))
+        print(path)
+
+
+def main() -> None:
+    parser = argparse.ArgumentParser(usage=__doc__)
+    parser.add_argument("site", type=Path)
+    parser.add_argument("host")
+    parser.add_argument("folder", type=Path)
+    try:
+        write(parser.parse_args())
+    except (Fault, OSError) as fault:
+        sys.exit("configure.py: %s" % fault)
+
+
+if __name__ == "__main__":
+    main()

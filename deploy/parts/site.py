@@ -1,0 +1,119 @@
+"""A whole installation on paper: its hosts and addresses, its passwords and its venues; and the
+configurations of each host that follow.
+"""
+
+import json
+import re
+import tomllib
+from collections.abc import Mapping
+from dataclasses import dataclass
+from pathlib import Path
+from typing import Any
+
+from parts.run import Fault
+
+CONFIG = Path(__file__).resolve().parent.parent / "config"
+DATABASE_FILES = ("etcd.yml", "patroni.yml", "make_database.sh")
+WORDS = ("GATEWAY", "READER", "REPLICATION", "REWIND")  # what has a password
+ALONE = ""  # the name of a venue that is the only one
+LEFT = re.compile(r"@[A-Z0-9_]+@")
+
+
+@dataclass(frozen=True)
+class Folders:
+    """Where the files of a host are."""
+
+    config: str
+    data: str = ""  # of etcd and PostgreSQL
+    run: str = ""  # sockets
+
+
+@dataclass(frozen=True)
+class Site:
+    network: str  # of database and gateway hosts
+    databases: Mapping[str, str]  # host to address
+    gateways: Mapping[str, str]
+    passwords: Mapping[str, str]
+    command: tuple[str, ...]  # the words of the venue's program
+    security: str  # the part [tls] of a gateway, or what stands for it
+    venues: tuple[str, ...] = (ALONE,)
+    synchronous: str = "on"
+
+    def files(self, host: str, folders: Folders) -> dict[str, str]:
+        """The configurations of a host, by their names."""
+        if host in self.databases:
+            return self._database_files(host, folders)
+        if host in self.gateways:
+            return self._gateway_files(host, folders)
+        raise Fault("there is no host %s" % host)
+
+    def _database_files(self, host: str, folders: Folders) -> dict[str, str]:
+        words = {"NAME": host, "ADDRESS": self.databases[host], "NETWORK": self.network,
+                 "DATA": folders.data, "RUN": folders.run, "CONFIG": folders.config}
+        return {name: self._filled(name, words) for name in DATABASE_FILES}
+
+    def _gateway_files(self, host: str, folders: Folders) -> dict[str, str]:
+        words = {"NAME": host, "ADDRESS": self.gateways[host], "CONFIG": folders.config,
+                 "SYNCHRONOUS": self.synchronous, "SCHEMA": self.schema, "VENUES": self._venues(),
+                 "SECURITY": self.security}
+        return {"gateway.toml": self._filled("gateway.toml", words),
+                "pgpass": "*:*:*:gateway:%s\n" % self.passwords["GATEWAY"]}
+
+    @property
+    def schema(self) -> str:
+        """That of a log, as gateway.toml names it."""
+        return "day_{date}" if self.venues == (ALONE,) else "{venue}_{date}"
+
+    def _venues(self) -> str:
+        return venues_text(self.venues, self.command)
+
+    def _filled(self, name: str, words: Mapping[str, str]) -> str:
+        """A configuration with each @WORD@ of it replaced."""
+        text = (CONFIG / name).read_text()
+        hosts = {host.upper(): address for host, address in self.databases.items()}
+        passwords = {word + "_PASSWORD": secret for word, secret in self.passwords.items()}
+        for word, value in {**words, **hosts, **passwords}.items():
+            text = text.replace("@%s@" % word, value)
+        left = LEFT.search(text)
+        if left:
+            raise Fault("%s: nothing is said of %s" % (name, left[0]))
+        return text
+
+
+def file_of(venue: str) -> str:
+    """The name of a venue's configuration."""
+    return "%s.toml" % (venue or "venue")
+
+
+def venues_text(venues: tuple[str, ...], command: tuple[str, ...]) -> str:
+    """The part [venue] of gateway.toml, or a part for each of several."""
+    words = json.dumps([*command, "live", "--frames", "--marks"])  # is TOML, too
+    return "\n".join('[%s]\ncommand = %s\nconfiguration = "%s"\n' % (
+        "venue." + name if name else "venue", words, file_of(name)) for name in venues)
+
+
+def read_site(path: Path) -> Site:
+    """A site from its file; Fault with what is wrong with it."""
+    try:
+        table = tomllib.loads(path.read_text())
+        passwords = {word.upper(): text(secret) for word, secret in table["passwords"].items()}
+        if set(passwords) != set(WORDS):
+            raise ValueError("the passwords are those of %s" % ", ".join(WORDS).lower())
+        venue = table["venue"]
+        return Site(text(table["network"]), texts(table["databases"]), texts(table["gateways"]),
+                    passwords, tuple(map(text, venue["command"])), text(table["security"]),
+                    tuple(map(text, venue.get("names", [ALONE]))))
+    except (OSError, ValueError, AttributeError) as fault:
+        raise Fault("%s: %s" % (path, fault)) from fault
+    except KeyError as fault:
+        raise Fault("%s: %s is missing" % (path, fault)) from fault
+
+
+def text(value: Any) -> str:
+    if not isinstance(value, str):
+        raise ValueError("%r is no text" % value)
+    return value
+
+
+def texts(table: Any) -> dict[str, str]:
+    return {name: text(value) for name, value in table.items()}

@@ -1,0 +1,75 @@
+// Feeds the log to one process of the venue.
+#ifndef GATEWAY_FEEDER_H
+#define GATEWAY_FEEDER_H
+
+#include "committed.h"
+#include "database.h"
+#include "patient_reader.h"
+#include "process.h"
+
+#include <condition_variable>
+#include <functional>
+#include <mutex>
+#include <stop_token>
+#include <string>
+#include <thread>
+
+namespace gateway {
+
+// From its beginning on. What was committed before, and what the pipe does not take at once, is
+// written by a thread of its own. While that one has nothing to do, the thread that commits an
+// entry writes it itself: so an entry that comes alone waits for no other thread.
+class Feeder final : private Committed::Reader {
+  public:
+    struct Log {
+        Database &database;
+        Committed &committed;
+        Digest first_hash{}; // of place 0
+    };
+    // Told of entries before they are written.
+    using Feeding = std::function<void(const std::vector<LoggedEntry> &)>;
+
+    // head is what stands in front of the first entry.
+    Feeder(Process &process, const Log &log, std::string head, Feeding feeding);
+    ~Feeder() override = default;
+    Feeder(const Feeder &) = delete;
+    Feeder &operator=(const Feeder &) = delete;
+
+    // Feeds no further entry, and ends the process's input behind the last one; of any thread.
+    void stop() { thread_.request_stop(); }
+    // Stops, and waits until it has. What it could not go on for, if that was no end of the
+    // process.
+    std::string end();
+
+  private:
+    void run(const std::stop_token &stop);
+    void feed(const std::stop_token &stop);
+    // False where nothing is to be fed any more.
+    bool wait_for_entries(const std::stop_token &stop);
+    std::vector<LoggedEntry> next_entries(PatientReader &reader);
+    // The lines of the entries, which are fed from now on.
+    std::string lines_of(const std::vector<LoggedEntry> &entries);
+
+    // Committed::Reader
+    void entries_came(const std::vector<LoggedEntry> &entries) override;
+    void no_more_come() override;
+
+    Process &process_;
+    Database &database_;
+    Committed &committed_;
+    const std::string head_;
+    const Feeding feeding_;
+
+    std::mutex mutex_;
+    std::condition_variable_any changed_;
+    bool waits_ = false; // the thread has nothing to do; the next three are its own until it waits
+    std::uint32_t next_ = 1; // the place that is fed next
+    Digest before_;          // the hash of the one in front of it
+    std::string unwritten_;  // what the pipe did not take of the lines
+    std::string fault_;      // of the thread
+    std::jthread thread_;
+};
+
+} // namespace gateway
+
+#endif

@@ -1,0 +1,146 @@
+// What feeds the venue: the log from its begin, entries as they are committed, a process that reads
+// nothing for a while, and a chain that is broken.
+//
+// usage: feeder_test FOLDER
+#include "check.h"
+#include "feeder.h"
+
+#include <filesystem>
+#include <iostream>
+#include <thread>
+
+namespace gateway::tests {
+
+namespace {
+
+constexpr std::uint32_t old = 2000; // entries that are in the database alone
+
+Entry behind(const Entry &before) {
+    Entry entry;
+    entry.place = before.place + 1;
+    entry.moment = "09:00:00.000";
+    entry.line = fmt::format("line {} {}", entry.place, std::string(200, 'x'));
+    entry.before = before.hash;
+    entry.hash = hash_of(entry);
+    return entry;
+}
+
+// A log, and what a process has to be given of it.
+class Source {
+  public:
+    explicit Source(const std::string &file) : database_(open_sqlite(file)), committed_(old) {
+        last_.line = "day";
+        last_.hash = hash_of(last_);
+        first_hash_ = last_.hash;
+        Batch batch;
+        batch.entries.push_back(last_);
+        for (std::uint32_t count = 0; count < old; ++count) {
+            batch.entries.push_back(next());
+        }
+        database_->writer()->commit(batch);
+    }
+
+    void put(std::uint32_t count) {
+        std::vector<LoggedEntry> entries;
+        for (std::uint32_t each = 0; each < count; ++each) {
+            entries.push_back({next(), {}});
+        }
+        committed_.put(entries);
+    }
+    // An entry that does not follow on the last one.
+    void put_stranger() {
+        Entry entry = behind(last_);
+        entry.before = Digest{};
+        committed_.put({{entry, {}}});
+    }
+
+    Feeder::Log log() { return {*database_, committed_, first_hash_}; }
+    const std::string &text() const { return text_; }
+    std::uint32_t last_place() const { return last_.place; }
+
+  private:
+    Entry next() {
+        last_ = behind(last_);
+        text_ += last_.line + "\n";
+        return last_;
+    }
+
+    std::unique_ptr<Database> database_;
+    Committed committed_;
+    Entry last_;
+    Digest first_hash_{};
+    std::string text_ = "head\n";
+};
+
+std::string read_some(Process &process, std::size_t size) {
+    std::string text;
+    while (text.size() < size) {
+        const std::string bytes = process.read_output();
+        check(!bytes.empty(), "the process has ended");
+        text += bytes;
+    }
+    return text;
+}
+
+void fed_as_it_comes(const std::string &file) {
+    Source source(file);
+    Process process({"cat"});
+    std::uint32_t told = 0;
+    Feeder feeder(process, source.log(), "head\n", [&](const std::vector<LoggedEntry> &entries) {
+        same(told + 1, entries.front().entry.place, "the next entry");
+        told = entries.back().entry.place;
+    });
+    std::string came = read_some(process, source.text().size());
+    for (int count = 0; count < 100; ++count) {
+        source.put(1 + count % 3);
+        came += read_some(process, source.text().size() - came.size());
+    }
+    // More than the pipes and `cat` take: whoever puts it goes on.
+    for (int count = 0; count < 1000; ++count) {
+        source.put(3);
+    }
+    came += read_some(process, source.text().size() - came.size());
+    same<std::string>("", feeder.end(), "a fault");
+    check(process.read_output().empty(), "the input has not ended");
+    check(came == source.text(), "the process was given something else");
+    same(source.last_place(), told, "the last entry that was told");
+}
+
+void a_broken_chain(const std::string &file) {
+    Source source(file);
+    Process process({"cat"});
+    Feeder feeder(process, source.log(), "head\n", [](const std::vector<LoggedEntry> &) {});
+    read_some(process, source.text().size());
+    source.put_stranger();
+    check(process.read_output().empty(), "a line of another log was fed");
+    const std::string fault = feeder.end();
+    check(fault.find(fmt::format("entry {}", old + 1)) != std::string::npos, "told: " + fault);
+}
+
+std::string fresh(const std::filesystem::path &folder, const std::string &name) {
+    const std::filesystem::path file = folder / name;
+    for (const char *suffix : {"", "-wal", "-shm", ".lock"}) {
+        std::filesystem::remove(file.string() + suffix);
+    }
+    return file.string();
+}
+
+} // namespace
+
+} // namespace gateway::tests
+
+int main(int count, char **words) {
+    if (count != 2) {
+        std::cerr << "usage: feeder_test FOLDER\n";
+        return 2;
+    }
+    try {
+        using namespace gateway::tests;
+        fed_as_it_comes(fresh(words[1], "feeder_test.db"));
+        a_broken_chain(fresh(words[1], "feeder_broken.db"));
+        return 0;
+    } catch (const std::exception &fault) {
+        std::cerr << fault.what() << '\n';
+        return 1;
+    }
+}

@@ -1,0 +1,119 @@
+"""Firms that are away, whose quotes are cancelled for them, and deadlines that pass."""
+
+from held import milliseconds
+from market import moment_in
+from stage import DEALER, Stage, check
+from wait import LONG, until
+
+SOON = 25  # seconds: less than the gateway waits at most for a firm that fills a gap
+
+
+def reject_for_one_away(stage: Stage) -> None:
+    """A dealer that ends behind its message gets the Reject at its next Logon."""
+    stage.open(*stage.firms)
+    number = stage.say(stage.dealer, "Z", [(298, b"4")], trader="T9")
+    stage.dealer.kill()
+    until("the message is in the log", LONG, lambda: stage.entries_of(stage.dealer) == 1)
+    until("the venue has answered", LONG, lambda: len(stage.door.ledger().sent.get("DLR1", [])) == 1)
+    stage.auction([stage.other])
+    stage.log_on(stage.dealer)
+    reject = stage.answer(stage.dealer, "a Reject", lambda message: message.kind == b"3")
+    check(reject.value(45) == b"%d" % number, "it is %r, of the session's %d" % (reject.raw, number))
+    stage.auction()
+    stage.whole()
+
+
+def one_that_was_away(stage: Stage) -> None:
+    """What a firm is sent while it is away waits for it, and comes in its order."""
+    stage.open(*stage.firms)
+    stage.log_off(stage.other)
+    stage.ask_of([stage.dealer, stage.other])
+    stage.answer(stage.dealer, "a request", lambda message: message.kind == b"R")
+    stage.log_on(stage.other)
+    stage.answer(stage.other, "a request", lambda message: message.kind == b"R")
+    stage.auction()
+    stage.whole()
+
+
+def sent_while_away(stage: Stage) -> None:
+    """What a firm's engine is told to send while the gateway is away comes to the venue once it is back, in its order."""
+    stage.open(*stage.firms)
+    stage.door.kill()
+    for _ in range(20):
+        stage.say(stage.dealer, "Z", [(298, b"5"), (117, stage.name("x"))])
+    stage.door.start()
+    until("20 answers", LONG, lambda: stage.dealer.look() is None and len(stage.dealer.received) >= 20)
+    stage.whole()
+
+
+def gaps_on_both_sides(stage: Stage) -> None:
+    """A firm that missed messages, and whose own were not taken: both are made good within seconds of its Logon."""
+    stage.open(*stage.firms)
+    stage.auction()
+    stage.dealer.kill()
+    stage.ask_of([stage.dealer, stage.other])
+    until("the request is in the log", LONG, lambda: len(stage.door.ledger().sent.get("DLR1", [])) == 4)
+    stage.door.kill()
+    stage.dealer.start()
+    names = [stage.name("x") for _ in range(5)]
+    for name in names:
+        stage.say(stage.dealer, "Z", [(298, b"5"), (117, name)])
+    stage.door.start()
+    stage.dealer.wait_on()
+    for name in names:
+        stage.answer(stage.dealer, "what became of a cancel", lambda message: message.value(117) == name, limit=SOON)
+    stage.answer(stage.dealer, "a request", lambda message: message.kind == b"R" and message.value(131) == b"R2")
+    stage.whole()
+
+
+def deadline_passes(stage: Stage) -> None:
+    """At a deadline one clock line is committed, and the request's end is told; without a deadline none is."""
+    stage.open(*stage.firms)
+    stage.ask(600)
+    stage.ask(1.5)
+    end = stage.answer(stage.investor, "that a request expired", lambda message: message.value(297) == b"7")
+    for dealer in (stage.dealer, stage.other):
+        stage.answer(dealer, "that a request expired", lambda message: message.value(694) == b"3")
+    clocks = [entry for entry in stage.door.ledger().entries if entry.is_clock]
+    check(len(clocks) == 1, "%d clock lines" % len(clocks))
+    before, after = milliseconds(clocks[0].moment) - milliseconds(stage.deadline), milliseconds(end.value(60)[9:].decode())
+    check(0 <= before < 1000 * LONG, "the clock line is %d ms behind the deadline" % before)
+    check(after == milliseconds(clocks[0].moment), "60 of the end is %r" % end.value(60))
+    stage.whole()
+
+
+def deadline_while_away(stage: Stage) -> None:
+    """A deadline that passes while there is no gateway is told once it is back."""
+    stage.open(*stage.firms)
+    stage.ask(1.5)
+    stage.door.kill()
+    until("the deadline has passed", LONG, lambda: moment_in(0)[9:].decode() > stage.deadline)
+    stage.door.start()
+    stage.answer(stage.investor, "that a request expired", lambda message: message.value(297) == b"7")
+    stage.whole()
+
+
+def cancelled_for_one_gone(stage: Stage) -> None:
+    """The quotes of a dealer that is gone are cancelled by the trader that the configuration names, if it names one."""
+    stage.door.cancelled = {DEALER.name: DEALER.trader}
+    stage.open(*stage.firms)
+    request = stage.ask()
+    for dealer in (stage.dealer, stage.other):
+        stage.quote(dealer, request)
+    stage.dealer.kill()
+    stage.answer(stage.investor, "that a quote is gone", lambda message: message.value(297) == b"17")
+    stage.other.kill()
+    stage.log_on(stage.dealer, stage.other)
+    gone = stage.answer(stage.dealer, "that its quote is gone", lambda message: message.value(297) == b"17")
+    check(gone.kind == b"AI", "it is %r" % gone.raw)
+    stage.ping(stage.other)
+    check(not any(message.value(297) == b"17" for message in stage.other.received), "the other dealer's quote is gone too")
+    stage.door.stop()
+    stage.door.cancelled = {}  # else the end of the gateway is one of the dealer too
+    stage.door.write_credentials()
+    stage.door.start()
+    stage.whole()
+
+
+TRIED = [reject_for_one_away, one_that_was_away, sent_while_away, gaps_on_both_sides, deadline_passes, deadline_while_away,
+         cancelled_for_one_gone]

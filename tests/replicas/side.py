@@ -1,0 +1,163 @@
+"""One venue of a day: the firms that trade there, what they do next, and what its log says."""
+
+import subprocess
+from collections.abc import Callable, Iterator
+from dataclasses import dataclass
+from pathlib import Path
+
+from firm import Firm, Identity, Places
+from frames import SOH
+from held import clock_faults, count_of, differences, unkept, unlogged
+from ledger import Ledger, answers, marks
+from market import Act, Market
+from wait import until, within
+
+ROOT = Path(__file__).resolve().parent.parent.parent
+DICTIONARIES = (ROOT / "fix" / "FIXT11.xml", ROOT / "fix" / "MIRESEASON.xml")
+WRONG_ARGUMENTS = 2  # the status of the venue's program for those that it does not know
+PATIENCE = 30.0  # seconds in which what is on its way comes
+LATE = "no clock line came"  # of a fault of the gateway's tests: databases may be away for longer
+
+
+@dataclass
+class Side:
+    name: str  # of the venue; empty where there is one alone
+    dealers: list[Firm]
+    investors: list[Firm]
+    market: Market
+    read: Callable[[], Ledger]
+    sent: int = 0
+
+    @property
+    def firms(self) -> list[Firm]:
+        return self.dealers + self.investors
+
+    def start(self) -> None:
+        for firm in self.firms:
+            firm.start()
+
+    def all_on(self) -> bool:
+        return all([firm.logged_on() for firm in self.firms])
+
+    def wait_all_on(self, limit: float = PATIENCE) -> None:
+        until("all firms are logged on", limit, self.all_on)
+
+    def send(self, wait: float) -> None:
+        """The next message of some firm; waits so long for an answer."""
+        self.market.look()
+        act: Act = self.market.next()
+        self.sent += 1
+        name, before = "m%d" % self.sent, len(act.firm.received)
+        act.firm.send(name, act.kind, act.fields)
+        act.firm.wait_sent(name)
+
+        def is_answered() -> bool:
+            act.firm.look()
+            return len(act.firm.received) > before
+
+        within(wait, is_answered)
+
+    def close(self) -> None:
+        for firm in self.firms:
+            if firm.process:
+                firm.kill()
+
+    # ------------------------------------------------------------ what firms have, and the log
+
+    def caught_up(self, venue: list[str]) -> int:
+        """Waits until each firm has what the log of now gives it; the entries of that log."""
+        within(PATIENCE, self.is_logged)
+        ledger = self.read()
+        wanted = replayed(venue, ledger.day())
+        within(PATIENCE, lambda: self.has_all(wanted))
+        return len(ledger.entries)
+
+    def is_logged(self) -> bool:
+        """Whether the log has all that the firms' engines have sent."""
+        ledger = self.read()
+        return not any(True for firm in self.firms for _ in unlogged(firm, ledger))
+
+    def has_all(self, wanted: dict[str, list[bytes]]) -> bool:
+        for firm in self.firms:
+            firm.look()
+        return all(count_of(firm) >= len(wanted.get(firm.name, [])) for firm in self.firms)
+
+    def faults(self, venue: list[str]) -> Iterator[str]:
+        """What is wrong with what the firms have and with the log, once nothing comes any more."""
+        ledger = self.read()
+        wanted = replayed(venue, ledger.day())
+        for firm in self.firms:
+            firm.look()
+            yield from differences(firm, wanted.get(firm.name, []), ledger)
+            yield from unlogged(firm, ledger)
+        yield from unkept(ledger, wanted)
+        for fault in clock_faults(ledger, marks(venue, ledger.day())):
+            if LATE not in fault:
+                yield fault
+
+
+@dataclass(frozen=True)
+class Cast:
+    """Who trades at each venue of a day."""
+
+    dealers: tuple[Identity, ...]
+    investors: tuple[Identity, ...]
+
+    @classmethod
+    def of(cls, dealers: int, investors: int) -> "Cast":
+        return cls(tuple(identity("DLR", "T", "dealer", n) for n in range(1, dealers + 1)),
+                   tuple(identity("INV", "V", "investor", n) for n in range(1, investors + 1)))
+
+    @property
+    def all(self) -> tuple[Identity, ...]:
+        return self.dealers + self.investors
+
+
+def replayed(venue: list[str], day: bytes) -> dict[str, list[bytes]]:
+    """What `replay --live` gives each firm over a day; a program that has no such flag is asked by
+    `live`, which gives the same.
+    """
+    words = [*venue, "replay", "--live", "--frames"]
+    done = subprocess.run(words, input=day, capture_output=True, check=False)
+    if done.returncode == WRONG_ARGUMENTS:
+        return answers(venue, day)
+    done.check_returncode()
+    found: dict[str, list[bytes]] = {}
+    for line in done.stdout.splitlines():
+        firm, _, text = line.partition(b" ")
+        found.setdefault(firm.decode(), []).append(text.replace(b"|", SOH))
+    return found
+
+
+def identity(letters: str, trader: str, role: str, number: int) -> Identity:
+    return Identity("%s%d" % (letters, number), "%s%d" % (trader, number),
+                    "%s-%d-secret" % (role, number))
+
+
+@dataclass(frozen=True)
+class Stage:
+    """Where the firms of a day are, and what they are started by."""
+
+    folder: Path
+    player: Path
+    port: int
+    settings: dict[str, str]  # of the initiators, beside the usual ones
+    inside: tuple[str, ...] = ()  # in front of the initiators' command
+
+    def side(self, name: str, seed: int, cast: Cast, read: Callable[[], Ledger]) -> Side:
+        places = self.places(name, name)
+        dealers = [Firm(places, who, self.settings) for who in cast.dealers]
+        investors = [Firm(places, who, self.settings) for who in cast.investors]
+        return Side(name, dealers, investors, Market(seed, dealers, investors), read)
+
+    def places(self, name: str, venue: str) -> Places:
+        """A folder of initiators that name this venue in their Logons."""
+        own = self.folder / "-".join(filter(None, ("firms", name)))
+        own.mkdir()
+        script = own / "player"
+        named = ["PLAYER_VENUE='%s'" % venue] if venue else []
+        words = [*named, "exec", *self.inside, str(self.player)]
+        script.write_text('#!/bin/sh\n%s "$@"\n' % " ".join(words))
+        script.chmod(0o755)
+        return Places(script, own, DICTIONARIES, self.port)
+

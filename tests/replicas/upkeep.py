@@ -1,0 +1,82 @@
+"""What an operator does to database hosts, as deploy/README.md says it: one is taken out and in,
+the primary by a switch to its standby, and one whose disk is lost is replaced.
+"""
+
+import time
+from collections.abc import Callable
+
+from book import PATIENCE, primary
+from damage import Damage
+from parts.database import DatabaseHost, as_user
+from parts.machine import Machine
+from parts.run import found_in, run, tried, until
+
+OUT_SECONDS = 10.0
+
+
+class Upkeep:
+    """Does each of these once, in this order."""
+
+    def __init__(self, machine: Machine) -> None:
+        self.machine = machine
+        self.order: list[Callable[[], Damage]] = [
+            self.take_out_primary, self.take_out_standby, self.replace_standby,
+            self.replace_primary]
+
+    def begin(self) -> Damage:
+        damage = self.order.pop(0)()
+        damage.began = time.monotonic()
+        damage.look()
+        return damage
+
+    def primary(self) -> DatabaseHost:
+        return primary(self.machine)
+
+    def standby(self) -> DatabaseHost:
+        return found_in("there is a synchronous standby", PATIENCE,
+                        self.machine.cluster.synchronous_standby)
+
+    # ------------------------------------------------------------ what is done
+
+    def take_out_primary(self) -> Damage:
+        host, standby = self.primary(), self.standby()
+        return Damage("primary switched over and out", [
+            (0, lambda: self.switch_over(host, standby)), (0, host.stop),
+            (OUT_SECONDS, host.start_again)])
+
+    def take_out_standby(self) -> Damage:
+        host = self.standby()
+        return Damage("standby out", [(0, host.stop), (OUT_SECONDS, host.start_again)])
+
+    def replace_standby(self) -> Damage:
+        host = self.standby()
+        return Damage("standby replaced", self.replacement(host))
+
+    def replace_primary(self) -> Damage:
+        host = self.primary()
+        return Damage("primary replaced", self.replacement(host))
+
+    def replacement(self, host: DatabaseHost) -> list[tuple[float, Callable[[], None]]]:
+        return [(0, host.cut_power), (0, host.renew_disk),
+                (OUT_SECONDS, lambda: self.join_anew(host)), (OUT_SECONDS, host.start_again)]
+
+    def switch_over(self, host: DatabaseHost, standby: DatabaseHost) -> None:
+        run(*self.machine.network.words(host.name), *as_user("postgres"), "patronictl",
+            "-c", str(host.own / "patroni.yml"), "switchover", "mireseason",
+            "--leader", host.name, "--candidate", standby.name, "--force")
+        until("%s is the primary" % standby.name, PATIENCE, standby.is_primary)
+
+    def join_anew(self, host: DatabaseHost) -> None:
+        """Takes the member that is lost out of etcd's cluster, and its successor in."""
+        leader = found_in("etcd has a leader", PATIENCE, self.machine.cluster.etcd_leader)
+        etcdctl = (*self.machine.network.words(leader.name), "etcdctl", "--endpoints",
+                   "http://%s:2379" % leader.host.address, "member")
+        members = [line.split(", ") for line in run(*etcdctl, "list").splitlines()]
+        lost = next(words[0] for words in members if words[2] == host.name)
+        peer = "--peer-urls=http://%s:2380" % host.host.address
+        until("etcd lets %s go" % host.name, PATIENCE, lambda: tried(*etcdctl, "remove", lost))
+        until("etcd takes %s" % host.name, PATIENCE,
+              lambda: tried(*etcdctl, "add", host.name, peer))
+        file = host.own / "etcd.yml"
+        text = file.read_text().replace('state: "new"', 'state: "existing"')
+        file.write_text(text)
