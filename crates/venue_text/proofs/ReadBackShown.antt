@@ -220,10 +220,10 @@ shown_by date ask moment t₁ t₂ t₃ t₄ t₅ t₆ i b s q d c₁ c₂ c₃ 
     (Some ask.quantity) (Some ask.deadline) (Some moment) x) e₇
     ∙ shown_all ask moment
 
-regrouped : (i b s q d e end : List ℕ)
-    → (i ++ 32 ∷ b ++ 32 ∷ s ++ 32 ∷ q ++ 32 ∷ d) ++ 32 ∷ (e ++ end)
-    ≡ (i ++ (32 ∷ (b ++ (32 ∷ (s ++ (32 ∷ (q ++ (32 ∷ (d ++ (32 ∷ e)))))))))) ++ end
-regrouped i b s q d e end = simp append_assoc
+regrouped : (space i b s q d e end : List ℕ)
+    → (i ++ (space ++ b) ++ (space ++ s) ++ (space ++ q) ++ (space ++ d)) ++ (space ++ (e ++ end))
+    ≡ (i ++ (space ++ (b ++ (space ++ (s ++ (space ++ (q ++ (space ++ (d ++ (space ++ e)))))))))) ++ end
+regrouped space i b s q d e end = simp append_assoc
 
 pub shown_back : (date : List ℕ) (ask : Ask) (moment : ℕ) → is_firm_name ask.investor ≡ true
     → is_bond_id ask.bond ≡ true → 1 ≤ ask.quantity → ask.quantity ≤ MOST
@@ -253,7 +253,7 @@ shown_back date ask moment named bond least most grid deadline time =
       written = ap (λ (l : List ℕ). codes "shown " ++ l)
           (ap (λ (l : List ℕ). (ask.investor ++ 32 ∷ ask.bond ++ 32 ∷ s ++ 32 ∷ q ++ 32 ∷ d) ++ 32 ∷ l)
           ends.written
-          ∙ regrouped ask.investor ask.bond s q d t₆ (10 ∷ []));
+          ∙ regrouped (32 ∷ []) ask.investor ask.bond s q d t₆ (10 ∷ []));
       is_one = record {
         in_line = both (codes "shown ") t₁ refl
             (both ask.investor (32 ∷ t₂) (in_line ask.investor i_word) (more t₂ refl
