@@ -1,18 +1,18 @@
 -- A list of what was due, written as due text and read again.
 use Rattle.std.proofs.Common.{◌≡◌, ℕ, ◌+◌, ◌||◌, Bool, true, false, cond, List, [], ◌∷◌, ◌++◌, codes}
-use Rattle.std.proofs.Common.{Option, Some, Result, Ok, Err, refl, sym, ap, ap₂, ◌∙◌}
+use Rattle.std.proofs.Common.{Option, Result, Ok, Err, refl, ap, ap₂, ◌∙◌}
 use Rattle.std.specs.List.{list_all, list_any}
 use Rattle.std.proofs.lemmas.Bool.{and_parts}
 use Rattle.std.proofs.lemmas.List.{append_assoc}
 use Rattle.step_replay.specs.declared.dues.Due.{Due}
 use Rattle.venue_config.specs.Rows.{DealerValues}
 use Rattle.venue_config.specs.Texts.{same_text}
-use Rattle.venue_text.specs.DueLines.{date_of, due_of, row_of}
+use Rattle.venue_text.specs.DueLines.{date_of, row_of}
 use Rattle.venue_text.specs.DueText.{Lines, Spelled, at_line, due_text_of, dues_from, next_line, undivided_lines}
 use Rattle.venue_text.specs.Lines.{lines_of, one_past, spoken_from, spoken_lines}
-use Rattle.venue_text.specs.ReadBack.{AreHeader, AreReadBack, IsReadBack, ReadsAs, is_sayable}
+use Rattle.venue_text.specs.ReadBack.{AreHeader, AreReadBack, ReadsAs, is_sayable}
 use Rattle.venue_text.specs.ResultSteps.{◌>>=◌}
-use Rattle.venue_text.specs.WrittenDues.{due_line, due_lines}
+use Rattle.venue_text.specs.WrittenDues.{due_lines}
 use Rattle.venue_text.specs.declared.faults.ProgramFault.{ProgramFault}
 use Rattle.venue_text.specs.declared.faults.ProgramFault.TheVariants.{Parts}
 use Rattle.venue_text.proofs.CutLemmas.{spoken_stop}
