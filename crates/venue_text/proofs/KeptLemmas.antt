@@ -16,7 +16,7 @@ use Rattle.venue_text.specs.AskedDays.{dealer_by}
 use Rattle.venue_text.specs.KeptDays.{Keeps, KeepsMore, OpensKept, Wanted, asked_in, asked_venue}
 use Rattle.venue_text.specs.KeptDays.{dues, kept_text, text_if, text_of_asked}
 use Rattle.venue_text.specs.LiveAnswers.{Goes, Opens, Tells}
-use Rattle.venue_text.specs.LiveLines.{Taken, line_fault}
+use Rattle.venue_text.specs.LiveLines.{Taken}
 use Rattle.venue_text.specs.ResultSteps.{◌>>=◌}
 use Rattle.venue_text.specs.StepLines.{asked, dealer_named}
 use Rattle.venue_text.specs.VenueParts.{venue_of}

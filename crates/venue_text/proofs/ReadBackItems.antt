@@ -1,7 +1,7 @@
 -- Each item of what was due, written as a line and read again.
 use Rattle.std.proofs.Common.{◌≡◌, ℕ, ◌/◌, ◌%◌, ◌<◌, ◌==◌, ◌||◌, not, Bool, true, false}
 use Rattle.std.proofs.Common.{cond, List, [], ◌∷◌, ◌++◌, length, map, codes, decimal}
-use Rattle.std.proofs.Common.{slice_index, Option, Some, Ok, refl, sym, ap, ◌∙◌, arith, inl, inr}
+use Rattle.std.proofs.Common.{slice_index, Option, Some, Ok, refl, ap, ◌∙◌, arith, inl, inr}
 use Rattle.std.proofs.Common.{zero, suc}
 use Rattle.std.specs.List.{list_all, list_any}
 use Rattle.std.specs.Result.{result_ok}

@@ -1,18 +1,18 @@
 -- A list of what was due, written as due text and read again.
 use Rattle.std.proofs.Common.{◌≡◌, ℕ, ◌+◌, ◌||◌, Bool, true, false, cond, List, [], ◌∷◌, ◌++◌, codes}
-use Rattle.std.proofs.Common.{Option, Some, Result, Ok, Err, refl, sym, ap, ap₂, ◌∙◌}
+use Rattle.std.proofs.Common.{Option, Result, Ok, Err, refl, ap, ap₂, ◌∙◌}
 use Rattle.std.specs.List.{list_all, list_any}
 use Rattle.std.proofs.lemmas.Bool.{and_parts}
 use Rattle.std.proofs.lemmas.List.{append_assoc}
 use Rattle.step_replay.specs.declared.dues.Due.{Due}
 use Rattle.venue_config.specs.Rows.{DealerValues}
 use Rattle.venue_config.specs.Texts.{same_text}
-use Rattle.venue_text.specs.DueLines.{date_of, due_of, row_of}
+use Rattle.venue_text.specs.DueLines.{date_of, row_of}
 use Rattle.venue_text.specs.DueText.{Lines, Spelled, at_line, due_text_of, dues_from, next_line, undivided_lines}
 use Rattle.venue_text.specs.Lines.{lines_of, one_past, spoken_from, spoken_lines}
-use Rattle.venue_text.specs.ReadBack.{AreHeader, AreReadBack, IsReadBack, ReadsAs, is_sayable}
+use Rattle.venue_text.specs.ReadBack.{AreHeader, AreReadBack, ReadsAs, is_sayable}
 use Rattle.venue_text.specs.ResultSteps.{◌>>=◌}
-use Rattle.venue_text.specs.WrittenDues.{due_line, due_lines}
+use Rattle.venue_text.specs.WrittenDues.{due_lines}
 use Rattle.venue_text.specs.declared.faults.ProgramFault.{ProgramFault}
 use Rattle.venue_text.specs.declared.faults.ProgramFault.TheVariants.{Parts}
 use Rattle.venue_text.proofs.CutLemmas.{spoken_stop}
@@ -67,6 +67,9 @@ none_divides date (item ∷ dues) each sayable =
 
 -- the whole text
 
+abbrev spelled_of : List ℕ → DealerValues → List Due → Spelled
+spelled_of date row dues = record { date = date; row = row; dues = dues }
+
 module _ (date : List ℕ) (row : DealerValues) (first second : List ℕ) (dues : List Due)
     (header : AreHeader date row first second) (each : EachReadsAs date dues)
     (sayable : list_all is_sayable dues ≡ true) where
@@ -103,9 +106,9 @@ module _ (date : List ℕ) (row : DealerValues) (first second : List ℕ) (dues 
   -- the date's line is read, then the dealer's, and then the others
   abbrev behind_row : DealerValues → Lines → Result Spelled ProgramFault
   behind_row row lines = dues_from date row.name 1 lines
-      >>= (λ (dues : List Due). Ok (record { date = date; row = row; dues = dues }))
+      >>= (λ (dues : List Due). Ok (spelled_of date row dues))
 
-  pub whole_back : due_text_of whole ≡ Ok (record { date = date; row = row; dues = dues })
+  pub whole_back : due_text_of whole ≡ Ok (spelled_of date row dues)
   whole_back =
       let later = spoken_from 3 (lines_of (due_lines dues)) in
       ap (λ (lines : Result Lines ProgramFault). lines
@@ -114,14 +117,14 @@ module _ (date : List ℕ) (row : DealerValues) (first second : List ℕ) (dues 
       >>= (λ (date : List ℕ). next_line (one_past whole) first.1
       >>= (λ (second : (ℕ × List ℕ) × Lines). at_line second.0.0 (row_of second.0.1)
       >>= (λ (row : DealerValues). dues_from date row.name 1 second.1
-      >>= (λ (dues : List Due). Ok (record { date = date; row = row; dues = dues })))))))) whole_numbered
+      >>= (λ (dues : List Due). Ok (spelled_of date row dues)))))))) whole_numbered
       ∙ ap (λ (read : Option (List ℕ)). at_line 1 read
       >>= (λ (date : List ℕ). next_line (one_past whole) ((2, second) ∷ later)
       >>= (λ (second : (ℕ × List ℕ) × Lines). at_line second.0.0 (row_of second.0.1)
       >>= (λ (row : DealerValues). dues_from date row.name 1 second.1
-      >>= (λ (dues : List Due). Ok (record { date = date; row = row; dues = dues })))))) header.is_date
+      >>= (λ (dues : List Due). Ok (spelled_of date row dues)))))) header.is_date
       ∙ ap (λ (read : Option DealerValues). at_line 2 read
       >>= (λ (row : DealerValues). behind_row row later)) header.is_row
       ∙ ap (λ (read : Result (List Due) ProgramFault). read
-      >>= (λ (dues : List Due). Ok (record { date = date; row = row; dues = dues })))
+      >>= (λ (dues : List Due). Ok (spelled_of date row dues)))
       (all_back date dues each sayable row.name 1 3)

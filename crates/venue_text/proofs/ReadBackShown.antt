@@ -1,5 +1,5 @@
 -- A request that was shown, written as a line and read again.
-use Rattle.std.proofs.Common.{◌≡◌, ℕ, ◌^◌, ◌<◌, ◌≤◌, ◌==◌, ◌&&◌, ◌||◌, not, Bool, true, false, nat_le}
+use Rattle.std.proofs.Common.{◌≡◌, ℕ, ◌<◌, ◌≤◌, ◌==◌, ◌&&◌, not, Bool, true, nat_le}
 use Rattle.std.proofs.Common.{cond, List, [], ◌∷◌, ◌++◌, length, codes, decimal, Option, Some, None}
 use Rattle.std.proofs.Common.{refl, sym, ap, ap₂, ◌∙◌, arith, inl, inr}
 use Rattle.std.specs.List.{list_all}
@@ -15,14 +15,14 @@ use Rattle.market_terms.specs.declared.asks.Ask.{Ask}
 use Rattle.market_terms.specs.declared.asks.Side.{Side}
 use Rattle.market_terms.specs.declared.asks.Side.TheVariants.{Buy, Sell}
 use Rattle.market_terms.specs.declared.quantities.TheConstants.Quantity.{MOST}
-use Rattle.quote_messages.specs.Texts.{number_of, number_up_to}
+use Rattle.quote_messages.specs.Texts.{number_of}
 use Rattle.step_replay.specs.declared.dues.Due.{Due}
 use Rattle.step_replay.specs.declared.dues.Due.TheVariants as due
 use Rattle.venue_config.specs.Texts.{is_among, is_bond_id, is_firm_name, is_name, reserved_names, text_if}
 use Rattle.venue_text.specs.DueLines.{asked_quantity, grid_behind, shown_of}
-use Rattle.venue_text.specs.Lines.{behind_part, first_part, has_part_behind, side_of, time_of}
+use Rattle.venue_text.specs.Lines.{behind_part, first_part, side_of, time_of}
 use Rattle.venue_text.specs.OptionSteps.{◌>>=◌}
-use Rattle.venue_text.specs.ReadBack.{IsOneLine, ReadsAs, is_in_line, is_in_part}
+use Rattle.venue_text.specs.ReadBack.{ReadsAs, is_in_line, is_in_part}
 use Rattle.venue_text.specs.WrittenDues.{end_text, grid_text}
 use Rattle.venue_text.proofs.ReadBackParts.{all_append, all_more, behind_is, bond_in_part, decimal_in_part}
 use Rattle.venue_text.proofs.ReadBackParts.{first_is, in_line, last_is, more_behind, name_in_part}
@@ -220,10 +220,10 @@ shown_by date ask moment t₁ t₂ t₃ t₄ t₅ t₆ i b s q d c₁ c₂ c₃ 
     (Some ask.quantity) (Some ask.deadline) (Some moment) x) e₇
     ∙ shown_all ask moment
 
-regrouped : (i b s q d e end : List ℕ)
-    → (i ++ 32 ∷ b ++ 32 ∷ s ++ 32 ∷ q ++ 32 ∷ d) ++ 32 ∷ (e ++ end)
-    ≡ (i ++ (32 ∷ (b ++ (32 ∷ (s ++ (32 ∷ (q ++ (32 ∷ (d ++ (32 ∷ e)))))))))) ++ end
-regrouped i b s q d e end = simp append_assoc
+regrouped : (space i b s q d e end : List ℕ)
+    → (i ++ (space ++ b) ++ (space ++ s) ++ (space ++ q) ++ (space ++ d)) ++ (space ++ (e ++ end))
+    ≡ (i ++ (space ++ (b ++ (space ++ (s ++ (space ++ (q ++ (space ++ (d ++ (space ++ e)))))))))) ++ end
+regrouped space i b s q d e end = simp append_assoc
 
 pub shown_back : (date : List ℕ) (ask : Ask) (moment : ℕ) → is_firm_name ask.investor ≡ true
     → is_bond_id ask.bond ≡ true → 1 ≤ ask.quantity → ask.quantity ≤ MOST
@@ -253,7 +253,7 @@ shown_back date ask moment named bond least most grid deadline time =
       written = ap (λ (l : List ℕ). codes "shown " ++ l)
           (ap (λ (l : List ℕ). (ask.investor ++ 32 ∷ ask.bond ++ 32 ∷ s ++ 32 ∷ q ++ 32 ∷ d) ++ 32 ∷ l)
           ends.written
-          ∙ regrouped ask.investor ask.bond s q d t₆ (10 ∷ []));
+          ∙ regrouped (32 ∷ []) ask.investor ask.bond s q d t₆ (10 ∷ []));
       is_one = record {
         in_line = both (codes "shown ") t₁ refl
             (both ask.investor (32 ∷ t₂) (in_line ask.investor i_word) (more t₂ refl

@@ -22,7 +22,6 @@ use Rattle.venue_text.specs.declared.kept_days.Asked.TheVariants as asked
 use Rattle.venue_text.specs.declared.kept_days.KeptDay.{KeptDay}
 use Rattle.venue_text.specs.declared.kept_days.Wanted.{Wanted as RustWanted}
 use Rattle.venue_text.specs.declared.kept_days.Wanted.TheVariants as rust
-use Rattle.venue_text.specs.declared.live_form.LiveForm.{LiveForm}
 
 -- What is asked for at the end of a day.
 pub data Wanted : Type 0 where

@@ -1,7 +1,6 @@
 use Rattle.std.proofs.Common.{ℕ, List, ap, sym, ◌∙◌}
 use Rattle.std.specs.Prelude.{is_some}
 use Rattle.step_replay.specs.declared.dues.Due.{Due}
-use Rattle.venue_config.specs.declared.dealer_rows.DealerRow.{DealerRow}
 use Rattle.venue_text.specs.DueCommand.{due_text}
 use Rattle.venue_text.specs.KeptDays.{due_text_of}
 use Rattle.venue_text.proofs.kept_days.due_text_of.Goals as goal

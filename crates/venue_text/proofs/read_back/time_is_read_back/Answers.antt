@@ -1,4 +1,4 @@
-use Rattle.std.proofs.Common.{List, ℕ, ap, sym, ◌∙◌}
+use Rattle.std.proofs.Common.{ap, sym, ◌∙◌}
 use Rattle.fix_fields.specs.UtcTimestamp.{moment_of}
 use Rattle.venue_text.proofs.ReadBackParts.{time_back}
 use Rattle.venue_text.proofs.read_back.time_is_read_back.Goals as goal

@@ -1,4 +1,4 @@
-use Rattle.std.proofs.Common.{◌++◌, ◌∷◌, [], List, length, take, sym, ap, subst, ◌∙◌, arith}
+use Rattle.std.proofs.Common.{◌++◌, ◌∷◌, [], take, sym, ap, subst, ◌∙◌}
 use Rattle.std.proofs.lemmas.List.{take_all, take_more}
 use Rattle.step_replay.specs.declared.dues.Due.{Due}
 use Rattle.venue_text.proofs.ReadBackLists.{EachReadsAs, all_back, one_reads_more, whole_back}
