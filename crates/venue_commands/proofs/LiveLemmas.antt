@@ -1342,6 +1342,47 @@ module _ (one other : KeptDay) (o o' : Option (List ℕ)) (text : List ℕ) (com
         );
       })
 
+-- The same of a stage by what it is.
+
+module _ (last : Stage) where
+  pub last_bare : (t : Vec ℕ Global) (fault : ProgramFault) (o : Option (List ℕ)) → last ≡ stage.Configuration t → fault ≡ Parts
+      → CloseFails last fault (still o)
+  last_bare t fault o was none = subst (λ (s : Stage). CloseFails s fault (still o)) (sym was) (closes_bare t fault o none)
+
+  pub last_answered : (day : LiveDay) (o : Option (List ℕ)) → last ≡ stage.Day day → Closes last (still o)
+  last_answered day o was = subst (λ (s : Stage). Closes s (still o)) (sym was) (closes_answered day o)
+
+  pub last_kept : (day : KeptDay) (o o' : Option (List ℕ)) (text : List ℕ) → last ≡ stage.Kept day → TextAnywhere day text
+      → Appends o o' text → Closes last (record { before = o; after = o' })
+  last_kept day o o' text was texts gained =
+      subst (λ (s : Stage). Closes s (record { before = o; after = o' })) (sym was) (closes_kept day o o' text texts gained)
+
+  pub last_unprinted : (day : KeptDay) (o o' : Option (List ℕ)) (text : List ℕ) (fault : ProgramFault) → last ≡ stage.Kept day
+      → fault ≡ Write → TextAnywhere day text → GainsPart text (record { before = o; after = o' })
+      → CloseFails last fault (record { before = o; after = o' })
+  last_unprinted day o o' text fault was write texts part =
+      subst (λ (s : Stage). CloseFails s fault (record { before = o; after = o' })) (sym was) (closes_unprinted day o o' text fault write texts part)
+
+  pub last_first : (day : KeptDay) (fault : ProgramFault) (o : Option (List ℕ)) → last ≡ stage.First day → fault ≡ Parts
+      → CloseFails last fault (still o)
+  last_first day fault o was none = subst (λ (s : Stage). CloseFails s fault (still o)) (sym was) (closes_first day fault o none)
+
+  pub last_between : (day : KeptDay) (t : Vec ℕ Global) (fault : ProgramFault) (o : Option (List ℕ)) → last ≡ stage.Between day t → fault ≡ Parts
+      → CloseFails last fault (still o)
+  last_between day t fault o was none = subst (λ (s : Stage). CloseFails s fault (still o)) (sym was) (closes_between day t fault o none)
+
+  pub last_both : (one other : KeptDay) (o o' : Option (List ℕ)) (text : List ℕ) → last ≡ stage.Both one other → ComparesAnywhere one other text
+      → Appends o o' text → Closes last (record { before = o; after = o' })
+  last_both one other o o' text was compares gained =
+      subst (λ (s : Stage). Closes s (record { before = o; after = o' })) (sym was) (closes_both one other o o' text compares gained)
+
+  pub last_both_unprinted : (one other : KeptDay) (o o' : Option (List ℕ)) (text : List ℕ) (fault : ProgramFault) → last ≡ stage.Both one other
+      → fault ≡ Write → ComparesAnywhere one other text → GainsPart text (record { before = o; after = o' })
+      → CloseFails last fault (record { before = o; after = o' })
+  last_both_unprinted one other o o' text fault was write compares part =
+      subst (λ (s : Stage). CloseFails s fault (record { before = o; after = o' })) (sym was)
+      (closes_both_unprinted one other o o' text compares fault write part)
+
 -- the lines that came whole are those that have their line feed
 ended_is : (read : List ℕ) (lines : List (List ℕ)) (begun : List ℕ) → IsCut read lines begun → ended_lines read ≡ lines
 ended_is read lines begun cut =
