@@ -182,10 +182,10 @@ module _ (form : LiveForm) (lines : List (List ℕ)) (number : ℕ) (line answer
   }
 
   -- or a part of it
-  pub day_unprinted : (more : List (List ℕ)) (write : ProgramFault) → write ≡ Write
+  pub day_unprinted : (more : List (List ℕ)) (refused : ProgramFault) → refused ≡ Write
       → GainsPart answer (record { before = old; after = new })
-      → EndsDay (answered form) write ((lines ++ line ∷ []) ++ more) (record { before = start; after = new }) (record { before = told; after = err' })
-  day_unprinted more write is part =
+      → EndsDay (answered form) refused ((lines ++ line ∷ []) ++ more) (record { before = start; after = new }) (record { before = told; after = err' })
+  day_unprinted more refused is part =
       subst (λ (f : ProgramFault). EndsDay (answered form) f ((lines ++ line ∷ []) ++ more) (record { before = start; after = new })
       (record { before = told; after = err' })) (sym is)
       (record {
