@@ -259,7 +259,7 @@ module _ (number : ℕ) (line : List ℕ) (fault : Option ProgramFault) (before 
 
 -- By the form.
 
-answers_nothing : (form : LineForm) (lines : List (List ℕ)) (out err : Written) → AnswersNothing lines out err → HasAnswered form lines out err
+pub answers_nothing : (form : LineForm) (lines : List (List ℕ)) (out err : Written) → AnswersNothing lines out err → HasAnswered form lines out err
 answers_nothing (answered form) lines out err nothing = inl nothing
 answers_nothing (kept_for wanted) lines out err nothing = inl nothing
 answers_nothing (compared_for dealer) lines out err nothing = inl nothing
