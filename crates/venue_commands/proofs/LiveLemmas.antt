@@ -18,7 +18,6 @@ use Rattle.venue_config.specs.declared.faults.ConfigFault.{ConfigFault}
 use Rattle.venue_config.specs.declared.faults.ConfigFault.TheVariants.{Toml}
 use Rattle.venue_text.specs.Faults.{told_line}
 use Rattle.venue_text.specs.Lines.{lines_of}
-use Rattle.venue_text.specs.AskedDays.{dealer_by, firm_by, firms_by}
 use Rattle.venue_text.specs.KeptComparison.{IsKeptComparison}
 use Rattle.venue_text.specs.KeptDays as kept_days
 use Rattle.venue_text.specs.KeptDays.{KeepsMore, OpensKept, Wanted, asked_in, asked_venue, dues, kept_text, messages}
@@ -39,7 +38,7 @@ use Rattle.venue_text.specs.declared.live_form.LiveForm.{LiveForm}
 use Rattle.venue_text.specs.declared.live_lines.LiveDay.{LiveDay}
 use Rattle.venue_commands.specs.Arguments.{LineForm, answered, compared_for, kept_for, meant_form}
 use Rattle.venue_commands.specs.LiveRuns.{EndsWith, EndsDay, EndsInAnswers, EndsInLive, GainsFaults, HasAnswered}
-use Rattle.venue_commands.specs.LiveRuns.{AnswersNothing, HasCompared, HasNoDay, IsConfigurationIn, TakesBoth, TakesOne, are_four, are_whole, behind_one}
+use Rattle.venue_commands.specs.LiveRuns.{AnswersNothing, HasCompared, HasNoDay, IsConfigurationIn, TakesBoth, TakesOne, are_four, are_whole}
 use Rattle.venue_commands.specs.LiveRuns.{ended_lines, fault_if, first_taken, name_fault, second_configuration, second_taken}
 use Rattle.venue_commands.specs.LiveStages.{AreTwo, AwaitsDay, AwaitsSecond, BothGo, DayGoes, FirstGoes, IsBad, IsCut, KeptGoes, StageIs, StandsAt, Start}
 use Rattle.venue_commands.specs.LiveStages.{KeepsAnywhere, KeepsStep, TurnFails, Turns, is_turn, taken_at}
