@@ -4,7 +4,7 @@
 usage: every_byte.py
 
 For each value of a byte a dealer says by `hex` one message with that byte in a field. The answers follow from the rules
-of docs/MESSAGES.md alone: SOH ends the field, so that what follows is no field, and the message is no frame and dropped;
+of docs/FORMATS.md alone: SOH ends the field, so that what follows is no field, and the message is no frame and dropped;
 any other byte belongs to the value, and the value is an identifier (117), or is ignored (58). The message is a cancel
 (35=Z, 298=5) of a quote that the dealer has not, so its answer goes to the dealer alone.
 """

@@ -4,7 +4,7 @@
 `spoilt` takes lawful inputs of every command and flips bytes, cuts, doubles, swaps and mixes lines.
 `large` fills 16 MiB with each kind of line. Each run has 400 MB of memory and ten seconds, and has to
 end with status 0 and nothing on standard error (`live` tells of lines at fault there and goes on),
-or with status 1 and one line of the table of faults (docs/MESSAGES.md). Lawful inputs of a usual
+or with status 1 and one line of the table of faults (docs/PROGRAM.md). Lawful inputs of a usual
 size are never refused for memory.
 
 usage: inputs.py PROGRAM spoilt COUNT [FIRST_SEED [PROCESSES]]
