@@ -47,7 +47,7 @@ then_some : {A B : Type 0} (f : A → Option B) (found : Option A)
 then_some f None is = cc
 then_some f (Some x) is = (x, refl, is)
 
-within_some : {A : Type 0} (xs : List A) (i : ℕ) → i < length xs
+pub within_some : {A : Type 0} (xs : List A) (i : ℕ) → i < length xs
     → (x : A) × (slice_get xs i ≡ Some x)
 within_some [] i within = absurd (omega arith)
 within_some (x ∷ xs) zero within = (x, refl)
