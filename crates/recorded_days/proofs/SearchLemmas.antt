@@ -2,7 +2,7 @@
 use Rattle.std.proofs.Common.{◌≡◌, ◌<◌, ◌≤◌, ℕ, zero, suc, ◌+◌, ◌-◌, ◌*◌, ◌==◌, Bool, true, false, ◌||◌}
 use Rattle.std.proofs.Common.{◌⊎◌, inl, inr, nat_lt, List, [], ◌∷◌, ◌++◌, length, take, drop, replicate}
 use Rattle.std.proofs.Common.{count_by, slice_get, slice_set, slice_index_or, Option, Some, None}
-use Rattle.std.proofs.Common.{is_some, arith, refl, sym, ap, subst, ◌∙◌, if◌then◌else◌}
+use Rattle.std.proofs.Common.{is_some, arith, refl, sym, ap, subst, ◌∙◌, eq-eqb}
 use Rattle.std.specs.Prelude.{IfNone, option_and_then}
 use Rattle.std.specs.List.{list_any, sum_by}
 use Rattle.std.proofs.lemmas.Bool.Decides.{nat_tests}
@@ -60,7 +60,19 @@ same_or_not a b = by_test (a == b) refl
     by_test : (t : Bool) → (a == b) ≡ t → (a ≡ b) ⊎ (a ≡ b → ⊥)
     by_test true test = let same : a ≡ b = grind (arith, nat_tests) in inl same
     by_test false test =
-        inr (λ same. let yes_it : (a == b) ≡ true = grind (arith, nat_tests) in absurd cc)
+        inr (λ same.
+        let equal : (a == b) ≡ true = eq-eqb a b same in
+        let clash : true ≡ false = sym equal ∙ test in
+        absurd cc)
+
+less_or_not : (a b : ℕ) → a ≤ b → (a ≡ b → ⊥) → a < b
+less_or_not a b most apart = by_test (nat_lt a b) refl
+  where
+    by_test : (t : Bool) → nat_lt a b ≡ t → a < b
+    by_test true test = grind (arith, nat_tests)
+    by_test false test =
+        let same : a ≡ b = grind (arith, nat_tests) in
+        absurd (apart same)
 
 -- a mark behind the change of another one, or of its own
 module _ (table : Table) (marks after : List Mark) (now : ActionRef) (new : Mark)
@@ -398,7 +410,11 @@ module _ (day : RecordedDay) (table : Table) (before after : Search) (slot : Slo
           come_stays one (stands.order.words word test one granted)
       either false true test now both = come_stays one (ready.by_word word now one granted)
       either false false test now both =
-          let clash : false ≡ true = rw (sym test, sym now) both in
+          let none : (list_any (is_refused day word) before.order.items
+          || (is_refused day word slot || false)) ≡ false =
+          ap (λ (a : Bool). a || (is_refused day word slot || false)) test
+          ∙ ap (λ (b : Bool). false || (b || false)) now in
+          let clash : false ≡ true = sym none ∙ both in
           absurd cc
 
   placed_order : HasOrder day after.done after.order.items
@@ -473,16 +489,11 @@ module _ (day : RecordedDay) (table : Table) (before after : Search) (slot : Slo
           sym was ∙ ap (slice_get before.way.items) same ∙ top in
           let one : action ≡ slot.action = cc in
           apart (ap (index_in table.firsts) (sym one)) in
+          let most : at ≤ length before.way.items - 1 = omega arith in
           let below : at < length before.way.items - 1 =
-          by_test (same_or_not at (length before.way.items - 1)) not_top within in
+          less_or_not at (length before.way.items - 1) most not_top in
           ap (λ (way : List ActionRef). slice_get way at) places.way_is
           ∙ take_got (length before.way.items - 1) before.way.items at action below was
-        where
-          by_test : (at ≡ length before.way.items - 1) ⊎ (at ≡ length before.way.items - 1 → ⊥)
-              → (at ≡ length before.way.items - 1 → ⊥) → at < length before.way.items
-              → at < length before.way.items - 1
-          by_test (inl same) not_top within = absurd (not_top same)
-          by_test (inr differs) not_top within = grind arith
 
   placed_on_way : (at : ℕ) (action : ActionRef) → slice_get after.way.items at ≡ Some action
       → IsOnWay day table after at action
@@ -518,20 +529,12 @@ module _ (day : RecordedDay) (table : Table) (before after : Search) (slot : Slo
           let pair : slot.action ≡ action =
           ap (λ (by : Actor). (by, slot.action.1)) one ∙ ap (λ (n : ℕ). (action.0, n)) equal in
           apart (ap (index_in table.firsts) pair) in
-          by_number now was left other (same_or_not slot.action.1 action.1)
-        where
-          by_number : count_in after.done (key_of action.0) ≡ slot.action.1
-              → count_in before.done (key_of action.0)
-              ≡ count_in before.done (key_of slot.action.0)
-              → count_in before.done (key_of action.0) < action.1
-              → (slot.action.1 ≡ action.1 → ⊥)
-              → (slot.action.1 ≡ action.1) ⊎ (slot.action.1 ≡ action.1 → ⊥)
-              → count_in after.done (key_of action.0) < action.1
-          by_number now was left other (inl equal) = absurd (other equal)
-          by_number now was left other (inr differs) =
-              let next : slot.action.1 ≡ count_in before.done (key_of slot.action.0) + 1 =
-              next_number in
-              grind arith
+          let number : slot.action.1 ≡ count_in before.done (key_of slot.action.0) + 1 =
+          next_number in
+          let most : slot.action.1 ≤ action.1 = omega (arith, was, left, number) in
+          let below : slot.action.1 < action.1 =
+          less_or_not slot.action.1 action.1 most other in
+          omega (arith, now, below)
       by_key apart left (inr differs) =
           let now : count_in after.done (key_of action.0)
           ≡ count_in before.done (key_of action.0) =
@@ -858,8 +861,3 @@ slot_of day table action slot whole is there =
     let both : Some slot ≡ Some stands.slot = sym there ∙ stands.there in
     let same : slot ≡ stands.slot = cc in
     ap (λ (s : Slot). s.action) same ∙ stands.is_it
-
-pub none_then : {A : Type 0} (found : Option A) (P Q : Type 0) → (P → Q) → IfNone found P
-    → IfNone found Q
-none_then None P Q so holds = so holds
-none_then (Some x) P Q so holds = tt
