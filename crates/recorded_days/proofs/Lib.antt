@@ -4,5 +4,8 @@ mod DayViewLemmas
 mod DeskLemmas
 mod MessageLemmas
 mod OrderLawLemmas
-mod OrderLemmas
 mod PlaceNotes
+mod SearchLemmas
+mod StepLemmas
+mod TableLemmas
+mod WaitLemmas
