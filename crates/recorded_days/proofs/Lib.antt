@@ -9,3 +9,4 @@ mod SearchLemmas
 mod StepLemmas
 mod TableLemmas
 mod WaitLemmas
+mod WayLemmas

@@ -4,8 +4,8 @@
 //! the way directly before the one that it was come from, up to one that may come; that one is
 //! placed, and the way is gone on from the one before. Where the way comes back to itself, it is a
 //! circle from there on.
-ghost use Rattle.std.specs.Prelude.{◌≡◌, ◌<◌, ℕ, ◌+◌, length, slice_get, IfOk, OnOk, IfSome, IfNone};
-ghost use Rattle.std.specs.Prelude.{None, Some, option_and_then};
+ghost use Rattle.std.specs.Prelude.{◌≡◌, ◌<◌, ◌≤◌, ℕ, ◌+◌, length, drop, slice_get, None, Some};
+ghost use Rattle.std.specs.Prelude.{option_and_then, IfOk, OnOk, IfSome, IfNone};
 ghost use Rattle.recorded_days.specs.DayOrder as spec;
 ghost use Rattle.recorded_days.specs.OrderSearch as sought;
 ghost use Rattle.recorded_days.specs.Records.{RecordedDay};
@@ -123,7 +123,7 @@ impl Search {
             return Ok(None);
         };
         if let Some(start) = self.place_of(table, earlier) {
-            let circle = Vec::from_slice(alloc, &self.way[start..])?;
+            let circle = self.way_from(alloc, start)?;
             return Ok(Some(circle));
         }
         self.push(table, earlier)?;
@@ -141,6 +141,14 @@ impl Search {
             Mark::OnWay(at) => Some(*at),
             _ => None,
         }
+    }
+
+    /// The way from a place on.
+    fn way_from(&self, alloc: Global, start: usize) -> Result<Vec<(Actor, u64)>, Memory>
+        requires { start ≤ length self.now.way.items }
+        ensures { IfOk result (λ actions. actions.items ≡ drop start self.now.way.items) }
+    {
+        Vec::from_slice(alloc, &self.way[start..])
     }
 
     /// An action comes onto the way.

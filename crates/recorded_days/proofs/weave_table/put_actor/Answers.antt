@@ -3,6 +3,7 @@ use borrow.Author.Count.{below_more}
 use Rattle.std.proofs.lemmas.List.{length_push}
 use Rattle.recorded_days.specs.OrderCounts.{Counts, count_in, key_of}
 use Rattle.recorded_days.specs.OrderLaws.{StandsIn}
+use Rattle.recorded_days.specs.Records.{ActionRef}
 use Rattle.recorded_days.proofs.TableLemmas.{actor_whole, in_table_more, one_more, stand_more}
 use Rattle.recorded_days.proofs.weave_table.put_actor.Goals as goal
 
@@ -12,7 +13,7 @@ loop-index-preserved c =
     let after = c.put_action.new.table in
     let index = c.loop-index.index in
     let first = length c.args.table.now.slots.items in
-    let now = (c.args.actor, index + 1) in
+    let now : ActionRef = (c.args.actor, index + 1) in
     let puts = c.in_ok-put_action.ensures.puts in
     let stood = c.loop-index.invariant in
     let one : length after.slots.items ≡ length before.slots.items + 1 =
