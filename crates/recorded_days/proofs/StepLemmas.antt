@@ -1,6 +1,6 @@
 -- The steps of an order that is kept.
 use Rattle.std.proofs.Common.{◌≡◌, ◌<◌, ◌≤◌, ℕ, ◌+◌, ◌-◌, Bool, true, false, nat_lt, List, [], ◌∷◌}
-use Rattle.std.proofs.Common.{◌++◌, length, take, count_by, slice_get, slice_index_or, Option, Some}
+use Rattle.std.proofs.Common.{◌++◌, suc, length, take, count_by, slice_get, slice_index_or, Option, Some}
 use Rattle.std.proofs.Common.{None, is_some, arith, refl, sym, ap, subst, ◌∙◌, if◌then◌else◌}
 use Rattle.std.specs.Prelude.{option_and_then}
 use Rattle.std.specs.List.{AllZip, list_any}
@@ -58,6 +58,63 @@ pairs_more R [] [] x y all one = (one, tt)
 pairs_more R [] (b ∷ ys) x y all one = absurd all
 pairs_more R (a ∷ xs) [] x y all one = absurd all
 pairs_more R (a ∷ xs) (b ∷ ys) x y all one = (all.0, pairs_more R xs ys x y all.1 one)
+
+-- The steps so far.
+
+-- what is read at a place of an order stands there
+there_is : (slots : List Slot) (index : ℕ) (one : Slot) → index < length slots
+    → slice_get slots index ≡ Some (slice_index_or slots index one)
+there_is slots index one within =
+    let found = within_some slots index within in
+    found.1
+    ∙ ap (λ (s : Slot). Some s) (sym (get_or_from_slice_get slots index found.0 one found.1))
+
+pub slot_in : (day : RecordedDay) (slots : List Slot) (index : ℕ) (one : Slot)
+    → KeepsOrder day slots → index < length slots → IsSlot day (slice_index_or slots index one)
+slot_in day slots index one keeps within =
+    let turn =
+    keeps.turns index (slice_index_or slots index one) (there_is slots index one within) in
+    record {
+      is_action = turn.is_action;
+      stands = turn.stands;
+    }
+
+-- one step more
+pub steps_more : (day : RecordedDay) (slots : List Slot) (index : ℕ) (one : Slot)
+    (came after : Counts) (steps now : List Step) → KeepsOrder day slots → index < length slots
+    → AllZip (IsStepOf day) (take index slots) steps → AreOfInboxes day came (take index slots)
+    → ((before : List Slot) → AreOfInboxes day came before
+    → IsNext before (slice_index_or slots index one)
+    → (next : Step) × (now ≡ steps ++ next ∷ [])
+    × IsStepOf day (slice_index_or slots index one) next)
+    → ((before : List Slot) → AreOfInboxes day came before
+    → IsNext before (slice_index_or slots index one)
+    → AreOfInboxes day after (before ++ slice_index_or slots index one ∷ []))
+    → (AllZip (IsStepOf day) (take (index + 1) slots) now)
+    × AreOfInboxes day after (take (index + 1) slots)
+steps_more day slots index one came after steps now keeps within are stand step counted = (
+  subst (λ (l : List Slot). AllZip (IsStepOf day) l now) (sym more)
+      (subst (λ (l : List Step). AllZip (IsStepOf day) (take index slots ++ slot ∷ []) l)
+      (sym told.1)
+      (pairs_more (IsStepOf day) (take index slots) steps slot told.0 are told.2)),
+  subst (λ (l : List Slot). AreOfInboxes day after l) (sym more)
+      (counted (take index slots) stand next),
+)
+  where
+    slot : Slot
+    slot = slice_index_or slots index one
+
+    there : slice_get slots index ≡ Some slot
+    there = there_is slots index one within
+
+    next : IsNext (take index slots) slot
+    next = (keeps.turns index slot there).of_actor
+
+    told : (next_one : Step) × (now ≡ steps ++ next_one ∷ []) × IsStepOf day slot next_one
+    told = step (take index slots) stand next
+
+    more : take (index + 1) slots ≡ take index slots ++ slot ∷ []
+    more = taken_more slots index slot there
 
 -- The message of an action.
 
@@ -249,7 +306,7 @@ all_known config day (slot ∷ slots) (now ∷ steps) k firms stand are =
     ap (λ (found : Option ReplayFault). or_else found (first_fault_from config (k + 1) steps))
     (step_known config day slot now k firms (stand 0 slot refl) are.0)
     ∙ all_known config day slots steps (k + 1) firms (λ place found there.
-    stand (place + 1) found there) are.1
+    stand (suc place) found there) are.1
 
 pub steps_known : (config : Configuration) (day : RecordedDay) (slots : List Slot)
     (steps : List Step) → IsWellFormed config day → KeepsOrder day slots

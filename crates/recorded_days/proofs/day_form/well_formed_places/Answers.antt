@@ -24,3 +24,11 @@ pub returns-clause-no : goal.returns-clause-no
 returns-clause-no c =
     none_then c.in_ok-places.places (AreMisnamed c.args.day.now)
     (IsMalformed c.args.config.now c.args.day.now) (λ why. Misnamed why) c.in_ok-places.ensures.no
+
+pub returns-then-not-has_firms_of-clause-no : goal.returns-then-not-has_firms_of-clause-no
+returns-then-not-has_firms_of-clause-no c =
+    c.has_firms_of.ensures.no c.if-not-has_firms_of.true
+
+pub returns-then-not-are_firms_days-clause-no : goal.returns-then-not-are_firms_days-clause-no
+returns-then-not-are_firms_days-clause-no c =
+    c.are_firms_days.ensures.no c.if-not-are_firms_days.true
