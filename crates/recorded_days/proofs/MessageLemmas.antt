@@ -68,7 +68,7 @@ same_self actor.Clock = refl
 module _ (day : RecordedDay) (before : List Slot) (slot : Slot) (action : Action)
     (is : Some action ≡ action_in day slot.action) (next : IsNext before slot) where
   -- the action among those of its firm
-  acts : (firm : ℕ) (lists : FirmLists) → firm_in day firm ≡ Some lists
+  pub acts : (firm : ℕ) (lists : FirmLists) → firm_in day firm ≡ Some lists
       → slot.action.0 ≡ actor.Firm firm
       → slice_get lists.actions (count_by (is_by (actor.Firm firm)) before) ≡ Some action
   acts firm lists lists_are by_firm =

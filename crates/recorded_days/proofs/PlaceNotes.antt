@@ -30,7 +30,7 @@ use Rattle.recorded_days.proofs.DayFormLemmas.{action_within, firm_beyond, room_
 -- Keys.
 
 -- two actors have two keys
-key_apart : (one other : Actor) → key_of one ≡ key_of other → one ≡ other
+pub key_apart : (one other : Actor) → key_of one ≡ key_of other → one ≡ other
 key_apart (actor.Firm one) (actor.Firm other) same =
     let equal : one ≡ other = omega arith in
     ap (λ (n : ℕ). actor.Firm n) equal

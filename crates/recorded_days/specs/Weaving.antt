@@ -97,3 +97,9 @@ FaultIsTrue config day (fault.Cycle actions) =
 FaultIsTrue config day (fault.Differs firm) =
     (steps : List Step) × AreWoven config day steps × SendsElse config day steps firm
 FaultIsTrue config day fault.Memory = Unit {0}
+
+-- a fault says that a firm differs, or that memory was refused
+abbrev pub IsDifferentOrMemory : WeaveFault → Type 0
+IsDifferentOrMemory (fault.Differs firm) = Unit {0}
+IsDifferentOrMemory fault.Memory = Unit {0}
+IsDifferentOrMemory other = ⊥
