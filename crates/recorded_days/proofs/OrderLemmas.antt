@@ -10,7 +10,7 @@ use borrow.Author.Count.{below_more}
 use Rattle.std.proofs.lemmas.Bool.Decides.{nat_tests}
 use Rattle.std.proofs.lemmas.List.Folds.{list_any-append}
 use Rattle.quote_word.specs.declared.settled.Settled.{Settled}
-use Rattle.step_replay.specs.declared.steps.Actor.{Actor}
+use Rattle.venue_places.specs.declared.actors.Actor.{Actor}
 use Rattle.recorded_days.specs.DayOrder.{ComesInTurn, IsBehind, IsNextAtSite, StandsAt, action_in}
 use Rattle.recorded_days.specs.DayOrder.{KeepsOrder, grants, is_as_wished, is_by, is_granted}
 use Rattle.recorded_days.specs.DayOrder.{is_refused, refuses}

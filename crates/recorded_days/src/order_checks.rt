@@ -6,7 +6,7 @@ ghost use Rattle.recorded_days.specs.DayOrder as spec;
 ghost use Rattle.recorded_days.specs.OrderCounts as kept;
 ghost use Rattle.recorded_days.specs.Records.{actions_of};
 ghost use Rattle.recorded_days.specs.declared.actions.Action.{Action};
-ghost use Rattle.step_replay.specs.declared.steps.Actor.{Actor};
+ghost use Rattle.venue_places.specs.declared.actors.Actor.{Actor};
 ghost use Rattle.recorded_days.specs.declared.weave_plan.Slot.{Slot};
 
 use crate::actions::Action;

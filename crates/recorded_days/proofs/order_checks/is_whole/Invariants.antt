@@ -1,5 +1,5 @@
 use Rattle.std.proofs.Common.{◌≡◌, ℕ, ◌<◌, List, Some, length}
-use Rattle.step_replay.specs.declared.steps.Actor.TheVariants as actor
+use Rattle.venue_places.specs.declared.actors.Actor.TheVariants as actor
 use Rattle.recorded_days.specs.OrderCounts.{count_in, key_of}
 use Rattle.recorded_days.specs.Records.{actions_of}
 use Rattle.recorded_days.specs.declared.actions.Action.{Action}
