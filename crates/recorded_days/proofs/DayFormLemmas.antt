@@ -13,9 +13,9 @@ use Rattle.std.proofs.lemmas.Option.{slice_get_past, slice_get_within}
 use Rattle.market_terms.specs.declared.rooms.RoomRef.{RoomRef}
 use Rattle.venue_config.specs.Rows.{Configuration, has_room, investor_numbered, may_request}
 use Rattle.venue_config.specs.declared.investor_rows.InvestorRow.{InvestorRow}
-use Rattle.step_replay.specs.declared.steps.Actor.TheVariants as actor
+use Rattle.venue_places.specs.declared.actors.Actor.TheVariants as actor
 use Rattle.step_replay.specs.StepFaults.{firms_of}
-use Rattle.step_replay.specs.declared.steps.Actor.{Actor}
+use Rattle.venue_places.specs.declared.actors.Actor.{Actor}
 use Rattle.recorded_days.specs.DayForm.{AreMisnamed, AreNamedOnce, ClockTakesMessage, IsWellFormed}
 use Rattle.recorded_days.specs.DayForm.{Misnamed, NamedNowhere, NamedTwice, NamesNoAction}
 use Rattle.recorded_days.specs.DayForm.{OtherDealers, OtherInvestors, DeskIsSwept, FirmSweeps}

@@ -9,7 +9,7 @@ use Rattle.std.proofs.lemmas.List.Sums.{sum_by-cons}
 use Rattle.std.proofs.lemmas.Option.{slice_get_within}
 use Rattle.quote_word.specs.declared.settled.Settled.{Settled}
 use Rattle.step_replay.specs.AuditTrail.{is_same_actor}
-use Rattle.step_replay.specs.declared.steps.Actor.{Actor}
+use Rattle.venue_places.specs.declared.actors.Actor.{Actor}
 use Rattle.venue_config.specs.Rows.{Configuration}
 use Rattle.recorded_days.specs.DayForm.{AreNamedOnce, IsWellFormed}
 use Rattle.recorded_days.specs.DayOrder.{ByActor, BySite, ByWord, IsBehind, IsCircle}

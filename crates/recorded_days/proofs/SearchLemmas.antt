@@ -10,7 +10,7 @@ use Rattle.std.proofs.lemmas.List.Folds.{list_any-append}
 use Rattle.std.proofs.lemmas.List.Sums.{sum_by-set}
 use Rattle.std.proofs.lemmas.Option.{get_or_from_slice_get, slice_get_within}
 use Rattle.step_replay.specs.AuditTrail.{is_same_actor}
-use Rattle.step_replay.specs.declared.steps.Actor.{Actor}
+use Rattle.venue_places.specs.declared.actors.Actor.{Actor}
 use Rattle.recorded_days.specs.DayOrder.{ComesInTurn, IsDirectlyBefore}
 use Rattle.recorded_days.specs.DayOrder.{is_by, is_granted, is_refused}
 use Rattle.recorded_days.specs.OrderCounts.{AreOfActors, Counts, count_in, key_of}

@@ -8,7 +8,7 @@ use Rattle.std.proofs.lemmas.Bool.Decides.{nat_tests}
 use Rattle.std.proofs.lemmas.Option.{slice_get_within}
 use Rattle.quote_word.specs.declared.settled.Settled.{Settled}
 use Rattle.step_replay.specs.AuditTrail.{is_same_actor}
-use Rattle.step_replay.specs.declared.steps.Actor.{Actor}
+use Rattle.venue_places.specs.declared.actors.Actor.{Actor}
 use Rattle.recorded_days.specs.DayOrder.{Asked, ByActor, BySite, ByWord, IsBehind, IsNextAtSite}
 use Rattle.recorded_days.specs.DayOrder.{OfOneWord, StandsAt, action_in, grants, is_as_wished}
 use Rattle.recorded_days.specs.DayOrder.{is_granted, order_at, refuses}

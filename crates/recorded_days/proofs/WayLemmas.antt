@@ -8,7 +8,7 @@ use Rattle.std.proofs.lemmas.Bool.Decides.{nat_tests}
 use Rattle.std.proofs.lemmas.List.{length-drop}
 use Rattle.std.proofs.lemmas.List.Sums.{get_or-le-sum_by, sum_by-cons}
 use Rattle.std.proofs.lemmas.Option.{get_or_from_slice_get, slice_get_read, slice_get_within}
-use Rattle.step_replay.specs.declared.steps.Actor.{Actor}
+use Rattle.venue_places.specs.declared.actors.Actor.{Actor}
 use Rattle.recorded_days.specs.DayOrder.{HasOneBefore, IsCircle, IsDirectlyBefore, KeepsOrder}
 use Rattle.recorded_days.specs.OrderCounts.{Counts, count_in, key_of}
 use Rattle.recorded_days.specs.OrderSearch.{Grows, HasCome, HasOrder, IsAction, IsLeft, IsLeftBefore}

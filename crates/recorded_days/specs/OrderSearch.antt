@@ -4,7 +4,7 @@ use Rattle.std.specs.Prelude.{List, [], ◌∷◌, ◌++◌, length, take, slice
 use Rattle.std.specs.Prelude.{Option, Some, None, is_some, option_and_then}
 use Rattle.std.specs.List.{list_any, sum_by}
 use Rattle.std.specs.Option.{option_map_or}
-use Rattle.step_replay.specs.declared.steps.Actor.{Actor}
+use Rattle.venue_places.specs.declared.actors.Actor.{Actor}
 use Rattle.recorded_days.specs.DayForm.{AreNamedOnce}
 use Rattle.recorded_days.specs.DayOrder.{ComesInTurn, IsCircle, IsDirectlyBefore, IsNextAtSite}
 use Rattle.recorded_days.specs.DayOrder.{KeepsOrder, StandsAt, action_in, grants, is_granted}

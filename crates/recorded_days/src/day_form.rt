@@ -5,7 +5,7 @@ ghost use Rattle.std.specs.List.{list_any};
 ghost use Rattle.recorded_days.specs.DayForm as spec;
 ghost use Rattle.recorded_days.specs.OrderPlaces as noted;
 ghost use Rattle.recorded_days.specs.Records.{FirmLists, firm_in};
-ghost use Rattle.step_replay.specs.declared.steps.Actor.{Actor};
+ghost use Rattle.venue_places.specs.declared.actors.Actor.{Actor};
 ghost use Rattle.venue_config.specs.Rows.{Configuration};
 
 use crate::actions::{Action, Kind};

@@ -6,7 +6,7 @@ ghost use Rattle.recorded_days.specs.DayOrder as spec;
 ghost use Rattle.recorded_days.specs.OrderPlaces as noted;
 ghost use Rattle.recorded_days.specs.declared.sites.Site.{Site};
 ghost use Rattle.recorded_days.specs.declared.sites.Site.TheVariants as site;
-ghost use Rattle.step_replay.specs.declared.steps.Actor.{Actor};
+ghost use Rattle.venue_places.specs.declared.actors.Actor.{Actor};
 
 use crate::day_reading::{action_at, action_in, is_same_site, order_at};
 use crate::order_counts::key_of;

@@ -3,7 +3,7 @@ ghost use Rattle.std.specs.Prelude.{IfOk, ℕ};
 ghost use Rattle.recorded_days.specs.DayForm as form;
 ghost use Rattle.recorded_days.specs.OrderPlaces as noted;
 ghost use Rattle.recorded_days.specs.OrderSearch as sought;
-ghost use Rattle.step_replay.specs.declared.steps.Actor.{Actor};
+ghost use Rattle.venue_places.specs.declared.actors.Actor.{Actor};
 
 use crate::name_checks::Places;
 use crate::records::DayRecord;

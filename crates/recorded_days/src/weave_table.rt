@@ -4,7 +4,7 @@ ghost use Rattle.recorded_days.specs.DayForm as form;
 ghost use Rattle.recorded_days.specs.DayOrder as spec;
 ghost use Rattle.recorded_days.specs.OrderPlaces as noted;
 ghost use Rattle.recorded_days.specs.OrderSearch as sought;
-ghost use Rattle.step_replay.specs.declared.steps.Actor.{Actor};
+ghost use Rattle.venue_places.specs.declared.actors.Actor.{Actor};
 
 use crate::actions::Action;
 use crate::day_reading::{action_in, granted_word};

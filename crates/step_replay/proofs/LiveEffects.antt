@@ -41,8 +41,8 @@ use Rattle.step_replay.specs.LiveDays.{messages_in, sent_by_facts, sent_in}
 use Rattle.step_replay.specs.LiveStanding.{desk_of_duty, desk_of_step, first_in, room_of_step}
 use Rattle.step_replay.specs.StepFaults.{firms_of}
 use Rattle.step_replay.specs.VenueFacts.{Fact, AtDealer, InRoom, AtInvestor, of_dealer, of_investor}
-use Rattle.step_replay.specs.declared.steps.Actor.{Actor}
-use Rattle.step_replay.specs.declared.steps.Actor.TheVariants as actor
+use Rattle.venue_places.specs.declared.actors.Actor.{Actor}
+use Rattle.venue_places.specs.declared.actors.Actor.TheVariants as actor
 use Rattle.step_replay.specs.declared.steps.Step.{Step}
 use Rattle.step_replay.specs.declared.steps.Step.TheVariants as step
 use Rattle.step_replay.proofs.InvestorPlaceLemmas.{behind_dealers, numbered_at}

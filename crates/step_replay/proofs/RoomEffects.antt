@@ -26,7 +26,7 @@ use Rattle.step_replay.specs.DealerTrail.{DealerEntry, Lifted}
 use Rattle.step_replay.specs.InvestorTrail.{InvestorEntry}
 use Rattle.step_replay.specs.LiveStanding.{room_of_duty}
 use Rattle.step_replay.specs.VenueFacts.{Fact, AtDealer, InRoom, AtInvestor, of_room}
-use Rattle.step_replay.specs.declared.steps.Actor.{Actor}
+use Rattle.venue_places.specs.declared.actors.Actor.{Actor}
 use Rattle.step_replay.specs.PlaceLemmas.{other_room, room_at_dealer, room_at_investor, room_grown}
 
 -- whether a room is the one in which something takes place

@@ -26,8 +26,8 @@ use Rattle.step_replay.specs.AuditTrail.{AuditTrail, Caused, after_step, after_t
 use Rattle.step_replay.specs.AuditTrail.{is_same_actor, pending, with_effect}
 use Rattle.step_replay.specs.LiveStanding.{after_turns, room_of_duty}
 use Rattle.step_replay.specs.VenueFacts.{Fact, InRoom, of_room}
-use Rattle.step_replay.specs.declared.steps.Actor.{Actor}
-use Rattle.step_replay.specs.declared.steps.Actor.TheVariants as actor
+use Rattle.venue_places.specs.declared.actors.Actor.{Actor}
+use Rattle.venue_places.specs.declared.actors.Actor.TheVariants as actor
 use Rattle.step_replay.specs.declared.steps.Step.TheVariants as step
 use Rattle.step_replay.specs.declared.steps.TheConstants.{MOST_TURNS_BEHIND}
 use Rattle.step_replay.specs.GrowthLemmas.{same_room}

@@ -1,5 +1,6 @@
 pub mod Actions
 pub mod AuditTrail
+pub mod Coming
 pub mod Deadlines
 pub mod DealerTrail
 pub mod DealerView

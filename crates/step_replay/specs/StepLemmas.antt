@@ -53,8 +53,8 @@ use Rattle.step_replay.specs.Actions.{answer_of, drop_at}
 use Rattle.step_replay.specs.Actions.{sweep_effect, left_by_investor, left_by, left_by_drop}
 use Rattle.step_replay.specs.Actions.{verdict_on}
 use Rattle.dealer_desk.specs.declared.verdicts.DealerVerdict.{DealerVerdict}
-use Rattle.step_replay.specs.declared.steps.Actor.{Actor}
-use Rattle.step_replay.specs.declared.steps.Actor.TheVariants as actor
+use Rattle.venue_places.specs.declared.actors.Actor.{Actor}
+use Rattle.venue_places.specs.declared.actors.Actor.TheVariants as actor
 
 -- What is kept of the trails of a dealer with this row: it stands after each of the five kinds of
 -- what can happen there.

@@ -1,5 +1,5 @@
 use Rattle.std.proofs.Common.{◌≡◌, ◌<◌, ℕ, ◌+◌, length}
-use Rattle.step_replay.specs.declared.steps.Actor.{Actor}
+use Rattle.venue_places.specs.declared.actors.Actor.{Actor}
 use Rattle.recorded_days.specs.OrderCounts.{count_in, key_of}
 use Rattle.recorded_days.specs.OrderLaws.{StandsIn}
 use Rattle.recorded_days.specs.OrderSearch.{HasActor, IsBuilt}

@@ -1,6 +1,6 @@
 use Rattle.std.proofs.Common.{◌<◌, ◌≤◌, arith}
 use Rattle.step_replay.specs.StepFaults.{firms_of}
-use Rattle.step_replay.specs.declared.steps.Actor.TheVariants as actor
+use Rattle.venue_places.specs.declared.actors.Actor.TheVariants as actor
 use Rattle.recorded_days.proofs.TableLemmas.{firms_more, table_whole}
 use Rattle.recorded_days.proofs.weave_table.table_of.Goals as goal
 

@@ -1,12 +1,12 @@
 use Rattle.std.proofs.Common.{◌<◌, length, arith, sym}
 use Rattle.std.proofs.lemmas.Bool.Decides.{nat_tests}
 use Rattle.step_replay.proofs.RoomPlaceLemmas.{investor_inside, room_inside, found_by_code}
-use Rattle.step_replay.proofs.RoomActionLemmas.{no_room_does, pass_does}
-use Rattle.step_replay.proofs.floor.Floor.pass.Goals as goal
+use Rattle.step_replay.proofs.RoomActionLemmas.{no_room_does, room_does}
+use Rattle.step_replay.proofs.floor.Floor.to_room.Goals as goal
 
 pub returns-in_default : goal.returns-in_default
 returns-in_default c config facts stands =
-    no_room_does config facts c.args.self.now c.args.room _ _ _ _ stands
+    no_room_does config facts c.args.self.now c.args.room c.args.what _ stands
     (sym c.in_default.ensures) c.new.ensures
 
 pub index_mut-requires : goal.index_mut-requires
@@ -28,8 +28,7 @@ returns c config facts stands =
     let found = found_by_code config facts c.args.self.now c.args.room c.in-Some.investor
     c.in-Some.index c.index_mut.result.now c.index_mut-place.result.now stands
     c.in-Some.ensures c.index_mut.ensures.value c.index_mut-place.ensures.value in
-    pass_does config facts c.args.self.now c.args.room c.in-Some.investor c.in-Some.index
-    c.index_mut.result.now c.index_mut-place.result.now stands found c.args.response
-    c.args.moment
-    c.do_pass.new.room c.in_ok-duties.duties.items c.in_ok-duties.ensures.ok
+    room_does config facts c.args.self.now c.args.room c.in-Some.investor c.in-Some.index
+    c.index_mut.result.now c.index_mut-place.result.now stands found c.args.what
+    c.bring_to_room.new.room c.in_ok-duties.duties.items c.in_ok-duties.ensures.ok
     c.in_ok-duties.ensures.duties
