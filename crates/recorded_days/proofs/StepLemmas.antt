@@ -22,7 +22,6 @@ use Rattle.step_replay.specs.declared.steps.Step.TheVariants as step
 use Rattle.recorded_days.specs.DayForm.{HasFirmsOf, IsWellFormed, names_sweep, sweeps}
 use Rattle.recorded_days.specs.DayForm.{takes_message}
 use Rattle.recorded_days.specs.DayOrder.{KeepsOrder, StandsAt, action_in, action_numbered, is_by}
-use Rattle.recorded_days.specs.DayOrder.{order_at}
 use Rattle.recorded_days.specs.OrderCounts.{AreOfInboxes, Counts, IsNext, count_in, inbound_at}
 use Rattle.recorded_days.specs.OrderSearch.{IsSlot}
 use Rattle.recorded_days.specs.Records.{ActionRef, FirmLists, RecordedDay, RoomLists, actions_of}
@@ -35,7 +34,7 @@ use Rattle.recorded_days.specs.declared.actions.Kind.TheVariants as kind
 use Rattle.recorded_days.specs.declared.sites.Site.{Site}
 use Rattle.recorded_days.specs.declared.sites.Site.TheVariants as site
 use Rattle.recorded_days.specs.declared.weave_plan.Slot.{Slot}
-use Rattle.recorded_days.proofs.DayFormLemmas.{firm_within, mapped, numbered_at, some_is}
+use Rattle.recorded_days.proofs.DayFormLemmas.{firm_within, numbered_at}
 use Rattle.recorded_days.proofs.DayFormLemmas.{within_some}
 use Rattle.recorded_days.proofs.MessageLemmas.{acts, taken_one}
 use Rattle.recorded_days.proofs.OrderLawLemmas.{mono}

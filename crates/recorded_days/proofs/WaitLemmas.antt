@@ -1,6 +1,6 @@
 -- What an action waits for.
-use Rattle.std.proofs.Common.{◌≡◌, ◌<◌, ◌≤◌, ℕ, zero, suc, ◌+◌, ◌-◌, ◌==◌, Bool, true, false, ◌&&◌}
-use Rattle.std.proofs.Common.{not, nat_le, nat_lt, List, [], ◌∷◌, length, slice_get, Option, Some, None}
+use Rattle.std.proofs.Common.{◌≡◌, ◌<◌, ◌≤◌, ℕ, ◌+◌, ◌-◌, ◌==◌, Bool, true, false, ◌&&◌}
+use Rattle.std.proofs.Common.{not, nat_le, nat_lt, List, length, slice_get, Option, Some, None}
 use Rattle.std.proofs.Common.{is_some, arith, refl, sym, ap, subst, ◌∙◌, eq-eqb}
 use Rattle.std.specs.Prelude.{option_and_then}
 use Rattle.std.specs.Option.{option_map_or}
@@ -9,11 +9,11 @@ use Rattle.std.proofs.lemmas.Option.{slice_get_within}
 use Rattle.quote_word.specs.declared.settled.Settled.{Settled}
 use Rattle.step_replay.specs.AuditTrail.{is_same_actor}
 use Rattle.venue_places.specs.declared.actors.Actor.{Actor}
-use Rattle.recorded_days.specs.DayOrder.{Asked, ByActor, BySite, ByWord, IsBehind, IsNextAtSite}
+use Rattle.recorded_days.specs.DayOrder.{Asked, ByActor, BySite, IsBehind, IsNextAtSite}
 use Rattle.recorded_days.specs.DayOrder.{OfOneWord, StandsAt, action_in, grants, is_as_wished}
 use Rattle.recorded_days.specs.DayOrder.{is_granted, order_at, refuses}
 use Rattle.recorded_days.specs.OrderCounts.{AreOfActors, Counts, count_in, key_of}
-use Rattle.recorded_days.specs.OrderSearch.{HasCome, IsAction, IsBound, IsChain, IsLeft}
+use Rattle.recorded_days.specs.OrderSearch.{HasCome, IsAction, IsBound, IsLeft}
 use Rattle.recorded_days.specs.OrderSearch.{IsLeftBefore, IsSlot, IsTable, grants_to, is_word}
 use Rattle.recorded_days.specs.OrderSearch.{refuses_to}
 use Rattle.recorded_days.specs.Records.{ActionRef, RecordedDay}
@@ -21,7 +21,7 @@ use Rattle.recorded_days.specs.declared.actions.Action.{Action}
 use Rattle.recorded_days.specs.declared.sites.Site.{Site}
 use Rattle.recorded_days.specs.declared.weave_plan.Slot.{Slot}
 use Rattle.recorded_days.specs.declared.weave_table.Table.{Table}
-use Rattle.recorded_days.proofs.DayFormLemmas.{action_there, action_within, some_is, within_some}
+use Rattle.recorded_days.proofs.DayFormLemmas.{action_there, action_within, within_some}
 use Rattle.recorded_days.proofs.MessageLemmas.{same_self}
 
 -- Tests.

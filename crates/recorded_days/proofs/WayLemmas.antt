@@ -362,9 +362,9 @@ pub later_pushed : (day : RecordedDay) (table : Table) (state after : Search) (o
     → (Stands day table after) × (steps_left after + 1 ≡ steps_left state)
 later_pushed day table state after one top whole stands at_top before none pushes = (
   pushed_stands day table state after one whole stands before.is_action before.left new behind
-  pushes,
+      pushes,
   pushed_less day table state after one whole stands before.is_action before.left new behind
-  pushes,
+      pushes,
 )
   where
     new : mark_of table state.marks.items one ≡ Some mark.New

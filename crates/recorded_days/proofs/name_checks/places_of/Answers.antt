@@ -32,9 +32,9 @@ returns-clause-yes c =
     let ended : firms_of c.args.config.now ≤ c.loop-firm.firm = omega arith in
     let all = c.are_all_noted.ensures.yes c.if-not-are_all_noted.false in (
       are_named_once c.args.day.now c.loop-firm.places c.loop-firm.invariant.sound
-      (all_noted c.args.config.now c.args.day.now c.loop-firm.places c.requires
-      (λ firm within. let below : firm < c.loop-firm.firm = omega arith in
-      c.loop-firm.invariant.noted firm below)) all,
+          (all_noted c.args.config.now c.args.day.now c.loop-firm.places c.requires
+          (λ firm within. let below : firm < c.loop-firm.firm = omega arith in
+          c.loop-firm.invariant.noted firm below)) all,
       c.loop-firm.invariant.sound,
       all,
     )

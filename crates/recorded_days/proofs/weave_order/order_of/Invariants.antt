@@ -1,5 +1,5 @@
 use Rattle.std.proofs.Common.{◌≡◌, ◌<◌, ℕ, Some, slice_get}
-use Rattle.recorded_days.specs.OrderSearch.{HasCome, IsTable, Stands}
+use Rattle.recorded_days.specs.OrderSearch.{HasCome, Stands}
 use Rattle.recorded_days.specs.declared.weave_plan.Slot.{Slot}
 use Rattle.recorded_days.proofs.weave_order.order_of.Given as goal
 

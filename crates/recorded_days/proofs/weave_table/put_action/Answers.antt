@@ -1,4 +1,4 @@
-use Rattle.std.proofs.Common.{◌≡◌, ◌∷◌, ◌++◌, ◌+◌, ℕ, List, [], Some, arith, length, rules, slice_get, subst, sym}
+use Rattle.std.proofs.Common.{◌≡◌, ◌∷◌, ◌++◌, ◌+◌, ℕ, List, [], Some, length, rules, slice_get, subst, sym}
 use Rattle.recorded_days.specs.OrderSearch.{IsChain, IsSlot}
 use Rattle.recorded_days.specs.declared.weave_plan.Slot.{Slot}
 use Rattle.recorded_days.proofs.TableLemmas.{chain_more, right_more}

@@ -20,11 +20,11 @@ returns-then-not-has_come-clause-some c =
     let there_too : slice_get slots (bound - 1) ≡ Some slot =
     ap (slice_get slots) (sym place_is) ∙ there in (
       before_of_word day c.args.done.now slot c.args.action c.in_ok-action_in.field-0.now word
-      (c.loop.invariant.head.granted slot least there_too) c.in_ok-action_in.ensures
-      (c.in_ok-word.ensures word ∙ own_word word),
+          (c.loop.invariant.head.granted slot least there_too) c.in_ok-action_in.ensures
+          (c.in_ok-word.ensures word ∙ own_word word),
       (c.requires.built.right place slot there).is_action,
       left_of c.args.done.now slot.action c.has_come.result c.has_come.ensures
-      c.if-not-has_come.true,
+          c.if-not-has_come.true,
     )
 
 pub loop-preserved : goal.loop-preserved

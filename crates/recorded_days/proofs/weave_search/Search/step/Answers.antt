@@ -1,4 +1,4 @@
-use Rattle.std.proofs.Common.{◌≡◌, ◌<◌, ◌-◌, None, Some, ap, arith, length, slice_get, subst, sym, ◌∙◌}
+use Rattle.std.proofs.Common.{◌≡◌, ◌<◌, ◌-◌, None, Some, arith, length, slice_get, subst, sym, ◌∙◌}
 use Rattle.recorded_days.specs.DayOrder.{IsCircle}
 use Rattle.recorded_days.specs.OrderSearch.{IsLeftBefore, index_in}
 use Rattle.recorded_days.specs.Records.{ActionRef}
