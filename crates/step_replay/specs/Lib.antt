@@ -1,3 +1,4 @@
+pub mod ActionKinds
 pub mod Actions
 pub mod AuditTrail
 pub mod Coming
