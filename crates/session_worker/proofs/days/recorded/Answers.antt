@@ -76,7 +76,7 @@ returns g c =
     let told : first_untold rooms dealers ≡ None = search rules in
     let swept : first_unswept sweeps rooms ≡ None = search rules in
     let joined : Joined config (map (λ session. session.inbox.items) sessions) sweeps dealers bare
-    whole rooms c.in_ok-dealers.seen.log c.in_ok-investors.seen.log = record {
+    whole c.args.clock.items rooms c.in_ok-dealers.seen.log c.in_ok-investors.seen.log = record {
       dealers_are = omega (arith, dealer_days, before, from, first);
       investors_are = omega (arith, investor_days, left, from, first, c.requires.sessions);
       rooms_are = c.in_ok-investors.ensures.rooms
@@ -100,6 +100,7 @@ returns g c =
       rooms_stand = c.in_ok-investors.ensures.stand;
       goes_on = c.in_ok-investors.ensures.later;
       legal = c.in_ok-investors.ensures.legal;
+      of_actions = c.action_fault.ensures (search rules);
     } in
     subst (KeepsDay config (map (λ session. session.inbox.items) sessions) sweeps)
     (sym c.new.ensures)
