@@ -1,6 +1,6 @@
--- What the events of a day say of its actions, however its threads ran: each event at a desk or in a
--- room is that of an action there, of its kind and at its moment, and events stand in the order of
--- their actions. An action that came to nothing left no event.
+-- What the events of a day say of its actions, however its threads ran: each event at a desk or in
+-- a room is that of an action there, of its kind and at its moment, and events stand in the order
+-- of their actions. An action that came to nothing left no event.
 use Rattle.std.specs.Prelude.{◌≡◌, ℕ, ◌==◌, Bool, true, false, ◌&&◌, List, [], ◌∷◌}
 use Rattle.std.specs.Prelude.{Option, Some, None, is_some, if◌then◌else◌}
 use Rattle.std.specs.List.{list_all}
@@ -83,7 +83,8 @@ left_in_room (in_room.Open request) by action = is_kind kind.Open action
 left_in_room in_room.Ready by action = is_kind kind.Ready action
 left_in_room (in_room.Post dealer word price valid_until) by action =
     is_by kind.Post (actor.Firm dealer) by action
-left_in_room (in_room.Unpost dealer word) by action = is_by kind.Unpost (actor.Firm dealer) by action
+left_in_room (in_room.Unpost dealer word) by action =
+    is_by kind.Unpost (actor.Firm dealer) by action
 left_in_room (in_room.Decline dealer) by action = is_by kind.Decline (actor.Firm dealer) by action
 left_in_room (in_room.Hit word moment answer) by action = is_at kind.Hit moment action
 left_in_room (in_room.Pass moment) by action = is_at kind.Pass moment action
