@@ -3,6 +3,9 @@
 #define GATEWAY_TESTS_CHECK_H
 
 #include <algorithm>
+#include <exception>
+#include <iostream>
+#include <span>
 #include <stdexcept>
 #include <string>
 
@@ -29,6 +32,25 @@ inline void check(bool holds, const std::string &what) {
 template <typename Value>
 void same(const Value &wanted, const Value &came, const std::string &what) {
     check(wanted == came, fmt::format("{}: wanted {}, came {}", what, wanted, came));
+}
+
+// What a test's main does: its status is 0, or 1 with the first fault on standard error, or 2 with
+// the usage where it was given fewer words than it takes, or more.
+template <typename Tests>
+int run_with(int count, char **words, std::size_t least, std::size_t most, const char *usage,
+             const Tests &tests) {
+    const std::span<char *> given(words + 1, words + count);
+    if (given.size() < least || given.size() > most) {
+        std::cerr << "usage: " << usage << '\n';
+        return 2;
+    }
+    try {
+        tests(given);
+        return 0;
+    } catch (const std::exception &fault) {
+        std::cerr << fault.what() << '\n';
+        return 1;
+    }
 }
 
 } // namespace gateway::tests

@@ -130,17 +130,9 @@ std::string fresh(const std::filesystem::path &folder, const std::string &name) 
 } // namespace gateway::tests
 
 int main(int count, char **words) {
-    if (count != 2) {
-        std::cerr << "usage: feeder_test FOLDER\n";
-        return 2;
-    }
-    try {
-        using namespace gateway::tests;
-        fed_as_it_comes(fresh(words[1], "feeder_test.db"));
-        a_broken_chain(fresh(words[1], "feeder_broken.db"));
-        return 0;
-    } catch (const std::exception &fault) {
-        std::cerr << fault.what() << '\n';
-        return 1;
-    }
+    using namespace gateway::tests;
+    return run_with(count, words, 1, 1, "feeder_test FOLDER", [](std::span<char *> given) {
+        fed_as_it_comes(fresh(given[0], "feeder_test.db"));
+        a_broken_chain(fresh(given[0], "feeder_broken.db"));
+    });
 }

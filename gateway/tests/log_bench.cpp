@@ -107,17 +107,10 @@ void run(const std::string &connection, unsigned logs, unsigned threads, unsigne
 } // namespace gateway::tests
 
 int main(int count, char **words) {
-    if (count != 5) {
-        std::cerr << "usage: log_bench CONNECTION LOGS THREADS SECONDS\n";
-        return 2;
-    }
-    try {
-        gateway::tests::run(words[1], static_cast<unsigned>(std::stoul(words[2])),
-                            static_cast<unsigned>(std::stoul(words[3])),
-                            static_cast<unsigned>(std::stoul(words[4])));
-        return 0;
-    } catch (const std::exception &fault) {
-        std::cerr << fault.what() << '\n';
-        return 1;
-    }
+    using namespace gateway::tests;
+    const auto number = [](const char *word) { return static_cast<unsigned>(std::stoul(word)); };
+    return run_with(count, words, 4, 4, "log_bench CONNECTION LOGS THREADS SECONDS",
+                    [&](std::span<char *> given) {
+                        run(given[0], number(given[1]), number(given[2]), number(given[3]));
+                    });
 }

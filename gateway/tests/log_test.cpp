@@ -120,17 +120,33 @@ void many_threads(Database &database) {
     check_rows(*database.reader());
 }
 
+// A log behind the last entry of a day.
+struct DayThatGoesOn {
+    explicit DayThatGoesOn(Database &database)
+        : start(start_of(database)), last(start.last.place),
+          log(database, committed, clock, metrics, Log::Start(start),
+              [](const std::string &cause) { std::cerr << cause << '\n'; }) {}
+
+    static Log::Start start_of(Database &database) {
+        Log::Start start;
+        start.last = database.reader()->last_entry().value();
+        start.term = start.last.term;
+        return start;
+    }
+
+    const Log::Start start;
+    const std::uint32_t last;
+    DayClock clock{today()};
+    Metrics metrics{0};
+    Committed committed{last};
+    Log log;
+};
+
 // While messages are held a sweep is not, and they come behind it.
 void a_held_log(Database &database) {
-    DayClock clock(today());
-    Metrics metrics(0);
-    Log::Start start;
-    start.last = database.reader()->last_entry().value();
-    start.term = start.last.term;
-    const std::uint32_t last = start.last.place;
-    Committed committed(last);
-    Log log(database, committed, clock, metrics, std::move(start),
-            [](const std::string &cause) { std::cerr << cause << '\n'; });
+    DayThatGoesOn day(database);
+    Log &log = day.log;
+    const std::uint32_t last = day.last;
     std::jthread writer;
     {
         const Log::Hold hold(log);
@@ -147,22 +163,16 @@ void a_held_log(Database &database) {
 
 // What the caller commits is in the log when the call returns, and what it does not is soon.
 void a_message_alone(Database &database) {
-    DayClock clock(today());
-    Metrics metrics(0);
-    Log::Start start;
-    start.last = database.reader()->last_entry().value();
-    start.term = start.last.term;
-    const std::uint32_t last = start.last.place;
-    Committed committed(last);
-    Log log(database, committed, clock, metrics, std::move(start),
-            [](const std::string &cause) { std::cerr << cause << '\n'; });
+    DayThatGoesOn day(database);
+    Log &log = day.log;
+    const std::uint32_t last = day.last;
     log.append_message("F0", messages + 2, "x", Log::Committer::caller);
     log.commit();
-    same(last + 1, committed.last_place(), "the place that was committed");
+    same(last + 1, day.committed.last_place(), "the place that was committed");
     same<std::size_t>(1, database.reader()->entries(last + 1, 9).size(), "entries in the log");
     log.append_message("F0", messages + 3, "x", Log::Committer::caller);
     log.flush();
-    same(last + 2, committed.last_place(), "the place that was left to the log");
+    same(last + 2, day.committed.last_place(), "the place that was left to the log");
 }
 
 void a_commit_that_fails() {
@@ -268,11 +278,8 @@ void run(const std::vector<std::string> &arguments) {
 } // namespace gateway::tests
 
 int main(int count, char **words) {
-    try {
-        gateway::tests::run({words + 1, words + count});
-        return 0;
-    } catch (const std::exception &fault) {
-        std::cerr << fault.what() << '\n';
-        return 1;
-    }
+    return gateway::tests::run_with(count, words, 1, 2, "log_test FOLDER [CONNECTION]",
+                                    [](std::span<char *> given) {
+                                        gateway::tests::run({given.begin(), given.end()});
+                                    });
 }

@@ -104,18 +104,11 @@ void tables_refuse(Schema &schema) {
 } // namespace gateway::tests
 
 int main(int count, char **words) {
-    if (count != 2) {
-        std::cerr << "usage: terms_test CONNECTION\n";
-        return 2;
-    }
-    try {
-        gateway::tests::Schema schema(words[1]);
-        gateway::tests::one_speaks(schema);
-        gateway::tests::terms_rise(schema);
-        gateway::tests::tables_refuse(schema);
-        return 0;
-    } catch (const std::exception &fault) {
-        std::cerr << fault.what() << '\n';
-        return 1;
-    }
+    using namespace gateway::tests;
+    return run_with(count, words, 1, 1, "terms_test CONNECTION", [](std::span<char *> given) {
+        Schema schema(given[0]);
+        one_speaks(schema);
+        terms_rise(schema);
+        tables_refuse(schema);
+    });
 }

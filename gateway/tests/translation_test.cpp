@@ -102,17 +102,14 @@ void moments() {
 
 } // namespace gateway::tests
 
-int main() {
-    try {
-        gateway::tests::a_quote();
-        gateway::tests::every_byte();
-        gateway::tests::no_frames();
-        gateway::tests::cancel_of_one_that_is_gone();
-        gateway::tests::to_firms();
-        gateway::tests::moments();
-        return 0;
-    } catch (const std::exception &fault) {
-        std::cerr << fault.what() << '\n';
-        return 1;
-    }
+int main(int count, char **words) {
+    using namespace gateway::tests;
+    return run_with(count, words, 0, 0, "translation_test", [](std::span<char *>) {
+        a_quote();
+        every_byte();
+        no_frames();
+        cancel_of_one_that_is_gone();
+        to_firms();
+        moments();
+    });
 }

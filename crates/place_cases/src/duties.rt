@@ -39,7 +39,9 @@ fn push_duty(answer: &mut String, duty: &Duty) -> Result<(), CaseFault> {
 
 /// What a duty is, its moment, and its room: the number of the investor, and that of its request.
 fn push_head(answer: &mut String, duty: &Duty) -> Result<(), CaseFault> {
-    let (what, room, moment) = head_of(duty).ok_or(CaseFault::Form)?;
+    let Some((what, room, moment)) = head_of(duty) else {
+        return Err(CaseFault::Form);
+    };
     answer.push_str(what)?;
     push_time(answer, moment)?;
     push_number(answer, u64::from(room.investor))?;
@@ -47,7 +49,7 @@ fn push_head(answer: &mut String, duty: &Duty) -> Result<(), CaseFault> {
 }
 
 /// What a duty is, its room, and its moment, where it has a room.
-fn head_of(duty: &Duty) -> Option<(&'static str, RoomRef, Moment)> {
+fn head_of(duty: &Duty) -> Option<(&str, RoomRef, Moment)> {
     match duty {
         Duty::Open { room, moment, .. } => Some(("open", *room, *moment)),
         Duty::Show { room, moment, .. } => Some(("show", *room, *moment)),

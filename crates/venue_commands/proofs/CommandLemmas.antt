@@ -19,6 +19,7 @@ use Rattle.venue_commands.specs.Written.{Streams, Written}
 use Rattle.venue_commands.specs.declared.command.LineForm.{LineForm as RustForm}
 use Rattle.venue_commands.proofs.StreamLemmas.{keeps_same}
 use Rattle.venue_commands.proofs.LawfulArguments.{lawful_arguments}
+use Rattle.venue_commands.proofs.LiveLemmas.{answers_nothing}
 
 first_or : (a b : Bool) → (a || false) ≡ true → (a || b) ≡ true
 first_or true b h = refl
@@ -67,7 +68,8 @@ before_lines form word (Some all) status streams memory = inr (
       lines = [];
       rest = lines_of all;
       split = refl;
-      left = inl (record { undivided = refl; left = memory.1; untold = keeps_same streams.err.before });
+      left = answers_nothing form [] streams.out (record { before = streams.err.before; after = streams.err.before })
+          (record { undivided = refl; left = memory.1; untold = keeps_same streams.err.before });
     };
     told = memory.2;
   },

@@ -18,7 +18,6 @@ use Rattle.venue_config.specs.declared.faults.ConfigFault.{ConfigFault}
 use Rattle.venue_config.specs.declared.faults.ConfigFault.TheVariants.{Toml}
 use Rattle.venue_text.specs.Faults.{told_line}
 use Rattle.venue_text.specs.Lines.{lines_of}
-use Rattle.venue_text.specs.AskedDays.{dealer_by, firm_by, firms_by}
 use Rattle.venue_text.specs.KeptComparison.{IsKeptComparison}
 use Rattle.venue_text.specs.KeptDays as kept_days
 use Rattle.venue_text.specs.KeptDays.{KeepsMore, OpensKept, Wanted, asked_in, asked_venue, dues, kept_text, messages}
@@ -39,7 +38,7 @@ use Rattle.venue_text.specs.declared.live_form.LiveForm.{LiveForm}
 use Rattle.venue_text.specs.declared.live_lines.LiveDay.{LiveDay}
 use Rattle.venue_commands.specs.Arguments.{LineForm, answered, compared_for, kept_for, meant_form}
 use Rattle.venue_commands.specs.LiveRuns.{EndsWith, EndsDay, EndsInAnswers, EndsInLive, GainsFaults, HasAnswered}
-use Rattle.venue_commands.specs.LiveRuns.{AnswersNothing, HasCompared, HasNoDay, IsConfigurationIn, TakesBoth, TakesOne, are_four, are_whole, behind_one}
+use Rattle.venue_commands.specs.LiveRuns.{AnswersNothing, HasCompared, HasNoDay, IsConfigurationIn, TakesBoth, TakesOne, are_four, are_whole}
 use Rattle.venue_commands.specs.LiveRuns.{ended_lines, fault_if, first_taken, name_fault, second_configuration, second_taken}
 use Rattle.venue_commands.specs.LiveStages.{AreTwo, AwaitsDay, AwaitsSecond, BothGo, DayGoes, FirstGoes, IsBad, IsCut, KeptGoes, StageIs, StandsAt, Start}
 use Rattle.venue_commands.specs.LiveStages.{KeepsAnywhere, KeepsStep, TurnFails, Turns, is_turn, taken_at}
@@ -182,10 +181,10 @@ module _ (form : LiveForm) (lines : List (List ℕ)) (number : ℕ) (line answer
   }
 
   -- or a part of it
-  pub day_unprinted : (more : List (List ℕ)) (write : ProgramFault) → write ≡ Write
+  pub day_unprinted : (more : List (List ℕ)) (refused : ProgramFault) → refused ≡ Write
       → GainsPart answer (record { before = old; after = new })
-      → EndsDay (answered form) write ((lines ++ line ∷ []) ++ more) (record { before = start; after = new }) (record { before = told; after = err' })
-  day_unprinted more write is part =
+      → EndsDay (answered form) refused ((lines ++ line ∷ []) ++ more) (record { before = start; after = new }) (record { before = told; after = err' })
+  day_unprinted more refused is part =
       subst (λ (f : ProgramFault). EndsDay (answered form) f ((lines ++ line ∷ []) ++ more) (record { before = start; after = new })
       (record { before = told; after = err' })) (sym is)
       (record {
@@ -259,7 +258,7 @@ module _ (number : ℕ) (line : List ℕ) (fault : Option ProgramFault) (before 
 
 -- By the form.
 
-answers_nothing : (form : LineForm) (lines : List (List ℕ)) (out err : Written) → AnswersNothing lines out err → HasAnswered form lines out err
+pub answers_nothing : (form : LineForm) (lines : List (List ℕ)) (out err : Written) → AnswersNothing lines out err → HasAnswered form lines out err
 answers_nothing (answered form) lines out err nothing = inl nothing
 answers_nothing (kept_for wanted) lines out err nothing = inl nothing
 answers_nothing (compared_for dealer) lines out err nothing = inl nothing
@@ -366,7 +365,7 @@ both_untouched dealer lines one other out err both = keeps_of out.before out.aft
 both_answered : (dealer : List ℕ) (lines : List (List ℕ)) (one other : KeptDay) (out err : Written) → BothGo dealer lines one other out err
     → HasAnswered (compared_for dealer) lines out err
 both_answered dealer lines one other out err both =
-    inr (inr (both_untouched dealer lines one other out err both, (both.goes.goes.config, (both.second.config, both_taken dealer lines one other out err both))))
+    inr (inr (both_untouched dealer lines one other out err both, (both.goes.goes.config, both.second.config, both_taken dealer lines one other out err both)))
 
 -- a line more of the first
 first_more : (dealer : List ℕ) (number : ℕ) (line : List ℕ) (before after : KeptDay) (out err : Written) → is_divider line ≡ false
@@ -618,10 +617,8 @@ module _ (form : LineForm) (lines : List (List ℕ)) (line text : List ℕ) (out
       subst Fails (sym of.1) (record {
         is_fault = (
           configuration_in ((lines ++ line ∷ []) ++ more),
-          (
-            first_text form ((lines ++ line ∷ []) ++ more),
-            ap venue_of (whole_configuration here) ∙ is ∙ ap (λ (f : ProgramFault). Err f) of.1,
-          ),
+          first_text form ((lines ++ line ∷ []) ++ more),
+          ap venue_of (whole_configuration here) ∙ is ∙ ap (λ (f : ProgramFault). Err f) of.1,
         );
         lines = lines;
         rest = line ∷ more;
@@ -636,10 +633,8 @@ module _ (form : LineForm) (lines : List (List ℕ)) (line text : List ℕ) (out
       subst Fails (sym of) (record {
         is_fault = (
           configuration_in ((lines ++ line ∷ []) ++ more),
-          (
-            first_text form ((lines ++ line ∷ []) ++ more),
-            (config, (ap venue_of (whole_configuration here) ∙ spelled, is ∙ ap (λ (f : ProgramFault). Some f) of)),
-          ),
+          first_text form ((lines ++ line ∷ []) ++ more),
+          (config, ap venue_of (whole_configuration here) ∙ spelled, is ∙ ap (λ (f : ProgramFault). Some f) of),
         );
         lines = lines;
         rest = line ∷ more;
@@ -654,7 +649,8 @@ module _ (form : LineForm) (lines : List (List ℕ)) (line text : List ℕ) (out
       record {
         is_fault = inr (inl (
           configuration_in ((lines ++ line ∷ []) ++ more),
-          (first_text form ((lines ++ line ∷ []) ++ more), omega (arith, grown, same, long)),
+          first_text form ((lines ++ line ∷ []) ++ more),
+          omega (arith, grown, same, long),
         ));
         lines = lines;
         rest = line ∷ more;
@@ -827,6 +823,13 @@ module _ (form : LineForm) (number : ℕ) (line : List ℕ) (before : Stage) whe
   pub stage_refused : (fault : ProgramFault) (o e : Option (List ℕ)) → fault ≡ Memory → StageFails form number line before fault (still o) (still e)
   stage_refused fault o e is = refused_behind form number line before fault o e is
 
+  -- and standard error is as it was
+  pub stage_refused_as_it_was : (fault : ProgramFault) (o e e' : Option (List ℕ)) → (fault ≡ Memory) × (e' ≡ e)
+      → StageFails form number line before fault (still o) (record { before = e; after = e' })
+  stage_refused_as_it_was fault o e e' is =
+      subst (λ (x : Option (List ℕ)). StageFails form number line before fault (still o) (record { before = e; after = x })) (sym is.1)
+      (refused_behind form number line before fault o e is.0)
+
 -- A line that ends the first of two days, or the configuration of the second.
 
 turns : (form : LineForm) (number : ℕ) (line : List ℕ) (before after : Stage) (o e : Option (List ℕ)) → is_turn before line ≡ true
@@ -898,7 +901,7 @@ module _ (dealer : List ℕ) (lines : List (List ℕ)) (line text : List ℕ) (d
   second_lawless fault here is =
       let of = config_fault text fault is in
       subst Second (sym of.1) (record {
-        is_fault = (text, (inr (sym (second_whole here)), is ∙ ap (λ (f : ProgramFault). Err f) of.1));
+        is_fault = (text, inr (sym (second_whole here)), is ∙ ap (λ (f : ProgramFault). Err f) of.1);
         lines = lines;
         rest = line ∷ more;
         split = append_assoc lines (line ∷ []) more;
@@ -910,7 +913,7 @@ module _ (dealer : List ℕ) (lines : List (List ℕ)) (line text : List ℕ) (d
   second_nameless fault config here spelled is =
       let of = firm_alone (compared_for dealer) config fault is in
       subst Second (sym of) (record {
-        is_fault = (text, (inr (sym (second_whole here)), (config, (spelled, is ∙ ap (λ (f : ProgramFault). Some f) of))));
+        is_fault = (text, inr (sym (second_whole here)), (config, spelled, is ∙ ap (λ (f : ProgramFault). Some f) of));
         lines = lines;
         rest = line ∷ more;
         split = append_assoc lines (line ∷ []) more;
@@ -925,7 +928,8 @@ module _ (dealer : List ℕ) (lines : List (List ℕ)) (line text : List ℕ) (d
       record {
         is_fault = inr (inl (
           second_configuration ((lines ++ line ∷ []) ++ more),
-          (inr refl, omega (arith, grown, same, whole, long)),
+          inr refl,
+          omega (arith, grown, same, whole, long),
         ));
         lines = lines;
         rest = line ∷ more;
@@ -1316,10 +1320,8 @@ module _ (one other : KeptDay) (o o' : Option (List ℕ)) (text : List ℕ) (com
   closes_both gained (kept_for wanted) lines start err is = absurd is
   closes_both gained (compared_for dealer) lines start err is = (
     text,
-    (
-      has_compared dealer lines one other text (record { before = start; after = o }) err compares is,
-      appends_both start o o' [] text is.goes.goes.answers.printed gained,
-    ),
+    has_compared dealer lines one other text (record { before = start; after = o }) err compares is,
+    appends_both start o o' [] text is.goes.goes.answers.printed gained,
   )
 
   pub closes_both_unprinted : (fault : ProgramFault) → fault ≡ Write → GainsPart text (record { before = o; after = o' })
@@ -1335,10 +1337,8 @@ module _ (one other : KeptDay) (o o' : Option (List ℕ)) (text : List ℕ) (com
         split = sym (append-nil lines);
         left = (
           text,
-          (
-            has_compared dealer lines one other text (record { before = start; after = o }) err compares is,
-            more_part start o o' [] text is.goes.goes.answers.printed part,
-          ),
+          has_compared dealer lines one other text (record { before = start; after = o }) err compares is,
+          more_part start o o' [] text is.goes.goes.answers.printed part,
         );
       })
 
