@@ -5,16 +5,17 @@ from collections.abc import Callable, Iterator
 from dataclasses import dataclass
 from pathlib import Path
 
+import parts.gateway
+from door import venue_text
 from firm import Firm, Identity, Places
 from frames import SOH
 from held import clock_faults, count_of, differences, unkept, unlogged
-from ledger import Ledger, answers, marks
+from ledger import Ledger, marks
 from market import Act, Market
+from reach import ROOT
 from wait import until, within
 
-ROOT = Path(__file__).resolve().parent.parent.parent
 DICTIONARIES = (ROOT / "fix" / "FIXT11.xml", ROOT / "fix" / "MIRESEASON.xml")
-WRONG_ARGUMENTS = 2  # the status of the venue's program for those that it does not know
 PATIENCE = 30.0  # seconds in which what is on its way comes
 LATE = "no clock line came"  # of a fault of the gateway's tests: databases may be away for longer
 
@@ -112,16 +113,20 @@ class Cast:
     def all(self) -> tuple[Identity, ...]:
         return self.dealers + self.investors
 
+    def venue_text(self) -> str:
+        """The configuration of a venue for them."""
+        return venue_text(list(self.dealers), list(self.investors))
+
+    def credentials(self, gateway: Path) -> str:
+        """The file of a gateway's firms, made by its program."""
+        firms = [parts.gateway.Firm(who.name, who.name, who.password) for who in self.all]
+        return parts.gateway.credentials_of(gateway, firms)
+
 
 def replayed(venue: list[str], day: bytes) -> dict[str, list[bytes]]:
-    """What `replay --live` gives each firm over a day; a program that has no such flag is asked by
-    `live`, which gives the same.
-    """
+    """What `replay --live` gives each firm over a day."""
     words = [*venue, "replay", "--live", "--frames"]
-    done = subprocess.run(words, input=day, capture_output=True, check=False)
-    if done.returncode == WRONG_ARGUMENTS:
-        return answers(venue, day)
-    done.check_returncode()
+    done = subprocess.run(words, input=day, capture_output=True, check=True)
     found: dict[str, list[bytes]] = {}
     for line in done.stdout.splitlines():
         firm, _, text = line.partition(b" ")
