@@ -142,17 +142,33 @@ class Day:
     # ------------------------------------------------------------ its end
 
     def settled(self) -> list[str]:
-        """What is wrong in the end."""
-        self.wait_all_on()
-        for _ in range(LOOKS):
-            self.wait_still()
-            if [side.caught_up(self.venue) - 1 for side in self.sides] == self.places():
+        """What is wrong in the end; the gateways have ended."""
+        for look in range(LOOKS):
+            if look > 0:
+                self.start_gateways()
+            before = self.caught_up()
+            self.stop_gateways()
+            # Where a deadline came in between, its messages are still to be sent.
+            if self.places() == before:
                 break
+        return self.problems + [self.told_of(side, fault) for side in self.sides
+                                for fault in side.faults(self.venue)]
+
+    def caught_up(self) -> list[int]:
+        """Waits until firms have what the logs give them; the last places of those logs."""
+        self.wait_all_on()
+        self.wait_still()
+        return [side.caught_up(self.venue) - 1 for side in self.sides]
+
+    def stop_gateways(self) -> None:
+        """The one that follows in front, so that it does not take over."""
         for gateway in (self.machine.following(), self.machine.speaking()):
             if gateway:
                 gateway.service.stop(20)
-        return self.problems + [self.told_of(side, fault) for side in self.sides
-                                for fault in side.faults(self.venue)]
+
+    def start_gateways(self) -> None:
+        for gateway in self.machine.gateways:
+            self.machine.supervisor.locked(gateway.service.start)
 
     def places(self) -> list[int]:
         """The last place of each log."""
