@@ -7,7 +7,7 @@ usage: play.py GATEWAY PLAYER [--days N] [--messages N] [--ends N] [--seed N] [-
 The log is a file of SQLite, or a schema of the PostgreSQL database that is named.
 
 At the end of each day every message that an initiator's engine had sent is in the log once, and each initiator
-has the messages that `VENUE WORDS live` gives for the log, and the second implementation of the venue too: none is
+has the messages that `VENUE WORDS replay --live` gives for the log, and the second implementation of the venue too: none is
 missing, none is different, and none came under two numbers of the session.
 """
 
