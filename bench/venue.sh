@@ -2,7 +2,8 @@
 # Instructions and time a message of `replay` on days of 10 to 1,000 auctions, 22 steps each, from the line that is read to
 # the answers that are printed; of `live` on the same messages; and of QuickFIX, which parses the frames of the same messages,
 # or of these and of all that the venue sends for them, with its checks of length and sum, or parses the former and builds and
-# writes the latter. Needs g++, libquickfix-dev, valgrind and rt.
+# writes the latter; and messages a second of `live --marks` and of `replay` over pipes (pipes.py). Needs g++, python3,
+# libquickfix-dev, valgrind and rt.
 #
 #     bench/venue.sh [PROGRAM]
 set -e
@@ -52,3 +53,4 @@ took=$(best replayed)
 one=$(best "$make/venue" parse 1000 2)
 eleven=$(best "$make/venue" parse 1000 12)
 echo "6000 messages: replay $((6000000000 / took)) a second, QuickFIX's parse $((60000000000 / (eleven - one))) a second"
+python3 "$here/pipes.py" "$program" "$make/text"

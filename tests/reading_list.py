@@ -20,7 +20,7 @@ PAGE = "docs/PROOFS.md"
 BEGIN = "<!-- written by tests/reading_list.py -->"
 END = "<!-- end of what is written -->"
 
-USE = re.compile(r"^\s*(?:ghost )?use Rattle\.(\w+)\.specs\.(\w+)(?:\.\{([^}]*)\}| as (\w+))?",
+USE = re.compile(r"^\s*(?:ghost |pub )?use Rattle\.(\w+)\.specs\.(\w+)(?:\.\{([^}]*)\}| as (\w+))?",
                  re.MULTILINE)
 Definitions = tuple[str, str]  # a crate, and a file of its specs/
 
@@ -60,7 +60,7 @@ def below(root: Path, cited: list[Definitions]) -> dict[Definitions, str]:
 def lines_of(text: str) -> int:
     """How many lines of definitions a file has."""
     return sum(1 for line in text.split("\n")
-               if line.strip() and not line.strip().startswith(("use ", "--")))
+               if line.strip() and not line.strip().startswith(("use ", "pub use ", "--")))
 
 
 def reading_list(root: Path) -> str:

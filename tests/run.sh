@@ -114,22 +114,13 @@ beside() {
         return
     fi
     start=$(date +%s)
-    # The audit asks for the flag --live; a program that has it not yet is stood in for by the second
-    # implementation.
-    supervised=$program
-    without_live=
-    if ! "$program" --help 2>&1 | grep -q -e --live; then
-        supervised="/usr/bin/python3 $root/tests/model/program.py"
-        without_live=--without-live
-    fi
     form pages 600 python3 's/^\([0-9]*\) passed, 0 failed$/\1/p' \
         python3 tests/pages.py --venue "$program"
     form page_checks 300 python3 's/^Ran \([0-9]*\) tests in .*/\1/p' \
         env PYTHONPATH=tests python3 -m unittest page_checks.test_checks
     form engines 900 "g++ libquickfix-dev" '$s/.*/1/p' tests/engines/run.sh "$program"
-    # shellcheck disable=SC2086 # a word or none
     form model 600 python3 's/^\([0-9]*\) inputs, .*: no difference$/\1/p' \
-        python3 tests/model/compare.py $without_live "$program" 1000 "$seed" "$jobs"
+        python3 tests/model/compare.py "$program" 1000 "$seed" "$jobs"
     form threads 600 python3 's/^\([0-9]*\) passed, 0 failed$/\1/p' \
         python3 tests/model/lawful.py "$program" 40 "$seed"
     form isolation 600 python3 's/^seeds .*: \([0-9]*\) pairs with equal due lists.*/\1/p' \
@@ -142,7 +133,7 @@ beside() {
     tests/packages.sh chromium 2>"$work/packages" || echo "audit: without a browser: chromium can't be installed"
     form audit 1800 "python3 python3-jinja2 python3-psycopg2 openssl sqlite3 postgresql" \
         's/^Ran \([0-9]*\) tests* in .*/\1/p' \
-        env VENUE="$supervised" GATEWAY="$gateway" SEED="$seed" tests/audit/run.sh short
+        env VENUE="$program" GATEWAY="$gateway" SEED="$seed" tests/audit/run.sh short
     try_replicas
     echo "beside the gate: $(($(date +%s) - start)) s"
 }

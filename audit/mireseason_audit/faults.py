@@ -5,9 +5,5 @@ class Unreadable(Exception):
     """Something could not be read, or a program could not be run: status 2."""
 
 
-class Lacking(Unreadable):
-    """The venue's program does not know the arguments of a command."""
-
-
 class Wrong(Exception):
     """What was read is not as it should be, and nothing more can be said: status 1."""

@@ -4,7 +4,7 @@ from collections import Counter
 from dataclasses import dataclass, field
 from pathlib import Path
 
-from .faults import Lacking, Unreadable
+from .faults import Unreadable
 from .lines import decoded
 from .venue import Venue
 
@@ -35,13 +35,10 @@ class Compared:
         return self.messages_equal or not (self.row_equal and self.due_equal)
 
 
-def compare(venue: Venue, dealer: str, both: Path) -> Compared | None:
-    """What `compare` says of two days; None where the program has no `compare --live`."""
-    try:
-        with venue.run(["compare", dealer, "--live"], both) as run:
-            lines = tuple(decoded(line) for line in run.lines())
-    except Lacking:
-        return None
+def compare(venue: Venue, dealer: str, both: Path) -> Compared:
+    """What `compare --live` says of two days."""
+    with venue.run(["compare", dealer, "--live"], both) as run:
+        lines = tuple(decoded(line) for line in run.lines())
     if len(lines) != 3:
         raise Unreadable("`compare` prints %d lines, and not three" % len(lines))
     return Compared(lines)

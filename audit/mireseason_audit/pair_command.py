@@ -142,19 +142,17 @@ class PairCommand:
         both, second = self.folder / "both.live", self.folder / "second.due"
         append(files.day, path, both)
         compared = compare(venue, self.dealer, both)
-        said = ", ".join(compared.lines) if compared else "the program has no such command yet"
-        told.say("rfq_venue compare %s --live: %s." % (self.dealer, said))
+        told.say("rfq_venue compare %s --live: %s." % (self.dealer, ", ".join(compared.lines)))
         venue.to_file(["due", self.dealer, "--live"], path, second)
         found = differences(files.due(self.dealer), second)
-        differing = difference_words(found)
-        if compared is not None and not compared.holds:
+        if not compared.holds:
             told.say("ROW AND LIST ARE EQUAL AND THE MESSAGES ARE NOT: THAT MUST NOT BE.", False)
-        elif compared.due_equal if compared else not differing:
+        elif compared.due_equal:
             text = "All %d items of its list are equal, so it was sent the same bytes."
             told.say(text % found.items)
         else:
             told.say("Of its list, and so of its messages, this differs and nothing else:")
-        for words in differing:
+        for words in difference_words(found):
             told.say(words, found.are_declared, indent=8)
         return found
 

@@ -5,7 +5,7 @@ from collections.abc import Iterator
 from dataclasses import dataclass
 from typing import Any
 
-import psycopg2  # type: ignore[import]  # Debian has no stubs of it
+import psycopg2
 from psycopg2 import sql
 
 from .faults import Unreadable

@@ -12,13 +12,12 @@ from pathlib import Path
 from typing import Self
 
 from .closing import Closing
-from .faults import Lacking, Unreadable
+from .faults import Unreadable
 from .records import SOH
 
 LINE_FAULT = re.compile(rb"line ([0-9]+): (.*)\Z")
 ANSWER_SECONDS = 300  # the program answers a line by then, and says its version, if it does at all
 MOST_TOLD = 1000  # of the lines on standard error, so many are kept
-WRONG_ARGUMENTS = 2  # the status of the program for arguments that it does not know
 
 
 @dataclass(frozen=True)
@@ -68,9 +67,7 @@ class Venue:
 
 @dataclass
 class Run(Closing):
-    """One run of the program. A run that ends with another status than 0 is Unreadable, and
-    Lacking where the program does not know the arguments.
-    """
+    """One run of the program. A run that ends with another status than 0 is Unreadable."""
 
     venue: Venue
     arguments: list[str]
@@ -116,8 +113,6 @@ class Run(Closing):
             found = LINE_FAULT.match(last)
             if found and len(self.faults) < MOST_TOLD:
                 self.faults.append(LineFault(int(found[1]), found[2].decode("utf-8", "replace")))
-        if status == WRONG_ARGUMENTS:
-            raise Lacking("%s has no `%s`" % (self.venue, " ".join(self.arguments)))
         if status != 0:
             command = " ".join([*self.venue.words, *self.arguments])
             text = last.decode("utf-8", "replace") or "it says nothing"

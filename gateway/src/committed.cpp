@@ -4,8 +4,14 @@ namespace gateway {
 
 namespace {
 
-// Entries that are kept: a venue that is slower reads them from the database.
+// Entries that are kept, and the bytes of their lines: a venue that is slower reads them from the
+// database.
 constexpr std::size_t kept = 8192;
+constexpr std::size_t kept_bytes = 4 << 20;
+
+std::size_t bytes_of(const LoggedEntry &logged) {
+    return logged.entry.line.size();
+}
 
 } // namespace
 
@@ -17,13 +23,21 @@ void Committed::put(const std::vector<LoggedEntry> &entries) {
     {
         const std::lock_guard lock(mutex_);
         last_place_ = entries.back().entry.place;
-        recent_.insert(recent_.end(), entries.begin(), entries.end());
-        while (recent_.size() > kept) {
-            recent_.pop_front();
+        for (const LoggedEntry &logged : entries) {
+            keep(logged);
         }
     }
     if (reader_ != nullptr) {
         reader_->entries_came(entries);
+    }
+}
+
+void Committed::keep(const LoggedEntry &logged) {
+    recent_.push_back(logged);
+    recent_bytes_ += bytes_of(logged);
+    while (recent_.size() > kept || recent_bytes_ > kept_bytes) {
+        recent_bytes_ -= bytes_of(recent_.front());
+        recent_.pop_front();
     }
 }
 

@@ -50,12 +50,16 @@ class Committed {
     bool is_closed();
 
   private:
+    // The lock is held.
+    void keep(const LoggedEntry &logged);
+
     std::mutex telling_mutex_; // over the calls of the reader; taken before the other
     Reader *reader_ = nullptr;
 
     std::mutex mutex_;
     std::uint32_t last_place_;
     std::deque<LoggedEntry> recent_;
+    std::size_t recent_bytes_ = 0; // of their lines
     bool closed_ = false;
 };
 

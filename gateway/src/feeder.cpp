@@ -10,7 +10,7 @@ namespace gateway {
 namespace {
 
 // Entries that are read from the database at once.
-constexpr std::uint32_t chunk = 1024;
+constexpr std::uint32_t chunk = 256;
 
 } // namespace
 

@@ -17,6 +17,9 @@ using namespace std::chrono_literals;
 constexpr auto patience = 20ms;
 constexpr std::size_t many = 512;
 
+// Bytes of entries that may wait, however few these are.
+constexpr std::size_t many_bytes = 4 << 20;
+
 // After so many times without anything the database is given time for what need not be done at a
 // commit.
 constexpr int looks_to_rest = 5;
@@ -94,6 +97,7 @@ Log::Ticket Log::append_here(Entry entry, std::string_view verb, std::string_vie
     entry.moment = text_of(clock_.now());
     entry.line.reserve(verb.size() + entry.moment.size() + rest.size());
     entry.line.append(verb).append(entry.moment).append(rest);
+    filling_.bytes += entry.line.size();
     filling_.rows.entries.push_back(std::move(entry));
     filling_.received.push_back(received);
     ++filling_.size;
@@ -163,6 +167,10 @@ std::uint32_t Log::last_place() {
 std::string Log::failure() {
     const std::lock_guard lock(mutex_);
     return failure_;
+}
+
+bool Log::has_room() const {
+    return filling_.size < limit_ && filling_.bytes < many_bytes;
 }
 
 void Log::wait_for_room(std::unique_lock<std::mutex> &lock) {
@@ -236,6 +244,7 @@ Log::Filling Log::take(bool all) {
     entries.rows.entries.swap(filling_.rows.entries);
     entries.received.swap(filling_.received);
     filling_.size -= entries.rows.entries.size();
+    filling_.bytes = 0;
     return entries;
 }
 

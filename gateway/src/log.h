@@ -91,13 +91,14 @@ class Log {
         Batch rows;
         std::vector<std::chrono::steady_clock::time_point> received;
         std::size_t size = 0;
-        bool is_whole = true; // not its entries alone
+        std::size_t bytes = 0; // of its entries' lines
+        bool is_whole = true;  // not its entries alone
     };
 
     // The lock is held.
     Ticket append_here(Entry entry, std::string_view verb, std::string_view rest,
                        std::chrono::steady_clock::time_point received, Committer committer);
-    bool has_room() const { return filling_.size < limit_; }
+    bool has_room() const;
     // Waits for room; the lock is held before and behind.
     void wait_for_room(std::unique_lock<std::mutex> &lock);
     void throw_if_failed() const;

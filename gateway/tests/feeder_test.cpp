@@ -1,5 +1,5 @@
 // What feeds the venue: the log from its begin, entries as they are committed, a process that reads
-// nothing for a while, and a chain that is broken.
+// nothing for a while, a chain that is broken, and how much is kept.
 //
 // usage: feeder_test FOLDER
 #include "check.h"
@@ -117,6 +117,20 @@ void a_broken_chain(const std::string &file) {
     check(fault.find(fmt::format("entry {}", old + 1)) != std::string::npos, "told: " + fault);
 }
 
+// Of long lines few are kept: a slower venue reads them from the database.
+void kept_by_their_bytes() {
+    Committed committed(0);
+    for (std::uint32_t place = 1; place <= 10; ++place) {
+        Entry entry;
+        entry.place = place;
+        entry.line.assign(1 << 20, 'x');
+        committed.put({{entry, {}}});
+    }
+    check(!committed.from(1), "10 MiB are kept");
+    same<std::size_t>(2, committed.from(9).value().size(), "the last two");
+    check(committed.from(11).value().empty(), "an entry that is still to come");
+}
+
 std::string fresh(const std::filesystem::path &folder, const std::string &name) {
     const std::filesystem::path file = folder / name;
     for (const char *suffix : {"", "-wal", "-shm", ".lock"}) {
@@ -134,5 +148,6 @@ int main(int count, char **words) {
     return run_with(count, words, 1, 1, "feeder_test FOLDER", [](std::span<char *> given) {
         fed_as_it_comes(fresh(given[0], "feeder_test.db"));
         a_broken_chain(fresh(given[0], "feeder_broken.db"));
+        kept_by_their_bytes();
     });
 }

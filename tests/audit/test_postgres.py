@@ -9,7 +9,7 @@ from contextlib import closing
 from pathlib import Path
 from typing import Any
 
-import psycopg2  # type: ignore[import]  # Debian has no stubs of it
+import psycopg2
 from common import DAY, ROOT, Folder, audit, folder
 
 SERVERS = sorted(Path("/usr/lib/postgresql").glob("*/bin/initdb"))

@@ -96,13 +96,25 @@ def read_postgres(log: PostgresLog) -> Ledger:
 
 
 def answers(program: list[str], day: bytes) -> dict[str, list[bytes]]:
-    """The frames that a program of the venue gives each firm over a day, by `live`."""
-    run = subprocess.run([*program, "live", "--frames"], input=day, capture_output=True, check=True)
+    """The frames that a program of the venue gives each firm over a day, by `replay --live`."""
+    return by_firm(printed([*program, "replay", "--live", "--frames"], day))
+
+
+def answers_to(program: list[str], day: bytes, firm: str) -> list[bytes]:
+    """The frames that a program of the venue gives one firm over a day, by `replay --live FIRM`."""
+    return by_firm(printed([*program, "replay", "--live", "--frames", firm], day)).get(firm, [])
+
+
+def by_firm(text: bytes) -> dict[str, list[bytes]]:
     found: dict[str, list[bytes]] = {}
-    for line in run.stdout.splitlines():
-        firm, _, text = line.partition(b" ")
-        found.setdefault(firm.decode(), []).append(text.replace(b"|", SOH))
+    for line in text.splitlines():
+        firm, _, frame = line.partition(b" ")
+        found.setdefault(firm.decode(), []).append(frame.replace(b"|", SOH))
     return found
+
+
+def printed(words: list[str], day: bytes) -> bytes:
+    return subprocess.run(words, input=day, capture_output=True, check=True).stdout
 
 
 @dataclass(frozen=True)
@@ -115,9 +127,8 @@ class Mark:
 
 def marks(program: list[str], day: bytes) -> list[Mark]:
     """The marks behind the entries of a day, by their places; behind place 0 nothing has come about."""
-    run = subprocess.run([*program, "live", "--frames", "--marks"], input=day, capture_output=True, check=True)
     found, given = [Mark({}, None)], {}
-    for line in run.stdout.splitlines():
+    for line in printed([*program, "live", "--frames", "--marks"], day).splitlines():
         words = line.decode(errors="replace").split(" ")
         if words[0] in ("done", "fault"):
             found.append(Mark(dict(given), words[2] if words[0] == "done" and len(words) > 2 else None))

@@ -7,16 +7,14 @@ usage: play.py GATEWAY PLAYER [--days N] [--messages N] [--ends N] [--seed N] [-
 The log is a file of SQLite, or a schema of the PostgreSQL database that is named.
 
 At the end of each day every message that an initiator's engine had sent is in the log once, and each initiator
-has the messages that `VENUE WORDS live` gives for the log, and the second implementation of the venue too: none is
+has the messages that `VENUE WORDS replay --live` gives for the log, and the second implementation of the venue too: none is
 missing, none is different, and none came under two numbers of the session.
 """
 
 import argparse
 import os
 import random
-import shutil
 import sys
-import tempfile
 import time
 from pathlib import Path
 
@@ -30,6 +28,7 @@ from firm import Firm, Identity, Places
 from held import count_of
 from ledger import PostgresLog
 from market import Act, Market, play
+from played import parser_of, play_all
 from settle import settled, wait_all_on
 from wait import LONG, TooLong, until, within
 
@@ -135,31 +134,10 @@ def one_day(words: argparse.Namespace, folder: Path, seed: int) -> list[str]:
 
 
 def read_words() -> argparse.Namespace:
-    parser = argparse.ArgumentParser()
-    parser.add_argument("gateway", type=Path)
-    parser.add_argument("player", type=Path)
-    for name, usual in (("--days", 3), ("--messages", 2000), ("--ends", 40), ("--seed", 1)):
-        parser.add_argument(name, type=int, default=usual)
-    parser.add_argument("--keep", type=Path, help="where the files of days with a fault are put")
+    parser = parser_of("--ends", 40)
     parser.add_argument("--postgres", default="", help="a connection string of libpq")
-    parser.add_argument("venue", nargs="+")
     return parser.parse_args()
 
 
-def main() -> None:
-    words, failed = read_words(), 0
-    for seed in range(words.seed, words.seed + words.days):
-        with tempfile.TemporaryDirectory() as name:
-            folder = Path(name)
-            faults = one_day(words, folder, seed)
-            failed += bool(faults)
-            for fault in faults[:20]:
-                print("day %d: %s" % (seed, fault))
-            if faults and words.keep:
-                shutil.copytree(folder, words.keep / ("day%d" % seed))
-    print("%d passed, %d failed" % (words.days - failed, failed))
-    sys.exit(1 if failed else 0)
-
-
 if __name__ == "__main__":
-    main()
+    sys.exit(play_all(read_words(), one_day))

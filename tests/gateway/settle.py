@@ -8,7 +8,7 @@ from pathlib import Path
 from door import Door
 from firm import Firm
 from held import clock_faults, count_of, differences, unkept, unlogged
-from ledger import Ledger, answers, marks
+from ledger import Ledger, answers, answers_to, marks
 from wait import LONG, until, within
 
 MODEL = [sys.executable, str(Path(__file__).resolve().parent.parent / "model" / "program.py")]
@@ -67,7 +67,7 @@ def faults(door: Door, firms: list[Firm], status: int, ledger: Ledger) -> Iterat
         yield "the second implementation of the venue gives something else for the log"
     for firm in firms:
         firm.look()
-        yield from differences(firm, wanted.get(firm.name, []), ledger)
+        yield from differences(firm, answers_to(program, day, firm.name), ledger)
         yield from unlogged(firm, ledger)
     yield from unkept(ledger, wanted)
     yield from clock_faults(ledger, marks(program, day))

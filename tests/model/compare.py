@@ -1,10 +1,8 @@
 #!/usr/bin/env python3
 """Holds a program against the model: status, output and standard error on inputs that are drawn.
 
-usage: compare.py [--without-live] PROGRAM INPUTS [FIRST_SEED [PROCESSES]]
-       compare.py [--without-live] --write SEED  writes the inputs of a seed to the working directory
-
-With --without-live nothing is drawn that a program without the flag --live does not have.
+usage: compare.py PROGRAM INPUTS [FIRST_SEED [PROCESSES]]
+       compare.py --write SEED  writes the inputs of a seed to the working directory
 
 A seed has one or more inputs. The first that differs is written to the working directory, as SEED-N.in and its
 words, beside both answers; the status is then 1.
@@ -29,10 +27,9 @@ from lines import due_text
 # ---------------------------------------------------------------- the inputs of a seed
 
 
-def inputs(seed, without_live):
+def inputs(seed):
     """Pairs of arguments and standard input."""
     draw = Draw(seed)
-    draw.without_live = without_live
     kinds = [a_day] * 10 + [two_days] * 2 + [due_list] * 3 + [made_up] * 4 + [spoilt] * 3 + [configurations] * 2 + [streams] * 2 + [rarely]
     return draw.choice(kinds)(draw)
 
@@ -71,7 +68,7 @@ def a_day(draw):
     found = [(words, data) for words in commands(draw, day)]
     if draw.chance(0.3):
         found.append((live_words(draw), without_turns(draw, data)))
-    if not draw.without_live and draw.chance(0.3):
+    if draw.chance(0.3):
         found += [(words, without_turns(draw, data)) for words in audits(draw, day)]
     return found
 
@@ -116,7 +113,7 @@ def two_days(draw):
         other = re.sub(rb"exposure = [0-9]+", b"exposure = %d" % draw.of(5, 2_000_000), other, count=draw.of(0, 1))
     data = ended(draw, joined(head(day), first, other, second))
     words = ["compare", firm_word(draw, day, True)]
-    if not draw.without_live and draw.chance(0.4):
+    if draw.chance(0.4):
         return [(words + ["--live"], data if draw.chance(0.1) else without_turns(draw, data))]
     return [(words, data)]
 
@@ -152,7 +149,7 @@ def spoilt(draw):
         steps = faults.spoilt_input(draw, steps)
         top = head(day) if draw.chance(0.9) else faults.spoilt_input(draw, head(day))
         words = draw.of(["replay"], ["replay"], ["replay"], ["due", firm_word(draw, day, True)], live_words(draw), ["blotter", firm_word(draw, day)])
-        if not draw.without_live and draw.chance(0.3):
+        if draw.chance(0.3):
             words = draw.choice(audits(draw, day))
         found.append((words, ended(draw, joined(top, steps))))
     return found
@@ -180,7 +177,7 @@ def rarely(draw):
     day = Day(draw, length=3)
     parts = [head(day), day.text()] * draw.of(0, 1, 2, 3) + draw.of([], [b""], [b"x"])
     words = draw.of(["replay"], ["alone"], ["compare", "DLR1"], ["due", "DLR1"], live_words(draw), ["blotter", "INV1"])
-    if not draw.without_live and words[0] in ("replay", "compare", "due", "blotter") and draw.chance(0.5):
+    if words[0] in ("replay", "compare", "due", "blotter") and draw.chance(0.5):
         words = words + ["--live"]
     found = [(words, ended(draw, joined(*parts))), (draw.choice(faults.WRONG_ARGUMENTS), joined(head(day), day.text()))]
     if draw.chance(0.01):
@@ -230,10 +227,10 @@ def kinds_of(words, answer):
 
 def compared(work):
     """The first difference of a seed's inputs, if any; how many there are; the kinds of their answers."""
-    program, seed, without_live = work
+    program, seed = work
     count, kinds = 0, collections.Counter()
     try:
-        for number, (words, data) in enumerate(inputs(seed, without_live), 1):
+        for number, (words, data) in enumerate(inputs(seed), 1):
             mine, count = model_answer(words, data), count + 1
             kinds += kinds_of(words, mine)
             other = program_answer(program, words, data)
@@ -261,24 +258,23 @@ def report(seed, difference):
     return text
 
 
-def write_inputs(seed, without_live):
-    for number, (words, data) in enumerate(inputs(seed, without_live), 1):
+def write_inputs(seed):
+    for number, (words, data) in enumerate(inputs(seed), 1):
         with open("%d-%d.in" % (seed, number), "wb") as file:
             file.write(data)
         print("%d-%d.in: %r" % (seed, number, words))
 
 
 def main():
-    flag = "--without-live"
-    without_live, words = flag in sys.argv, [word for word in sys.argv[1:] if word != flag]
+    words = sys.argv[1:]
     if words[0] == "--write":
-        return write_inputs(int(words[1]), without_live)
+        return write_inputs(int(words[1]))
     program, wanted = words[0], int(words[1])
     first = int(words[2]) if len(words) > 2 else 1
     processes = int(words[3]) if len(words) > 3 else 1
     total, kinds = 0, collections.Counter()
     with multiprocessing.Pool(processes) as pool:
-        seeds = ((program, seed, without_live) for seed in range(first, 2**62))
+        seeds = ((program, seed) for seed in range(first, 2**62))
         for seed, difference, count, found in pool.imap(compared, seeds, 16):
             if total // 1000 < (total + count) // 1000:
                 print("%d inputs, up to seed %d" % (total + count, seed), file=sys.stderr, flush=True)

@@ -32,7 +32,7 @@ Actor = int | str
 Place = tuple[str, object]
 Step = tuple[Actor, tuple]
 
-MOST_ACTIONS = 50_000  # that are tried in the search for one day; a lawful day takes some hundreds
+MOST_ACTIONS = 2_000_000  # that are tried in the search for one day; a lawful day takes some hundreds
 
 ROOM_DUTIES = ("Open", "Ready", "Post", "Unpost", "Decline", "Hit", "Pass")
 DEALER_DUTIES = ("Show", "Tell")  # their first operand is the dealer

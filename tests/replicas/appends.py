@@ -15,10 +15,9 @@ import sys
 import tempfile
 from pathlib import Path
 
-HERE = Path(__file__).resolve().parent
-ROOT = HERE.parent.parent
 sys.dont_write_bytecode = True
-sys.path.insert(0, str(ROOT / "deploy"))
+
+import reach
 
 from parts.database import DATABASE
 from parts.machine import DATABASES, GATEWAYS, Machine, site_here

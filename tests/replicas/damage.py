@@ -3,7 +3,7 @@
 import random
 import time
 from collections.abc import Callable
-from dataclasses import dataclass
+from dataclasses import dataclass, field
 
 from book import PATIENCE, primary
 from parts.database import DatabaseHost
@@ -34,26 +34,39 @@ class Damage:
         return not self.steps
 
 
-class Damages:
-    """Draws what is done; each kind as often as the others."""
+@dataclass
+class Course:
+    """What is done to the hosts of a machine, one thing behind the other."""
 
-    def __init__(self, machine: Machine, seed: int, count: int) -> None:
-        self.machine, self.draw = machine, random.Random("damage of %d" % seed)
-        kinds = [self.kill_primary, self.kill_gateway, self.kill_etcd, self.cut_standby,
-                 self.cut_gateway, self.cut_host, self.cut_power, self.fill_disk,
-                 self.lose_primary]
-        deck = kinds * (count // len(kinds) + 1)
-        self.draw.shuffle(deck)
-        self.deck = deck[:count]
+    machine: Machine
+    order: list[Callable[[], Damage]] = field(default_factory=list)  # the next one in front
 
     def begin(self) -> Damage:
-        damage = self.deck.pop()()
+        damage = self.order.pop(0)()
         damage.began = time.monotonic()
         damage.look()
         return damage
 
     def primary(self) -> DatabaseHost:
         return primary(self.machine)
+
+    def standby(self) -> DatabaseHost:
+        return found_in("there is a synchronous standby", PATIENCE,
+                        self.machine.cluster.synchronous_standby)
+
+
+class Damages(Course):
+    """Draws what is done; each kind as often as the others."""
+
+    def __init__(self, machine: Machine, seed: int, count: int) -> None:
+        super().__init__(machine)
+        self.draw = random.Random("damage of %d" % seed)
+        kinds = [self.kill_primary, self.kill_gateway, self.kill_etcd, self.cut_standby,
+                 self.cut_gateway, self.cut_host, self.cut_power, self.fill_disk,
+                 self.lose_primary]
+        deck = kinds * (count // len(kinds) + 1)
+        self.draw.shuffle(deck)
+        self.order = deck[:count]
 
     def speaking(self) -> GatewayHost:
         return found_in("a gateway speaks", PATIENCE, self.machine.speaking)
@@ -75,9 +88,8 @@ class Damages:
         return Damage("etcd's leader killed", [])
 
     def cut_standby(self) -> Damage:
-        cluster, network = self.machine.cluster, self.machine.network
-        standby = found_in("there is a synchronous standby", PATIENCE, cluster.synchronous_standby)
-        one, other = self.primary().name, standby.name
+        network = self.machine.network
+        one, other = self.primary().name, self.standby().name
         network.cut(one, other)
         return Damage("link of primary and standby cut",
                       [(CUT_SECONDS, lambda: network.heal(one, other))])

@@ -15,29 +15,25 @@ operator takes hosts out and in, four times, in the place of drawn damages.
 
 import argparse
 import os
-import shutil
 import signal
 import sys
-import tempfile
 import time
 from pathlib import Path
 
-HERE = Path(__file__).resolve().parent
-ROOT = HERE.parent.parent
 sys.dont_write_bytecode = True
-for place in ("tests/model", "tests/gateway", "deploy"):
-    sys.path.insert(0, str(ROOT / place))
 
-import parts.gateway
+import reach
+
 from book import last_place, read_ledger, terms
-from damage import Damage, Damages
-from door import today, venue_text
+from damage import Course, Damage, Damages
+from door import today
 from figures import Figures
 from held import count_of
 from parts.gateway import PORT
 from parts.machine import FIRMS, GATEWAYS, Machine, site_here
 from parts.run import Fault, whole_paths
 from parts.site import ALONE
+from played import parser_of, play_all
 from side import Cast, Side, Stage
 from upkeep import Upkeep
 from wait import TooLong, until, within
@@ -52,7 +48,6 @@ RECOVERY = 420.0  # seconds in which all has to be as it was, on a machine that 
 LOGONS = 120.0  # seconds in which all firms log on
 STILL = 2.0  # seconds without an entry at the end of a day: longer than the shortest deadline
 LOOKS = 5  # how often the end of a day is looked at until no deadline comes in between
-TOLD_FAULTS = 20
 
 # Both addresses, and a heartbeat that finds a gateway that is gone before its cut is mended.
 SETTINGS = {"SocketConnectHost": GATEWAYS[0].address, "SocketConnectPort": str(PORT),
@@ -71,7 +66,7 @@ class Day:
         stage = Stage(folder, words.player.resolve(), PORT, SETTINGS, inside)
         self.sides = [self.side(stage, name, seed + 1000 * at)
                       for at, name in enumerate(self.names)]
-        self.damages: Damages | Upkeep = Damages(self.machine, seed, words.faults)
+        self.damages: Course = Damages(self.machine, seed, words.faults)
         if words.upkeep:
             self.damages = Upkeep(self.machine)
         self.figures, self.problems = Figures(), list[str]()
@@ -91,11 +86,8 @@ class Day:
     # ------------------------------------------------------------ the day
 
     def open(self) -> None:
-        credentials = parts.gateway.credentials_of(
-            self.words.gateway.resolve(),
-            [parts.gateway.Firm(who.name, who.name, who.password) for who in CAST.all])
-        text = venue_text(list(CAST.dealers), list(CAST.investors))
-        self.machine.up(dict.fromkeys(self.names, text), credentials)
+        credentials = CAST.credentials(self.words.gateway.resolve())
+        self.machine.up(dict.fromkeys(self.names, CAST.venue_text()), credentials)
         for name in self.names:
             spoil(self.machine, self.schema(name), self.words.wrong)
         for side in self.sides:
@@ -150,17 +142,33 @@ class Day:
     # ------------------------------------------------------------ its end
 
     def settled(self) -> list[str]:
-        """What is wrong in the end."""
-        self.wait_all_on()
-        for _ in range(LOOKS):
-            self.wait_still()
-            if [side.caught_up(self.venue) - 1 for side in self.sides] == self.places():
+        """What is wrong in the end; the gateways have ended."""
+        for look in range(LOOKS):
+            if look > 0:
+                self.start_gateways()
+            before = self.caught_up()
+            self.stop_gateways()
+            # Where a deadline came in between, its messages are still to be sent.
+            if self.places() == before:
                 break
+        return self.problems + [self.told_of(side, fault) for side in self.sides
+                                for fault in side.faults(self.venue)]
+
+    def caught_up(self) -> list[int]:
+        """Waits until firms have what the logs give them; the last places of those logs."""
+        self.wait_all_on()
+        self.wait_still()
+        return [side.caught_up(self.venue) - 1 for side in self.sides]
+
+    def stop_gateways(self) -> None:
+        """The one that follows in front, so that it does not take over."""
         for gateway in (self.machine.following(), self.machine.speaking()):
             if gateway:
                 gateway.service.stop(20)
-        return self.problems + [self.told_of(side, fault) for side in self.sides
-                                for fault in side.faults(self.venue)]
+
+    def start_gateways(self) -> None:
+        for gateway in self.machine.gateways:
+            self.machine.supervisor.locked(gateway.service.start)
 
     def places(self) -> list[int]:
         """The last place of each log."""
@@ -223,39 +231,15 @@ def one_day(words: argparse.Namespace, folder: Path, seed: int) -> list[str]:
 
 
 def read_words() -> argparse.Namespace:
-    parser = argparse.ArgumentParser()
-    parser.add_argument("gateway", type=Path)
-    parser.add_argument("player", type=Path)
-    for name, usual in (("--days", 3), ("--messages", 2000), ("--faults", 30), ("--seed", 1)):
-        parser.add_argument(name, type=int, default=usual)
+    parser = parser_of("--faults", 30)
     parser.add_argument("--venues", type=int, default=1, choices=range(1, len(NAMES) + 1))
     parser.add_argument("--upkeep", action="store_true", help="what an operator does, four faults")
     parser.add_argument("--wrong", choices=SET_UPS, default="")
     parser.add_argument("--images", type=Path, default=Path("/dev/shm/mireseason"))
-    parser.add_argument("--keep", type=Path, help="where the logs of days with a fault are put")
-    parser.add_argument("venue", nargs="+")
     return parser.parse_args()
 
 
-def main() -> None:
-    words, failed = read_words(), 0
+if __name__ == "__main__":
     # Hosts are taken away also where it is interrupted.
     signal.signal(signal.SIGTERM, lambda *_: sys.exit(143))
-    for seed in range(words.seed, words.seed + words.days):
-        with tempfile.TemporaryDirectory(prefix="mrt") as name:
-            folder = Path(name)
-            folder.chmod(0o755)
-            faults = one_day(words, folder, seed)
-            failed += bool(faults)
-            for fault in faults[:TOLD_FAULTS]:
-                print("day %d: %s" % (seed, fault), flush=True)
-            if len(faults) > TOLD_FAULTS:
-                print("day %d: %d faults in all" % (seed, len(faults)), flush=True)
-            if faults and words.keep:
-                shutil.copytree(folder, words.keep / ("day%d" % seed), dirs_exist_ok=True)
-    print("%d passed, %d failed" % (words.days - failed, failed))
-    sys.exit(1 if failed else 0)
-
-
-if __name__ == "__main__":
-    main()
+    sys.exit(play_all(read_words(), one_day))

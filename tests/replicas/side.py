@@ -1,20 +1,19 @@
 """One venue of a day: the firms that trade there, what they do next, and what its log says."""
 
-import subprocess
 from collections.abc import Callable, Iterator
 from dataclasses import dataclass
 from pathlib import Path
 
+import parts.gateway
+from door import venue_text
 from firm import Firm, Identity, Places
-from frames import SOH
 from held import clock_faults, count_of, differences, unkept, unlogged
 from ledger import Ledger, answers, marks
 from market import Act, Market
+from reach import ROOT
 from wait import until, within
 
-ROOT = Path(__file__).resolve().parent.parent.parent
 DICTIONARIES = (ROOT / "fix" / "FIXT11.xml", ROOT / "fix" / "MIRESEASON.xml")
-WRONG_ARGUMENTS = 2  # the status of the venue's program for those that it does not know
 PATIENCE = 30.0  # seconds in which what is on its way comes
 LATE = "no clock line came"  # of a fault of the gateway's tests: databases may be away for longer
 
@@ -68,7 +67,7 @@ class Side:
         """Waits until each firm has what the log of now gives it; the entries of that log."""
         within(PATIENCE, self.is_logged)
         ledger = self.read()
-        wanted = replayed(venue, ledger.day())
+        wanted = answers(venue, ledger.day())
         within(PATIENCE, lambda: self.has_all(wanted))
         return len(ledger.entries)
 
@@ -85,7 +84,7 @@ class Side:
     def faults(self, venue: list[str]) -> Iterator[str]:
         """What is wrong with what the firms have and with the log, once nothing comes any more."""
         ledger = self.read()
-        wanted = replayed(venue, ledger.day())
+        wanted = answers(venue, ledger.day())
         for firm in self.firms:
             firm.look()
             yield from differences(firm, wanted.get(firm.name, []), ledger)
@@ -112,21 +111,14 @@ class Cast:
     def all(self) -> tuple[Identity, ...]:
         return self.dealers + self.investors
 
+    def venue_text(self) -> str:
+        """The configuration of a venue for them."""
+        return venue_text(list(self.dealers), list(self.investors))
 
-def replayed(venue: list[str], day: bytes) -> dict[str, list[bytes]]:
-    """What `replay --live` gives each firm over a day; a program that has no such flag is asked by
-    `live`, which gives the same.
-    """
-    words = [*venue, "replay", "--live", "--frames"]
-    done = subprocess.run(words, input=day, capture_output=True, check=False)
-    if done.returncode == WRONG_ARGUMENTS:
-        return answers(venue, day)
-    done.check_returncode()
-    found: dict[str, list[bytes]] = {}
-    for line in done.stdout.splitlines():
-        firm, _, text = line.partition(b" ")
-        found.setdefault(firm.decode(), []).append(text.replace(b"|", SOH))
-    return found
+    def credentials(self, gateway: Path) -> str:
+        """The file of a gateway's firms, made by its program."""
+        firms = [parts.gateway.Firm(who.name, who.name, who.password) for who in self.all]
+        return parts.gateway.credentials_of(gateway, firms)
 
 
 def identity(letters: str, trader: str, role: str, number: int) -> Identity:

@@ -2,11 +2,10 @@
 the primary by a switch to its standby, and one whose disk is lost is replaced.
 """
 
-import time
 from collections.abc import Callable
 
-from book import PATIENCE, primary
-from damage import Damage
+from book import PATIENCE
+from damage import Course, Damage
 from parts.database import DatabaseHost, as_user
 from parts.machine import Machine
 from parts.run import found_in, run, tried, until
@@ -14,27 +13,13 @@ from parts.run import found_in, run, tried, until
 OUT_SECONDS = 10.0
 
 
-class Upkeep:
+class Upkeep(Course):
     """Does each of these once, in this order."""
 
     def __init__(self, machine: Machine) -> None:
-        self.machine = machine
-        self.order: list[Callable[[], Damage]] = [
-            self.take_out_primary, self.take_out_standby, self.replace_standby,
-            self.replace_primary]
-
-    def begin(self) -> Damage:
-        damage = self.order.pop(0)()
-        damage.began = time.monotonic()
-        damage.look()
-        return damage
-
-    def primary(self) -> DatabaseHost:
-        return primary(self.machine)
-
-    def standby(self) -> DatabaseHost:
-        return found_in("there is a synchronous standby", PATIENCE,
-                        self.machine.cluster.synchronous_standby)
+        super().__init__(machine)
+        self.order = [self.take_out_primary, self.take_out_standby, self.replace_standby,
+                      self.replace_primary]
 
     # ------------------------------------------------------------ what is done
 

@@ -16,18 +16,16 @@ import tempfile
 from collections.abc import Iterator
 from pathlib import Path
 
-HERE = Path(__file__).resolve().parent
-ROOT = HERE.parent.parent
 sys.dont_write_bytecode = True
-for place in ("tests/model", "tests/gateway", "deploy"):
-    sys.path.insert(0, str(ROOT / place))
 
-import parts.gateway
-from door import free_port, venue_text
+import reach
+
+from door import free_port
 from firm import Firm
 from ledger import Ledger, read_ledger
 from parts.run import whole_paths
 from parts.site import file_of, venues_text
+from played import TOLD_FAULTS
 from side import Cast, Side, Stage
 from wait import TooLong, until, within
 
@@ -36,7 +34,6 @@ NAMES = ("north", "south")
 START = 30.0  # seconds in which the gateway listens and ends, and firms log on
 LOOKS = 5  # how often the day is looked at until no deadline comes in between
 SILENCE = 4.0  # seconds in which a refused Logon is not answered by another
-TOLD_FAULTS = 20
 REST = """[log]
 sqlite = "{venue}.db"
 [fix]
@@ -61,11 +58,8 @@ class TwoVenues:
 
     def write(self) -> None:
         for name in NAMES:
-            text = venue_text(list(CAST.dealers), list(CAST.investors))
-            (self.folder / file_of(name)).write_text(text)
-        credentials = parts.gateway.credentials_of(
-            self.words.gateway.resolve(),
-            [parts.gateway.Firm(who.name, who.name, who.password) for who in CAST.all])
+            (self.folder / file_of(name)).write_text(CAST.venue_text())
+        credentials = CAST.credentials(self.words.gateway.resolve())
         (self.folder / "credentials.toml").write_text(credentials)
         text = venues_text(NAMES, tuple(self.venue)) + REST % self.port
         (self.folder / "gateway.toml").write_text(text)

@@ -14,6 +14,7 @@
 
 mod answers;
 mod cycles;
+mod desk_events;
 mod empty_days;
 mod events;
 mod inboxes;

@@ -1,6 +1,7 @@
 //! Recorded days that are made by lines.
 use crate::answers::{put, put_count, put_steps, put_text};
 use crate::cycles::put_cycle;
+use crate::desk_events::{bring, comes_to_desk};
 use crate::empty_days::{empty_dealer, empty_investor, empty_room};
 use crate::events::{event_in, is_event};
 use crate::values::{actor_in, kind_in, settled_named};
@@ -12,7 +13,7 @@ use quote_messages::{Message, SentMessage};
 use recorded_days::{Action, DayRecord, DealerDay, Inbound, InvestorDay, WeaveFault, weave};
 use std::alloc::Global;
 use std::mem::replace;
-use step_replay::{Actor, alone, due};
+use step_replay::{Actor, Step, alone, due};
 use venue_text::due_lines;
 
 /// A recorded day. Firms go by their numbers, the dealers from 0 on, behind them the investors, and
@@ -35,6 +36,9 @@ use venue_text::due_lines;
 /// | `replayed FIRM` | the dealer was sent what the steps of the day send it |
 /// | `desk FIRM` | a desk of an investor, beside the record |
 /// | `take TIME BODY`, `closes N TIME` | a message comes to it; a request of it closes |
+/// | `quote_came N DEALER WORD PRICE TIME` | it is shown a quote, of a price in ticks of 1/256 |
+/// | `quote_gone N WORD TIME` | it is told that one is gone |
+/// | `answered N ID QUOTE REFUSAL TIME` | its hit of a quote is refused |
 /// | `told FIRM` | the investor was sent what that desk sent |
 /// | `without` | the record lacks the last investor |
 /// | `more FIRM` | it has a room more of an investor |
@@ -42,6 +46,7 @@ use venue_text::due_lines;
 /// | `count FIRM` | answers how many messages a firm was sent |
 /// | `due FIRM` | answers what was due to a dealer by the record, or `none` |
 /// | `weave` | answers the steps, `malformed`, `cycle` and its actions, or `differs FIRM` |
+/// | `woven` | the same, with the number of the steps in place of them |
 ///
 /// An ANSWER is `lifted` or `withdrawn`, and of an event `-` where it asked no word.
 #[derive(Drop)]
@@ -72,7 +77,7 @@ impl Place for Records {
             "end" => self.end(call.alloc),
             "count" => self.tell_count(call.alloc, call.words.firm()?, &mut call.answer),
             "due" => self.tell_due(call.alloc, call.words.firm()?, &mut call.answer),
-            "weave" => self.tell_steps(call.alloc, &mut call.answer),
+            "weave" | "woven" => self.tell_steps(call),
             _ => self.changes(call),
         }
     }
@@ -97,11 +102,13 @@ impl Records {
 
     /// A call about what firms were sent, or one that all places with a venue know.
     fn sends(&mut self, call: &mut Call<'_>) -> Result<(), CaseFault> {
+        if comes_to_desk(call.name) {
+            return self.come_to_desk(call);
+        }
         match call.name {
             "replayed" => self.put_replayed(call.alloc, call.words.firm()?),
             "desk" => self.open_desk(call.alloc, call.words.firm()?),
             "take" => self.take(call.alloc, &mut call.words),
-            "closes" => self.close(&mut call.words),
             "told" => self.put_told(call.words.firm()?),
             _ => self.venue.call(call),
         }
@@ -274,15 +281,12 @@ impl Records {
         Ok(())
     }
 
-    /// `closes N TIME`.
-    fn close(&mut self, words: &mut Words<'_>) -> Result<(), CaseFault> {
-        let n = words.short_number()?;
-        let moment = words.moment()?;
+    /// An event comes to the desk.
+    fn come_to_desk(&mut self, call: &mut Call<'_>) -> Result<(), CaseFault> {
         let Some(desk) = &mut self.desk else {
             return Err(CaseFault::NotOpen);
         };
-        desk.closed(n, moment)?;
-        Ok(())
+        bring(desk, call)
     }
 
     /// The investor was sent what the desk sent.
@@ -314,20 +318,39 @@ impl Records {
         put_text(answer, text.as_slice())
     }
 
-    /// The steps of the day, or why there are none.
-    fn tell_steps(&self, alloc: Global, answer: &mut String) -> Result<(), CaseFault> {
+    /// The steps of the day, or how many there are; or why there are none.
+    fn tell_steps(&self, call: &mut Call<'_>) -> Result<(), CaseFault> {
         let config = self.venue.config()?;
-        let woven = weave(alloc, config, self.record()?);
+        let woven = weave(call.alloc, config, self.record()?);
         match &woven {
-            Ok(steps) => put_steps(alloc, answer, steps.as_slice()),
-            Err(WeaveFault::Malformed) => put(answer, "malformed"),
-            Err(WeaveFault::Cycle(actions)) => put_cycle(alloc, answer, actions.as_slice()),
-            Err(WeaveFault::Differs(firm)) => {
-                let line = format!(in alloc; "differs {firm}")?;
-                put(answer, line.as_str())
-            }
-            Err(WeaveFault::Memory) => Err(CaseFault::Memory),
+            Ok(steps) => put_woven(call, steps.as_slice()),
+            Err(fault) => put_weave_fault(call.alloc, &mut call.answer, fault),
         }
+    }
+}
+
+/// The steps that a day is woven into, or how many there are.
+fn put_woven(call: &mut Call<'_>, steps: &[Step]) -> Result<(), CaseFault> {
+    if call.name == "woven" {
+        return put_count(call.alloc, &mut call.answer, steps.len(), "steps");
+    }
+    put_steps(call.alloc, &mut call.answer, steps)
+}
+
+/// Why a day is not woven.
+fn put_weave_fault(
+    alloc: Global,
+    answer: &mut String,
+    fault: &WeaveFault,
+) -> Result<(), CaseFault> {
+    match fault {
+        WeaveFault::Malformed => put(answer, "malformed"),
+        WeaveFault::Cycle(actions) => put_cycle(alloc, answer, actions.as_slice()),
+        WeaveFault::Differs(firm) => {
+            let line = format!(in alloc; "differs {firm}")?;
+            put(answer, line.as_str())
+        }
+        WeaveFault::Memory => Err(CaseFault::Memory),
     }
 }
 

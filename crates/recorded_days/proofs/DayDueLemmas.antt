@@ -1,36 +1,27 @@
 -- How the answers of a desk go on event by event, and what the code puts for an event.
-use Rattle.std.proofs.Common.{◌≡◌, ◌≤◌, ℕ, ◌==◌, Bool, true, false, ◌||◌, ◌&&◌, not, nat_le}
-use Rattle.std.proofs.Common.{List, [], ◌∷◌, ◌++◌, Option, Some, None, option_map, is_some}
-use Rattle.std.proofs.Common.{IfSome, All, if◌then◌else◌, refl, sym, ap, subst, ◌∙◌, arith}
+use Rattle.std.proofs.Common.{◌≡◌, ℕ, ◌==◌, Bool, true, false, ◌||◌, ◌&&◌}
+use Rattle.std.proofs.Common.{List, [], ◌∷◌, ◌++◌, Option, Some}
+use Rattle.std.proofs.Common.{All, refl, sym, ap, subst, ◌∙◌, arith}
 use Rattle.std.proofs.Common.{◌⊎◌, inl, inr}
 use Rattle.std.specs.List.{list_any}
 use Rattle.std.proofs.Math.Seq.{append_snoc}
 use Rattle.std.proofs.lemmas.Bool.Decides.{nat_tests}
 use Rattle.std.proofs.lemmas.List.{append-nil}
 use Rattle.std.proofs.lemmas.List.Elements.{All-cons, All-head, All-nil, All-tail}
-use Rattle.std.proofs.lemmas.List.Folds.{list_any-append}
-use Rattle.std.proofs.lemmas.List.Sums.{fold-append}
 use Rattle.quote_word.specs.declared.settled.Settled.{Settled}
-use Rattle.quote_word.specs.declared.settled.Settled.TheVariants.{Withdrawn, Lifted}
-use Rattle.venue_config.specs.declared.dealer_rows.DealerRow.{DealerRow}
 use Rattle.market_terms.specs.declared.asks.Ask.{Ask}
 use Rattle.market_terms.specs.declared.closes.Close.{Close}
 use Rattle.market_terms.specs.declared.rooms.RoomRef.{RoomRef}
-use Rattle.dealer_desk.specs.DealerFacts.{DealerBook, DealerFact, book_of, number_to_drop}
-use Rattle.dealer_desk.specs.DealerRules.{dealer_verdict}
-use Rattle.dealer_desk.specs.DealerOutput.{DeskEvents, DeskState, after_event, answered_words}
-use Rattle.dealer_desk.specs.DealerOutput.{asked_by, asked_word, closable, desk_after, event_facts}
-use Rattle.dealer_desk.specs.DealerOutput.{event_message, notice_of, sent_with, with_event}
+use Rattle.dealer_desk.specs.DealerFacts.{number_to_drop}
+use Rattle.dealer_desk.specs.DealerOutput.{DeskEvents}
+use Rattle.dealer_desk.specs.DealerOutput.{with_event}
 use Rattle.dealer_desk.specs.DealerOutput.{book_at, verdict_at, with_notice, word_asked}
-use Rattle.dealer_desk.specs.DeskLaws.{is_taken_back, says_lifted, says_withdrawn, withdraws}
 use Rattle.dealer_desk.specs.declared.events.DealerEvent.{DealerEvent}
 use Rattle.dealer_desk.specs.declared.events.DealerEvent.TheVariants as event
-use Rattle.step_replay.specs.DealerView.{DealerView, after_due, answer_to, no_room, view_after}
-use Rattle.step_replay.specs.DealerView.{view_at_start}
 use Rattle.step_replay.specs.declared.dues.Due.{Due}
 use Rattle.step_replay.specs.declared.dues.Due.TheVariants as due
 use Rattle.recorded_days.specs.DayDues.{AreAnsweredFrom, DayDues, IsAnswered, after_drop, after_own}
-use Rattle.recorded_days.specs.DayDues.{after_recorded, answer_taken, dues_after, dues_at_start}
+use Rattle.recorded_days.specs.DayDues.{after_recorded, answer_taken}
 use Rattle.recorded_days.specs.DayDues.{lifting_learned}
 
 -- Lists.

@@ -3,7 +3,7 @@ use Rattle.std.proofs.Common.{◌≡◌, ◌<◌, ◌≤◌, ℕ, zero, suc, ◌
 use Rattle.std.proofs.Common.{count_by, not}
 use Rattle.std.proofs.Common.{nat_lt, nat_le, length, Option, Some, None, is_some, slice_get, arith}
 use Rattle.std.proofs.Common.{if◌then◌else◌, refl, sym, ap, subst, ◌∙◌, List, [], ◌∷◌}
-use Rattle.std.specs.Prelude.{option_and_then}
+use Rattle.std.specs.Prelude.{IfNone, option_and_then}
 use borrow.Author.Count.{below_more}
 use Rattle.std.specs.List.{list_any}
 use Rattle.std.specs.Option.{option_map}
@@ -13,9 +13,9 @@ use Rattle.std.proofs.lemmas.Option.{slice_get_past, slice_get_within}
 use Rattle.market_terms.specs.declared.rooms.RoomRef.{RoomRef}
 use Rattle.venue_config.specs.Rows.{Configuration, has_room, investor_numbered, may_request}
 use Rattle.venue_config.specs.declared.investor_rows.InvestorRow.{InvestorRow}
-use Rattle.step_replay.specs.declared.steps.Actor.TheVariants as actor
+use Rattle.venue_places.specs.declared.actors.Actor.TheVariants as actor
 use Rattle.step_replay.specs.StepFaults.{firms_of}
-use Rattle.step_replay.specs.declared.steps.Actor.{Actor}
+use Rattle.venue_places.specs.declared.actors.Actor.{Actor}
 use Rattle.recorded_days.specs.DayForm.{AreMisnamed, AreNamedOnce, ClockTakesMessage, IsWellFormed}
 use Rattle.recorded_days.specs.DayForm.{Misnamed, NamedNowhere, NamedTwice, NamesNoAction}
 use Rattle.recorded_days.specs.DayForm.{OtherDealers, OtherInvestors, DeskIsSwept, FirmSweeps}
@@ -47,13 +47,18 @@ then_some : {A B : Type 0} (f : A → Option B) (found : Option A)
 then_some f None is = cc
 then_some f (Some x) is = (x, refl, is)
 
-within_some : {A : Type 0} (xs : List A) (i : ℕ) → i < length xs
+pub within_some : {A : Type 0} (xs : List A) (i : ℕ) → i < length xs
     → (x : A) × (slice_get xs i ≡ Some x)
 within_some [] i within = absurd (omega arith)
 within_some (x ∷ xs) zero within = (x, refl)
 within_some (x ∷ xs) (suc i) within =
     let rest : i < length xs = omega arith in
     within_some xs i rest
+
+pub none_then : {A : Type 0} (found : Option A) (P Q : Type 0) → (P → Q) → IfNone found P
+    → IfNone found Q
+none_then None P Q so holds = so holds
+none_then (Some x) P Q so holds = tt
 
 -- of a list whose items are numbered from 1, the one with a number
 abbrev pub numbered : {A : Type 0} → ℕ → List A → Option A

@@ -15,8 +15,7 @@ use Rattle.venue_config.specs.declared.dealer_rows.DealerRow.{DealerRow}
 use Rattle.market_terms.specs.declared.asks.Ask.{Ask}
 use Rattle.market_terms.specs.declared.closes.Close.{Close}
 use Rattle.market_terms.specs.declared.rooms.RoomRef.{RoomRef}
-use Rattle.quote_messages.specs.declared.out_messages.OutMessage.{OutMessage}
-use Rattle.dealer_desk.specs.DealerFacts.{DealerBook, DealerFact, Told, book_of, number_to_drop}
+use Rattle.dealer_desk.specs.DealerFacts.{DealerFact, Told, book_of, number_to_drop}
 use Rattle.dealer_desk.specs.DealerRules.{dealer_verdict}
 use Rattle.dealer_desk.specs.DealerOutput.{DeskEvents, DeskState, after_event, answered_words}
 use Rattle.dealer_desk.specs.DealerOutput.{asked_by, asked_word, closable, desk_after, event_facts}
@@ -31,7 +30,7 @@ use Rattle.step_replay.specs.DealerView.{DealerView, after_due, answer_to, no_ro
 use Rattle.step_replay.specs.DealerView.{dealer_view, sent_at, view_at_start}
 use Rattle.step_replay.specs.declared.dues.Due.{Due}
 use Rattle.step_replay.specs.declared.dues.Due.TheVariants as due
-use Rattle.recorded_days.specs.DayDues.{AreAnsweredFrom, DayDues, IsAnswered, after_drop, after_own}
+use Rattle.recorded_days.specs.DayDues.{AreAnsweredFrom, DayDues, after_drop, after_own}
 use Rattle.recorded_days.specs.DayDues.{after_recorded, answer_taken, dues_after, dues_at_start}
 use Rattle.recorded_days.specs.DayDues.{lifting_learned}
 use Rattle.recorded_days.proofs.DayDueLemmas.{AreOne, all_behind, all_front, answered_before}

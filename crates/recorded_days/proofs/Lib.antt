@@ -4,5 +4,9 @@ mod DayViewLemmas
 mod DeskLemmas
 mod MessageLemmas
 mod OrderLawLemmas
-mod OrderLemmas
 mod PlaceNotes
+mod SearchLemmas
+mod StepLemmas
+mod TableLemmas
+mod WaitLemmas
+mod WayLemmas

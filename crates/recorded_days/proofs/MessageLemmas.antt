@@ -8,8 +8,8 @@ use Rattle.std.proofs.lemmas.Bool.Decides.{nat_tests}
 use Rattle.std.proofs.lemmas.List.Sums.{count_by_more_no, count_by_more_yes, sum_by-append}
 use Rattle.std.proofs.lemmas.Option.{get_or_from_slice_get, slice_get_within}
 use Rattle.step_replay.specs.AuditTrail.{is_same_actor}
-use Rattle.step_replay.specs.declared.steps.Actor.{Actor}
-use Rattle.step_replay.specs.declared.steps.Actor.TheVariants as actor
+use Rattle.venue_places.specs.declared.actors.Actor.{Actor}
+use Rattle.venue_places.specs.declared.actors.Actor.TheVariants as actor
 use Rattle.step_replay.specs.declared.steps.Step.{Step}
 use Rattle.step_replay.specs.declared.steps.Step.TheVariants as step
 use Rattle.recorded_days.specs.DayForm.{takes_message}
@@ -68,7 +68,7 @@ same_self actor.Clock = refl
 module _ (day : RecordedDay) (before : List Slot) (slot : Slot) (action : Action)
     (is : Some action ≡ action_in day slot.action) (next : IsNext before slot) where
   -- the action among those of its firm
-  acts : (firm : ℕ) (lists : FirmLists) → firm_in day firm ≡ Some lists
+  pub acts : (firm : ℕ) (lists : FirmLists) → firm_in day firm ≡ Some lists
       → slot.action.0 ≡ actor.Firm firm
       → slice_get lists.actions (count_by (is_by (actor.Firm firm)) before) ≡ Some action
   acts firm lists lists_are by_firm =

@@ -9,8 +9,9 @@ use Rattle.std.proofs.lemmas.List.Sums.{sum_by-cons}
 use Rattle.std.proofs.lemmas.Option.{slice_get_within}
 use Rattle.quote_word.specs.declared.settled.Settled.{Settled}
 use Rattle.step_replay.specs.AuditTrail.{is_same_actor}
-use Rattle.step_replay.specs.declared.steps.Actor.{Actor}
-use Rattle.recorded_days.specs.DayForm.{AreNamedOnce}
+use Rattle.venue_places.specs.declared.actors.Actor.{Actor}
+use Rattle.venue_config.specs.Rows.{Configuration}
+use Rattle.recorded_days.specs.DayForm.{AreNamedOnce, IsWellFormed}
 use Rattle.recorded_days.specs.DayOrder.{ByActor, BySite, ByWord, IsBehind, IsCircle}
 use Rattle.recorded_days.specs.DayOrder.{IsDirectlyBefore, IsFirst, IsNextAtSite, KeepsOrder}
 use Rattle.recorded_days.specs.DayOrder.{OfOneWord, StandsAt, action_in, grants, is_as_wished}
@@ -19,8 +20,11 @@ use Rattle.recorded_days.specs.OrderLaws.{ComesBefore, StandsIn, StandsOnce}
 use Rattle.recorded_days.specs.Records.{ActionRef, RecordedDay}
 use Rattle.recorded_days.specs.declared.actions.Action.{Action}
 use Rattle.recorded_days.specs.declared.sites.Site.{Site}
+use Rattle.recorded_days.specs.Weaving.{FaultIsTrue, IsDifferentOrMemory}
 use Rattle.recorded_days.specs.declared.weave_plan.Slot.{Slot}
-use Rattle.recorded_days.proofs.DayFormLemmas.{action_within}
+use Rattle.recorded_days.specs.declared.weaving.WeaveFault.{WeaveFault}
+use Rattle.recorded_days.specs.declared.weaving.WeaveFault.TheVariants as fault
+use Rattle.recorded_days.proofs.DayFormLemmas.{action_within, never_both}
 use Rattle.recorded_days.proofs.MessageLemmas.{one_actor, same_self, taken_one}
 
 -- Lists.
@@ -414,3 +418,15 @@ module _ (day : RecordedDay) (slots : List Slot) (named : AreNamedOnce day)
       let under : once.place < once.place + 1 = omega arith in
       never actions circle (once.place + 1) back.other back.one_is back.one_there once.place
       once.stands under
+
+-- Faults.
+
+pub told_with_an_order : (config : Configuration) (day : RecordedDay) (slots : List Slot)
+    (why : WeaveFault) → IsWellFormed config day → KeepsOrder day slots
+    → FaultIsTrue config day why → IsDifferentOrMemory why
+told_with_an_order config day slots fault.Malformed well keeps is =
+    absurd (never_both config day well is)
+told_with_an_order config day slots (fault.Cycle actions) well keeps is =
+    absurd (no_circle day slots well.named keeps actions.items is.1)
+told_with_an_order config day slots (fault.Differs firm) well keeps is = tt
+told_with_an_order config day slots fault.Memory well keeps is = tt

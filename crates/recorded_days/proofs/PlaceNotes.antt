@@ -12,8 +12,8 @@ use Rattle.std.proofs.lemmas.Bool.Decides.{nat_tests}
 use Rattle.venue_config.specs.Rows.{Configuration, has_room, investor_numbered, may_request}
 use Rattle.venue_config.specs.declared.investor_rows.InvestorRow.{InvestorRow}
 use Rattle.step_replay.specs.StepFaults.{firms_of}
-use Rattle.step_replay.specs.declared.steps.Actor.{Actor}
-use Rattle.step_replay.specs.declared.steps.Actor.TheVariants as actor
+use Rattle.venue_places.specs.declared.actors.Actor.{Actor}
+use Rattle.venue_places.specs.declared.actors.Actor.TheVariants as actor
 use Rattle.recorded_days.specs.DayForm.{AreMisnamed, AreNamedOnce, HasFirmsOf, IsNamed}
 use Rattle.recorded_days.specs.DayForm.{NamedNowhere, NamedTwice}
 use Rattle.recorded_days.specs.DayOrder.{StandsAt, action_in, order_at}
@@ -30,7 +30,7 @@ use Rattle.recorded_days.proofs.DayFormLemmas.{action_within, firm_beyond, room_
 -- Keys.
 
 -- two actors have two keys
-key_apart : (one other : Actor) → key_of one ≡ key_of other → one ≡ other
+pub key_apart : (one other : Actor) → key_of one ≡ key_of other → one ≡ other
 key_apart (actor.Firm one) (actor.Firm other) same =
     let equal : one ≡ other = omega arith in
     ap (λ (n : ℕ). actor.Firm n) equal

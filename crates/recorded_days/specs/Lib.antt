@@ -5,5 +5,6 @@ pub mod Kinds
 pub mod OrderCounts
 pub mod OrderLaws
 pub mod OrderPlaces
+pub mod OrderSearch
 pub mod Records
 pub mod Weaving

@@ -1,16 +1,15 @@
 -- How the code counts what has come of an order: words of private functions alone.
-use Rattle.std.specs.Prelude.{◌≡◌, ◌≢◌, ℕ, ◌+◌, false, List, [], ◌∷◌, ◌++◌, take, count_by, nat_eq}
+use Rattle.std.specs.Prelude.{◌≡◌, ◌≢◌, ℕ, ◌+◌, List, [], ◌∷◌, ◌++◌, take, count_by, nat_eq}
 use Rattle.std.specs.Prelude.{Option, Some, option_and_then, slice_get, unwrap_or}
 use Rattle.std.specs.HashMap.{get, HashMap}
-use Rattle.std.specs.List.{list_any}
 use Rattle.std.specs.declared.hash.BuildHasherDefault.{BuildHasherDefault}
 use Rattle.std.specs.declared.hash.FoldHasher.{FoldHasher}
-use Rattle.step_replay.specs.declared.steps.Actor.{Actor}
-use Rattle.step_replay.specs.declared.steps.Actor.TheVariants as actor
+use Rattle.venue_places.specs.declared.actors.Actor.{Actor}
+use Rattle.venue_places.specs.declared.actors.Actor.TheVariants as actor
 use Rattle.step_replay.specs.declared.steps.Step.{Step}
 use Rattle.step_replay.specs.declared.steps.Step.TheVariants as step
 use Rattle.recorded_days.specs.DayForm.{takes_message}
-use Rattle.recorded_days.specs.DayOrder.{is_by, is_refused}
+use Rattle.recorded_days.specs.DayOrder.{is_by}
 use Rattle.recorded_days.specs.Records.{FirmLists, RecordedDay, firm_in}
 use Rattle.recorded_days.specs.declared.actions.Inbound.{Inbound}
 use Rattle.recorded_days.specs.declared.weave_plan.Slot.{Slot}
@@ -37,11 +36,6 @@ key_of actor.Clock = 0
 abbrev pub AreOfActors : Counts → List Slot → Type 0
 AreOfActors counts before =
     (by : Actor) → count_in counts (key_of by) ≡ count_by (is_by by) before
-
--- each word that was refused in an order has a count
-abbrev pub AreRefused : RecordedDay → Counts → List Slot → Type 0
-AreRefused day counts before =
-    (word : ℕ) → count_in counts word ≡ 0 → list_any (is_refused day word) before ≡ false
 
 -- an action comes next of its actor
 abbrev pub IsNext : List Slot → Slot → Type 0

@@ -7,7 +7,7 @@ use Rattle.market_terms.specs.declared.rooms.RoomRef.{RoomRef}
 use Rattle.step_replay.specs.AuditTrail.{audit_trail}
 use Rattle.step_replay.specs.FirmDays.{FirmDay, firm_days}
 use Rattle.step_replay.specs.StepFaults.{firms_of}
-use Rattle.step_replay.specs.declared.steps.Actor.TheVariants as actor
+use Rattle.venue_places.specs.declared.actors.Actor.TheVariants as actor
 use Rattle.step_replay.specs.declared.steps.Step.TheVariants as step
 use Rattle.step_replay.specs.declared.steps.Step.{Step}
 use Rattle.recorded_days.specs.Records.{FirmLists, RecordedDay, firm_in}
@@ -97,3 +97,9 @@ FaultIsTrue config day (fault.Cycle actions) =
 FaultIsTrue config day (fault.Differs firm) =
     (steps : List Step) × AreWoven config day steps × SendsElse config day steps firm
 FaultIsTrue config day fault.Memory = Unit {0}
+
+-- a fault says that a firm differs, or that memory was refused
+abbrev pub IsDifferentOrMemory : WeaveFault → Type 0
+IsDifferentOrMemory (fault.Differs firm) = Unit {0}
+IsDifferentOrMemory fault.Memory = Unit {0}
+IsDifferentOrMemory other = ⊥

@@ -1,13 +1,16 @@
 //! Whether a record is of a day of a venue.
-ghost use Rattle.std.specs.Prelude.{◌≡◌, ℕ, true, false, not, count_by, Some, IfOk};
+ghost use Rattle.std.specs.Prelude.{◌≡◌, ℕ, true, false, not, count_by, Some, IfOk, IfSome};
+ghost use Rattle.std.specs.Prelude.{IfNone};
 ghost use Rattle.std.specs.List.{list_any};
 ghost use Rattle.recorded_days.specs.DayForm as spec;
+ghost use Rattle.recorded_days.specs.OrderPlaces as noted;
 ghost use Rattle.recorded_days.specs.Records.{FirmLists, firm_in};
+ghost use Rattle.venue_places.specs.declared.actors.Actor.{Actor};
 ghost use Rattle.venue_config.specs.Rows.{Configuration};
 
 use crate::actions::{Action, Kind};
 use crate::day_reading::action_in;
-use crate::name_checks::names_each_once;
+use crate::name_checks::{Places, places_of};
 use crate::records::DayRecord;
 use crate::weave_plan::firms_of;
 use fix_fields::Memory;
@@ -15,26 +18,29 @@ use std::alloc::Global;
 use step_replay::Actor;
 use venue_config::VenueConfig;
 
-/// Whether a record is of a day of a venue, and not malformed.
-pub(crate) fn is_well_formed(
+/// Where each action of a record stands, where it is of a day of a venue; none where it is
+/// malformed.
+pub(crate) fn well_formed_places(
     alloc: Global,
     config: &VenueConfig,
     day: &DayRecord,
-) -> Result<bool, Memory>
-    ensures yes { IfOk result (λ well. well ≡ true → spec.IsWellFormed config.now day.now) }
-    ensures no { IfOk result (λ well. well ≡ false → spec.IsMalformed config.now day.now) }
+) -> Result<Option<Places>, Memory>
+    ensures yes { IfOk result (λ found. IfSome found (λ places. spec.IsWellFormed config.now day.now
+        × noted.AreTrue day.now places
+        × ((by : Actor) → noted.AreNotedBy day.now places by))) }
+    ensures no { IfOk result (λ found. IfNone found (spec.IsMalformed config.now day.now)) }
 {
     if !day.has_firms_of(config) {
-        return Ok(false);
+        return Ok(None);
     }
     if !are_firms_days(config, day) {
-        return Ok(false);
+        return Ok(None);
     }
     if !has_no_message_of_clock(day) {
-        return Ok(false);
+        return Ok(None);
     }
-    let once = names_each_once(alloc, config, day)?;
-    Ok(once)
+    let places = places_of(alloc, config, day)?;
+    Ok(places)
 }
 
 /// Whether of each firm the record is as it must be.

@@ -17,7 +17,9 @@
 //! - [`weave`] makes a list of steps of a record, which sends every firm what the record says: so
 //!   what is promised of days that are replayed holds of that day. The order of these steps keeps
 //!   what came before what ([`orders_keep_what_is_before`]), and a record that is of no day is
-//!   refused as malformed, exactly then ([`well_formed_days_are_not_malformed`]).
+//!   refused as malformed, exactly then ([`well_formed_days_are_not_malformed`]). A day that has
+//!   such an order is never told as a cycle ([`days_with_an_order_are_no_cycle`]), and memory is
+//!   told where it was refused and nowhere else.
 #![tactic(auto)]
 
 mod actions;
@@ -25,20 +27,23 @@ mod day_dues;
 mod day_form;
 mod day_reading;
 mod name_checks;
-mod order_checks;
+mod order_counts;
 mod order_laws;
 mod records;
 mod sent_checks;
 mod sites;
-mod weave_circle;
+mod weave_order;
 mod weave_plan;
 mod weave_search;
-mod weave_sort;
+mod weave_table;
+mod weave_waits;
 mod weaving;
 mod woven_steps;
 
 pub use actions::{Action, Inbound, Kind, Sweep};
 pub use day_dues::{events_are_answered_one_by_one, recorded_dealers_are_sent_their_view};
-pub use order_laws::{orders_keep_what_is_before, well_formed_days_are_not_malformed};
+pub use order_laws::{
+    days_with_an_order_are_no_cycle, orders_keep_what_is_before, well_formed_days_are_not_malformed,
+};
 pub use records::{DayRecord, DealerDay, InvestorDay, RoomDay};
 pub use weaving::{WeaveFault, weave};

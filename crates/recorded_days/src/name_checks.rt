@@ -1,15 +1,15 @@
 //! Whether the orders of the desks and rooms of a recorded day name each action exactly once, and
 //! nothing else.
-ghost use Rattle.std.specs.Prelude.{◌≡◌, ◌<◌, ℕ, ◌+◌, true, false, IfOk, OnOk};
+ghost use Rattle.std.specs.Prelude.{◌≡◌, ◌<◌, ℕ, ◌+◌, true, false, IfOk, OnOk, IfSome, IfNone};
 ghost use Rattle.recorded_days.specs.DayForm as form;
 ghost use Rattle.recorded_days.specs.DayOrder as spec;
 ghost use Rattle.recorded_days.specs.OrderPlaces as noted;
 ghost use Rattle.recorded_days.specs.declared.sites.Site.{Site};
 ghost use Rattle.recorded_days.specs.declared.sites.Site.TheVariants as site;
-ghost use Rattle.step_replay.specs.declared.steps.Actor.{Actor};
+ghost use Rattle.venue_places.specs.declared.actors.Actor.{Actor};
 
 use crate::day_reading::{action_at, action_in, is_same_site, order_at};
-use crate::order_checks::key_of;
+use crate::order_counts::key_of;
 use crate::records::DayRecord;
 use crate::sites::Site;
 use crate::weave_plan::firms_of;
@@ -21,28 +21,33 @@ use step_replay::Actor;
 use venue_config::VenueConfig;
 
 /// Where actions stand, by the numbers of their actors and their own.
-type Places = HashMap<(u64, u64), (Site, usize)>;
+pub(crate) type Places = HashMap<(u64, u64), (Site, usize)>;
 
-/// Whether the orders of a day name each action exactly once and nothing else. An action is noted
-/// with the place where it stands, so that a second place is seen.
-pub(crate) fn names_each_once(
+/// Where each action stands, where the orders of a day name each action exactly once and nothing
+/// else; none where they do not. An action is noted with the place where it stands, so that a second
+/// place is seen.
+pub(crate) fn places_of(
     alloc: Global,
     config: &VenueConfig,
     day: &DayRecord,
-) -> Result<bool, Memory>
+) -> Result<Option<Places>, Memory>
     requires { form.HasFirmsOf config.now day.now }
-    ensures yes { IfOk result (λ once. once ≡ true → form.AreNamedOnce day.now) }
-    ensures no { IfOk result (λ once. once ≡ false → form.AreMisnamed day.now) }
+    ensures yes { IfOk result (λ found. IfSome found (λ places. form.AreNamedOnce day.now
+        × noted.AreTrue day.now places
+        × ((by : Actor) → noted.AreNotedBy day.now places by))) }
+    ensures no { IfOk result (λ found. IfNone found (form.AreMisnamed day.now)) }
 {
     let mut places = HashMap::new(alloc);
     for firm in 0..firms_of(config) {
         let once = note_firm(config, day, &mut places, firm)?;
         if !once {
-            return Ok(false);
+            return Ok(None);
         }
     }
-    let all = are_all_noted(config, day, &places);
-    Ok(all)
+    if !are_all_noted(config, day, &places) {
+        return Ok(None);
+    }
+    Ok(Some(places))
 }
 
 /// Notes what stands in the orders of the desk and the rooms of a firm; false where something there
@@ -206,7 +211,7 @@ fn are_noted(day: &DayRecord, places: &Places, actor: Actor) -> bool
 }
 
 /// Where an action stands, as far as it is noted.
-fn place_of(places: &Places, action: (Actor, u64)) -> Option<(Site, usize)>
+pub(crate) fn place_of(places: &Places, action: (Actor, u64)) -> Option<(Site, usize)>
     ensures { result ≡ noted.place_in places.now action }
 {
     places.get(&(key_of(action.0), action.1)).copied()

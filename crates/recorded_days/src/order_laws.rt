@@ -6,7 +6,9 @@ ghost use Rattle.recorded_days.specs.DayForm as form;
 ghost use Rattle.recorded_days.specs.DayOrder as spec;
 ghost use Rattle.recorded_days.specs.OrderLaws as order;
 ghost use Rattle.recorded_days.specs.Records.{ActionRef, RecordedDay};
+ghost use Rattle.recorded_days.specs.Weaving as weaving;
 ghost use Rattle.recorded_days.specs.declared.weave_plan.Slot.{Slot};
+ghost use Rattle.recorded_days.specs.declared.weaving.WeaveFault.{WeaveFault};
 
 /// A law: an order of a recorded day that is kept names each action of the day exactly once; and
 /// where the orders of the desks and rooms name each action exactly once too, as they do on each
@@ -28,4 +30,13 @@ pub fn orders_keep_what_is_before()
 pub fn well_formed_days_are_not_malformed()
     ensures { (config : Configuration) (day : RecordedDay) → form.IsWellFormed config day
         → form.IsMalformed config day → ⊥ }
+{}
+
+/// A law: where a day of a venue has an order that is kept, what is true of a fault of its weaving
+/// is that a firm differs, or that memory was refused. So such a day is woven, or one of these is
+/// told; it is never told as malformed or as a cycle. It does nothing.
+pub fn days_with_an_order_are_no_cycle()
+    ensures { (config : Configuration) (day : RecordedDay) (slots : List Slot) (fault : WeaveFault)
+        → form.IsWellFormed config day → spec.KeepsOrder day slots
+        → weaving.FaultIsTrue config day fault → weaving.IsDifferentOrMemory fault }
 {}

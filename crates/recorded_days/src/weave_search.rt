@@ -1,219 +1,179 @@
-//! The actions of a recorded day and the words that they asked, as the search for an order has
-//! them.
-use crate::actions::Action;
-use crate::day_reading::is_granted;
-use crate::weave_plan::{Plan, Slot};
+//! The search for an order of a recorded day.
+//!
+//! To bring an action into the order, the way is gone back over what it waits for, each action of
+//! the way directly before the one that it was come from, up to one that may come; that one is
+//! placed, and the way is gone on from the one before. Where the way comes back to itself, it is a
+//! circle from there on.
+ghost use Rattle.std.specs.Prelude.{◌≡◌, ◌<◌, ◌≤◌, ℕ, ◌+◌, length, drop, slice_get, None, Some};
+ghost use Rattle.std.specs.Prelude.{option_and_then, IfOk, OnOk, IfSome, IfNone};
+ghost use Rattle.recorded_days.specs.DayOrder as spec;
+ghost use Rattle.recorded_days.specs.OrderSearch as sought;
+ghost use Rattle.recorded_days.specs.Records.{RecordedDay};
+ghost use Rattle.recorded_days.specs.declared.weave_plan.Slot.{Slot};
+
+use crate::order_counts::{has_come, key_of, put_count};
+use crate::records::DayRecord;
+use crate::weave_plan::Slot;
+use crate::weave_table::Table;
+use crate::weave_waits::left_before;
 use fix_fields::Memory;
 use std::alloc::Global;
-use std::collections::{HashMap, VecDeque};
+use std::collections::HashMap;
 use step_replay::Actor;
 
-/// An action, as the search sees it.
+/// How far an action is.
 #[derive(Clone, Copy)]
-pub(crate) struct Node {
-    /// Its actor.
-    pub(crate) by: Actor,
-    /// Its number among the actions of its actor, from 1.
-    pub(crate) number: u64,
-    /// Which place it came to, and where it stands in the order there; none as long as no order
-    /// names it.
-    pub(crate) stands: Option<(usize, usize)>,
-    /// Which of the words that were asked it asked.
-    pub(crate) word: Option<usize>,
-    /// Whether it was answered as it wished.
-    pub(crate) granted: bool,
-    /// How many of those directly before it are not yet placed: of its actor, of its place, and of
-    /// its word one each.
-    pub(crate) waits: u8,
-    /// Whether it stands in the order.
-    pub(crate) placed: bool,
-    /// The next of the actions that asked the same word and were not answered as they wished.
-    pub(crate) next: Option<usize>,
+pub(crate) enum Mark {
+    /// The search has not come to it.
+    New,
+    /// It stands on the way, at this place.
+    OnWay(usize),
+    /// It stands in the order.
+    Placed,
 }
 
-/// A word that was asked.
-#[derive(Clone, Copy)]
-pub(crate) struct Asked {
-    /// How many of the actions that were answered as they wished are not yet placed.
-    pub(crate) granted: usize,
-    /// The first of the actions that were not.
-    pub(crate) refused: Option<usize>,
-    /// One of the former that is left when no action can be placed.
-    pub(crate) left: Option<usize>,
-}
-
-/// The actions of a day, and the words that they asked.
+/// A search for an order.
 #[derive(Drop)]
-pub(crate) struct Search<'p, 'a> {
-    /// Its actors and places.
-    pub(crate) plan: &'p Plan<'a>,
-    /// The actions, actor by actor.
-    pub(crate) nodes: Vec<Node>,
-    /// The words that were asked.
-    pub(crate) words: Vec<Asked>,
-    /// The actions that can be placed next.
-    pub(crate) ready: VecDeque<usize>,
-    /// The actions that are placed.
+pub(crate) struct Search {
+    /// How many actions of each actor stand in the order.
+    pub(crate) done: HashMap<u64, u64>,
+    /// The order so far.
     pub(crate) order: Vec<Slot>,
+    /// How far each action of the table is.
+    pub(crate) marks: Vec<Mark>,
+    /// Actions that are left, each directly before the one in front of it.
+    pub(crate) way: Vec<(Actor, u64)>,
 }
 
-impl<'p, 'a> Search<'p, 'a> {
-    /// The actions of a plan, none of them placed.
-    pub(crate) fn of(alloc: Global, plan: &'p Plan<'a>) -> Result<Self, Memory> {
-        let mut search = Search {
-            plan,
-            nodes: Vec::with_capacity(alloc, plan.actions)?,
-            words: Vec::new(alloc),
-            ready: VecDeque::new(alloc),
-            order: Vec::with_capacity(alloc, plan.actions)?,
-        };
-        search.put_actors(alloc)?;
-        search.stand();
-        Ok(search)
-    }
-
-    /// Puts the actions of all actors.
-    fn put_actors(&mut self, alloc: Global) -> Result<(), Memory> {
-        let mut of_words = HashMap::new(alloc);
-        for index in 0..self.plan.actors.len() {
-            self.put_actor(&mut of_words, index)?;
-        }
-        Ok(())
-    }
-
-    /// Puts the actions of an actor.
-    fn put_actor(
-        &mut self,
-        of_words: &mut HashMap<u32, usize>,
-        index: usize,
-    ) -> Result<(), Memory> {
-        let Some(actions) = self.plan.actors.get(index) else {
-            return Ok(());
-        };
-        let by = self.plan.actor(index);
-        let mut number: u64 = 1;
-        for action in *actions {
-            self.put(of_words, by, number, action)?;
-            number = number.saturating_add(1);
-        }
-        Ok(())
-    }
-
-    /// Puts an action behind the others.
-    fn put(
-        &mut self,
-        of_words: &mut HashMap<u32, usize>,
-        by: Actor,
-        number: u64,
-        action: &Action,
-    ) -> Result<(), Memory> {
-        let node = self.nodes.len();
-        let granted = is_granted(action);
-        let word = self.word_of(of_words, action)?;
-        let mut next = None;
-        if let Some(index) = word {
-            next = self.note(index, node, granted);
-        }
-        self.nodes.push(Node {
-            by,
-            number,
-            stands: None,
-            word,
-            granted,
-            waits: 0,
-            placed: false,
-            next,
-        })?;
-        Ok(())
-    }
-
-    /// Which of the words that were asked an action asked.
-    fn word_of(
-        &mut self,
-        of_words: &mut HashMap<u32, usize>,
-        action: &Action,
-    ) -> Result<Option<usize>, Memory> {
-        let Some((word, _)) = action.word else {
-            return Ok(None);
-        };
-        if let Some(index) = of_words.get(&word) {
-            return Ok(Some(*index));
-        }
-        let index = self.words.len();
-        of_words.insert(word, index)?;
-        self.words.push(Asked {
-            granted: 0,
-            refused: None,
-            left: None,
-        })?;
-        Ok(Some(index))
-    }
-
-    /// Takes note that an action asked a word, and answers the next of those that were refused.
-    fn note(&mut self, index: usize, node: usize, granted: bool) -> Option<usize> {
-        let word = self.words.get_mut(index)?;
-        if granted {
-            word.granted = word.granted.saturating_add(1);
-            return None;
-        }
-        let next = word.refused;
-        word.refused = Some(node);
-        next
-    }
-
-    /// Takes note where each action stands.
-    fn stand(&mut self) {
-        for place in 0..self.plan.places.len() {
-            self.stand_at(place);
-        }
-    }
-
-    /// The same at one place.
-    fn stand_at(&mut self, place: usize) {
-        let Some(there) = self.plan.places.get(place) else {
-            return;
-        };
-        let order = there.order;
-        for spot in 0..order.len() {
-            let Some((by, number)) = order.get(spot) else {
-                return;
-            };
-            self.stand_here(*by, *number, (place, spot));
-        }
-    }
-
-    /// Takes note where an action stands.
-    fn stand_here(&mut self, by: Actor, number: u64, here: (usize, usize)) {
-        let Some(index) = self.plan.node(by, number) else {
-            return;
-        };
-        let Some(node) = self.nodes.get_mut(index) else {
-            return;
-        };
-        node.stands = Some(here);
-    }
-
-    /// An action, and where it came to.
-    pub(crate) fn slot(&self, index: usize) -> Option<Slot> {
-        let node = self.nodes.get(index)?;
-        let (place, spot) = node.stands?;
-        let site = self.plan.places.get(place)?.site;
-        Some(Slot {
-            action: (node.by, node.number),
-            site,
-            spot,
+impl Search {
+    /// A search that has come to no action.
+    pub(crate) fn new(alloc: Global, table: &Table) -> Result<Self, Memory>
+        ensures { IfOk result (λ made. (day : RecordedDay)
+            → sought.Stands day table.now made) }
+    {
+        let marks = vec![in alloc; Mark::New; table.slots.len()]?;
+        Ok(Search {
+            done: HashMap::new(alloc),
+            order: Vec::with_capacity(alloc, table.slots.len())?,
+            marks,
+            way: Vec::new(alloc),
         })
     }
 
-    /// The next action at a place.
-    pub(crate) fn next_at(&self, place: usize, spot: usize) -> Option<usize> {
-        let order = self.plan.places.get(place)?.order;
-        let (by, number) = order.get(spot.saturating_add(1))?;
-        self.plan.node(*by, *number)
+    /// Brings the action at a place of the table into the order, behind all that it waits for; or
+    /// answers actions of which each has one of them directly before it. A step is done for each
+    /// action that comes onto the way, and one for each that is placed.
+    pub(crate) fn bring(
+        &mut self,
+        alloc: Global,
+        day: &DayRecord,
+        table: &Table,
+        index: usize,
+    ) -> Result<Option<Vec<(Actor, u64)>>, Memory>
+        requires table { sought.IsTable day.now table.now }
+        requires stands { sought.Stands day.now table.now self.old }
+        requires within { index < length table.now.slots.items }
+        ensures stands { IfOk result (λ circle. sought.Stands day.now table.now self.new) }
+        ensures circle { IfOk result (λ circle. IfSome circle (λ list.
+            spec.IsCircle day.now list.items)) }
+        ensures come { IfOk result (λ circle. IfNone circle ((slot : Slot)
+            → slice_get table.now.slots.items index ≡ Some slot
+            → sought.HasCome self.new.done slot.action)) }
+        ensures grows { IfOk result (λ circle. sought.Grows self.old.done self.new.done) }
+    {
+        let action = table.slots[index].action;
+        for _ in 0..2 * table.slots.len() {
+            if has_come(&self.done, action) {
+                return Ok(None);
+            }
+            let circle = self.step(alloc, day, table, action)?;
+            if circle.is_some() {
+                return Ok(circle);
+            }
+        }
+        Ok(None)
     }
 
-    /// The next of those that a word was refused.
-    pub(crate) fn next_refused(&self, index: usize) -> Option<usize> {
-        self.nodes.get(index)?.next
+    /// One step towards an action that is left.
+    fn step(
+        &mut self,
+        alloc: Global,
+        day: &DayRecord,
+        table: &Table,
+        action: (Actor, u64),
+    ) -> Result<Option<Vec<(Actor, u64)>>, Memory>
+        requires table { sought.IsTable day.now table.now }
+        requires stands { sought.Stands day.now table.now self.old }
+        requires is_action { sought.IsAction day.now action }
+        requires left { sought.IsLeft self.old.done action }
+        ensures stands { IfOk result (λ circle. sought.Stands day.now table.now self.new) }
+        ensures circle { IfOk result (λ circle. IfSome circle (λ list.
+            spec.IsCircle day.now list.items)) }
+        ensures less { IfOk result (λ circle. IfNone circle
+            (sought.steps_left self.new + 1 ≡ sought.steps_left self.old)) }
+        ensures grows { IfOk result (λ circle. sought.Grows self.old.done self.new.done) }
+    {
+        let Some(top) = self.way.last().copied() else {
+            self.push(table, action)?;
+            return Ok(None);
+        };
+        let slot = table.slots[table.index_of(top)];
+        let Some(earlier) = left_before(day, table, &self.done, &slot) else {
+            self.place(table, slot)?;
+            return Ok(None);
+        };
+        if let Some(start) = self.place_of(table, earlier) {
+            let circle = self.way_from(alloc, start)?;
+            return Ok(Some(circle));
+        }
+        self.push(table, earlier)?;
+        Ok(None)
+    }
+
+    /// Where an action stands on the way, if it does.
+    fn place_of(&self, table: &Table, action: (Actor, u64)) -> Option<usize>
+        requires within { sought.index_in table.now.firsts action < length table.now.slots.items }
+        requires long { length self.now.marks.items ≡ length table.now.slots.items }
+        ensures { result
+            ≡ option_and_then sought.place_on (sought.mark_of table.now self.now.marks.items action) }
+    {
+        match &self.marks[table.index_of(action)] {
+            Mark::OnWay(at) => Some(*at),
+            _ => None,
+        }
+    }
+
+    /// The way from a place on.
+    fn way_from(&self, alloc: Global, start: usize) -> Result<Vec<(Actor, u64)>, Memory>
+        requires { start ≤ length self.now.way.items }
+        ensures { IfOk result (λ actions. actions.items ≡ drop start self.now.way.items) }
+    {
+        Vec::from_slice(alloc, &self.way[start..])
+    }
+
+    /// An action comes onto the way.
+    fn push(&mut self, table: &Table, action: (Actor, u64)) -> Result<(), Memory>
+        requires within { sought.index_in table.now.firsts action < length table.now.slots.items }
+        requires long { length self.old.marks.items ≡ length table.now.slots.items }
+        ensures { OnOk result (sought.Pushes table.now self.old self.new action) }
+    {
+        let at = self.way.len();
+        self.way.push(action)?;
+        self.marks[table.index_of(action)] = Mark::OnWay(at);
+        Ok(())
+    }
+
+    /// The last action of the way comes into the order.
+    fn place(&mut self, table: &Table, slot: Slot) -> Result<(), Memory>
+        requires within { sought.index_in table.now.firsts slot.action
+            < length table.now.slots.items }
+        requires long { length self.old.marks.items ≡ length table.now.slots.items }
+        ensures { OnOk result (sought.Places table.now self.old self.new slot) }
+    {
+        put_count(&mut self.done, key_of(slot.action.0), slot.action.1)?;
+        self.order.push(slot)?;
+        self.way.pop();
+        self.marks[table.index_of(slot.action)] = Mark::Placed;
+        Ok(())
     }
 }

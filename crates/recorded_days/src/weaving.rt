@@ -1,21 +1,22 @@
 //! A recorded day woven into steps.
-ghost use Rattle.std.specs.Prelude.{◌≡◌, map, IfOk, IfErr};
+ghost use Rattle.std.specs.Prelude.{◌≡◌, None, IfOk, IfErr};
 ghost use Rattle.recorded_days.specs.DayForm as form;
+ghost use Rattle.recorded_days.specs.DayOrder as order;
 ghost use Rattle.recorded_days.specs.Weaving as spec;
-ghost use Rattle.recorded_days.specs.declared.weave_plan.Slot.{Slot};
 ghost use Rattle.recorded_days.specs.declared.weaving.WeaveFault.TheVariants.{Memory};
+ghost use Rattle.step_replay.specs.AuditTrail as venue;
+ghost use Rattle.step_replay.specs.FirmDays.{firm_days};
+ghost use Rattle.step_replay.specs.StepFaults as replay;
 
-use crate::day_form::is_well_formed;
-use crate::day_reading::is_circle;
-use crate::order_checks::keeps_order;
+use crate::day_form::well_formed_places;
 use crate::records::DayRecord;
 use crate::sent_checks::sent_elsewise;
-use crate::weave_plan::{Plan, Slot, firms_of};
-use crate::weave_sort::{Found, order_of};
+use crate::weave_order::{Found, order_of};
+use crate::weave_plan::{Slot, firms_of};
 use crate::woven_steps::steps_of;
 use fix_fields::Memory;
 use std::alloc::{AllocError, AllocFailed, Global};
-use step_replay::{Actor, Step, run};
+use step_replay::{Actor, ReplayFault, Step, World, run};
 use venue_config::VenueConfig;
 
 /// Why a recorded day can't be woven into steps.
@@ -56,27 +57,18 @@ impl<T: Drop> From<AllocFailed<T>> for WeaveFault {
 /// before it: the earlier ones of its actor, of its desk or its room, and where a word refused it
 /// those that the word was granted. A message is that of its firm's inbox which has the place that
 /// the action has among those of its firm that are messages. What each firm is sent in these steps
-/// is what the record says. It takes time that grows with the number of actions, and no faster.
+/// is what the record says. It takes time that grows with the number of actions, and with how many
+/// of them one word was granted.
 pub fn weave(alloc: Global, config: &VenueConfig, day: &DayRecord) -> Result<Vec<Step>, WeaveFault>
     ensures woven { IfOk result (λ steps. spec.AreWoven config.now day.now steps.items) }
     ensures sent { IfOk result (λ steps. spec.SendAsRecorded config.now day.now steps.items) }
     ensures fault { IfErr result (spec.FaultIsTrue config.now day.now) }
 {
-    let well_formed = is_well_formed(alloc, config, day)?;
-    if !well_formed {
+    let Some(places) = well_formed_places(alloc, config, day)? else {
         return Err(WeaveFault::Malformed);
-    }
-    let plan = Plan::of(alloc, config, day)?;
-    match order_of(alloc, &plan)? {
-        Found::Circle(slots) => {
-            // Nothing is claimed of the search: what it finds is checked. It finds no other list
-            // than a circle, so this refusal never comes; no clause says so.
-            if !is_circle(day, slots.as_slice()) {
-                return Err(WeaveFault::Memory);
-            }
-            let actions = named(alloc, slots.as_slice())?;
-            Err(WeaveFault::Cycle(actions))
-        }
+    };
+    match order_of(alloc, config, day, &places)? {
+        Found::Circle(actions) => Err(WeaveFault::Cycle(actions)),
         Found::Order(slots) => {
             let steps = replayed_as_recorded(alloc, config, day, slots.as_slice())?;
             Ok(steps)
@@ -84,44 +76,38 @@ pub fn weave(alloc: Global, config: &VenueConfig, day: &DayRecord) -> Result<Vec
     }
 }
 
-/// The steps of an order, where it is one of the day, and they send what the record says.
+/// The steps of an order that is kept, where they send what the record says.
 fn replayed_as_recorded(
     alloc: Global,
     config: &VenueConfig,
     day: &DayRecord,
     slots: &[Slot],
 ) -> Result<Vec<Step>, WeaveFault>
-    requires { form.IsWellFormed config.now day.now }
+    requires well_formed { form.IsWellFormed config.now day.now }
+    requires keeps { order.KeepsOrder day.now slots.now }
     ensures woven { IfOk result (λ steps. spec.AreWoven config.now day.now steps.items) }
     ensures sent { IfOk result (λ steps. spec.SendAsRecorded config.now day.now steps.items) }
     ensures fault { IfErr result (spec.FaultIsTrue config.now day.now) }
 {
-    // Nothing is claimed of the search: what it finds is checked. It finds no other order, so these
-    // refusals never come; no clause says so.
-    let keeps = keeps_order(alloc, config, day, slots)?;
-    if !keeps {
-        return Err(WeaveFault::Memory);
-    }
-    let Some(steps) = steps_of(alloc, day, slots)? else {
-        return Err(WeaveFault::Memory);
-    };
-    let world = match run(alloc, config, steps.as_slice()) {
-        Ok(world) => world,
-        Err(_) => return Err(WeaveFault::Memory),
-    };
+    let steps = steps_of(alloc, day, slots)?;
+    let world = replayed(alloc, config, steps.as_slice())?;
     if let Some(firm) = sent_elsewise(firms_of(config), day, &world) {
         return Err(WeaveFault::Differs(firm));
     }
     Ok(steps)
 }
 
-/// The actions of an order, by their actors and numbers.
-fn named(alloc: Global, slots: &[Slot]) -> Result<Vec<(Actor, u64)>, Memory>
-    ensures { IfOk result (λ actions. actions.items ≡ map (λ (slot : Slot). slot.action) slots.now) }
+/// A replay of steps that name no firm and no room but the venue's: memory alone can be refused.
+fn replayed(alloc: Global, config: &VenueConfig, steps: &[Step]) -> Result<World, Memory>
+    requires { replay.first_fault config.now steps.now ≡ None }
+    ensures { IfOk result (λ world. world
+        ≡ firm_days config.now (venue.audit_trail config.now steps.now).facts) }
 {
-    let mut actions = Vec::with_capacity(alloc, slots.len())?;
-    for slot in slots {
-        actions.push(slot.action)?;
+    match run(alloc, config, steps) {
+        Ok(world) => Ok(world),
+        Err(fault) => {
+            prove!(matches!(&fault, ReplayFault::Memory));
+            Err(AllocError)
+        }
     }
-    Ok(actions)
 }

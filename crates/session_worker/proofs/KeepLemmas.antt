@@ -22,6 +22,7 @@ use Rattle.recorded_days.specs.Records.{RecordedDay, RoomLists, of_dealer, of_in
 use Rattle.recorded_days.specs.declared.actions.Action.{Action}
 use Rattle.recorded_days.specs.declared.actions.Inbound.{Inbound}
 use Rattle.recorded_days.specs.declared.actions.Sweep.{Sweep}
+use Rattle.session_worker.specs.DayActions.{EventsAreOfActions}
 use Rattle.session_worker.specs.DayChecks.{DayRoom, came_from_dealer, came_from_investor}
 use Rattle.session_worker.specs.DayChecks.{first_unswept, first_untold}
 use Rattle.session_worker.specs.KeptDays.{DealerKeeps, DealersKeep, DealerStands}
@@ -227,8 +228,8 @@ firm_inboxes_behind (investor ∷ later) =
 
 -- what stands behind the joins and the checks
 pub record Joined (config : Configuration) (inboxes : List (List Inbound)) (sweeps : List Sweep)
-    (dealers : List DealerLists) (bare whole : List InvestorLists) (rooms : List DayRoom)
-    (log later : SettleLog) : Type 0 where
+    (dealers : List DealerLists) (bare whole : List InvestorLists) (clock : List Action)
+    (rooms : List DayRoom) (log later : SettleLog) : Type 0 where
   pub dealers_are : length dealers ≡ length config.dealers
   pub investors_are : length bare ≡ length config.investors
   pub rooms_are : names_of rooms ≡ rooms_of_venue config
@@ -243,11 +244,16 @@ pub record Joined (config : Configuration) (inboxes : List (List Inbound)) (swee
   pub rooms_stand : RoomsStand later rooms
   pub goes_on : IsPrefix log later
   pub legal : IsLegal later
+  pub of_actions : EventsAreOfActions (record {
+    dealers = dealers;
+    investors = whole;
+    clock = clock;
+  })
 
 module _ (config : Configuration) (inboxes : List (List Inbound)) (sweeps : List Sweep)
     (dealers : List DealerLists) (bare whole : List InvestorLists) (clock : List Action)
     (rooms : List DayRoom) (log later : SettleLog)
-    (joined : Joined config inboxes sweeps dealers bare whole rooms log later) where
+    (joined : Joined config inboxes sweeps dealers bare whole clock rooms log later) where
   -- the record of it
   abbrev day_of : RecordedDay
   day_of = record { dealers = dealers; investors = whole; clock = clock }
@@ -284,4 +290,5 @@ module _ (config : Configuration) (inboxes : List (List Inbound)) (sweeps : List
       awards = awards_stand later (rooms_in day_of)
           (subst (RoomsStand later) same_rooms joined.rooms_stand);
     };
+    of_actions = joined.of_actions;
   }

@@ -9,3 +9,4 @@ pub mod RoomLemmas
 pub mod SweptLemmas
 pub mod ToldLemmas
 pub mod ViewLemmas
+pub mod WatchedLemmas

@@ -25,6 +25,7 @@ use Rattle.recorded_days.specs.Records.{DealerLists, FirmLists, InvestorLists, R
 use Rattle.recorded_days.specs.Records.{RoomLists, dealer_in, firms_in}
 use Rattle.recorded_days.specs.declared.actions.Inbound.{Inbound}
 use Rattle.recorded_days.specs.declared.actions.Sweep.{Sweep}
+use Rattle.session_worker.specs.DayActions.{EventsAreOfActions}
 use Rattle.session_worker.specs.DayChecks.{DayRoom, came_from_dealer, came_from_investor}
 use Rattle.session_worker.specs.DayChecks.{first_unswept, first_untold}
 use Rattle.session_worker.specs.Locks.{Answer, StandsIn, answers_at, answers_in}
@@ -163,7 +164,8 @@ pub record AnswersAgree (config : Configuration) (day : RecordedDay) : Type 0 wh
 -- and whose clock had these sweeps to make. It has the firms and rooms of the venue, and their
 -- inboxes are those that came; what is recorded of each firm follows from the events at its desk;
 -- each dealer was told once how each room that names it ended, and nothing else; each room was
--- swept as the clock was told; and all answers of one word agree.
+-- swept as the clock was told; all answers of one word agree; and each event is that of an action
+-- at its desk or in its room.
 pub record KeepsDay (config : Configuration) (inboxes : List (List Inbound)) (sweeps : List Sweep)
     (day : RecordedDay) : Type 0 where
   pub dealers_are : length day.dealers ≡ length config.dealers
@@ -175,6 +177,7 @@ pub record KeepsDay (config : Configuration) (inboxes : List (List Inbound)) (sw
   pub told : first_untold (rooms_in day) day.dealers ≡ None
   pub swept : first_unswept sweeps (rooms_in day) ≡ None
   pub answers_agree : AnswersAgree config day
+  pub of_actions : EventsAreOfActions day
 
 -- what the dealer with this number was sent on a recorded day
 abbrev pub sent_on : RecordedDay → ℕ → Option (List (List ℕ))

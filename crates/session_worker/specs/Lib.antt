@@ -1,3 +1,4 @@
+pub mod DayActions
 pub mod DayChecks
 pub mod Inbox
 pub mod KeptDays
@@ -5,3 +6,4 @@ pub mod Locks
 pub mod Shifts
 pub mod SweptRooms
 pub mod ToldRooms
+pub mod Watched

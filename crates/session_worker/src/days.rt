@@ -5,6 +5,7 @@ ghost use Rattle.session_worker.specs.KeptDays.{KeepsDay};
 ghost use Rattle.session_worker.specs.declared.faults.DayFault.TheVariants as fault;
 ghost use Rattle.step_replay.specs.Actions as actions;
 
+use crate::day_actions::action_fault;
 use crate::day_checks::told_fault;
 use crate::faults::DayFault;
 use crate::gates::Gate;
@@ -151,5 +152,8 @@ fn recorded<J: Naming>(
         return Err(DayFault::Sweep(room));
     }
     let investors = with_rooms(alloc, &config, investors, rooms)?;
+    if let Some(firm) = action_fault(&dealers, &investors, &clock) {
+        return Err(DayFault::Inbox(firm));
+    }
     Ok(DayRecord::new(dealers, investors, clock))
 }

@@ -5,12 +5,13 @@ ghost use Rattle.dealer_desk.specs.QuoteLines.{lines_of};
 ghost use Rattle.quote_word.specs.SettleLog.{entry_of, IsLegal};
 ghost use Rattle.session_worker.specs.KeptDays.{DealerKeeps, DealerStands};
 ghost use Rattle.session_worker.specs.Locks.{KeepsDealer, StandsIn, answers_at, with_action};
+ghost use Rattle.session_worker.specs.Watched.{asked_of};
 ghost use Rattle.step_replay.specs.Actions as actions;
 ghost use Rattle.step_replay.specs.Actions.{dealer_of};
 ghost use Rattle.venue_config.specs.Rows.{dealer_numbered};
 ghost use Rattle.venue_places.specs.Brought as spec;
 ghost use Rattle.venue_steps.specs.DealerSteps as steps;
-ghost use Rattle.venue_steps.specs.Words.{answer_in, has_word};
+ghost use Rattle.venue_steps.specs.Words.{answer_in, has_word, word_to_ask};
 
 use crate::day_checks::is_inbox_of_dealer;
 use crate::done::Done;
@@ -105,6 +106,9 @@ impl<J: Naming> LockedDealer<J> {
             (has_word J.board.words (steps.own_word self.old.first self.old.desk moment bytes.now))
             (answer_in (λ word. entry_of word self.new.seen.log)
             (steps.own_word self.old.first self.old.desk moment bytes.now))) }
+        ensures word { IfOk result (λ done. done.word
+            ≡ asked_of (λ word. entry_of word self.new.seen.log) (word_to_ask J.board.words
+            (steps.own_word self.old.first self.old.desk moment bytes.now))) }
         ensures order { OnOk result
             (self.new.order ≡ with_action self.old.order (acting.now.by, acting.now.number)) }
     {
@@ -137,6 +141,9 @@ impl<J: Naming> LockedDealer<J> {
             ≡ steps.duties_of_drop self.old.desk last moment
             (has_word J.board.words (steps.drop_word self.old.first self.old.desk last))
             (answer_in (λ word. entry_of word self.new.seen.log)
+            (steps.drop_word self.old.first self.old.desk last))) }
+        ensures word { IfOk result (λ done. done.word
+            ≡ asked_of (λ word. entry_of word self.new.seen.log) (word_to_ask J.board.words
             (steps.drop_word self.old.first self.old.desk last))) }
         ensures order { OnOk result
             (self.new.order ≡ with_action self.old.order (acting.now.by, acting.now.number)) }

@@ -3,6 +3,7 @@
 #![tactic(auto)]
 
 mod actors;
+mod day_actions;
 mod day_checks;
 mod day_rooms;
 mod days;
@@ -17,6 +18,7 @@ mod joined;
 mod laws;
 mod naming;
 mod notices;
+mod place_events;
 mod rooms;
 mod swept_rooms;
 mod threads;

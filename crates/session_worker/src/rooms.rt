@@ -4,9 +4,10 @@ ghost use Rattle.quote_word.specs.SettleLog.{entry_of};
 ghost use Rattle.request_room.specs.Book.{room_after};
 ghost use Rattle.request_room.specs.declared.events.RoomEvent.TheVariants as event;
 ghost use Rattle.session_worker.specs.Locks.{StandsIn, answers_in, with_action};
+ghost use Rattle.session_worker.specs.Watched.{asked_of};
 ghost use Rattle.venue_places.specs.Brought as spec;
 ghost use Rattle.venue_steps.specs.RoomSteps as steps;
-ghost use Rattle.venue_steps.specs.Words.{answer_in, has_word};
+ghost use Rattle.venue_steps.specs.Words.{answer_in, has_word, word_to_ask};
 
 use crate::day_rooms::DayRoom;
 use crate::done::Done;
@@ -96,6 +97,9 @@ impl<J: Naming> LockedRoom<J> {
             response word moment (has_word J.board.words
             (steps.hit_word (room_after self.old.events) word moment))
             (answer_in (λ w. entry_of w self.new.seen.log)
+            (steps.hit_word (room_after self.old.events) word moment))) }
+        ensures word { IfOk result (λ done. done.word
+            ≡ asked_of (λ w. entry_of w self.new.seen.log) (word_to_ask J.board.words
             (steps.hit_word (room_after self.old.events) word moment))) }
         ensures order { OnOk result
             (self.new.order ≡ with_action self.old.order (acting.now.by, acting.now.number)) }

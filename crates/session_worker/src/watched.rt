@@ -1,8 +1,6 @@
 //! The words of a board as one action asks them: the gate is told before the exchange.
-ghost use Rattle.std.specs.Prelude.{◌≡◌};
-ghost use Rattle.quote_word.specs.Board.{SettlesOnBoard};
-ghost use Rattle.quote_word.specs.SettleLog.{entry_of};
-ghost use Rattle.quote_word.specs.BoardLaws as laws;
+ghost use Rattle.std.specs.Prelude.{◌≡◌, None};
+ghost use Rattle.session_worker.specs.Watched as spec;
 
 use crate::gates::{Gate, Point};
 use quote_word::{Board, BoardPass, BoardSeen, Settled, Words};
@@ -19,7 +17,8 @@ pub(crate) struct Acting<'a, G: Gate> {
     pub(crate) gate: &'a G,
 }
 
-/// A board with the token of the lock that the action holds. Contracts see it as that token.
+/// A board with the token of the lock that the action holds. Contracts see it as that token, with
+/// the word that was asked last.
 #[derive(Drop)]
 pub(crate) struct WatchedWords<'a, G: Gate> {
     pass: BoardPass<'a>,
@@ -29,18 +28,18 @@ pub(crate) struct WatchedWords<'a, G: Gate> {
 }
 
 impl<'a, G: Gate> Model for WatchedWords<'a, G> {
-    ghost use Rattle.quote_word.specs.Board.{Front};
+    ghost use Rattle.session_worker.specs.Watched.{Watched};
 
-    ghost Value = { Front };
+    ghost Value = { Watched };
 
-    ghost view = { λ words. words.pass };
+    ghost view = { λ words. record { front = words.pass; asked = words.asked } };
 }
 
 impl<'a, G: Gate> WatchedWords<'a, G> {
     /// The words of the board, of which the lock has seen so much.
     pub(crate) fn new(acting: &Acting<'a, G>, seen: BoardSeen) -> WatchedWords<'a, G>
         requires { seen.board ≡ acting.now.board.now }
-        ensures { result ≡ seen }
+        ensures { result ≡ record { front = seen; asked = None } }
     {
         WatchedWords {
             pass: BoardPass::new(acting.board, seen),
@@ -52,7 +51,8 @@ impl<'a, G: Gate> WatchedWords<'a, G> {
 
     /// The token, which has seen what the action was told, and the word that it asked.
     pub(crate) fn into_parts(self) -> (BoardSeen, Option<(u32, Settled)>)
-        ensures { result.0 ≡ self.entry }
+        ensures seen { result.0 ≡ self.entry.front }
+        ensures asked { result.1 ≡ self.entry.asked }
     {
         let Self { pass, asked, .. } = self;
         (pass.into_seen(), asked)
@@ -60,17 +60,17 @@ impl<'a, G: Gate> WatchedWords<'a, G> {
 }
 
 impl<'a, G: Gate> Words for WatchedWords<'a, G> {
-    ghost count = { λ front. front.board.words };
+    ghost count = { λ watched. watched.front.board.words };
 
-    ghost entry = { λ front w. entry_of w front.log };
+    ghost entry = { spec.entry_watched };
 
-    ghost settles = { SettlesOnBoard };
+    ghost settles = { spec.SettlesWatched };
 
-    ghost count_stays = { laws.board_keeps_count };
+    ghost count_stays = { spec.watched_keeps_count };
 
-    ghost answer_is_entry = { laws.board_answers_entry };
+    ghost answer_is_entry = { spec.watched_answers_entry };
 
-    ghost entry_stays = { laws.board_keeps_entries };
+    ghost entry_stays = { spec.watched_keeps_entries };
 
     fn len(&self) -> u32 {
         self.pass.len()

@@ -36,12 +36,16 @@ use Rattle.step_replay.specs.VenueFacts.{Fact, of_dealer}
 use Rattle.step_replay.specs.Actions.{dealer_of, dealer_at, done_by, at_dealer}
 use Rattle.step_replay.specs.Actions.{nothing, first_word, said_by_dealer, dropped_by, told_to}
 use Rattle.step_replay.specs.Actions.{told_of}
+use Rattle.step_replay.specs.Coming.{dealer_gets}
+use Rattle.venue_places.specs.Brought.{dealer_with}
+use Rattle.venue_places.specs.declared.arrivals.ForDealer.{ForDealer}
+use Rattle.venue_places.specs.declared.arrivals.ForDealer.TheVariants as to_dealer
 use Rattle.step_replay.specs.Standing.{DealerStands, Stands, Does}
 use Rattle.step_replay.specs.declared.dues.Due.TheVariants as due
 use Rattle.step_replay.specs.declared.floor.DealerPlace.{DealerPlace}
 use Rattle.step_replay.specs.declared.floor.Floor.{Floor}
 use Rattle.step_replay.proofs.FloorLemmas.{Found, dealer_found, by_found, idle_stands}
-use Rattle.step_replay.proofs.FloorLemmas.{unasked_stands, event_stands, leaving}
+use Rattle.step_replay.proofs.FloorLemmas.{unasked_stands, event_stands, leaving, show_does}
 use Rattle.step_replay.proofs.AskLemmas.{asks_does, withdraws_by}
 use Rattle.step_replay.proofs.LiftingLemmas.{IsDueSo}
 use Rattle.step_replay.specs.SeenLemmas.{settled_undue, verdict_undue}
@@ -338,3 +342,16 @@ tell_does config facts floor number place desk room close moment before stood is
     (number_in (rooms_by (of_dealer number facts)) room) desk
     (is ∙ ap (λ (l : List RoomRef). with_notice_in place.desk (number_in l room) close moment)
     found.stands.rooms_are))
+
+-- What comes to a dealer's desk does what it should.
+pub dealer_does : (config : Configuration) (facts : List Fact) (floor : Floor) (number : ℕ)
+    (place : DealerPlace) (desk : DeskEvents) (what : ForDealer) → Stands config facts floor
+    → slice_get floor.dealers.items number ≡ Some place → desk ≡ dealer_with place.desk what
+    → Does config facts (done_by (dealer_at config number) (dealer_gets config facts what))
+    (record floor { dealers = with_item floor.dealers number (record place { desk = desk }) })
+    []
+unfolding dealer_with dealer_gets
+dealer_does config facts floor number place desk (to_dealer.Show room ask moment) before stood is =
+    show_does config facts floor number place desk room ask moment before stood is
+dealer_does config facts floor number place desk (to_dealer.Tell room close moment) before stood is =
+    tell_does config facts floor number place desk room close moment before stood is

@@ -1,17 +1,20 @@
--- A duty does what its line of the market's table says.
+-- An action does what comes by the market's table.
 use Rattle.std.proofs.Common.{◌≡◌, ◌≤◌, ◌<◌, ℕ, zero, suc, true, false, List, [], ◌∷◌, length}
-use Rattle.std.proofs.Common.{Result, Ok, Err, IfOk, is_some, refl, sym, ap, ◌∙◌, subst, arith}
+use Rattle.std.proofs.Common.{Option, Some, None, Result, Ok, Err, IfOk, is_some}
+use Rattle.std.proofs.Common.{refl, sym, ap, ◌∙◌, subst, arith}
 use Rattle.std.specs.Prelude.{slice_get}
 use Rattle.venue_config.specs.Rows.{Configuration}
 use Rattle.market_terms.specs.declared.duties.Duty.{Duty}
 use Rattle.step_replay.specs.VenueFacts.{Fact}
-use Rattle.step_replay.specs.Actions.{Effect, duty_effect, message_effect, done_by, done_for}
+use Rattle.venue_places.specs.declared.arrivals.Arrival.{Arrival}
+use Rattle.step_replay.specs.Coming.{arrival_effect, effect_where}
+use Rattle.step_replay.specs.Actions.{Effect, message_effect, done_by, done_for}
 use Rattle.step_replay.specs.Actions.{dealer_at, said_by_dealer, said_by_investor}
 use Rattle.investor_desk.specs.InvestorOutput.{market_for}
-use Rattle.step_replay.specs.Standing.{Acts, ActsOnce, Does, Stands}
+use Rattle.step_replay.specs.Standing.{ActsOnce, Does, Stands}
 use Rattle.step_replay.specs.declared.floor.Floor.{Floor}
-use Rattle.step_replay.specs.declared.steps.Actor.{Actor}
 use Rattle.step_replay.specs.PlaceLemmas.{not_lent}
+use Rattle.step_replay.proofs.FloorLemmas.{idle_does}
 
 -- what follows where a call succeeded
 pub where_ok : {A E : Type 0} (P Q : A → Type 0) (result : Result A E) → ((x : A) → P x → Q x)
@@ -19,29 +22,42 @@ pub where_ok : {A E : Type 0} (P Q : A → Type 0) (result : Result A E) → ((x
 where_ok P Q (Ok x) follows given = follows x given
 where_ok P Q (Err e) follows given = tt
 
--- a duty of this kind, by the effect that the table gives for it
-pub by_line : (by : Actor) (duty kind : Duty) (effect : Configuration → List Fact → Effect)
-    (before after : Floor) (duties : List Duty) → duty ≡ kind
+-- what is brought to a place of this kind does what comes there
+pub by_place : (coming kind : Arrival) (effect : Configuration → List Fact → Effect)
+    (before after : Floor) (duties : List Duty) → coming ≡ kind
     → ((config : Configuration) (facts : List Fact)
-    → duty_effect config facts by kind ≡ effect config facts)
-    → Acts effect before after duties
-    → ActsOnce (λ config facts. duty_effect config facts by duty) before after duties
-by_line by duty kind effect before after duties is line acts config facts stands one =
-    subst (λ (e : Effect). Does config facts e after duties)
-    (sym (ap (duty_effect config facts by) is ∙ line config facts))
-    (acts config facts stands)
-
--- the same of a hit
-pub by_line_once : (by : Actor) (duty kind : Duty) (effect : Configuration → List Fact → Effect)
-    (before after : Floor) (duties : List Duty) → duty ≡ kind
-    → ((config : Configuration) (facts : List Fact)
-    → duty_effect config facts by kind ≡ effect config facts)
+    → arrival_effect config facts kind ≡ effect config facts)
     → ActsOnce effect before after duties
-    → ActsOnce (λ config facts. duty_effect config facts by duty) before after duties
-by_line_once by duty kind effect before after duties is line acts config facts stands one =
+    → ActsOnce (λ config facts. arrival_effect config facts coming) before after duties
+by_place coming kind effect before after duties is line acts config facts stands one =
     subst (λ (e : Effect). Does config facts e after duties)
-    (sym (ap (duty_effect config facts by) is ∙ line config facts))
+    (sym (ap (arrival_effect config facts) is ∙ line config facts))
     (acts config facts stands one)
+
+-- An action by what the table gives for it, or gives not.
+module _ (effect : Configuration → List Fact → Effect) (placed : Configuration → Option Arrival)
+    (line : (config : Configuration) (facts : List Fact)
+    → effect config facts ≡ effect_where config facts (placed config))
+    (before : Floor) where
+  given : (config : Configuration) (facts : List Fact) (coming : Option Arrival)
+      → Stands config facts before → coming ≡ placed before.config
+      → effect config facts ≡ effect_where config facts coming
+  given config facts coming stands is =
+      line config facts
+      ∙ ap (effect_where config facts) (ap placed (sym stands.config_is) ∙ sym is)
+
+  pub something_comes : (after : Floor) (duties : List Duty) (coming : Arrival)
+      → Some coming ≡ placed before.config
+      → ActsOnce (λ config facts. arrival_effect config facts coming) before after duties
+      → ActsOnce effect before after duties
+  something_comes after duties coming is acts config facts stands one =
+      subst (λ (e : Effect). Does config facts e after duties)
+      (sym (given config facts (Some coming) stands is)) (acts config facts stands one)
+
+  pub nothing_comes : (duties : List Duty) → None ≡ placed before.config → duties ≡ []
+      → ActsOnce effect before before duties
+  nothing_comes duties is leaves config facts stands one =
+      idle_does config facts before _ duties stands leaves (given config facts None stands is)
 
 -- A message of a firm: of a dealer where its number is that of one.
 

@@ -246,6 +246,7 @@ module _ (config : Configuration) (facts : List Fact) (floor : Floor) (number : 
 
     pub at_dealer_stands : Stands config now floor_now
     at_dealer_stands = record {
+      config_is = before.config_is;
       dealer_count = length-set floor.dealers.items number place ∙ before.dealer_count;
       dealers_are = dealer_now;
       investor_count = before.investor_count;
@@ -409,18 +410,26 @@ show_does config facts floor number place desk room ask moment before stood is =
     by_found config facts number place found (shown_to config facts room ask moment) _ []
     (show_by config facts floor number place desk room ask moment known before found stood same)
 
+-- where nothing happens
+pub idle_does : (config : Configuration) (facts : List Fact) (floor : Floor) (effect : Effect)
+    (left : List Duty) → Stands config facts floor → left ≡ [] → effect ≡ nothing
+    → Does config facts effect floor left
+idle_does config facts floor effect left before leaves same =
+    subst (λ (e : Effect). Does config facts e floor left) (sym same)
+    (record {
+      stands = subst (λ l. Stands config l floor) (sym (append-nil facts)) before;
+      leaves = leaves;
+    })
+
 -- where there is no such dealer
 pub no_dealer_does : (config : Configuration) (facts : List Fact) (floor : Floor) (number : ℕ)
     (action : Dealer → Effect) → Stands config facts floor
     → slice_get floor.dealers.items number ≡ None
     → Does config facts (done_by (dealer_at config number) action) floor []
 no_dealer_does config facts floor number action before beyond =
-    let missing = ap (option_map (dealer_of number)) (no_dealer config facts floor number before beyond) in
-    subst (λ (d : Option Dealer). Does config facts (done_by d action) floor []) (sym missing)
-    (record {
-      stands = subst (λ l. Stands config l floor) (sym (append-nil facts)) before;
-      leaves = refl;
-    })
+    idle_does config facts floor _ [] before refl
+    (ap (λ d. done_by (option_map (dealer_of number) d) action)
+    (no_dealer config facts floor number before beyond))
 
 -- duties that are left
 pub leaving : (config : Configuration) (facts : List Fact) (effect : Effect) (after : Floor)

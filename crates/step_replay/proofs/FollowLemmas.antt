@@ -9,7 +9,7 @@ use Rattle.step_replay.specs.VenueFacts.{Fact}
 use Rattle.step_replay.specs.Actions.{Effect, duty_effect, message_effect, sweep_effect, nothing}
 use Rattle.market_terms.specs.declared.rooms.RoomRef.{RoomRef}
 use Rattle.std.proofs.lemmas.Bool.Decides.{nat_tests}
-use Rattle.step_replay.specs.declared.steps.Actor.TheVariants as actor
+use Rattle.venue_places.specs.declared.actors.Actor.TheVariants as actor
 use Rattle.step_replay.specs.AuditTrail.{AuditTrail, after_turn, pending, with_effect}
 use Rattle.step_replay.specs.Standing.{Stands, AreOneOf, ActsOnce, Does}
 use Rattle.step_replay.specs.Queues.{QueuesStand, is_known}
@@ -17,7 +17,7 @@ use Rattle.step_replay.specs.StepFaults.{firms_of}
 use Rattle.step_replay.specs.Following.{ReplayStands, duties_in, index_in}
 use Rattle.step_replay.specs.declared.floor.Floor.{Floor}
 use Rattle.step_replay.specs.declared.replay.Replay.{Replay}
-use Rattle.step_replay.specs.declared.steps.Actor.{Actor}
+use Rattle.venue_places.specs.declared.actors.Actor.{Actor}
 use Rattle.step_replay.specs.StepLemmas.{duty_keeps, message_keeps, sweep_keeps}
 use Rattle.step_replay.specs.WordLemmas.{IsOneOf, one_is_kept}
 use Rattle.std.proofs.lemmas.List.{length-map}

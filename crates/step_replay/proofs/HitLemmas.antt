@@ -167,6 +167,7 @@ module _ (config : Configuration) (facts : List Fact) (floor : Floor) (at : Room
       (subst (λ (l : List Fact). Stands config l (record floor { words = words }))
       (sym (append-nil facts))
       (record {
+        config_is = before.config_is;
         dealer_count = before.dealer_count;
         dealers_are = before.dealers_are;
         investor_count = before.investor_count;
@@ -378,6 +379,7 @@ module _ (config : Configuration) (facts : List Fact) (floor : Floor) (at : Room
   idle_hit stand count same =
       let floor_too : Floor = record floor { words = words } in
       let stands : Stands config facts floor_too = record {
+        config_is = before.config_is;
         dealer_count = before.dealer_count;
         dealers_are = before.dealers_are;
         investor_count = before.investor_count;

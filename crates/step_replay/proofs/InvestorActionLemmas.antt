@@ -1,7 +1,6 @@
 -- What happens at the investors' desks of a replay does what it should, wherever the places stood.
-use Rattle.std.proofs.Common.{◌≡◌, ◌<◌, ◌≤◌, ℕ, ◌-◌, Bool, true, false, ◌&&◌}
+use Rattle.std.proofs.Common.{◌≡◌, ◌≤◌, ℕ, ◌-◌, Bool, true, false, ◌&&◌}
 use Rattle.std.proofs.Common.{List, [], ◌++◌, map, length, nat_le}
-use Rattle.std.proofs.Common.{get_or, nat_lt}
 use Rattle.std.proofs.Common.{Option, Some, None, option_map, if◌then◌else◌}
 use Rattle.std.proofs.Common.{refl, sym, ap, ◌∙◌, subst, arith}
 use Rattle.std.specs.Prelude.{slice_get}
@@ -9,12 +8,8 @@ use Rattle.std.specs.Option.{option_to_list}
 use Rattle.std.specs.Vec.{with_item}
 use Rattle.std.proofs.lemmas.Bool.Decides.{nat_tests}
 use Rattle.std.proofs.lemmas.List.{append-nil}
-use Rattle.market_terms.specs.declared.closes.Reply.{Reply}
 use Rattle.market_terms.specs.declared.duties.Duty.{Duty}
-use Rattle.market_terms.specs.declared.rooms.ResponseRef.{ResponseRef}
-use Rattle.market_terms.specs.declared.rooms.RoomRef.{RoomRef}
 use Rattle.venue_config.specs.Rows.{Configuration}
-use Rattle.venue_config.specs.declared.dealer_rows.DealerRow.{DealerRow}
 use Rattle.investor_desk.specs.InvestorFacts.{InvestorBook, book_of, knows}
 use Rattle.investor_desk.specs.InvestorRules.{InvestorMarket, investor_verdict}
 use Rattle.investor_desk.specs.InvestorOutput.{DeskEvents, DeskState, desk_after}
@@ -23,23 +18,20 @@ use Rattle.investor_desk.specs.InvestorOutput.{market_of, market_for}
 use Rattle.investor_desk.specs.declared.events.InvestorEvent.{InvestorEvent}
 use Rattle.investor_desk.specs.declared.events.InvestorEvent.TheVariants as event
 use Rattle.venue_steps.specs.InvestorSteps.{desk_after_own, duties_of_own, where_so, answers}
-use Rattle.venue_steps.specs.InvestorSteps.{desk_after_answer}
 use Rattle.step_replay.specs.InvestorTrail.{book_by}
 use Rattle.step_replay.specs.VenueFacts.{Fact, AtInvestor, of_investor}
 use Rattle.step_replay.specs.Actions.{Effect, nothing, done_for, at_market, said_by_investor}
-use Rattle.step_replay.specs.Actions.{where_known, answered_by, at_investor_of, Dealer, dealer_at}
-use Rattle.step_replay.specs.Actions.{acting_dealer, done_by}
+use Rattle.step_replay.specs.Actions.{where_known}
+use Rattle.step_replay.specs.Coming.{investor_gets}
+use Rattle.venue_places.specs.Brought.{investor_with}
+use Rattle.venue_places.specs.declared.arrivals.ForInvestor.{ForInvestor}
+use Rattle.venue_places.specs.declared.arrivals.ForInvestor.TheVariants as to_investor
 use Rattle.step_replay.specs.Standing.{InvestorStands}
 use Rattle.step_replay.specs.Standing.{Stands, Does}
-use Rattle.step_replay.specs.declared.floor.DealerPlace.{DealerPlace}
 use Rattle.step_replay.specs.declared.floor.InvestorPlace.{InvestorPlace}
 use Rattle.step_replay.specs.declared.floor.Floor.{Floor}
-use Rattle.step_replay.specs.declared.steps.Actor.{Actor}
-use Rattle.step_replay.specs.declared.steps.Actor.TheVariants as actor
 use Rattle.step_replay.specs.OwnerLemmas.{same_value}
-use Rattle.step_replay.specs.PlaceLemmas.{lent, not_lent}
-use Rattle.step_replay.proofs.FloorLemmas.{dealer_found}
-use Rattle.step_replay.proofs.FloorLemmas.{by_found, by_number}
+use Rattle.step_replay.proofs.FloorLemmas.{idle_does}
 use Rattle.step_replay.proofs.InvestorPlaceLemmas.{InvestorFound, investor_found, no_investor}
 use Rattle.step_replay.proofs.InvestorPlaceLemmas.{added_by, investor_event_stands}
 use Rattle.step_replay.proofs.InvestorPlaceLemmas.{at_investor_stands}
@@ -74,17 +66,11 @@ pub no_investor_does : (config : Configuration) (facts : List Fact) (floor : Flo
     → Placed floor number at → slice_get floor.investors.items at ≡ None
     → Does config facts (done_for (market_for config number) action) floor []
 no_investor_does config facts floor number at action before is beyond =
-    let missing : market_for config number ≡ None =
-    ap (option_map (market_of config number))
+    idle_does config facts floor _ [] before refl
+    (ap (λ row. done_for (option_map (market_of config number) row) action)
     (no_investor config facts floor number before
     (ap (slice_get floor.investors.items)
-    (sym (index_is config facts floor number at before is)) ∙ beyond)) in
-    subst (λ (m : Option InvestorMarket). Does config facts (done_for m action) floor [])
-    (sym missing)
-    (record {
-      stands = subst (λ l. Stands config l floor) (sym (append-nil facts)) before;
-      leaves = refl;
-    })
+    (sym (index_is config facts floor number at before is)) ∙ beyond)))
 
 module _ (config : Configuration) (facts : List Fact) (floor : Floor) (number at : ℕ)
     (place : InvestorPlace) (before : Stands config facts floor) (is : Placed floor number at)
@@ -187,15 +173,17 @@ module _ (config : Configuration) (facts : List Fact) (floor : Floor) (number at
             ∙ ap (λ (m : InvestorMarket). option_to_list (verdict_duty m moment
             (investor_verdict m (book_by (of_investor number facts)) moment bytes))) market
 
-    pub known_does : (request : ℕ) (more : InvestorEvent)
+    known_does : (request : ℕ) (more : InvestorEvent) (action : InvestorMarket → Effect)
+        → action (market_of config number found.row)
+        ≡ where_known facts request None more (market_of config number found.row)
         → desk ≡ where_so (knows (book_at place.desk) request None) place.desk more
-        → Does config facts
-        (done_for (market_for config number) (where_known facts request None more)) after []
-    known_does request more same =
-        by_market (where_known facts request None more) []
+        → Does config facts (done_for (market_for config number) action) after []
+    known_does request more action is same =
+        by_market action []
+        (subst (λ (e : Effect). Does config facts e after []) (sym is)
         (event_if (knows (book_by (of_investor number facts)) request None) more
         (same ∙ ap (λ (b : InvestorBook).
-        where_so (knows b request None) place.desk more) book_is))
+        where_so (knows b request None) place.desk more) book_is)))
 
     -- where an answer is known, and answers such a response
     answer_if : (known fits : Bool) (more : InvestorEvent)
@@ -211,63 +199,22 @@ module _ (config : Configuration) (facts : List Fact) (floor : Floor) (number at
     answer_if false true more same = event_if false more same
     answer_if false false more same = event_if false more same
 
-    pub answer_does : (room : RoomRef) (response : ResponseRef) (reply : Reply) (moment : ℕ)
-        → desk ≡ desk_after_answer place.desk room.n response reply moment
-        → Does config facts
-        (done_for (market_for config number) (answered_by facts room response reply moment))
-        after []
-    answer_does room response reply moment same =
-        by_market (answered_by facts room response reply moment) []
-        (answer_if (knows (book_by (of_investor number facts)) room.n response.k)
-        (answers response.k reply) (event.Answered room.n response reply moment)
+    -- what comes to its desk does what it should
+    pub investor_does : (what : ForInvestor) → desk ≡ investor_with place.desk what
+        → Does config facts (done_for (market_for config number) (investor_gets facts what)) after []
+    unfolding investor_with investor_gets
+    investor_does (to_investor.Relay request offer moment) same =
+        known_does request (event.QuoteCame request offer moment) _ refl same
+    investor_does (to_investor.Gone request word moment) same =
+        known_does request (event.QuoteGone request word moment) _ refl same
+    investor_does (to_investor.Declined request dealer moment) same =
+        known_does request (event.DealerDeclined request dealer moment) _ refl same
+    investor_does (to_investor.Answer request response reply moment) same =
+        by_market (investor_gets facts (to_investor.Answer request response reply moment)) []
+        (answer_if (knows (book_by (of_investor number facts)) request response.k)
+        (answers response.k reply) (event.Answered request response reply moment)
         (same ∙ ap (λ (b : InvestorBook).
-        where_so (knows b room.n response.k && answers response.k reply) place.desk
-        (event.Answered room.n response reply moment)) book_is))
-
--- A dealer declines.
-
--- what is looked up in a list that was seen
-pub looked : {X : Type 0} (xs seen : List X) (i : ℕ) (x : X) → seen ≡ xs
-    → true ≡ nat_lt i (length seen) → x ≡ get_or seen i x → slice_get xs i ≡ Some x
-looked xs seen i x same within is =
-    let inside : i < length seen = grind (arith, nat_tests) in
-    ap (λ l. slice_get l i) (sym same) ∙ lent seen i x inside is
-
-pub not_looked : {X : Type 0} (xs seen : List X) (i : ℕ) → seen ≡ xs
-    → false ≡ nat_lt i (length seen) → slice_get xs i ≡ None
-not_looked xs seen i same beyond =
-    let outside : length seen ≤ i = grind (arith, nat_tests) in
-    ap (λ l. slice_get l i) (sym same) ∙ not_lent seen i outside
-
--- what an investor is told where a dealer of this name declines
-abbrev pub declined_as : Configuration → List Fact → RoomRef → ℕ → List ℕ → Effect
-declined_as config facts room moment name =
-    at_investor_of config room
-    (where_known facts room.n None (event.DealerDeclined room.n name moment))
-
--- what it is told where this dealer does
-abbrev pub declined_to : Configuration → List Fact → RoomRef → ℕ → Dealer → Effect
-declined_to config facts room moment dealer =
-    declined_as config facts room moment dealer.row.name
-
--- an action of the dealer that acts
-pub by_actor : (config : Configuration) (facts : List Fact) (by : Actor) (number index : ℕ)
-    (action : Dealer → Effect) (after : Floor) (duties : List Duty) → by ≡ actor.Firm number
-    → index ≡ number → Does config facts (done_by (dealer_at config index) action) after duties
-    → Does config facts (done_by (acting_dealer config by) action) after duties
-by_actor config facts by number index action after duties is same does =
-    subst (λ (a : Actor). Does config facts (done_by (acting_dealer config a) action) after duties)
-    (sym is) (by_number config facts index number action after duties same does)
-
-pub declined_does : (config : Configuration) (facts : List Fact) (floor : Floor) (dealer : ℕ)
-    (acting : DealerPlace) (room : RoomRef) (moment : ℕ) (name : List ℕ) (after : Floor)
-    → Stands config facts floor → slice_get floor.dealers.items dealer ≡ Some acting
-    → name ≡ acting.desk.row.name
-    → Does config facts (declined_as config facts room moment name) after []
-    → Does config facts (done_by (dealer_at config dealer) (declined_to config facts room moment))
-    after []
-declined_does config facts floor dealer acting room moment name after before stood named does =
-    let found = dealer_found config facts floor dealer acting before stood in
-    by_found config facts dealer acting found (declined_to config facts room moment) after []
-    (subst (λ (n : List ℕ). Does config facts (declined_as config facts room moment n) after [])
-    (named ∙ ap (λ (r : DealerRow). r.name) found.stands.row_is) does)
+        where_so (knows b request response.k && answers response.k reply) place.desk
+        (event.Answered request response reply moment)) book_is))
+    investor_does (to_investor.Close request moment) same =
+        known_does request (event.Closed request moment) _ refl same

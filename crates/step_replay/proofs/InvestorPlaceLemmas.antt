@@ -292,6 +292,7 @@ module _ (config : Configuration) (facts : List Fact) (floor : Floor) (number : 
   pub at_investor_stands : Stands config (now facts number added)
       (record floor { investors = with_item floor.investors index place })
   at_investor_stands = record {
+    config_is = before.config_is;
     dealer_count = before.dealer_count;
     dealers_are = λ other row_too is_too.
         subst (λ l. DealerStandsIn config other row_too l

@@ -1,5 +1,5 @@
-mod ActingLemmas
 mod AskLemmas
+mod ComingLemmas
 mod DealerActionLemmas
 mod DueListLemmas
 mod DutyLemmas

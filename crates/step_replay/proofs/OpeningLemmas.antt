@@ -210,6 +210,7 @@ word_begins words many word is =
 pub all_begin : (config : Configuration) (floor : Floor) → Opens config floor
     → Stands config [] floor
 all_begin config floor opens = record {
+  config_is = opens.config_is;
   dealer_count = opens.dealers_open.count;
   dealers_are = λ number row is.
       dealer_begins_in config number row (slice_get floor.dealers.items number)

@@ -11,26 +11,24 @@ use Rattle.std.proofs.lemmas.List.Sums.{fold-append}
 use Rattle.venue_config.specs.Rows.{Configuration, investor_numbered}
 use Rattle.venue_config.specs.Rows.{has_room}
 use Rattle.venue_config.specs.declared.investor_rows.InvestorRow.{InvestorRow}
-use Rattle.market_terms.specs.declared.asks.Ask.{Ask}
 use Rattle.market_terms.specs.declared.duties.Duty.{Duty}
 use Rattle.market_terms.specs.declared.duties.Duty.TheVariants as duty
-use Rattle.market_terms.specs.declared.rooms.Offer.{Offer}
-use Rattle.market_terms.specs.declared.rooms.ResponseRef.{ResponseRef}
 use Rattle.market_terms.specs.declared.rooms.RoomRef.{RoomRef}
 use Rattle.request_room.specs.RoomFacts.{RoomFact, Opened, Readied, is_vacant, is_opening}
 use Rattle.request_room.specs.RoomFacts.{hears, takes_quotes}
 use Rattle.request_room.specs.Book.{room_after, event_facts, after_event, where_so, may_unpost}
 use Rattle.request_room.specs.declared.events.RoomEvent.{RoomEvent}
 use Rattle.request_room.specs.declared.events.RoomEvent.TheVariants as at_room
-use Rattle.venue_steps.specs.RoomSteps.{where_done, where_follows, room_after_open}
+use Rattle.venue_places.specs.Brought.{room_with, duties_in_room}
+use Rattle.venue_places.specs.declared.arrivals.ForRoom.{ForRoom}
+use Rattle.venue_places.specs.declared.arrivals.ForRoom.TheVariants as to_room
+use Rattle.venue_steps.specs.RoomSteps.{where_done, where_follows}
 use Rattle.venue_steps.specs.RoomSteps.{duties_of_open, duties_of_pass, duties_of_expire}
 use Rattle.venue_steps.specs.RoomSteps.{duties_of_decline, duties_of_unpost, duties_of_post}
 use Rattle.step_replay.specs.VenueFacts.{Fact, InRoom}
 use Rattle.step_replay.specs.VenueFacts.{of_room}
-use Rattle.step_replay.specs.Actions.{Effect, Dealer, dealer_of, acting_dealer, done_by, in_room}
-use Rattle.step_replay.specs.Actions.{nothing, opened, sweep_effect, declined_by, unposted_by}
-use Rattle.step_replay.specs.Actions.{posted_by, offer_of, has_word_for, word_for}
-use Rattle.step_replay.specs.declared.steps.Actor.{Actor}
+use Rattle.step_replay.specs.Actions.{in_room, nothing}
+use Rattle.step_replay.specs.Coming.{room_gets}
 use Rattle.step_replay.specs.RoomPlaces.{room_place}
 use Rattle.step_replay.specs.Standing.{DealerStandsIn, InvestorStands, InvestorStandsIn}
 use Rattle.step_replay.specs.Standing.{RoomStandsIn, Stands, word_is, Does}
@@ -39,12 +37,11 @@ use Rattle.step_replay.specs.declared.floor.Floor.{Floor}
 use Rattle.step_replay.specs.InvestorTrail as investor_trail
 use Rattle.investor_desk.specs.InvestorOutput as investor_output
 use Rattle.step_replay.specs.OwnerLemmas.{same_value}
-use Rattle.step_replay.proofs.FloorLemmas.{room_kept, investor_kept, words_kept}
+use Rattle.step_replay.proofs.FloorLemmas.{room_kept, investor_kept, words_kept, idle_does}
 use Rattle.step_replay.specs.PlaceLemmas.{get_set_same, get_set_other, get_within}
 use Rattle.step_replay.proofs.RoomPlaceLemmas.{now, dealer_now, investor_now, own_now, other_now}
 use Rattle.step_replay.proofs.RoomPlaceLemmas.{other_number, other_owner, investor_from}
 use Rattle.step_replay.proofs.RoomPlaceLemmas.{FoundRoom, no_room}
-use Rattle.step_replay.proofs.ActingLemmas.{WordOf, Acting}
 
 -- The room after one event more.
 
@@ -185,6 +182,7 @@ module _ (config : Configuration) (facts : List Fact) (floor : Floor) (at : Room
 
     pub in_room_stands : Stands config (now facts at added) (floor_with new)
     in_room_stands = record {
+      config_is = before.config_is;
       dealer_count = before.dealer_count;
       dealers_are = λ number row is.
           subst (λ l. DealerStandsIn config number row l (slice_get floor.dealers.items number))
@@ -243,192 +241,81 @@ module _ (config : Configuration) (facts : List Fact) (floor : Floor) (at : Room
   step_where false event new duties left grown done not_done =
       step_not_done event new duties left grown (not_done refl)
 
-  pub open_does : (ask : Ask) (dealers : List ℕ) (moment : ℕ) (new : List RoomEvent)
-      (left : List Duty) → new ≡ room_after_open events ask dealers
-      → left ≡ duties_of_open (room_after events) at ask dealers moment
-      → Does config facts (opened config facts at ask dealers moment) (floor_with new) left
-  unfolding event_facts
-  open_does ask dealers moment new left grown leaves =
+  -- a step of a dealer that the room hears
+  heard : (dealer : ℕ) (event : RoomEvent) (new : List RoomEvent) (duties left : List Duty)
+      → new ≡ where_done (hears (room_after events) dealer) events event → left ≡ duties
+      → (hears (of_room at facts) dealer ≡ false → duties ≡ [])
+      → Does config facts (in_room config facts at (hears (of_room at facts) dealer) event duties)
+      (floor_with new) left
+  heard dealer event new duties left grown leaves none =
+      step_where (hears (of_room at facts) dealer) event new duties left
+      (grown ∙ ap (λ l. where_done (hears l dealer) events event) found.known)
+      (λ yes. leaves) (λ no. leaves ∙ none no)
+
+  -- what comes there does what it should
+  pub room_does : (what : ForRoom) (new : List RoomEvent) (left : List Duty)
+      → new ≡ room_with events what → left ≡ duties_in_room at events what
+      → Does config facts (room_gets config facts at what) (floor_with new) left
+  unfolding event_facts room_with duties_in_room room_gets
+  room_does (to_room.Open ask dealers moment) new left grown leaves =
       step_done (at_room.Open (record { ask = ask; dealers = dealers })) new _ left
       (ap room_after grown
       ∙ push_where events (at_room.Open (record { ask = ask; dealers = dealers }))
       (is_vacant (room_after events))
       (λ no. ap (λ b. where_so b (Opened (record { ask = ask; dealers = dealers }))) no))
       (leaves ∙ ap (λ l. duties_of_open l at ask dealers moment) found.known)
-
-  pub ready_does : (new : List RoomEvent) (left : List Duty)
-      → new ≡ where_done (is_opening (room_after events)) events at_room.Ready → left ≡ []
-      → Does config facts (in_room config facts at true at_room.Ready []) (floor_with new) left
-  unfolding event_facts
-  ready_does new left grown leaves =
+  room_does (to_room.Ready moment) new left grown leaves =
       step_done at_room.Ready new [] left
       (ap room_after grown
       ∙ push_where events at_room.Ready (is_opening (room_after events))
       (λ no. ap (λ b. where_so b Readied) no))
       leaves
-
-  pub pass_does : (response : ResponseRef) (moment : ℕ) (new : List RoomEvent) (left : List Duty)
-      → new ≡ events ++ at_room.Pass moment ∷ []
-      → left ≡ duties_of_pass (room_after events) at response moment
-      → Does config facts
-      (in_room config facts at true (at_room.Pass moment)
-      (duties_of_pass (of_room at facts) at response moment)) (floor_with new) left
-  pass_does response moment new left grown leaves =
+  room_does (to_room.Post dealer offer moment) new left grown leaves =
+      heard dealer (at_room.Post dealer offer.word offer.price offer.valid_until) new _ left grown
+      (leaves ∙ ap (λ l. duties_of_post l at dealer offer moment) found.known)
+      (λ no. ap (λ b. where_follows (b && takes_quotes (of_room at facts))
+      (duty.Relay at offer moment)) no)
+  room_does (to_room.Unpost dealer word moment) new left grown leaves =
+      heard dealer (at_room.Unpost dealer word) new _ left grown
+      (leaves ∙ ap (λ l. duties_of_unpost l at dealer word moment) found.known)
+      (λ no. ap (λ b. where_follows (b && may_unpost (of_room at facts) dealer word)
+      (duty.Gone at word moment)) no)
+  room_does (to_room.Decline dealer moment) new left grown leaves =
+      heard dealer (at_room.Decline dealer) new _ left grown
+      (leaves ∙ ap (λ l. duties_of_decline l at dealer moment) found.known)
+      (λ no. ap (λ b. where_follows (b && takes_quotes (of_room at facts))
+      (duty.Declined at moment)) no)
+  room_does (to_room.Pass response moment) new left grown leaves =
       step_done (at_room.Pass moment) new _ left
       (ap room_after grown ∙ room_push events (at_room.Pass moment))
       (leaves ∙ ap (λ l. duties_of_pass l at response moment) found.known)
-
-  pub expire_does : (moment : ℕ) (new : List RoomEvent) (left : List Duty)
-      → new ≡ events ++ at_room.Expire moment ∷ []
-      → left ≡ duties_of_expire (room_after events) at moment
-      → Does config facts (sweep_effect config facts at moment) (floor_with new) left
-  unfolding sweep_effect
-  expire_does moment new left grown leaves =
+  room_does (to_room.Expire moment) new left grown leaves =
       step_done (at_room.Expire moment) new _ left
       (ap room_after grown ∙ room_push events (at_room.Expire moment))
       (leaves ∙ ap (λ l. duties_of_expire l at moment) found.known)
 
-  pub decline_does : (moment : ℕ) (dealer : Dealer) (new : List RoomEvent) (left : List Duty)
-      → new ≡ where_done (hears (room_after events) dealer.number) events
-      (at_room.Decline dealer.number)
-      → left ≡ duties_of_decline (room_after events) at dealer.number moment
-      → Does config facts (declined_by config facts at moment dealer) (floor_with new) left
-  decline_does moment dealer new left grown leaves =
-      step_where (hears (of_room at facts) dealer.number) (at_room.Decline dealer.number) new
-      (duties_of_decline (of_room at facts) at dealer.number moment) left
-      (grown ∙ ap (λ l. where_done (hears l dealer.number) events
-      (at_room.Decline dealer.number)) found.known)
-      (λ yes. now_left) (λ no. now_left
-      ∙ ap (λ b. where_follows (b && takes_quotes (of_room at facts))
-      (duty.Declined at moment)) no)
-    where
-      now_left : left ≡ duties_of_decline (of_room at facts) at dealer.number moment
-      now_left = leaves ∙ ap (λ l. duties_of_decline l at dealer.number moment) found.known
-
-  pub unpost_does : (quote moment : ℕ) (dealer : Dealer) (word : ℕ) (new : List RoomEvent)
-      (left : List Duty) → WordOf config dealer quote word
-      → new ≡ where_done (hears (room_after events) dealer.number) events
-      (at_room.Unpost dealer.number word)
-      → left ≡ duties_of_unpost (room_after events) at dealer.number word moment
-      → Does config facts (unposted_by config facts at quote moment dealer) (floor_with new) left
-  unpost_does quote moment dealer word new left is grown leaves =
-      subst (λ (b : Bool). Does config facts
-      (in_room config facts at (b && hears (of_room at facts) dealer.number) event duties)
-      (floor_with new) left) (sym is.has)
-      (step_where (hears (of_room at facts) dealer.number) event new duties left
-      (grown
-      ∙ ap (λ l. where_done (hears l dealer.number) events
-      (at_room.Unpost dealer.number word)) found.known
-      ∙ ap (λ w. where_done (hears (of_room at facts) dealer.number) events
-      (at_room.Unpost dealer.number w)) is.word_is)
-      (λ yes. now_left) (λ no. now_left
-      ∙ ap (λ b. where_follows
-      (b && may_unpost (of_room at facts) dealer.number word_is)
-      (duty.Gone at word_is moment)) no))
-    where
-      word_is : ℕ
-      word_is = word_for config dealer quote
-
-      event : RoomEvent
-      event = at_room.Unpost dealer.number word_is
-
-      duties : List Duty
-      duties = duties_of_unpost (of_room at facts) at dealer.number word_is moment
-
-      now_left : left ≡ duties
-      now_left =
-          leaves ∙ ap (λ l. duties_of_unpost l at dealer.number word moment) found.known
-          ∙ ap (λ w. duties_of_unpost (of_room at facts) at dealer.number w moment) is.word_is
-
-  pub post_does : (quote price : ℕ) (until : Option ℕ) (moment : ℕ) (dealer : Dealer)
-      (offer : Offer) (new : List RoomEvent) (left : List Duty)
-      → has_word_for config dealer quote ≡ true
-      → offer ≡ offer_of config dealer quote price until
-      → new ≡ where_done (hears (room_after events) dealer.number) events
-      (at_room.Post dealer.number offer.word offer.price offer.valid_until)
-      → left ≡ duties_of_post (room_after events) at dealer.number offer moment
-      → Does config facts (posted_by config facts at quote price until moment dealer)
-      (floor_with new) left
-  post_does quote price until moment dealer offer new left has is grown leaves =
-      subst (λ (b : Bool). Does config facts
-      (in_room config facts at (b && hears (of_room at facts) dealer.number) event duties)
-      (floor_with new) left) (sym has)
-      (step_where (hears (of_room at facts) dealer.number) event new duties left
-      (grown
-      ∙ ap (λ l. where_done (hears l dealer.number) events
-      (at_room.Post dealer.number offer.word offer.price offer.valid_until)) found.known
-      ∙ ap (λ (o : Offer). where_done (hears (of_room at facts) dealer.number) events
-      (at_room.Post dealer.number o.word o.price o.valid_until)) is)
-      (λ yes. now_left) (λ no. now_left
-      ∙ ap (λ b. where_follows (b && takes_quotes (of_room at facts))
-      (duty.Relay at offer_is moment)) no))
-    where
-      offer_is : Offer
-      offer_is = offer_of config dealer quote price until
-
-      event : RoomEvent
-      event = at_room.Post dealer.number offer_is.word offer_is.price offer_is.valid_until
-
-      duties : List Duty
-      duties = duties_of_post (of_room at facts) at dealer.number offer_is moment
-
-      now_left : left ≡ duties
-      now_left =
-          leaves ∙ ap (λ l. duties_of_post l at dealer.number offer moment) found.known
-          ∙ ap (λ o. duties_of_post (of_room at facts) at dealer.number o moment) is
-
 -- Where the venue has no such room.
 
--- where nothing happens
-pub idle_does : (config : Configuration) (facts : List Fact) (floor : Floor) (effect : Effect)
-    (left : List Duty) → Stands config facts floor → left ≡ [] → effect ≡ nothing
-    → Does config facts effect floor left
-idle_does config facts floor effect left before leaves same =
-    subst (λ (e : Effect). Does config facts e floor left) (sym same)
-    (record {
-      stands = subst (λ l. Stands config l floor) (sym (append-nil facts)) before;
-      leaves = leaves;
-    })
-
 pub no_room_does : (config : Configuration) (facts : List Fact) (floor : Floor) (at : RoomRef)
-    (may : Bool) (event : RoomEvent) (duties left : List Duty) → Stands config facts floor
-    → room_place floor at ≡ None → left ≡ []
-    → Does config facts (in_room config facts at may event duties) floor left
-no_room_does config facts floor at may event duties left before none leaves =
-    idle_does config facts floor _ left before leaves
-    (ap (λ b. if b && may then record {
-      facts = map (InRoom at) (event_facts (of_room at facts) event);
-      duties = duties;
-    } else nothing) (no_room config facts floor at before none))
-
--- What a dealer does.
-
--- an action of the dealer that acts
-pub by_acting : (config : Configuration) (facts : List Fact) (floor : Floor) (by : Actor)
-    (number : ℕ) (acting : Acting config facts floor by number) (action : Dealer → Effect)
-    (after : Floor) (left : List Duty)
-    → Does config facts (action (dealer_of number acting.found.row)) after left
-    → Does config facts (done_by (acting_dealer config by) action) after left
-by_acting config facts floor by number acting action after left does =
-    subst (λ (d : Option Dealer). Does config facts (done_by d action) after left)
-    (sym acting.acts) does
-
--- where the venue does not have the word of a quote
-pub no_word_does : (config : Configuration) (facts : List Fact) (floor : Floor) (at : RoomRef)
-    (dealer : Dealer) (quote : ℕ) (hears : Bool) (event : RoomEvent) (duties left : List Duty)
-    → Stands config facts floor → has_word_for config dealer quote ≡ false → left ≡ []
-    → Does config facts
-    (in_room config facts at (has_word_for config dealer quote && hears) event duties)
-    floor left
-no_word_does config facts floor at dealer quote hears event duties left before none leaves =
-    subst (λ (b : Bool). Does config facts (in_room config facts at (b && hears) event duties)
-    floor left) (sym none)
-    (idle_does config facts floor _ left before leaves
-    (not_there (has_room config at.investor at.n)))
+    (what : ForRoom) (left : List Duty) → Stands config facts floor → room_place floor at ≡ None
+    → left ≡ [] → Does config facts (room_gets config facts at what) floor left
+unfolding room_gets
+no_room_does config facts floor at what left before none leaves = by_kind what
   where
-    not_there : (b : Bool) → (if b && false then record {
-      facts = map (InRoom at) (event_facts (of_room at facts) event);
-      duties = duties;
-    } else nothing) ≡ nothing
-    not_there true = refl
-    not_there false = refl
+    idle : (may : Bool) (event : RoomEvent) (duties : List Duty)
+        → Does config facts (in_room config facts at may event duties) floor left
+    idle may event duties =
+        idle_does config facts floor _ left before leaves
+        (ap (λ b. if b && may then record {
+          facts = map (InRoom at) (event_facts (of_room at facts) event);
+          duties = duties;
+        } else nothing) (no_room config facts floor at before none))
+
+    by_kind : (w : ForRoom) → Does config facts (room_gets config facts at w) floor left
+    by_kind (to_room.Open ask dealers moment) = idle _ _ _
+    by_kind (to_room.Ready moment) = idle _ _ _
+    by_kind (to_room.Post dealer offer moment) = idle _ _ _
+    by_kind (to_room.Unpost dealer word moment) = idle _ _ _
+    by_kind (to_room.Decline dealer moment) = idle _ _ _
+    by_kind (to_room.Pass response moment) = idle _ _ _
+    by_kind (to_room.Expire moment) = idle _ _ _

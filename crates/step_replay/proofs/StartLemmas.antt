@@ -22,8 +22,8 @@ use Rattle.step_replay.specs.VenueFacts.{of_dealer}
 use Rattle.step_replay.specs.declared.faults.ReplayFault.{ReplayFault}
 use Rattle.step_replay.specs.declared.faults.ReplayFault.TheVariants as fault
 use Rattle.step_replay.specs.declared.replay.Replay.{Replay}
-use Rattle.step_replay.specs.declared.steps.Actor.{Actor}
-use Rattle.step_replay.specs.declared.steps.Actor.TheVariants as actor
+use Rattle.venue_places.specs.declared.actors.Actor.{Actor}
+use Rattle.venue_places.specs.declared.actors.Actor.TheVariants as actor
 use Rattle.step_replay.specs.declared.steps.Step.{Step}
 use Rattle.step_replay.specs.declared.steps.Step.TheVariants as step
 use Rattle.step_replay.proofs.OpeningLemmas.{all_begin}

@@ -26,15 +26,16 @@ use Rattle.step_replay.specs.AuditTrail.{AuditTrail, Caused, after_step, after_t
 use Rattle.step_replay.specs.AuditTrail.{is_same_actor, pending, with_effect}
 use Rattle.step_replay.specs.LiveStanding.{after_turns, room_of_duty}
 use Rattle.step_replay.specs.VenueFacts.{Fact, InRoom, of_room}
-use Rattle.step_replay.specs.declared.steps.Actor.{Actor}
-use Rattle.step_replay.specs.declared.steps.Actor.TheVariants as actor
+use Rattle.venue_places.specs.declared.actors.Actor.{Actor}
+use Rattle.venue_places.specs.declared.actors.Actor.TheVariants as actor
 use Rattle.step_replay.specs.declared.steps.Step.TheVariants as step
 use Rattle.step_replay.specs.declared.steps.TheConstants.{MOST_TURNS_BEHIND}
 use Rattle.step_replay.specs.GrowthLemmas.{same_room}
 use Rattle.step_replay.proofs.LiveLemmas.{idle_turns, no_turn}
 use Rattle.step_replay.specs.PlaceLemmas.{room_grown}
 use Rattle.step_replay.specs.QueueLemmas.{own_pending, own_turned}
-use Rattle.step_replay.proofs.RoomEffects.{AreOf, duty_there, sweep_there}
+use Rattle.step_replay.specs.ActionKinds.{duty_action, sweep_action}
+use Rattle.step_replay.proofs.RoomEffects.{AreOf, action_there}
 use Rattle.step_replay.proofs.StartLemmas.{swept, turned}
 
 -- A room that is not due.
@@ -141,7 +142,7 @@ module _ (config : Configuration) (facts : List Fact) (by : Actor) where
   in_no_room_by d tells room =
       let there : AreOf None (duty_effect config facts by d).facts =
       subst (λ (r : Option RoomRef). AreOf r (duty_effect config facts by d).facts)
-      (in_no_room d tells) (duty_there config facts by d) in
+      (in_no_room d tells) (action_there config facts _ _ _ (duty_action config facts by d)) in
       there.elsewhere room refl
 
 -- what a sweep leaves
@@ -262,7 +263,8 @@ other_kept config moment trail at room rests other =
     (subst AreTellings (sym left) (sweep_tells config trail.facts at moment))
     ∙ ap (λ (t : AuditTrail). of_room room t.facts) same
     ∙ room_kept room trail.facts effect.facts
-    ((sweep_there config trail.facts at moment).elsewhere room other)
+    ((action_there config trail.facts _ _ _ (sweep_action config trail.facts at moment)).elsewhere
+    room other)
 
 -- a room that is due behind a sweep of any room was due before it
 pub due_before : (config : Configuration) (moment : ℕ) (trail : AuditTrail) (at room : RoomRef)

@@ -28,7 +28,7 @@ use Rattle.step_replay.specs.VenueFacts.{Fact, of_room}
 use Rattle.step_replay.specs.VenueRooms.{rooms_of, sweeps_at}
 use Rattle.step_replay.specs.declared.live.LiveVenue.{LiveVenue}
 use Rattle.step_replay.specs.declared.open_rooms.OpenRooms.{OpenRooms}
-use Rattle.step_replay.specs.declared.steps.Actor.TheVariants as actor
+use Rattle.venue_places.specs.declared.actors.Actor.TheVariants as actor
 use Rattle.step_replay.specs.declared.steps.Step.{Step}
 use Rattle.step_replay.specs.declared.steps.Step.TheVariants as step
 use Rattle.step_replay.specs.GrowthLemmas.{same_room}

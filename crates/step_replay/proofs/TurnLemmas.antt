@@ -13,8 +13,8 @@ use Rattle.step_replay.specs.AuditTrail.{AuditTrail, is_same_actor, duty_of, pen
 use Rattle.step_replay.specs.Queues.{QueuesStand, QueueHas, is_known, queue_of}
 use Rattle.step_replay.specs.StepFaults.{firms_of}
 use Rattle.step_replay.specs.Following.{index_in}
-use Rattle.step_replay.specs.declared.steps.Actor.{Actor}
-use Rattle.step_replay.specs.declared.steps.Actor.TheVariants as actor
+use Rattle.venue_places.specs.declared.actors.Actor.{Actor}
+use Rattle.venue_places.specs.declared.actors.Actor.TheVariants as actor
 use Rattle.step_replay.specs.OwnerLemmas.{same_value}
 use Rattle.step_replay.specs.PlaceLemmas.{get_set_same, get_set_other, get_within}
 use Rattle.step_replay.specs.QueueLemmas.{turned, own_turned, other_turned}

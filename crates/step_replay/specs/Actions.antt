@@ -2,9 +2,8 @@
 -- to be done, in its order: a message of a firm, a duty, or a sweep. An action whose condition does
 -- not hold (a room shown before, a room that is not vacant, a word that the venue does not have)
 -- adds nothing and leaves nothing.
-use Rattle.std.specs.Prelude.{ℕ, ◌+◌, ◌-◌, Bool, true, ◌&&◌, nat_lt, List, [], ◌∷◌, ◌++◌}
-use Rattle.std.specs.Prelude.{map, take, sum_by, Option, Some, None, is_some, if◌then◌else◌}
-use Rattle.std.specs.Prelude.{Result, Ok}
+use Rattle.std.specs.Prelude.{ℕ, Bool, true, ◌&&◌, List, [], ◌∷◌, ◌++◌, map}
+use Rattle.std.specs.Prelude.{Option, Some, None, is_some, if◌then◌else◌, Result, Ok}
 use Rattle.std.specs.Option.{option_map, option_to_list}
 use Rattle.market_terms.specs.declared.asks.Ask.{Ask}
 use Rattle.market_terms.specs.declared.closes.Close.{Close}
@@ -12,12 +11,10 @@ use Rattle.market_terms.specs.declared.closes.HitRefusal.{HitRefusal}
 use Rattle.market_terms.specs.declared.closes.Reply.{Reply}
 use Rattle.market_terms.specs.declared.duties.Duty.{Duty}
 use Rattle.market_terms.specs.declared.duties.Duty.TheVariants as duty
-use Rattle.market_terms.specs.declared.rooms.Offer.{Offer}
 use Rattle.market_terms.specs.declared.rooms.ResponseRef.{ResponseRef}
 use Rattle.market_terms.specs.declared.rooms.RoomRef.{RoomRef}
 use Rattle.quote_word.specs.declared.settled.Settled.{Settled}
 use Rattle.venue_config.specs.Rows.{Configuration, dealer_numbered, has_room}
-use Rattle.venue_config.specs.declared.dealer_rows.DealerRow.{DealerRow}
 use Rattle.dealer_desk.specs.DealerFacts.{number_to_drop, quote_to_drop}
 use Rattle.dealer_desk.specs.DealerRules.{dealer_verdict}
 use Rattle.dealer_desk.specs.DealerOutput.{number_in, closable, word_asked}
@@ -39,14 +36,17 @@ use Rattle.venue_steps.specs.InvestorSteps.{answers}
 use Rattle.venue_steps.specs.RoomSteps.{duties_of_open, duties_of_post, duties_of_unpost}
 use Rattle.venue_steps.specs.RoomSteps.{duties_of_decline, duties_of_hit, duties_of_pass}
 use Rattle.venue_steps.specs.RoomSteps.{duties_of_expire, hit_word}
-use Rattle.venue_steps.specs.Words.{word_of, has_word}
+use Rattle.venue_steps.specs.Words.{has_word}
+pub use Rattle.venue_places.specs.Dealers.{Dealer, dealer_of, dealer_at, acting_dealer, QuoteRef}
+pub use Rattle.venue_places.specs.Dealers.{quotes_of, words_of, first_word, word_for, has_word_for}
+pub use Rattle.venue_places.specs.Dealers.{quote_among, quote_with_word, offer_of}
+use Rattle.venue_places.specs.declared.actors.Actor.{Actor}
+use Rattle.venue_places.specs.declared.actors.Actor.TheVariants as actor
 use Rattle.step_replay.specs.DealerTrail.{DealerEntry, Lifted, book_by, rooms_by}
 use Rattle.step_replay.specs.DealerTrail.{answer_to_dealer, answer_to_investor, entries_of}
 use Rattle.step_replay.specs.InvestorTrail as investor_trail
 use Rattle.step_replay.specs.VenueFacts.{Fact, AtDealer, InRoom, AtInvestor}
 use Rattle.step_replay.specs.VenueFacts.{of_dealer, of_room, of_investor}
-use Rattle.step_replay.specs.declared.steps.Actor.{Actor}
-use Rattle.step_replay.specs.declared.steps.Actor.TheVariants as actor
 
 -- what an action adds, and what it leaves to be done
 pub record Effect : Type 0 where
@@ -58,24 +58,6 @@ abbrev pub nothing : Effect
 nothing = record { facts = []; duties = [] }
 
 -- At a dealer.
-
--- a dealer: its number among the firms, and its row
-pub record Dealer : Type 0 where
-  pub number : ℕ
-  pub row : DealerRow
-
--- a dealer with this number and row
-abbrev pub dealer_of : ℕ → DealerRow → Dealer
-dealer_of number row = record { number = number; row = row }
-
--- the dealer with this number
-abbrev pub dealer_at : Configuration → ℕ → Option Dealer
-dealer_at config number = option_map (dealer_of number) (dealer_numbered config number)
-
--- the dealer that an actor is
-abbrev pub acting_dealer : Configuration → Actor → Option Dealer
-acting_dealer config (actor.Firm number) = dealer_at config number
-acting_dealer config actor.Clock = None
 
 -- what a dealer does, where there is one
 abbrev pub done_by : Option Dealer → (Dealer → Effect) → Effect
@@ -89,43 +71,6 @@ at_dealer config facts dealer event duties = record {
       (entries_of config.date dealer.row (of_dealer dealer.number facts) event);
   duties = duties;
 }
-
--- Words. The venue has one for each quote that a dealer may give in its day: those of the first
--- dealer, behind them those of the next, and so on.
-
--- how many quotes these dealers may give
-abbrev pub quotes_of : List DealerRow → ℕ
-quotes_of dealers = sum_by (λ (row : DealerRow). row.quotes) dealers
-
--- how many words there are
-abbrev pub words_of : Configuration → ℕ
-words_of config = quotes_of config.dealers
-
--- the first word of a dealer
-abbrev pub first_word : Configuration → Dealer → ℕ
-first_word config dealer = quotes_of (take dealer.number config.dealers)
-
--- the word of a dealer's quote
-abbrev pub word_for : Configuration → Dealer → ℕ → ℕ
-word_for config dealer quote = word_of (first_word config dealer) quote
-
--- a quote by its dealer's number among the firms and its own number
-pub record QuoteRef : Type 0 where
-  pub dealer : ℕ
-  pub quote : ℕ
-
--- the quote that has a word, counted from the first word of these dealers, of which the first has
--- this number
-abbrev pub quote_among : ℕ → List DealerRow → ℕ → Option QuoteRef
-quote_among number [] word = None
-quote_among number (row ∷ rows) word =
-    if nat_lt word row.quotes
-    then Some (record { dealer = number; quote = word + 1 })
-    else quote_among (number + 1) rows (word - row.quotes)
-
--- the quote that has a word
-abbrev pub quote_with_word : Configuration → ℕ → Option QuoteRef
-quote_with_word config word = quote_among 0 config.dealers word
 
 -- A message of a dealer: the word that its verdict asks is withdrawn where it is open, and the
 -- verdict leaves a post, an unpost, a decline, the first drop of a cancel of all, or nothing.
@@ -227,19 +172,6 @@ abbrev pub opened : Configuration → List Fact → RoomRef → Ask → List ℕ
 opened config facts room ask dealers moment =
     in_room config facts room true (at_room.Open (record { ask = ask; dealers = dealers }))
     (duties_of_open (of_room room facts) room ask dealers moment)
-
--- a dealer's quote as the investor sees it
-abbrev pub offer_of : Configuration → Dealer → ℕ → ℕ → Option ℕ → Offer
-offer_of config dealer quote price valid_until = record {
-  dealer = dealer.row.name;
-  word = word_for config dealer quote;
-  price = price;
-  valid_until = valid_until;
-}
-
--- whether the venue has the word of a dealer's quote
-abbrev pub has_word_for : Configuration → Dealer → ℕ → Bool
-has_word_for config dealer quote = nat_lt (word_for config dealer quote) (words_of config)
 
 -- a quote is posted, where the venue has its word
 abbrev pub posted_by : Configuration → List Fact → RoomRef → ℕ → ℕ → Option ℕ → ℕ → Dealer → Effect

@@ -1,5 +1,7 @@
+pub mod ActionKinds
 pub mod Actions
 pub mod AuditTrail
+pub mod Coming
 pub mod Deadlines
 pub mod DealerTrail
 pub mod DealerView

@@ -54,6 +54,7 @@ owners_from number (row ∷ rows) = replicate row.quotes number ++ owners_from (
 
 -- the places at the start
 pub record Opens (config : Configuration) (floor : Floor) : Type 0 where
+  pub config_is : floor.config ≡ config
   pub dealers_open : DealersOpen config (length config.dealers) floor.dealers.items
   pub investors_open : InvestorsOpen config (length config.investors) floor.investors.items
   pub owners_are : floor.owners.items ≡ owners_from 0 config.dealers

@@ -10,8 +10,8 @@ use Rattle.market_terms.specs.declared.duties.Duty.{Duty}
 use Rattle.step_replay.specs.Actions.{Effect}
 use Rattle.step_replay.specs.AuditTrail.{AuditTrail, is_same_actor, duty_of, pending}
 use Rattle.step_replay.specs.AuditTrail.{with_effect}
-use Rattle.step_replay.specs.declared.steps.Actor.{Actor}
-use Rattle.step_replay.specs.declared.steps.Actor.TheVariants as actor
+use Rattle.venue_places.specs.declared.actors.Actor.{Actor}
+use Rattle.venue_places.specs.declared.actors.Actor.TheVariants as actor
 
 -- Lists.
 

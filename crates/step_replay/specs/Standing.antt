@@ -82,6 +82,7 @@ WordsStand config facts words = (number : ℕ) (row : DealerRow) (quote : ℕ)
 
 -- the places stand where the facts have come
 pub record Stands (config : Configuration) (facts : List Fact) (floor : Floor) : Type 0 where
+  pub config_is : floor.config ≡ config
   pub dealer_count : length floor.dealers.items ≡ length config.dealers
   pub dealers_are : (number : ℕ) (row : DealerRow) → dealer_numbered config number ≡ Some row
       → DealerStandsIn config number row (of_dealer number facts)

@@ -1,5 +1,5 @@
 -- What is kept of a dealer's trail by each of the five kinds of what can happen there is kept by
--- every step of the venue: one line a duty.
+-- every step of the venue.
 use Rattle.std.proofs.Common.{◌≡◌, ℕ, ◌+◌, ◌==◌, Bool, true, false, ◌&&◌, nat_le}
 use Rattle.std.proofs.Common.{List, [], ◌∷◌, ◌++◌, map, fold}
 use Rattle.std.proofs.Common.{Option, Some, None, option_map, is_some, if◌then◌else◌, Result, Ok}
@@ -12,14 +12,13 @@ use Rattle.market_terms.specs.declared.asks.Ask.{Ask}
 use Rattle.market_terms.specs.declared.closes.Close.{Close}
 use Rattle.market_terms.specs.declared.closes.HitRefusal.{HitRefusal}
 use Rattle.market_terms.specs.declared.duties.Duty.{Duty}
-use Rattle.market_terms.specs.declared.duties.Duty.TheVariants as duty
 use Rattle.market_terms.specs.declared.rooms.ResponseRef.{ResponseRef}
 use Rattle.market_terms.specs.declared.rooms.RoomRef.{RoomRef}
 use Rattle.quote_word.specs.declared.settled.Settled.{Settled}
 use Rattle.quote_word.specs.declared.settled.Settled.TheVariants as settled
 use Rattle.venue_config.specs.Rows.{Configuration, dealer_numbered}
 use Rattle.venue_config.specs.declared.dealer_rows.DealerRow.{DealerRow}
-use Rattle.dealer_desk.specs.DealerOutput.{number_in, closable}
+use Rattle.dealer_desk.specs.DealerOutput.{closable}
 use Rattle.dealer_desk.specs.declared.events.DealerEvent.{DealerEvent}
 use Rattle.dealer_desk.specs.declared.events.DealerEvent.TheVariants as at_desk
 use Rattle.investor_desk.specs.InvestorRules.{InvestorMarket}
@@ -28,12 +27,9 @@ use Rattle.request_room.specs.RoomFacts.{RoomFact}
 use Rattle.request_room.specs.declared.events.RoomEvent.TheVariants as at_room
 use Rattle.request_room.specs.Book.{event_facts, hit_refusal, hit_settled, award_of, word_or}
 use Rattle.request_room.specs.declared.ends.End.{End}
-use Rattle.request_room.specs.declared.events.RoomEvent.{RoomEvent}
-use Rattle.venue_steps.specs.InvestorSteps.{answers}
-use Rattle.venue_steps.specs.RoomSteps.{word_asked_by, hit_word, duties_of_open, duties_of_pass}
-use Rattle.venue_steps.specs.RoomSteps.{duties_of_expire}
+use Rattle.venue_steps.specs.RoomSteps.{word_asked_by, hit_word}
 use Rattle.step_replay.specs.DealerTrail.{DealerEntry, Lifted, entries_of, was_withdrawn}
-use Rattle.step_replay.specs.DealerTrail.{book_by, rooms_by}
+use Rattle.step_replay.specs.DealerTrail.{book_by}
 use Rattle.step_replay.specs.InvestorTrail.{InvestorEntry}
 use Rattle.step_replay.specs.AuditTrail.{AuditTrail, audit_trail, after_step, after_turn, no_steps}
 use Rattle.step_replay.specs.AuditTrail.{pending}
@@ -42,19 +38,18 @@ use Rattle.step_replay.specs.declared.steps.Step.TheVariants as step
 use Rattle.step_replay.specs.OwnerLemmas.{quote_of_day, same_value}
 use Rattle.step_replay.specs.VenueFacts.{Fact, AtDealer, InRoom, AtInvestor, of_dealer, of_room}
 use Rattle.step_replay.specs.VenueFacts.{entry_at_dealer}
-use Rattle.step_replay.specs.Actions.{Effect, Dealer, QuoteRef, dealer_of, dealer_at, acting_dealer}
-use Rattle.step_replay.specs.Actions.{done_by, done_for, at_dealer, in_room, at_market, nothing}
-use Rattle.step_replay.specs.Actions.{where_known, shown_to, told_of}
-use Rattle.step_replay.specs.Actions.{told_to, said_by_dealer, dropped_by}
+use Rattle.investor_desk.specs.InvestorOutput.{market_of}
+use Rattle.step_replay.specs.ActionKinds.{Comes, IsAction, dropped, said, shown, told}
+use Rattle.step_replay.specs.ActionKinds.{by_dealer, by_hit, by_investor, by_room, idle}
+use Rattle.step_replay.specs.ActionKinds.{duty_action, message_action, sweep_action}
+use Rattle.step_replay.specs.Actions.{Effect, Dealer, QuoteRef, dealer_of}
+use Rattle.step_replay.specs.Actions.{at_dealer, at_market, nothing}
 use Rattle.step_replay.specs.Actions.{quote_with_word, quote_asked, answer_to_hit}
-use Rattle.step_replay.specs.Actions.{lifting, hit_with, hit_in, duty_effect, message_effect}
+use Rattle.step_replay.specs.Actions.{lifting, hit_with, duty_effect, message_effect}
 use Rattle.dealer_desk.specs.DealerRules.{dealer_verdict}
 use Rattle.step_replay.specs.Actions.{answer_of, drop_at}
-use Rattle.step_replay.specs.Actions.{sweep_effect, left_by_investor, left_by, left_by_drop}
-use Rattle.step_replay.specs.Actions.{verdict_on}
-use Rattle.dealer_desk.specs.declared.verdicts.DealerVerdict.{DealerVerdict}
-use Rattle.step_replay.specs.declared.steps.Actor.{Actor}
-use Rattle.step_replay.specs.declared.steps.Actor.TheVariants as actor
+use Rattle.step_replay.specs.Actions.{sweep_effect}
+use Rattle.venue_places.specs.declared.actors.Actor.{Actor}
 
 -- What is kept of the trails of a dealer with this row: it stands after each of the five kinds of
 -- what can happen there.
@@ -132,11 +127,6 @@ module _ (config : Configuration) (own : ℕ) (row : DealerRow)
       let same : (own == own) ≡ true = eq-eqb own own refl in
       rw same (ap (λ (l : List DealerEntry). x ∷ l) (own_all xs))
 
-  if_keeps : (facts : List Fact) (b : Bool) (one other : Effect) → Keeps facts one
-      → Keeps facts other → Keeps facts (if b then one else other)
-  if_keeps facts true one other keeps keeps_too = keeps
-  if_keeps facts false one other keeps keeps_too = keeps_too
-
   happened_keeps : (facts : List Fact) (room : RoomRef) (happened : List RoomFact)
       (duties : List Duty)
       → Keeps facts (record { facts = map (InRoom room) happened; duties = duties })
@@ -144,29 +134,10 @@ module _ (config : Configuration) (own : ℕ) (row : DealerRow)
       elsewhere facts (record { facts = map (InRoom room) happened; duties = duties })
       (room_none room happened)
 
-  room_keeps : (facts : List Fact) (room : RoomRef) (may : Bool) (event : RoomEvent)
-      (duties : List Duty) → Keeps facts (in_room config facts room may event duties)
-  room_keeps facts room may event duties =
-      if_keeps facts _ _ nothing
-      (happened_keeps facts room (event_facts (of_room room facts) event) duties)
-      (nothing_keeps facts)
-
   market_keeps : (facts : List Fact) (market : InvestorMarket) (event : InvestorEvent)
       (duties : List Duty) → Keeps facts (at_market facts market event duties)
   market_keeps facts market event duties =
       elsewhere facts (at_market facts market event duties) (investor_none market.firm _)
-
-  investor_keeps : (facts : List Fact) (found : Option InvestorMarket)
-      (action : InvestorMarket → Effect) → ((market : InvestorMarket) → Keeps facts (action market))
-      → Keeps facts (done_for found action)
-  investor_keeps facts None action keeps = nothing_keeps facts
-  investor_keeps facts (Some market) action keeps = keeps market
-
-  known_keeps : (facts : List Fact) (request : ℕ) (quote : Option ℕ) (event : InvestorEvent)
-      (market : InvestorMarket) → Keeps facts (where_known facts request quote event market)
-  known_keeps facts request quote event market =
-      if_keeps facts _ (at_market facts market event []) nothing
-      (market_keeps facts market event []) (nothing_keeps facts)
 
   -- At a dealer's desk.
 
@@ -184,111 +155,41 @@ module _ (config : Configuration) (own : ℕ) (row : DealerRow)
   other_keeps facts dealer event duties other =
       elsewhere facts (at_dealer config facts dealer event duties) (other_none dealer.number other _)
 
-  -- an action of the dealer with a number, by what it does as this dealer and as another
-  dealer_keeps : (facts : List Fact) (number : ℕ) (action : Dealer → Effect)
-      → Keeps facts (action (dealer_of own row))
-      → ((dealer : Dealer) → (dealer.number == own) ≡ false → Keeps facts (action dealer))
-      → Keeps facts (done_by (dealer_at config number) action)
-  dealer_keeps facts number action as_own as_other =
-      by_case (number == own) refl (dealer_numbered config number) refl
+  -- an event that comes to the desk keeps what is kept
+  comes_keeps : (now : List DealerEntry) (event : DealerEvent) → Comes config.date row now event
+      → P now → P (now ++ entries_of config.date row now event)
+  comes_keeps now event (said moment bytes is) before =
+      subst (λ (e : DealerEvent). P (now ++ entries_of config.date row now e)) (sym is)
+      (kept.own now moment bytes before)
+  comes_keeps now event (dropped last moment is) before =
+      subst (λ (e : DealerEvent). P (now ++ entries_of config.date row now e)) (sym is)
+      (kept.drop now last moment before)
+  comes_keeps now event (shown room ask moment is) before =
+      subst (λ (e : DealerEvent). P (now ++ entries_of config.date row now e)) (sym is)
+      (kept.shown now room ask moment before)
+  comes_keeps now event (told request close moment may is) before =
+      subst (λ (e : DealerEvent). P (now ++ entries_of config.date row now e)) (sym is)
+      (kept.told now request close moment may before)
+
+  desk_keeps : (facts : List Fact) (number : ℕ) (other : DealerRow) (event : DealerEvent)
+      (duties : List Duty) → dealer_numbered config number ≡ Some other
+      → Comes config.date other (of_dealer number facts) event
+      → Keeps facts (at_dealer config facts (dealer_of number other) event duties)
+  desk_keeps facts number other event duties found = by_test (number == own) refl
     where
-      by_case : (same : Bool) → (number == own) ≡ same → (found : Option DealerRow)
-          → dealer_numbered config number ≡ found
-          → Keeps facts (done_by (option_map (dealer_of number) found) action)
-      by_case same test None found = nothing_keeps facts
-      by_case false test (Some other) found = as_other (dealer_of number other) test
-      by_case true test (Some other) found =
+      by_test : (same : Bool) → (number == own) ≡ same
+          → Comes config.date other (of_dealer number facts) event
+          → Keeps facts (at_dealer config facts (dealer_of number other) event duties)
+      by_test false test comes = other_keeps facts (dealer_of number other) event duties test
+      by_test true test comes =
           let equal : number ≡ own = grind (arith, nat_tests) in
           let row_is : row ≡ other = same_value row other
           (sym is_dealer ∙ ap (dealer_numbered config) (sym equal) ∙ found) in
-          subst (λ (dealer : Dealer). Keeps facts (action dealer))
-          (ap (λ (n : ℕ). dealer_of n row) (sym equal) ∙ ap (dealer_of number) row_is) as_own
-
-  acting_keeps : (facts : List Fact) (by : Actor) (action : Dealer → Effect)
-      → Keeps facts (action (dealer_of own row))
-      → ((dealer : Dealer) → (dealer.number == own) ≡ false → Keeps facts (action dealer))
-      → Keeps facts (done_by (acting_dealer config by) action)
-  acting_keeps facts (actor.Firm number) action as_own as_other =
-      dealer_keeps facts number action as_own as_other
-  acting_keeps facts actor.Clock action as_own as_other = nothing_keeps facts
-
-  -- what does the same for each dealer
-  any_keeps : (facts : List Fact) (by : Actor) (action : Dealer → Effect)
-      → ((dealer : Dealer) → Keeps facts (action dealer))
-      → Keeps facts (done_by (acting_dealer config by) action)
-  any_keeps facts by action keeps =
-      acting_keeps facts by action (keeps (dealer_of own row)) (λ dealer other. keeps dealer)
-
-  shown_keeps : (facts : List Fact) (number : ℕ) (room : RoomRef) (ask : Ask) (moment : ℕ)
-      → Keeps facts (done_by (dealer_at config number) (shown_to config facts room ask moment))
-  shown_keeps facts number room ask moment =
-      dealer_keeps facts number (shown_to config facts room ask moment)
-      (if_keeps facts _ nothing _ (nothing_keeps facts)
-      (own_keeps facts (at_desk.Shown room ask moment) []
-      (λ before. kept.shown (trail facts) room ask moment before)))
-      (λ dealer other. if_keeps facts _ nothing _ (nothing_keeps facts)
-      (other_keeps facts dealer (at_desk.Shown room ask moment) [] other))
-
-  told_if : (facts : List Fact) (request : ℕ) (close : Close) (moment : ℕ) (b : Bool)
-      → is_some (closable (book_by (trail facts)) request) ≡ b
-      → Keeps facts (if b
-      then at_dealer config facts (dealer_of own row) (at_desk.Told request close moment) []
-      else nothing)
-  told_if facts request close moment true may =
-      own_keeps facts (at_desk.Told request close moment) []
-      (λ before. kept.told (trail facts) request close moment may before)
-  told_if facts request close moment false may = nothing_keeps facts
-
-  told_own : (facts : List Fact) (close : Close) (moment : ℕ) (request : Option ℕ)
-      → Keeps facts (told_of config facts (dealer_of own row) close moment request)
-  told_own facts close moment None = nothing_keeps facts
-  told_own facts close moment (Some request) =
-      told_if facts request close moment (is_some (closable (book_by (trail facts)) request)) refl
-
-  told_other : (facts : List Fact) (dealer : Dealer) (close : Close) (moment : ℕ)
-      → (dealer.number == own) ≡ false → (request : Option ℕ)
-      → Keeps facts (told_of config facts dealer close moment request)
-  told_other facts dealer close moment other None = nothing_keeps facts
-  told_other facts dealer close moment other (Some request) =
-      if_keeps facts _ (at_dealer config facts dealer (at_desk.Told request close moment) []) nothing
-      (other_keeps facts dealer (at_desk.Told request close moment) [] other)
-      (nothing_keeps facts)
-
-  told_keeps : (facts : List Fact) (number : ℕ) (room : RoomRef) (close : Close) (moment : ℕ)
-      → Keeps facts (done_by (dealer_at config number) (told_to config facts room close moment))
-  told_keeps facts number room close moment =
-      dealer_keeps facts number (told_to config facts room close moment)
-      (told_own facts close moment (number_in (rooms_by (trail facts)) room))
-      (λ dealer other. told_other facts dealer close moment other
-      (number_in (rooms_by (of_dealer dealer.number facts)) room))
-
-  said_keeps : (facts : List Fact) (number moment : ℕ) (bytes : List ℕ)
-      → Keeps facts (done_by (dealer_at config number) (said_by_dealer config facts moment bytes))
-  said_keeps facts number moment bytes =
-      dealer_keeps facts number (said_by_dealer config facts moment bytes)
-      (if_keeps facts _ _ nothing
-      (own_keeps facts _ (left_by (trail facts) moment (verdict (dealer_of own row)))
-      (λ before. kept.own (trail facts) moment bytes before))
-      (nothing_keeps facts))
-      (λ dealer other. if_keeps facts _ _ nothing
-      (other_keeps facts dealer _
-      (left_by (of_dealer dealer.number facts) moment (verdict dealer)) other)
-      (nothing_keeps facts))
-    where
-      verdict : Dealer → DealerVerdict
-      verdict dealer = verdict_on config facts moment bytes dealer
-
-  dropped_keeps : (facts : List Fact) (by : Actor) (last moment : ℕ)
-      → Keeps facts (done_by (acting_dealer config by) (dropped_by config facts last moment))
-  dropped_keeps facts by last moment =
-      acting_keeps facts by (dropped_by config facts last moment)
-      (if_keeps facts _ _ nothing
-      (own_keeps facts _ (left_by_drop config facts last moment (dealer_of own row))
-      (λ before. kept.drop (trail facts) last moment before))
-      (nothing_keeps facts))
-      (λ dealer other. if_keeps facts _ _ nothing
-      (other_keeps facts dealer _ (left_by_drop config facts last moment dealer) other)
-      (nothing_keeps facts))
+          subst (λ (dealer : Dealer). Comes config.date dealer.row (of_dealer dealer.number facts) event
+          → Keeps facts (at_dealer config facts dealer event duties))
+          (ap (λ (n : ℕ). dealer_of n row) (sym equal) ∙ ap (dealer_of number) row_is)
+          (λ own_comes. own_keeps facts event duties (comes_keeps (trail facts) event own_comes))
+          comes
 
   -- A hit.
 
@@ -399,62 +300,33 @@ module _ (config : Configuration) (own : ℕ) (row : DealerRow)
       lifts : Option QuoteRef → List Fact
       lifts q = lifted_by refused (quote_with_word config word) (answer q) award
 
-  hit_keeps : (facts : List Fact) (room : RoomRef) (response : ResponseRef) (word moment : ℕ)
-      → Keeps facts (hit_in config facts room response word moment)
-  hit_keeps facts room response word moment =
-      if_keeps facts _ _ nothing (hit_with_keeps facts room response word moment)
-      (nothing_keeps facts)
+  -- All actions, by their kinds.
 
-  -- All duties, line by line.
+  action_keeps : (facts : List Fact) (desk : Option ℕ) (room : Option RoomRef) (effect : Effect)
+      → IsAction config facts desk room effect → Keeps facts effect
+  action_keeps facts desk room effect (idle is) =
+      subst (Keeps facts) (sym is) (nothing_keeps facts)
+  action_keeps facts desk room effect (by_dealer number other event duties at found comes is) =
+      subst (Keeps facts) (sym is) (desk_keeps facts number other event duties found comes)
+  action_keeps facts desk room effect (by_investor number other event duties at found is) =
+      subst (Keeps facts) (sym is) (market_keeps facts (market_of config number other) event duties)
+  action_keeps facts desk room effect (by_room at event duties here is) =
+      subst (Keeps facts) (sym is) (happened_keeps facts at _ duties)
+  action_keeps facts desk room effect (by_hit at response word moment here is) =
+      subst (Keeps facts) (sym is) (hit_with_keeps facts at response word moment)
 
   pub duty_keeps : (facts : List Fact) (by : Actor) (more : Duty)
       → Keeps facts (duty_effect config facts by more)
-  unfolding duty_effect
-  duty_keeps facts by (duty.Open room ask dealers moment) =
-      room_keeps facts room true _ (duties_of_open (of_room room facts) room ask dealers moment)
-  duty_keeps facts by (duty.Show dealer room ask moment) = shown_keeps facts dealer room ask moment
-  duty_keeps facts by (duty.Ready room moment) = room_keeps facts room true _ []
-  duty_keeps facts by (duty.Post room quote price valid_until moment) =
-      any_keeps facts by _ (λ dealer. room_keeps facts room _ _ _)
-  duty_keeps facts by (duty.Relay room offer moment) =
-      investor_keeps facts _ _ (known_keeps facts room.n None _)
-  duty_keeps facts by (duty.Unpost room quote moment) =
-      any_keeps facts by _ (λ dealer. room_keeps facts room _ _ _)
-  duty_keeps facts by (duty.Gone room word moment) =
-      investor_keeps facts _ _ (known_keeps facts room.n None _)
-  duty_keeps facts by (duty.Decline room moment) =
-      any_keeps facts by _ (λ dealer. room_keeps facts room _ _ _)
-  duty_keeps facts by (duty.Declined room moment) =
-      any_keeps facts by _ (λ dealer. investor_keeps facts _ _ (known_keeps facts room.n None _))
-  duty_keeps facts by (duty.Hit room response word moment) =
-      hit_keeps facts room response word moment
-  duty_keeps facts by (duty.Pass room response moment) =
-      room_keeps facts room true _ (duties_of_pass (of_room room facts) room response moment)
-  duty_keeps facts by (duty.Answer room response reply moment) =
-      investor_keeps facts _ _ (λ market. if_keeps facts (answers response.k reply) _ nothing
-      (known_keeps facts room.n response.k _ market) (nothing_keeps facts))
-  duty_keeps facts by (duty.Close room moment) =
-      investor_keeps facts _ _ (known_keeps facts room.n None _)
-  duty_keeps facts by (duty.Tell dealer room close moment) =
-      told_keeps facts dealer room close moment
-  duty_keeps facts by (duty.Drop last moment) = dropped_keeps facts by last moment
-
-  -- A message of any firm, and a sweep.
+  duty_keeps facts by more = action_keeps facts _ _ _ (duty_action config facts by more)
 
   pub message_keeps : (facts : List Fact) (firm moment : ℕ) (bytes : List ℕ)
       → Keeps facts (message_effect config facts firm moment bytes)
-  unfolding message_effect
   message_keeps facts firm moment bytes =
-      if_keeps facts (is_some (dealer_numbered config firm)) _ _
-      (said_keeps facts firm moment bytes)
-      (investor_keeps facts _ _ (λ market. market_keeps facts market _
-      (left_by_investor facts moment bytes market)))
+      action_keeps facts _ _ _ (message_action config facts firm moment bytes)
 
   pub sweep_keeps : (facts : List Fact) (room : RoomRef) (moment : ℕ)
       → Keeps facts (sweep_effect config facts room moment)
-  unfolding sweep_effect
-  sweep_keeps facts room moment =
-      room_keeps facts room true _ (duties_of_expire (of_room room facts) room moment)
+  sweep_keeps facts room moment = action_keeps facts _ _ _ (sweep_action config facts room moment)
 
   -- All steps.
 

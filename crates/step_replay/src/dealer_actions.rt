@@ -2,50 +2,25 @@
 ghost use Rattle.std.specs.Prelude.{IfOk};
 ghost use Rattle.step_replay.specs.Standing.{Acts};
 ghost use Rattle.step_replay.specs.Actions as action;
+ghost use Rattle.step_replay.specs.Coming as coming;
 
 use crate::floor::Floor;
 use dealer_desk::what_is_asked_is_of_the_day;
 use fix_fields::{Memory, Moment};
-use market_terms::{Ask, Close, RoomRef};
-use venue_steps::{Duties, do_drop, do_show, do_tell, own_dealer};
+use venue_places::{ForDealer, bring_to_dealer};
+use venue_steps::{Duties, do_drop, own_dealer};
 
 impl Floor {
-    /// A dealer is shown a request.
-    pub(crate) fn show(
-        &mut self,
-        dealer: u16,
-        room: RoomRef,
-        ask: Ask,
-        moment: Moment,
-    ) -> Result<Duties, Memory>
+    /// What comes to a dealer's desk is brought to it.
+    pub(crate) fn to_dealer(&mut self, dealer: u16, what: ForDealer) -> Result<Duties, Memory>
         ensures { IfOk result (λ duties. Acts (λ config facts.
-            action.done_by (action.dealer_at config dealer) (action.shown_to config facts room ask moment))
+            action.done_by (action.dealer_at config dealer) (coming.dealer_gets config facts what))
             self.old self.new duties.items) }
     {
         let Some(place) = self.dealers.get_mut(usize::from(dealer)) else {
             return Ok(Duties::new());
         };
-        let duties = do_show(&mut place.desk, room, ask, moment)?;
-        Ok(duties)
-    }
-
-    /// A dealer is told how a request ended for it.
-    pub(crate) fn tell(
-        &mut self,
-        dealer: u16,
-        room: RoomRef,
-        close: Close,
-        moment: Moment,
-    ) -> Result<Duties, Memory>
-        ensures { IfOk result (λ duties. Acts (λ config facts.
-            action.done_by (action.dealer_at config dealer)
-            (action.told_to config facts room close moment))
-            self.old self.new duties.items) }
-    {
-        let Some(place) = self.dealers.get_mut(usize::from(dealer)) else {
-            return Ok(Duties::new());
-        };
-        let duties = do_tell(&mut place.desk, room, close, moment)?;
+        let duties = bring_to_dealer(&mut place.desk, what)?;
         Ok(duties)
     }
 

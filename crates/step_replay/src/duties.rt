@@ -1,12 +1,13 @@
-//! What a duty does in a replay, whichever it is.
+//! What a duty, a sweep and a message do in a replay.
 ghost use Rattle.std.specs.Prelude.{IfOk};
 ghost use Rattle.step_replay.specs.Standing.{Acts, ActsOnce};
 ghost use Rattle.step_replay.specs.Actions as action;
+ghost use Rattle.step_replay.specs.Coming as coming;
 
 use crate::floor::Floor;
-use crate::steps::Actor;
 use fix_fields::{Memory, Moment};
-use market_terms::Duty;
+use market_terms::{Duty, RoomRef};
+use venue_places::{Actor, Arrival, placed, swept};
 use venue_steps::Duties;
 
 /// An actor does a duty, at its one place.
@@ -15,80 +16,44 @@ pub(crate) fn act(floor: &mut Floor, by: Actor, duty: Duty) -> Result<Duties, Me
         (λ config facts. action.duty_effect config facts by duty)
         floor.old floor.new duties.items) }
 {
-    match duty {
-        Duty::Open {
-            room,
-            ask,
-            dealers,
-            moment,
-        } => floor.open(room, ask, dealers, moment),
-        Duty::Show {
-            dealer,
-            room,
-            ask,
-            moment,
-        } => floor.show(dealer, room, ask, moment),
-        Duty::Ready { room, .. } => floor.ready(room),
-        Duty::Post {
-            room,
-            quote,
-            price,
-            valid_until,
-            moment,
-        } => floor.post(by, room, quote, price, valid_until, moment),
-        Duty::Relay {
-            room,
-            offer,
-            moment,
-        } => floor.relay(room, &offer, moment),
-        Duty::Unpost {
-            room,
-            quote,
-            moment,
-        } => floor.unpost(by, room, quote, moment),
-        Duty::Gone { room, word, moment } => floor.gone(room, word, moment),
-        Duty::Decline { room, moment } => floor.decline(by, room, moment),
-        Duty::Declined { room, moment } => floor.declined(by, room, moment),
-        Duty::Hit {
+    let Some(arrival) = placed(&floor.config, by, duty) else {
+        return Ok(Duties::new());
+    };
+    let duties = bring(floor, arrival)?;
+    Ok(duties)
+}
+
+/// The clock sweeps a room, which ends where it is open and its deadline has come.
+pub(crate) fn sweep(floor: &mut Floor, room: RoomRef, moment: Moment) -> Result<Duties, Memory>
+    ensures { IfOk result (λ duties. ActsOnce
+        (λ config facts. action.sweep_effect config facts room moment)
+        floor.old floor.new duties.items) }
+{
+    let Some(arrival) = swept(&floor.config, room, moment) else {
+        return Ok(Duties::new());
+    };
+    let duties = bring(floor, arrival)?;
+    Ok(duties)
+}
+
+/// What comes to a place is brought to it.
+fn bring(floor: &mut Floor, arrival: Arrival) -> Result<Duties, Memory>
+    ensures { IfOk result (λ duties. ActsOnce
+        (λ config facts. coming.arrival_effect config facts arrival)
+        floor.old floor.new duties.items) }
+{
+    match arrival {
+        Arrival::Dealer { firm, what } => floor.to_dealer(firm, what),
+        Arrival::Drop { firm, last, moment } => floor.drop_next(firm, last, moment),
+        Arrival::Investor { firm, what } => floor.to_investor(firm, what),
+        Arrival::Room { room, what } => floor.to_room(room, what),
+        Arrival::Hit {
             room,
             response,
             word,
             moment,
         } => floor.hit(room, response, word, moment),
-        Duty::Pass {
-            room,
-            response,
-            moment,
-        } => floor.pass(room, response, moment),
-        Duty::Answer {
-            room,
-            response,
-            reply,
-            moment,
-        } => floor.answer(room, &response, reply, moment),
-        Duty::Close { room, moment } => floor.close(room, moment),
-        Duty::Tell {
-            dealer,
-            room,
-            close,
-            moment,
-        } => floor.tell(dealer, room, close, moment),
-        Duty::Drop { last, moment } => drop_by(floor, by, last, moment),
     }
-}
-
-/// The next quote of the cancel of all of a dealer that acts is dropped.
-fn drop_by(floor: &mut Floor, by: Actor, last: u32, moment: Moment) -> Result<Duties, Memory>
-    ensures { IfOk result (λ duties. Acts (λ config facts.
-        action.done_by (action.acting_dealer config by)
-        (action.dropped_by config facts last moment))
-        floor.old floor.new duties.items) }
-{
-    let Actor::Firm(dealer) = by else {
-        return Ok(Duties::new());
-    };
-    let duties = floor.drop_next(dealer, last, moment)?;
-    Ok(duties)
 }
 
 /// A message of a firm comes to its own desk, that of a dealer or of an investor.
@@ -106,6 +71,6 @@ pub(crate) fn say(
         let duties = floor.dealer_says(firm, moment, bytes)?;
         return Ok(duties);
     }
-    let duties = floor.said(firm, moment, bytes)?;
+    let duties = floor.investor_says(firm, moment, bytes)?;
     Ok(duties)
 }

@@ -3,9 +3,10 @@ ghost use Rattle.std.specs.Prelude.{◌≡◌};
 ghost use Rattle.step_replay.specs.declared.faults.ReplayFault.TheVariants.{Memory};
 ghost use Rattle.step_replay.specs.StepFaults as spec;
 
-use crate::steps::{Actor, Step};
+use crate::steps::Step;
 use std::alloc::{AllocError, AllocFailed};
 use venue_config::VenueConfig;
+use venue_places::Actor;
 
 /// Why a day can't be replayed: the first of its steps that names what the venue does not have, or
 /// a refusal of memory. All steps are looked at before the first is done.

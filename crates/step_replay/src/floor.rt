@@ -3,6 +3,7 @@ use dealer_desk::DealerDesk;
 use investor_desk::InvestorDesk;
 use quote_word::PlainWords;
 use request_room::Room;
+use venue_config::VenueConfig;
 
 /// The place of a dealer.
 #[derive(Drop)]
@@ -36,6 +37,8 @@ pub(crate) struct InvestorPlace {
 /// The places of a venue, and the words of all quotes.
 #[derive(Drop)]
 pub(crate) struct Floor {
+    /// The venue's rows, by which what comes is placed.
+    pub(crate) config: VenueConfig,
     /// The dealers, in the order of their numbers as firms.
     pub(crate) dealers: Vec<DealerPlace>,
     /// The investors, whose numbers follow those of the dealers.

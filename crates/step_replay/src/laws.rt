@@ -1,15 +1,21 @@
 //! Laws of the audit trail: what is true of every list of steps of every venue.
 ghost use Rattle.std.specs.Prelude.{◌≡◌, ℕ, List, Some, false, ◌&&◌, nat_lt, slice_get, true};
 ghost use Rattle.std.specs.Option.{option_map};
+ghost use Rattle.market_terms.specs.declared.duties.Duty.{Duty};
+ghost use Rattle.market_terms.specs.declared.rooms.RoomRef.{RoomRef};
 ghost use Rattle.venue_config.specs.Rows.{Configuration, dealer_numbered};
 ghost use Rattle.venue_config.specs.declared.dealer_rows.DealerRow.{DealerRow};
+ghost use Rattle.venue_places.specs.Placed.{placed, swept};
+ghost use Rattle.venue_places.specs.declared.actors.Actor.{Actor};
+ghost use Rattle.step_replay.specs.Actions.{duty_effect, sweep_effect};
 ghost use Rattle.step_replay.specs.AuditTrail as venue;
+ghost use Rattle.step_replay.specs.Coming.{effect_where};
 ghost use Rattle.step_replay.specs.DealerView.{dealer_view};
 ghost use Rattle.step_replay.specs.DealerTrail.{was_lifted, was_withdrawn};
 ghost use Rattle.step_replay.specs.FirmDays.{FirmDay, firm_days};
 ghost use Rattle.step_replay.specs.LiveDays.{live_messages, live_trail, messages_for};
 ghost use Rattle.step_replay.specs.StepFaults.{firms_of};
-ghost use Rattle.step_replay.specs.VenueFacts.{of_dealer};
+ghost use Rattle.step_replay.specs.VenueFacts.{Fact, of_dealer};
 ghost use Rattle.step_replay.specs.declared.steps.Step.{Step};
 
 /// A law: in every venue, after every list of steps, a dealer was sent the dealer view of the date,
@@ -72,4 +78,16 @@ pub fn dealers_are_given_their_view()
         → dealer_numbered config dealer ≡ Some row
         → messages_for dealer (live_messages config steps)
         ≡ dealer_view config.date row (venue.due_to dealer (live_trail config steps)) }
+{}
+
+/// A law: what an action of the venue adds and leaves is what comes by the market's table. The table
+/// gives of a duty (`placed`) or a sweep (`swept`) the one place where it is done and what comes
+/// there, and the place's own line says what that adds; where nothing comes, nothing happens. It does
+/// nothing.
+pub fn actions_do_what_comes_by_the_table()
+    ensures duties { (config : Configuration) (facts : List Fact) (by : Actor) (duty : Duty)
+        → duty_effect config facts by duty ≡ effect_where config facts (placed config by duty) }
+    ensures sweeps { (config : Configuration) (facts : List Fact) (room : RoomRef) (moment : ℕ)
+        → sweep_effect config facts room moment
+        ≡ effect_where config facts (swept config room moment) }
 {}

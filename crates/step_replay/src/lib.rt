@@ -61,6 +61,8 @@
 //! - [`no_quote_is_lifted_and_withdrawn`].
 //! - [`sweeps_of_rooms_that_are_not_due_do_nothing`]: a sweep of a room that is not open, or whose
 //!   deadline has not come, changes nothing.
+//! - [`actions_do_what_comes_by_the_table`]: what a duty or a sweep does is what comes by the
+//!   market's table (`venue_places`) to the one place that it gives.
 //!
 //! More laws of the definition stand in the crate `venue_laws`; what they need of the proofs here is
 //! in `specs`, in the files named `..Lemmas`.
@@ -92,11 +94,12 @@ pub use dealer_view::{alone, equal_lists_have_equal_views};
 pub use dues::Due;
 pub use faults::ReplayFault;
 pub use laws::{
-    dealers_are_given_their_view, dealers_are_isolated, dealers_are_sent_their_view,
-    firms_are_sent_one_list, no_quote_is_lifted_and_withdrawn,
+    actions_do_what_comes_by_the_table, dealers_are_given_their_view, dealers_are_isolated,
+    dealers_are_sent_their_view, firms_are_sent_one_list, no_quote_is_lifted_and_withdrawn,
 };
 pub use live::LiveVenue;
 pub use sent_to::SentTo;
-pub use steps::{Actor, MOST_TURNS_BEHIND, Step};
+pub use steps::{MOST_TURNS_BEHIND, Step};
 pub use sweep_laws::sweeps_of_rooms_that_are_not_due_do_nothing;
+pub use venue_places::Actor;
 pub use world::{World, due, run};

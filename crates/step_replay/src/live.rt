@@ -22,13 +22,14 @@ use crate::floor::Floor;
 use crate::open_rooms::OpenRooms;
 use crate::replay::Replay;
 use crate::sent_to::SentTo;
-use crate::steps::{Actor, MOST_TURNS_BEHIND, Step};
+use crate::steps::{MOST_TURNS_BEHIND, Step};
 use crate::world::World;
 use fix_fields::{Memory, Moment};
 use market_terms::{Duty, RoomRef};
 use quote_messages::SentMessage;
 use std::alloc::{AllocError, Global};
 use venue_config::VenueConfig;
+use venue_places::Actor;
 
 /// A venue that answers each step before the next one comes: behind the step its actor does all
 /// duties that it has, one by one. Once memory was refused nothing is known of it any more.

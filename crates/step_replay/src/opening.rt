@@ -23,6 +23,7 @@ impl Floor {
         let owners = owners_of_words(alloc, config)?;
         let words = PlainWords::new(alloc, owners.len() as u32)?;
         Ok(Floor {
+            config: config.copy(alloc)?,
             dealers,
             investors,
             words,

@@ -7,15 +7,16 @@ ghost use Rattle.step_replay.specs.Following.{Follows, ReplayStands};
 ghost use Rattle.step_replay.specs.Queues.{is_known};
 ghost use Rattle.step_replay.specs.StepFaults.{fault_of};
 
-use crate::duties::{act, say};
+use crate::duties::{act, say, sweep};
 use crate::floor::Floor;
 use crate::queues::leave;
-use crate::steps::{Actor, Step};
+use crate::steps::Step;
 use fix_fields::{Memory, Moment};
 use market_terms::{Duty, RoomRef};
 use std::alloc::Global;
 use std::collections::VecDeque;
 use venue_config::VenueConfig;
+use venue_places::Actor;
 
 /// A venue that replays a day.
 #[derive(Drop)]
@@ -124,7 +125,7 @@ impl Replay {
         let Some(index) = self.index_of(Actor::Clock) else {
             return Ok(());
         };
-        let duties = self.floor.expire(room, moment)?;
+        let duties = sweep(&mut self.floor, room, moment)?;
         let Some(queue) = self.queues.get_mut(index) else {
             return Ok(());
         };

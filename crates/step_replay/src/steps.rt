@@ -1,17 +1,8 @@
-//! The steps of a venue's day, and who does them.
+//! The steps of a venue's day.
 use fix_fields::Moment;
 use market_terms::RoomRef;
 use quote_messages::Message;
-
-/// Who has duties to do: each firm those that its own messages began, and the clock those that its
-/// sweeps began. Each has one queue of them, first in, first out.
-#[derive(Clone, Copy)]
-pub enum Actor {
-    /// The firm with this number: the dealers from 0 on, behind them the investors.
-    Firm(u16),
-    /// The clock.
-    Clock,
-}
+use venue_places::Actor;
 
 /// How many turns of its actor stand behind a step in a day whose steps are answered as they come.
 /// No step leaves as many duties.

@@ -40,8 +40,8 @@ use Rattle.step_replay.specs.Actions.{verdict_on, answer_of, said_by_dealer, sai
 use Rattle.step_replay.specs.Actions.{left_by_investor, message_effect, nothing}
 use Rattle.step_replay.specs.AuditTrail.{AuditTrail, Caused, pending, after_turn, after_step}
 use Rattle.step_replay.specs.AuditTrail.{duty_of, is_same_actor, with_effect}
-use Rattle.step_replay.specs.declared.steps.Actor.{Actor}
-use Rattle.step_replay.specs.declared.steps.Actor.TheVariants as actor
+use Rattle.venue_places.specs.declared.actors.Actor.{Actor}
+use Rattle.venue_places.specs.declared.actors.Actor.TheVariants as actor
 use Rattle.step_replay.specs.declared.steps.Step.{Step}
 use Rattle.step_replay.specs.declared.steps.Step.TheVariants as step
 use Rattle.venue_laws.proofs.AskedGrids.{FactBearsGrid, DutyBearsGrid, every_append}

@@ -45,7 +45,7 @@ use Rattle.step_replay.specs.Actions.{left_by_drop, drop_at}
 use Rattle.step_replay.specs.Actions.{lifting, hit_with, quote_with_word}
 use Rattle.step_replay.specs.Actions.{duty_effect, sweep_effect}
 use Rattle.step_replay.specs.Actions.{answer_to_drop}
-use Rattle.step_replay.specs.declared.steps.Actor.{Actor}
+use Rattle.venue_places.specs.declared.actors.Actor.{Actor}
 use Rattle.venue_laws.proofs.AskedGrids.{BearsGrid, FactBearsGrid, DutyBearsGrid, EventBearsGrid}
 use Rattle.venue_laws.proofs.AskedGrids.{every_append, every_map}
 use Rattle.venue_laws.proofs.AskedGrids.{entries_bear}

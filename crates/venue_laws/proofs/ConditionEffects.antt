@@ -33,7 +33,7 @@ use Rattle.step_replay.specs.InvestorTrail.{InvestorEntry, entries_of}
 use Rattle.step_replay.specs.InvestorTrail as investor_trail
 use Rattle.step_replay.specs.VenueFacts.{AtDealer, AtInvestor, Fact, InRoom, of_dealer}
 use Rattle.step_replay.specs.VenueFacts.{of_investor, of_room}
-use Rattle.step_replay.specs.declared.steps.Actor.{Actor}
+use Rattle.venue_places.specs.declared.actors.Actor.{Actor}
 use Rattle.venue_laws.proofs.ConditionDesks.{event_fits}
 use Rattle.venue_laws.proofs.ConditionInvariant.{DutyFit, FactFit, Fit, Fits, investor_facts}
 use Rattle.venue_laws.proofs.ConditionInvariant.{investor_facts_grown}

@@ -33,8 +33,8 @@ use Rattle.step_replay.specs.Actions.{hit_with, in_room, lifting}
 use Rattle.step_replay.specs.Actions.{quote_with_word, sweep_effect}
 use Rattle.step_replay.specs.AuditTrail.{Caused}
 use Rattle.step_replay.specs.VenueFacts.{Fact, InRoom, of_investor, of_room}
-use Rattle.step_replay.specs.declared.steps.Actor.{Actor}
-use Rattle.step_replay.specs.declared.steps.Actor.TheVariants as actor
+use Rattle.venue_places.specs.declared.actors.Actor.{Actor}
+use Rattle.venue_places.specs.declared.actors.Actor.TheVariants as actor
 use Rattle.venue_laws.proofs.ConditionEffects.{BringsFit, room_fits, same_desks}
 use Rattle.venue_laws.proofs.ConditionInvariant.{DutyFit, FactFit, Fit, HitsIn}
 use Rattle.venue_laws.proofs.ConditionInvariant.{PassesIn, closer, known_stays}

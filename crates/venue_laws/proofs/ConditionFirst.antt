@@ -38,7 +38,7 @@ use Rattle.step_replay.specs.DealerTrail.{AtDesk, DealerEntry, Sent, ShownIn, bo
 use Rattle.step_replay.specs.DealerTrail.{message_by, rooms_by}
 use Rattle.step_replay.specs.InvestorTrail as investor_trail
 use Rattle.step_replay.specs.VenueFacts.{AtDealer, AtInvestor, Fact, InRoom, of_dealer}
-use Rattle.step_replay.specs.declared.steps.Actor.{Actor}
+use Rattle.venue_places.specs.declared.actors.Actor.{Actor}
 use Rattle.venue_laws.proofs.ConditionOnce.{EntryDone, FactDone, FirstIn, OnceOk}
 use Rattle.step_replay.specs.EachLemmas.{Each, Every, every_both, every_weaker}
 use Rattle.venue_laws.proofs.NoticeLemmas.{settled_silent, told_in, verdict_silent}

@@ -25,8 +25,8 @@ use Rattle.venue_laws.specs.Conditions.{is_room}
 use Rattle.step_replay.specs.DealerTrail.{ShownIn}
 use Rattle.step_replay.specs.InvestorTrail as investor_trail
 use Rattle.step_replay.specs.VenueFacts.{Fact, AtDealer, InRoom, AtInvestor, of_investor, of_room}
-use Rattle.step_replay.specs.declared.steps.Actor.{Actor}
-use Rattle.step_replay.specs.declared.steps.Actor.TheVariants as actor
+use Rattle.venue_places.specs.declared.actors.Actor.{Actor}
+use Rattle.venue_places.specs.declared.actors.Actor.TheVariants as actor
 use Rattle.step_replay.specs.EachLemmas.{Every, every_both, every_weaker}
 use Rattle.venue_laws.proofs.KnownLemmas.{DeskFit, knows_grown}
 use Rattle.step_replay.specs.PlaceLemmas.{investor_grown}

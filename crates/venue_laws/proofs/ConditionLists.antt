@@ -16,7 +16,7 @@ use Rattle.request_room.specs.RoomFacts.{is_readied}
 use Rattle.step_replay.specs.DealerTrail.{AtDesk, DealerEntry, ShownIn, facts_of, rooms_by}
 use Rattle.step_replay.specs.VenueFacts.{AtDealer, AtInvestor, Fact, InRoom, entry_at_dealer}
 use Rattle.step_replay.specs.VenueFacts.{fact_in_room, of_dealer, of_room}
-use Rattle.step_replay.specs.declared.steps.Actor.{Actor}
+use Rattle.venue_places.specs.declared.actors.Actor.{Actor}
 use Rattle.venue_laws.proofs.ConditionInvariant.{DutyFit}
 use Rattle.venue_laws.proofs.ConditionInvariant.{TellsBy}
 use Rattle.venue_laws.proofs.ConditionOnce.{EntryDone, ToldBy}

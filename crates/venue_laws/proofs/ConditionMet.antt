@@ -34,7 +34,7 @@ use Rattle.venue_laws.specs.Conditions.{is_known_to, is_met, is_room, may_drop}
 use Rattle.step_replay.specs.DealerTrail.{book_by}
 use Rattle.step_replay.specs.VenueFacts.{AtDealer, AtInvestor, Fact, InRoom, fact_in_room}
 use Rattle.step_replay.specs.VenueFacts.{of_dealer, of_room}
-use Rattle.step_replay.specs.declared.steps.Actor.{Actor}
+use Rattle.venue_places.specs.declared.actors.Actor.{Actor}
 use Rattle.venue_laws.proofs.ConditionInvariant.{ByDealer, ByNamed, DutyFit, FactFit, Fit}
 use Rattle.venue_laws.proofs.ConditionInvariant.{IsOpened, KnownIn, OpenedFit}
 use Rattle.venue_laws.proofs.ConditionQuotes.{AsksOfDay, DropsOfDay, OfRow, asks_of_day}

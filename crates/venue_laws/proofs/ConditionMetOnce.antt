@@ -23,8 +23,8 @@ use Rattle.venue_laws.specs.Conditions.{is_unshown, is_untold}
 use Rattle.step_replay.specs.DealerTrail.{DealerEntry, book_by, rooms_by}
 use Rattle.step_replay.specs.VenueFacts.{InRoom}
 use Rattle.step_replay.specs.VenueFacts.{of_dealer, of_room}
-use Rattle.step_replay.specs.declared.steps.Actor.{Actor}
-use Rattle.step_replay.specs.declared.steps.Actor.TheVariants as actor
+use Rattle.venue_places.specs.declared.actors.Actor.{Actor}
+use Rattle.venue_places.specs.declared.actors.Actor.TheVariants as actor
 use Rattle.venue_laws.proofs.ConditionInvariant.{DutyFit, Fit, OpensIn, ReadiesBy, ShowsIn}
 use Rattle.venue_laws.proofs.ConditionInvariant.{TellsBy}
 use Rattle.venue_laws.proofs.ConditionInvariant.{closer}

@@ -20,8 +20,8 @@ use Rattle.step_replay.specs.Actions.{Effect}
 use Rattle.step_replay.specs.AuditTrail.{AuditTrail, Caused, duty_of, is_same_actor, pending}
 use Rattle.step_replay.specs.DealerTrail.{AtDesk, DealerEntry, ShownIn}
 use Rattle.step_replay.specs.VenueFacts.{AtDealer, AtInvestor, Fact, InRoom}
-use Rattle.step_replay.specs.declared.steps.Actor.{Actor}
-use Rattle.step_replay.specs.declared.steps.Actor.TheVariants as actor
+use Rattle.venue_places.specs.declared.actors.Actor.{Actor}
+use Rattle.venue_places.specs.declared.actors.Actor.TheVariants as actor
 use Rattle.step_replay.specs.EachLemmas.{Each, Every, Stays, each_append, every_both, every_weaker}
 use Rattle.step_replay.specs.GrowthLemmas.{In, any_right}
 use Rattle.step_replay.specs.QueueLemmas.{same_actor}

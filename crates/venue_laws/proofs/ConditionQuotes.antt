@@ -28,8 +28,8 @@ use Rattle.step_replay.specs.DealerTrail.{AtDesk, DealerEntry, Lifted, Sent, Sho
 use Rattle.step_replay.specs.DealerTrail.{room_in, rooms_by}
 use Rattle.step_replay.specs.VenueFacts.{AtDealer, AtInvestor, Fact, InRoom, entry_at_dealer}
 use Rattle.step_replay.specs.VenueFacts.{of_dealer, of_room}
-use Rattle.step_replay.specs.declared.steps.Actor.{Actor}
-use Rattle.step_replay.specs.declared.steps.Actor.TheVariants as actor
+use Rattle.venue_places.specs.declared.actors.Actor.{Actor}
+use Rattle.venue_places.specs.declared.actors.Actor.TheVariants as actor
 use Rattle.venue_laws.proofs.ConditionEffects.{desk_fits, when_fits}
 use Rattle.venue_laws.proofs.ConditionInvariant.{ByDealer, DutyFit, FactFit, Fit, Fits}
 use Rattle.step_replay.specs.EachLemmas.{Every, every_both}

@@ -27,7 +27,7 @@ use Rattle.step_replay.specs.Actions.{unposted_by, word_for}
 use Rattle.step_replay.specs.AuditTrail.{Caused}
 use Rattle.venue_laws.specs.Conditions.{is_room}
 use Rattle.step_replay.specs.VenueFacts.{Fact, InRoom, of_room}
-use Rattle.step_replay.specs.declared.steps.Actor.{Actor}
+use Rattle.venue_places.specs.declared.actors.Actor.{Actor}
 use Rattle.venue_laws.proofs.ConditionEffects.{BringsFit, follows_fits, room_fits}
 use Rattle.venue_laws.proofs.ConditionEffects.{so_fits, when_fits}
 use Rattle.venue_laws.proofs.ConditionInvariant.{ByNamed, DutyFit, Fit}

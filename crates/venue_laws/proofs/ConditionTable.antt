@@ -32,8 +32,8 @@ use Rattle.step_replay.specs.AuditTrail.{AuditTrail, Caused, after_step, after_t
 use Rattle.step_replay.specs.AuditTrail.{is_same_actor, no_steps, pending}
 use Rattle.step_replay.specs.DealerTrail.{rooms_by}
 use Rattle.step_replay.specs.VenueFacts.{Fact, of_dealer, of_investor, of_room}
-use Rattle.step_replay.specs.declared.steps.Actor.{Actor}
-use Rattle.step_replay.specs.declared.steps.Actor.TheVariants as actor
+use Rattle.venue_places.specs.declared.actors.Actor.{Actor}
+use Rattle.venue_places.specs.declared.actors.Actor.TheVariants as actor
 use Rattle.step_replay.specs.declared.steps.Step.{Step}
 use Rattle.step_replay.specs.declared.steps.Step.TheVariants as step
 use Rattle.venue_laws.proofs.ConditionDesks.{VerdictFit, verdict_fits}

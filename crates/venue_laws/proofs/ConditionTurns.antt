@@ -38,8 +38,8 @@ use Rattle.step_replay.specs.Actions.{sweep_effect, told_of}
 use Rattle.step_replay.specs.AuditTrail.{AuditTrail}
 use Rattle.step_replay.specs.DealerTrail.{book_by}
 use Rattle.step_replay.specs.VenueFacts.{Fact, InRoom, of_dealer, of_room}
-use Rattle.step_replay.specs.declared.steps.Actor.{Actor}
-use Rattle.step_replay.specs.declared.steps.Actor.TheVariants as actor
+use Rattle.venue_places.specs.declared.actors.Actor.{Actor}
+use Rattle.venue_places.specs.declared.actors.Actor.TheVariants as actor
 use Rattle.venue_laws.proofs.ConditionFirst.{BringsFirst, SaidNow, desk_first}
 use Rattle.venue_laws.proofs.ConditionFirst.{free_once}
 use Rattle.venue_laws.proofs.ConditionFirst.{is_free, nothing_first}

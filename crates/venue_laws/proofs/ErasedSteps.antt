@@ -40,7 +40,7 @@ use Rattle.step_replay.specs.Actions.{answer_of, left_by, dealer_says, verdict_o
 use Rattle.step_replay.specs.Actions.{posted_by, unposted_by, declined_by, said_by_investor}
 use Rattle.step_replay.specs.Actions.{left_by_investor, answered_by, duty_effect}
 use Rattle.step_replay.specs.Actions.{sweep_effect, message_effect}
-use Rattle.step_replay.specs.declared.steps.Actor.{Actor}
+use Rattle.venue_places.specs.declared.actors.Actor.{Actor}
 use Rattle.venue_laws.proofs.Erasing.{erase_entry, erase_verdict, erase_duty}
 use Rattle.venue_laws.proofs.Erasing.{erase_room_fact}
 use Rattle.venue_laws.proofs.ErasedLists.{list_of}

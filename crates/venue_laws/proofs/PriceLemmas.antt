@@ -24,8 +24,8 @@ use Rattle.venue_laws.specs.PriceAlike.{DiffersInPrices, IsPricedByAnother, IsPr
 use Rattle.venue_laws.specs.PriceAlike.{IsCoverAgainstDoneAway, IsOneButForCover}
 use Rattle.step_replay.specs.declared.dues.Due.{Due}
 use Rattle.step_replay.specs.declared.dues.Due.TheVariants as due
-use Rattle.step_replay.specs.declared.steps.Actor.{Actor}
-use Rattle.step_replay.specs.declared.steps.Actor.TheVariants as actor
+use Rattle.venue_places.specs.declared.actors.Actor.{Actor}
+use Rattle.venue_places.specs.declared.actors.Actor.TheVariants as actor
 use Rattle.step_replay.specs.declared.steps.Step.{Step}
 use Rattle.step_replay.specs.declared.steps.Step.TheVariants as step
 use Rattle.venue_laws.proofs.Erasing.{erase, erase_close, erase_entry, erase_duty, erase_caused}

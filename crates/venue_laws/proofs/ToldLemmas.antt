@@ -21,7 +21,7 @@ use Rattle.step_replay.specs.AuditTrail.{AuditTrail, Caused, is_same_actor, pend
 use Rattle.step_replay.specs.DealerTrail.{AtDesk, DealerEntry, facts_of, rooms_by}
 use Rattle.venue_laws.specs.Notices.{IsToldOnce}
 use Rattle.step_replay.specs.VenueFacts.{AtDealer, Fact, entry_at_dealer, of_dealer, of_room}
-use Rattle.step_replay.specs.declared.steps.Actor.{Actor}
+use Rattle.venue_places.specs.declared.actors.Actor.{Actor}
 use Rattle.venue_laws.proofs.CountLemmas.{number_within}
 use Rattle.step_replay.specs.EachLemmas.{Every}
 use Rattle.step_replay.specs.GrowthLemmas.{In, same_room, some_same}

@@ -48,7 +48,7 @@ use Rattle.step_replay.specs.AuditTrail.{AuditTrail}
 use Rattle.step_replay.specs.DealerTrail.{AtDesk, DealerEntry, Sent, ShownIn, book_by, entries_of}
 use Rattle.step_replay.specs.DealerTrail.{fact_in, facts_of, message_by, rooms_by}
 use Rattle.step_replay.specs.VenueFacts.{AtDealer, Fact, of_dealer}
-use Rattle.step_replay.specs.declared.steps.Actor.TheVariants as actor
+use Rattle.venue_places.specs.declared.actors.Actor.TheVariants as actor
 use Rattle.step_replay.specs.EachLemmas.{Every, every_both}
 use Rattle.step_replay.specs.GrowthLemmas.{AreNumbered, In, in_right}
 use Rattle.venue_laws.proofs.NoticeLemmas.{settled_silent, verdict_silent}

@@ -32,7 +32,7 @@ use Rattle.step_replay.specs.Actions.{lifting, quote_with_word, sweep_effect}
 use Rattle.step_replay.specs.AuditTrail.{AuditTrail}
 use Rattle.step_replay.specs.DealerTrail.{DealerEntry, Lifted, lifts, was_lifted}
 use Rattle.step_replay.specs.VenueFacts.{AtDealer, Fact, of_dealer, of_room}
-use Rattle.step_replay.specs.declared.steps.Actor.{Actor}
+use Rattle.venue_places.specs.declared.actors.Actor.{Actor}
 use Rattle.step_replay.specs.EachLemmas.{Every, every_both, every_weaker}
 use Rattle.step_replay.specs.GrowthLemmas.{In, any_right, in_right, said_after, some_same}
 use Rattle.step_replay.specs.OwnerLemmas.{owner_among, quote_at}

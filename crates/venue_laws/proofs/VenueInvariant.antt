@@ -28,8 +28,8 @@ use Rattle.step_replay.specs.DealerTrail.{DealerEntry, AtDesk, facts_of, rooms_b
 use Rattle.step_replay.specs.DealerTrail.{was_lifted, lifts, room_in}
 use Rattle.venue_laws.specs.Notices.{NamesLiftedQuote}
 use Rattle.step_replay.specs.VenueFacts.{Fact, AtDealer, InRoom, AtInvestor, of_dealer, of_room}
-use Rattle.step_replay.specs.declared.steps.Actor.{Actor}
-use Rattle.step_replay.specs.declared.steps.Actor.TheVariants as actor
+use Rattle.venue_places.specs.declared.actors.Actor.{Actor}
+use Rattle.venue_places.specs.declared.actors.Actor.TheVariants as actor
 use Rattle.venue_laws.proofs.CountLemmas.{AreCounted}
 use Rattle.step_replay.specs.EachLemmas.{Each, Every}
 use Rattle.step_replay.specs.GrowthLemmas.{In, in_left, any_left, number_grown}

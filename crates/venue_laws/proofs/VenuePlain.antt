@@ -21,7 +21,7 @@ use Rattle.step_replay.specs.DealerTrail.{DealerEntry, AtDesk, ShownIn, Sent, en
 use Rattle.step_replay.specs.InvestorTrail.{InvestorEntry}
 use Rattle.step_replay.specs.VenueFacts.{Fact, AtDealer, InRoom, AtInvestor, of_dealer}
 use Rattle.step_replay.specs.VenueFacts.{entry_at_dealer}
-use Rattle.step_replay.specs.declared.steps.Actor.{Actor}
+use Rattle.venue_places.specs.declared.actors.Actor.{Actor}
 use Rattle.step_replay.specs.EachLemmas.{Each, Every, every_both, every_weaker}
 use Rattle.step_replay.specs.GrowthLemmas.{AreNumbered}
 use Rattle.venue_laws.proofs.NoticeLemmas.{told_in}

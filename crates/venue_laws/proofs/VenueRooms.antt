@@ -31,7 +31,7 @@ use Rattle.step_replay.specs.Actions.{nothing, offer_of, opened, posted_by}
 use Rattle.step_replay.specs.Actions.{unposted_by, word_for}
 use Rattle.step_replay.specs.AuditTrail.{AuditTrail, Caused}
 use Rattle.step_replay.specs.VenueFacts.{Fact, InRoom, fact_in_room, of_room}
-use Rattle.step_replay.specs.declared.steps.Actor.{Actor}
+use Rattle.venue_places.specs.declared.actors.Actor.{Actor}
 use Rattle.step_replay.specs.EachLemmas.{Each, Every, each_append, every_both}
 use Rattle.step_replay.specs.GrowthLemmas.{In, any_right, said_after}
 use Rattle.step_replay.specs.GrowthLemmas.{same_room, some_same}

@@ -36,7 +36,7 @@ use Rattle.step_replay.specs.DealerTrail.{fact_in, facts_of, message_by, room_in
 use Rattle.step_replay.specs.DealerTrail.{was_lifted, was_withdrawn}
 use Rattle.venue_laws.specs.Notices.{NamesLiftedQuote, next_sent}
 use Rattle.step_replay.specs.VenueFacts.{AtDealer, Fact, of_dealer}
-use Rattle.step_replay.specs.declared.steps.Actor.{Actor}
+use Rattle.venue_places.specs.declared.actors.Actor.{Actor}
 use Rattle.venue_laws.proofs.CountLemmas.{numbered_shown}
 use Rattle.step_replay.specs.EachLemmas.{every_weaker}
 use Rattle.step_replay.specs.GrowthLemmas.{AreNumbered, In, any_right, number_next}

@@ -19,8 +19,8 @@ use Rattle.step_replay.specs.AuditTrail.{pending}
 use Rattle.step_replay.specs.DealerTrail.{AtDesk, DealerEntry, message_in, rooms_by, room_in}
 use Rattle.venue_laws.specs.Notices.{next_sent}
 use Rattle.step_replay.specs.VenueFacts.{Fact, of_dealer}
-use Rattle.step_replay.specs.declared.steps.Actor.{Actor}
-use Rattle.step_replay.specs.declared.steps.Actor.TheVariants as actor
+use Rattle.venue_places.specs.declared.actors.Actor.{Actor}
+use Rattle.venue_places.specs.declared.actors.Actor.TheVariants as actor
 use Rattle.venue_laws.proofs.CountLemmas.{AreCounted}
 use Rattle.step_replay.specs.EachLemmas.{Each, Every, Stays, each_append, each_weaker}
 use Rattle.step_replay.specs.EachLemmas.{every_both, every_weaker}

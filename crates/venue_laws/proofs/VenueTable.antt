@@ -14,8 +14,8 @@ use Rattle.step_replay.specs.Actions.{duty_effect, nothing, quote_asked, answer_
 use Rattle.step_replay.specs.Actions.{dropped_by, shown_to, told_to}
 use Rattle.step_replay.specs.AuditTrail.{AuditTrail, Caused, is_same_actor}
 use Rattle.step_replay.specs.VenueFacts.{Fact, of_room}
-use Rattle.step_replay.specs.declared.steps.Actor.{Actor}
-use Rattle.step_replay.specs.declared.steps.Actor.TheVariants as actor
+use Rattle.venue_places.specs.declared.actors.Actor.{Actor}
+use Rattle.venue_places.specs.declared.actors.Actor.TheVariants as actor
 use Rattle.venue_steps.specs.RoomSteps.{hit_word}
 use Rattle.venue_laws.proofs.CountLemmas.{AreCounted, counted_is_kept}
 use Rattle.step_replay.specs.EachLemmas.{Every}

@@ -16,7 +16,7 @@ ghost use Rattle.step_replay.specs.DealerTrail.{AtDesk, DealerEntry};
 ghost use Rattle.venue_laws.specs.Notices.{IsToldOnce, NamesLiftedQuote, notices_of};
 ghost use Rattle.venue_laws.specs.Notices.{was_shown};
 ghost use Rattle.step_replay.specs.VenueFacts.{of_dealer, of_room};
-ghost use Rattle.step_replay.specs.declared.steps.Actor.{Actor};
+ghost use Rattle.venue_places.specs.declared.actors.Actor.{Actor};
 ghost use Rattle.step_replay.specs.declared.steps.Step.{Step};
 
 use dealer_desk::limits_are_kept;

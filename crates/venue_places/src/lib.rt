@@ -17,11 +17,13 @@
 //! word, are brought by `do_drop` and `do_hit` themselves.
 #![tactic(auto)]
 
+mod actors;
 mod arrivals;
 mod bringing;
 mod table;
 mod words;
 
+pub use actors::Actor;
 pub use arrivals::{Arrival, ForDealer, ForInvestor, ForRoom};
 pub use bringing::{bring_to_dealer, bring_to_investor, bring_to_room};
 pub use table::{placed, swept};

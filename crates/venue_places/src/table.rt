@@ -1,14 +1,14 @@
 //! The table itself.
 ghost use Rattle.std.specs.Prelude.{◌≡◌};
-ghost use Rattle.step_replay.specs.Actions.{dealer_of};
+ghost use Rattle.venue_places.specs.Dealers.{dealer_of};
 ghost use Rattle.venue_places.specs.Placed as spec;
 
+use crate::actors::Actor;
 use crate::arrivals::{Arrival, ForDealer, ForInvestor, ForRoom};
 use crate::words::word_of;
 use bond_prices::Ticks;
 use fix_fields::Moment;
 use market_terms::{Duty, Offer, ResponseRef, RoomRef};
-use step_replay::Actor;
 use venue_config::VenueConfig;
 
 /// Where a duty of an actor is done, and what comes to that place. It takes no memory.

@@ -1,6 +1,6 @@
 //! The words of quotes, by the configuration.
 ghost use Rattle.std.specs.Prelude.{◌≡◌, ◌<◌, length, take};
-ghost use Rattle.step_replay.specs.Actions as actions;
+ghost use Rattle.venue_places.specs.Dealers as dealers;
 ghost use Rattle.venue_places.specs.Placed as spec;
 ghost use Rattle.venue_steps.specs.Words as words;
 
@@ -8,7 +8,7 @@ use venue_config::VenueConfig;
 
 /// How many words a venue has.
 fn words_of(config: &VenueConfig) -> u32
-    ensures { result ≡ actions.words_of config.now }
+    ensures { result ≡ dealers.words_of config.now }
 {
     let mut words = 0;
     for row in config.dealers() {
@@ -20,7 +20,7 @@ fn words_of(config: &VenueConfig) -> u32
 /// The word of the first quote of a dealer.
 fn first_word(config: &VenueConfig, dealer: u16) -> u32
     requires { dealer < length config.now.dealers }
-    ensures { result ≡ actions.quotes_of (take dealer config.now.dealers) }
+    ensures { result ≡ dealers.quotes_of (take dealer config.now.dealers) }
 {
     let mut first = 0;
     let mut number = 0u16;
@@ -38,7 +38,7 @@ fn first_word(config: &VenueConfig, dealer: u16) -> u32
 pub(crate) fn word_of(config: &VenueConfig, dealer: u16, quote: u32) -> Option<u32>
     requires { dealer < length config.now.dealers }
     ensures { result ≡ spec.word_within config.now
-        (words.word_of (actions.quotes_of (take dealer config.now.dealers)) quote) }
+        (words.word_of (dealers.quotes_of (take dealer config.now.dealers)) quote) }
 {
     let first = first_word(config, dealer);
     let word = u64::from(first) + u64::from(quote.saturating_sub(1));

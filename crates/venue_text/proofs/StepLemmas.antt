@@ -4,8 +4,8 @@ use Rattle.std.proofs.Common.{Some, None, Result, Ok, Err, append_assoc, replica
 use Rattle.std.proofs.Common.{zero, suc, nat_lt, if◌then◌else◌}
 use Rattle.venue_config.specs.Rows.{ConfigValues, Configuration, values_of}
 use Rattle.step_replay.specs.StepFaults.{first_fault, first_fault_from, firms_of}
-use Rattle.step_replay.specs.declared.steps.Actor.{Actor}
-use Rattle.step_replay.specs.declared.steps.Actor.TheVariants as actor
+use Rattle.venue_places.specs.declared.actors.Actor.{Actor}
+use Rattle.venue_places.specs.declared.actors.Actor.TheVariants as actor
 use Rattle.step_replay.specs.declared.steps.Step.{Step}
 use Rattle.step_replay.specs.declared.steps.Step.TheVariants as step
 use Rattle.venue_text.specs.ResultSteps.{◌>>=◌}

@@ -1,5 +1,5 @@
 use Rattle.std.proofs.Common.{◌<◌, ℕ}
-use Rattle.step_replay.specs.declared.steps.Actor.TheVariants as actor
+use Rattle.venue_places.specs.declared.actors.Actor.TheVariants as actor
 use Rattle.recorded_days.specs.OrderPlaces.{AreNotedBy}
 use Rattle.recorded_days.proofs.name_checks.are_all_noted.Given as goal
 

@@ -1,26 +1,19 @@
-use Rattle.std.proofs.Common.{List, [], ◌∷◌, ◌++◌, subst, sym, take}
-use Rattle.std.specs.List.{AllZip}
-use Rattle.step_replay.specs.declared.steps.Step.{Step}
-use Rattle.recorded_days.specs.OrderCounts.{AreOfInboxes}
-use Rattle.recorded_days.specs.Weaving.{IsStepOf}
-use Rattle.recorded_days.specs.declared.weave_plan.Slot.{Slot}
-use Rattle.recorded_days.proofs.OrderLemmas.{pairs_more, taken_more}
+use Rattle.std.proofs.Common.{arith}
+use Rattle.recorded_days.proofs.StepLemmas.{slot_in, steps_more}
 use Rattle.recorded_days.proofs.woven_steps.steps_of.Goals as goal
+
+pub put_step-requires-clause-slot : goal.put_step-requires-clause-slot
+put_step-requires-clause-slot c =
+    slot_in c.args.day.now c.args.slots.now c.loop-index.index _ c.requires.keeps (omega arith)
 
 pub loop-index-preserved : goal.loop-index-preserved
 loop-index-preserved c =
-    let day = c.args.day.now in
-    let slot = c.in-Some.slot.now in
-    let before = take c.loop-index.index c.args.slots.now in
-    let there = sym c.in-Some.ensures in
-    let next = (c.requires.turns c.loop-index.index slot there).of_actor in
-    let told = c.in_ok-put.ensures.step c.if-not-put.false before c.loop-index.invariant.came next in
-    let more = taken_more c.args.slots.now c.loop-index.index slot there in
+    let more =
+    steps_more c.args.day.now c.args.slots.now c.loop-index.index _ c.loop-index.came
+    c.put_step.new.came c.loop-index.steps.items c.put_step.new.steps.items c.requires.keeps
+    (omega arith) c.loop-index.invariant.are c.loop-index.invariant.came
+    c.in_ok-put_step.ensures.step c.in_ok-put_step.ensures.came in
     record {
-      are = subst (λ (l : List Slot). AllZip (IsStepOf day) l c.put_step.new.steps.items) (sym more)
-          (subst (λ (l : List Step). AllZip (IsStepOf day) (before ++ slot ∷ []) l) (sym told.1)
-          (pairs_more (IsStepOf day) before c.loop-index.steps.items slot told.0
-          c.loop-index.invariant.are told.2));
-      came = subst (λ (l : List Slot). AreOfInboxes day c.put_step.new.came l) (sym more)
-          (c.in_ok-put.ensures.came c.if-not-put.false before c.loop-index.invariant.came next);
+      are = more.0;
+      came = more.1;
     }

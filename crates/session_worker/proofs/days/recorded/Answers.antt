@@ -1,9 +1,11 @@
 use Rattle.std.proofs.Common.{rules, ◌≡◌, ◌∙◌, ◌-◌, sym, ap, subst, length, map}
-use Rattle.std.proofs.Common.{◌++◌, None, arith, length-drop}
+use Rattle.std.proofs.Common.{◌++◌, List, None, arith, length-drop}
 use Rattle.std.proofs.lemmas.List.{length-map, length-take-le}
 use Rattle.venue_config.specs.Rows.{Configuration}
 use Rattle.venue_config.specs.declared.investor_rows.InvestorRow.{InvestorRow}
 use Rattle.recorded_days.specs.Records.{DealerLists, InvestorLists}
+use Rattle.recorded_days.specs.declared.actions.Action.{Action}
+use Rattle.session_worker.specs.DayActions.{EventsAreOfActions}
 use Rattle.session_worker.specs.DayChecks.{first_unswept, first_untold}
 use Rattle.session_worker.specs.KeptDays.{KeepsDay, names_by, rooms_of}
 use Rattle.session_worker.proofs.KeepLemmas.{Joined, day_is_kept, investor_inboxes}
@@ -44,6 +46,39 @@ with_rooms-requires-clause-days g c =
     ap (λ (own : Configuration). length own.investors) c.args.venue.config_is in
     omega (arith, first, from, left, days, same, c.requires.sessions)
 
+-- what is said of lists that were read, of the lists
+read_as : (dealers given : List DealerLists) (whole given_whole : List InvestorLists)
+    (clock given_clock : List Action) → given ≡ dealers → given_whole ≡ whole
+    → given_clock ≡ clock → EventsAreOfActions (record {
+      dealers = given;
+      investors = given_whole;
+      clock = given_clock;
+    }) → EventsAreOfActions (record { dealers = dealers; investors = whole; clock = clock })
+read_as dealers given whole given_whole clock given_clock same same_whole same_clock acted =
+    let first : EventsAreOfActions (record {
+      dealers = dealers;
+      investors = given_whole;
+      clock = given_clock;
+    }) = subst (λ (own : List DealerLists). EventsAreOfActions (record {
+      dealers = own;
+      investors = given_whole;
+      clock = given_clock;
+    })) same acted in
+    let second : EventsAreOfActions (record {
+      dealers = dealers;
+      investors = whole;
+      clock = given_clock;
+    }) = subst (λ (own : List InvestorLists). EventsAreOfActions (record {
+      dealers = dealers;
+      investors = own;
+      clock = given_clock;
+    })) same_whole first in
+    subst (λ (own : List Action). EventsAreOfActions (record {
+      dealers = dealers;
+      investors = whole;
+      clock = own;
+    })) same_clock second
+
 -- what was joined and checked is the record
 pub returns : goal.returns
 returns g c =
@@ -75,8 +110,12 @@ returns g c =
     ∙ length-map behind (λ session. session.inbox.items) in
     let told : first_untold rooms dealers ≡ None = search rules in
     let swept : first_unswept sweeps rooms ≡ None = search rules in
+    let none : c.action_fault.result ≡ None = search rules in
+    let dealers_read : c.deref.result.now ≡ dealers = search rules in
+    let whole_read : c.deref-2.result.now ≡ whole = search rules in
+    let clock_read : c.deref-3.result.now ≡ c.args.clock.items = search rules in
     let joined : Joined config (map (λ session. session.inbox.items) sessions) sweeps dealers bare
-    whole rooms c.in_ok-dealers.seen.log c.in_ok-investors.seen.log = record {
+    whole c.args.clock.items rooms c.in_ok-dealers.seen.log c.in_ok-investors.seen.log = record {
       dealers_are = omega (arith, dealer_days, before, from, first);
       investors_are = omega (arith, investor_days, left, from, first, c.requires.sessions);
       rooms_are = c.in_ok-investors.ensures.rooms
@@ -100,6 +139,9 @@ returns g c =
       rooms_stand = c.in_ok-investors.ensures.stand;
       goes_on = c.in_ok-investors.ensures.later;
       legal = c.in_ok-investors.ensures.legal;
+      of_actions = read_as dealers c.deref.result.now whole c.deref-2.result.now
+          c.args.clock.items c.deref-3.result.now dealers_read whole_read clock_read
+          (c.action_fault.ensures none);
     } in
     subst (KeepsDay config (map (λ session. session.inbox.items) sessions) sweeps)
     (sym c.new.ensures)

@@ -2,7 +2,7 @@ use Rattle.std.proofs.Common.{◌++◌, true, ◌≡◌, ap, subst, ◌∙◌}
 use Rattle.step_replay.specs.AuditTrail.{after_step}
 use Rattle.step_replay.specs.LiveStanding.{TellsAllOf}
 use Rattle.step_replay.specs.Queues.{is_known}
-use Rattle.step_replay.specs.declared.steps.Actor.{Actor}
+use Rattle.venue_places.specs.declared.actors.Actor.{Actor}
 use Rattle.step_replay.proofs.LiveLemmas.{actor_known}
 use Rattle.step_replay.proofs.live.answer.Goals as goal
 

@@ -1,5 +1,5 @@
 use Rattle.std.proofs.Common.{◌≡◌, ◌≤◌, take}
-use Rattle.step_replay.specs.Actions.{quotes_of}
+use Rattle.venue_places.specs.Dealers.{quotes_of}
 use Rattle.venue_places.proofs.words.first_word.Given as goal
 
 abbrev pub invariant-loop-row : goal.invariant-loop-row

@@ -1,7 +1,7 @@
 use Rattle.std.proofs.Common.{◌<◌, length, map, slice_set, arith, refl, ap, ◌∙◌}
 use Rattle.std.proofs.lemmas.Bool.Decides.{nat_tests}
 use Rattle.step_replay.specs.Actions.{message_effect}
-use Rattle.step_replay.specs.declared.steps.Actor.TheVariants as actor
+use Rattle.venue_places.specs.declared.actors.Actor.TheVariants as actor
 use Rattle.step_replay.specs.PlaceLemmas.{lent}
 use Rattle.step_replay.proofs.TurnLemmas.{map_set, map_get}
 use Rattle.step_replay.proofs.FollowLemmas.{step_follows, message_one, found_here}

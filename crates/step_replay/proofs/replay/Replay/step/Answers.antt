@@ -3,7 +3,7 @@ use Rattle.step_replay.specs.Actions.{message_effect}
 use Rattle.step_replay.specs.AuditTrail.{after_step, with_effect}
 use Rattle.step_replay.specs.Following.{ReplayStands}
 use Rattle.step_replay.specs.StepFaults.{fault_of}
-use Rattle.step_replay.specs.declared.steps.Actor.TheVariants as actor
+use Rattle.venue_places.specs.declared.actors.Actor.TheVariants as actor
 use Rattle.step_replay.proofs.StartLemmas.{known_firm, known_actor, said, swept, turned}
 use Rattle.step_replay.proofs.replay.Replay.step.Goals as goal
 
