@@ -1,4 +1,7 @@
-"""The command line of mireseason-audit."""
+"""The command line of mireseason-audit.
+
+What a command alone needs (jinja2, psycopg2) is imported by it: that takes longer than a short day.
+"""
 
 import argparse
 import os
@@ -16,9 +19,6 @@ from .files_log import TwoFiles
 from .findings import Finding
 from .jobs import Files
 from .log import Source
-from .pages import Pager
-from .pair_command import PairCommand
-from .postgres_log import PostgresSource
 from .progress import Progress
 from .seal import Sealed, compared, read_seal, sealed, write_seal, write_sums
 from .sqlite_log import SqliteSource
@@ -97,10 +97,10 @@ def source_of(words: argparse.Namespace, venue: Venue, folder: Path) -> Source:
             if not path.is_file():
                 raise Unreadable("%s: there is no such file" % path)
         return TwoFiles(Path(words.log), words.sent, venue).to_log(folder / "files.db")
-    if words.log.startswith("postgres:"):
+    if words.log.startswith(("postgres:", "postgresql:")):
+        from .postgres_log import PostgresSource
+
         return PostgresSource(words.log.removeprefix("postgres:"), words.schema)
-    if words.log.startswith("postgresql:"):
-        return PostgresSource(words.log, words.schema)
     return SqliteSource(Path(words.log))
 
 
@@ -151,7 +151,7 @@ def seal_words(verdict: Verdict, found: list[Finding]) -> str:
 
 
 def do_seal(work: Work) -> int:
-    if not isinstance(work.source, (SqliteSource, PostgresSource)) or work.words.sent is not None:
+    if work.words.sent is not None:
         raise Unreadable("two files have no chain, so there is nothing to be sealed")
     chained = work.checker().chain()
     if chained.findings:
@@ -168,6 +168,8 @@ def do_seal(work: Work) -> int:
 
 
 def do_page(work: Work) -> int:
+    from .pages import Pager
+
     words, seal = work.words, seal_of(work)
     key = None if words.request is None else words.request - 1
     pager = Pager(work.checker(), words.dictionary, words.folder, work.folder, key)
@@ -180,6 +182,8 @@ def do_page(work: Work) -> int:
 
 
 def do_pair(work: Work) -> int:
+    from .pair_command import PairCommand
+
     with work.source.open() as log:
         firm = log.day().firm(work.words.dealer)
     if firm is None or not firm.is_dealer:

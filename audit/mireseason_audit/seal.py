@@ -19,7 +19,8 @@ from .chain import Chained
 from .faults import Unreadable, Wrong
 from .findings import Finding
 from .log import Log
-from .records import Day
+from .records import Day, Messages
+from .streams import digest_of
 
 TITLE = "mireseason-seal 1"
 SIGNATURE = "signature "
@@ -50,20 +51,21 @@ def sealed(log: Log, day: Day, chained: Chained) -> Sealed:
     lines += ["entry %d %s" % item for item in sorted(chained.checkpoints.items())]
     lines.append("last %d %s" % (chained.last_place, chained.last.hex()))
     for firm in day.firms:
-        sent = digest((row.number, row.place, row.bytes) for row in log.sent(firm.name))
-        lines.append("sent %s %s" % (firm.name, sent))
-        went = digest((row.number, row.sent, row.bytes) for row in log.outgoing(firm.name))
-        lines.append("session %s %s" % (firm.name, went))
+        lines.append("sent %s %s" % (firm.name, digest(log.sent_blocks(firm.name))))
+        lines.append("session %s %s" % (firm.name, digest(log.outgoing_blocks(firm.name))))
     return Sealed(tuple(lines))
 
 
-def digest(rows: Iterable[tuple[int, int | None, bytes]]) -> str:
+def digest(blocks: Iterable[Messages]) -> str:
     """How many rows, and their SHA-256: of each its numbers, its length, its bytes."""
     found, count = hashlib.sha256(), 0
-    for number, other, data in rows:
-        found.update(b"%d %d %d\n" % (number, -1 if other is None else other, len(data)))
-        found.update(data)
-        count += 1
+    for block in blocks:
+        rows = [
+            b"%d %d %d\n%b" % (number, -1 if other is None else other, len(data), data)
+            for number, other, data in zip(*block)
+        ]
+        found.update(b"".join(rows))
+        count += len(rows)
     return "%d %s" % (count, found.hexdigest())
 
 
@@ -133,11 +135,7 @@ def write_sums(folder: Path, key: Path | None) -> None:
     lines = []
     for path in sorted(folder.rglob("*")):
         if path.is_file():
-            with path.open("rb") as file:
-                found = hashlib.sha256()
-                while block := file.read(1 << 20):
-                    found.update(block)
-            lines.append("%s  %s\n" % (found.hexdigest(), path.relative_to(folder)))
+            lines.append("%s  %s\n" % (digest_of(path), path.relative_to(folder)))
     text = "".join(lines).encode()
     (folder / "SHA256SUMS").write_bytes(text)
     if key is not None:

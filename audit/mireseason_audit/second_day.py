@@ -1,6 +1,6 @@
 """A second day beside the one in a log: other dealers' prices moved, or their messages left out."""
 
-from collections.abc import Callable, Iterator
+from collections.abc import Callable
 from dataclasses import dataclass, field
 from pathlib import Path
 
@@ -10,6 +10,7 @@ from .log import Log
 from .prices import Price
 from .records import Day
 from .requests import Request
+from .streams import blocks_of
 
 BID, OFFER, SEQ_NUM, QUOTE = 132, 133, 34, 117
 
@@ -95,9 +96,3 @@ def append(first: Path, second: Path, both: Path) -> None:
                 file.write(b"%%\n")
             for block in blocks_of(path):
                 file.write(block)
-
-
-def blocks_of(path: Path) -> Iterator[bytes]:
-    with path.open("rb") as file:
-        while block := file.read(1 << 20):
-            yield block

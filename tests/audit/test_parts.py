@@ -7,6 +7,7 @@ import io
 import os
 import unittest
 from collections import Counter
+from dataclasses import dataclass
 from pathlib import Path
 from typing import Any
 
@@ -20,13 +21,13 @@ from mireseason_audit.jobs import held
 from mireseason_audit.lines import came_of, firm_and_time
 from mireseason_audit.pair import Compared, Differences, difference_words, differences
 from mireseason_audit.prices import Price
-from mireseason_audit.progress import Progress
+from mireseason_audit.progress import Progress, Step
 from mireseason_audit.reading import Reader
 from mireseason_audit.records import Entry, Sent, day_of
 from mireseason_audit.second_day import moved_fields
 from mireseason_audit.timeline import broken, gap_text
 from mireseason_audit.wire import carried, parts_of
-from mireseason_audit.work import run_jobs
+from mireseason_audit.work import Plan, plan_of, run_jobs
 
 # Frames of docs/FORMATS.md and docs/CONNECTING.md, with a bar for each SOH.
 ACCEPTED = (
@@ -222,7 +223,7 @@ class Wires(unittest.TestCase):
 class Holding(unittest.TestCase):
     def found(self, rows: list[bytes], lines: list[bytes]) -> list[tuple[str, int | None]]:
         sent = [Sent("DLR1", at, at + 10, data) for at, data in enumerate(rows, 1)]
-        findings = held("DLR1", sent, lines, lambda rows: None)
+        findings = held("DLR1", sent, lines)
         return [(one.text.partition(" ")[2].split(" ")[0], one.number) for one in findings]
 
     def test_the_first_difference(self) -> None:
@@ -287,6 +288,19 @@ class Terminal(io.StringIO):
         return True
 
 
+@dataclass(frozen=True)
+class Writes:
+    """A job that adds its number to what the job before it left; answers what that was."""
+
+    place: Path
+    number: int
+
+    def __call__(self, step: Step) -> str:
+        before = (self.place / str(self.number - 1)).read_text() if self.number else ""
+        (self.place / str(self.number)).write_text(before + str(self.number))
+        return before
+
+
 class Bars(unittest.TestCase):
     def test_a_bar_on_a_terminal_and_nothing_elsewhere(self) -> None:
         for stream, shown in ((Terminal(), True), (io.StringIO(), False)):
@@ -304,8 +318,8 @@ class Bars(unittest.TestCase):
         """Results come in the order of the jobs; a fault of a process is raised here."""
         progress = Progress(io.StringIO())
         jobs = [lambda step, at=at: at * at for at in range(9)]
-        self.assertEqual(run_jobs(jobs, 3, progress), [at * at for at in range(9)])
-        self.assertEqual(run_jobs([], 3, progress), [])
+        self.assertEqual(run_jobs(plan_of(jobs), 3, progress), [at * at for at in range(9)])
+        self.assertEqual(run_jobs(plan_of([]), 3, progress), [])
 
         def fails(step: object) -> int:
             raise Unreadable("this")
@@ -313,8 +327,22 @@ class Bars(unittest.TestCase):
         def ends(step: object) -> int:
             os._exit(3)
 
-        self.assertRaisesRegex(Unreadable, "this", run_jobs, [*jobs, fails], 2, progress)
-        self.assertRaisesRegex(Unreadable, "status 3", run_jobs, [ends], 1, progress)
+        failing, ending = plan_of([*jobs, fails]), plan_of([ends])
+        self.assertRaisesRegex(Unreadable, "this", run_jobs, failing, 2, progress)
+        self.assertRaisesRegex(Unreadable, "status 3", run_jobs, ending, 1, progress)
+
+    def test_jobs_that_wait_for_others(self) -> None:
+        """Each of a chain of jobs reads what the one before it wrote, whatever stands in front."""
+        for at_once in (1, 2, 9):
+            with folder() as name:
+                plan: Plan[str] = Plan()
+                written: list[int] = []
+                for at in range(5):
+                    written.append(plan.add(Writes(Path(name), at), written[-1:]))
+                self.assertEqual(
+                    run_jobs(plan, at_once, Progress(io.StringIO())),
+                    ["", "0", "01", "012", "0123"],
+                )
 
 
 class Pairs(unittest.TestCase):

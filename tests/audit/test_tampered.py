@@ -34,13 +34,14 @@ class KeptVenue(Venue):
 
     kept: Path = Path()
 
-    def run(self, arguments: list[str], input_: Path) -> Run:
+    def run(self, arguments: list[str], input_: Path, output: Path | None = None) -> Run:
         asked = " ".join(arguments).encode() + b"\0" + input_.read_bytes()
         digest = hashlib.sha256(asked).hexdigest()
         parts = [self.kept / (digest + end) for end in (".out", ".err", ".status")]
         if not parts[2].exists():
             self.answer(arguments, input_, parts)
-        return Run(Venue(("/bin/sh", "-c", PRINT, "sh")), [str(path) for path in parts], input_)
+        print_it = Venue(("/bin/sh", "-c", PRINT, "sh"))
+        return Run(print_it, [str(path) for path in parts], input_, output)
 
     def answer(self, arguments: list[str], input_: Path, parts: list[Path]) -> None:
         mine = [path.with_name("%s.%d" % (path.name, os.getpid())) for path in parts]
