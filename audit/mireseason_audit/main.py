@@ -1,6 +1,6 @@
 """The command line of mireseason-audit.
 
-What a command alone needs (jinja2, psycopg2) is imported by it: that takes longer than a short day.
+What one command alone needs is imported by it: jinja2 takes longer than the check of a short day.
 """
 
 import argparse
@@ -20,7 +20,7 @@ from .findings import Finding
 from .jobs import Files
 from .log import Source
 from .progress import Progress
-from .seal import Sealed, compared, read_seal, sealed, write_seal, write_sums
+from .seal import Sealed, compared, read_seal, sealed, write_seal
 from .sqlite_log import SqliteSource
 from .venue import Venue
 from .work import processors
@@ -175,7 +175,7 @@ def do_page(work: Work) -> int:
     pager = Pager(work.checker(), words.dictionary, words.folder, work.folder, key)
     verdict, summary = pager.check()
     pager.write(compared_with(work, seal, verdict), summary)
-    write_sums(words.folder, words.sign)
+    pager.sign(words.sign)
     print("\n".join(report(verdict)))
     print("%d requests: %s" % (len(summary.requests), words.folder / "index.html"))
     return 0 if verdict.is_good else 1

@@ -19,6 +19,7 @@ from .chain import Chained
 from .faults import Unreadable, Wrong
 from .findings import Finding
 from .log import Log
+from .progress import Step
 from .records import Day, Messages
 from .streams import digest_of
 
@@ -130,13 +131,21 @@ def between(first: int, last: int) -> str:
     return "from entry %d to %d they are not those that were sealed" % (first, last)
 
 
-def write_sums(folder: Path, key: Path | None) -> None:
-    """The SHA-256 of each file of a folder, as sha256sum reads them, and a signature of that."""
-    lines = []
-    for path in sorted(folder.rglob("*")):
-        if path.is_file():
-            lines.append("%s  %s\n" % (digest_of(path), path.relative_to(folder)))
-    text = "".join(lines).encode()
+@dataclass(frozen=True)
+class SumsJob:
+    """The SHA-256 of some files of a folder, as sha256sum reads them, in a process of its own."""
+
+    folder: Path
+    paths: tuple[Path, ...]
+
+    def __call__(self, step: Step) -> str:
+        lines = ["%s  %s\n" % (digest_of(one), one.relative_to(self.folder)) for one in self.paths]
+        step(len(lines))
+        return "".join(lines)
+
+
+def write_sums(folder: Path, text: bytes, key: Path | None) -> None:
+    """The sums of all files, and a signature of them."""
     (folder / "SHA256SUMS").write_bytes(text)
     if key is not None:
         (folder / "SHA256SUMS.sig").write_bytes(sign(text, key))
