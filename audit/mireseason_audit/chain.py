@@ -50,7 +50,10 @@ class ChainReader:
 
     def take_rows(self, rows: list[EntryRow]) -> None:
         """Entries in their order: together where all are plainly right, else one by one."""
-        if not self._pass(rows):
+        if self._before is None:  # entry 0 is like no other
+            self.take(Entry._make(rows[0]))
+            rows = rows[1:]
+        if rows and not self._pass(rows):
             for row in rows:
                 self.take(Entry._make(row))
 

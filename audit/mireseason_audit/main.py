@@ -28,6 +28,7 @@ from .work import processors
 ROOT = Path(__file__).resolve().parent.parent.parent
 VENUE = ROOT / "crates" / "rfq_venue" / "out" / "rfq_venue"
 DICTIONARY = ROOT / "fix" / "MIRESEASON.xml"
+AT_ONCE = processors() + 1  # a process that waits for the disk leaves its processor
 LOG_HELP = "a file of SQLite; postgres:CONNECTION with --schema; or a day of `live` with --sent"
 
 
@@ -86,7 +87,7 @@ def command(
     parser.add_argument("--sent", type=Path, help="what was sent, as `live --frames` prints it")
     venue = os.environ.get("VENUE", shlex.quote(str(VENUE)))
     parser.add_argument("--venue", default=venue, help="the words of the venue's program (VENUE)")
-    parser.add_argument("--jobs", type=int, default=processors(), help="processes at one time")
+    parser.add_argument("--jobs", type=int, default=AT_ONCE, help="processes at one time")
     return parser
 
 
