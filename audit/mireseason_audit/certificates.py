@@ -17,7 +17,7 @@ from .progress import Step
 from .reading import Reader
 from .records import Day, Firm
 from .requests import Request
-from .second_day import Moved, MovedDay, append, on_request
+from .second_day import Moved, MovedDay, append, needle, on_request
 from .streams import digest_of, lines_of
 from .templates import Templates
 from .venue import Venue, message_of

@@ -14,12 +14,9 @@ class Told(NamedTuple):
 
     firm: Firm
     number: int
+    kind: str  # 35
     fields: Fields
     bytes: bytes
-
-    @property
-    def kind(self) -> str:
-        return text_of(self.fields, 35)
 
     def text(self, tag: int) -> str:
         return text_of(self.fields, tag)
@@ -67,8 +64,8 @@ class Waiting:
     def up_to(self, place: int) -> Iterator[Told]:
         """Those of entries up to this one."""
         while self._next is not None and self.place <= place:
-            row = self._next
-            yield Told(self.firm, row.number, fields_of(row.bytes), row.bytes)
+            row, fields = self._next, fields_of(self._next.bytes)
+            yield Told(self.firm, row.number, text_of(fields, 35), fields, row.bytes)
             self._take()
 
 
