@@ -40,7 +40,8 @@ class FirmJob:
         writer = MessageWriter(read_dictionary(self.dictionary))
         templates = Templates(self.day)
         with self.source.open() as log, closing(Book(self.book)) as book:
-            pages = log.last_place() // ENTRIES_A_PAGE + 1
+            last = log.counts().entries - 1
+            pages = last // ENTRIES_A_PAGE + 1
             messages = merged(log, self.firm.name)
             waiting = next(messages, None)
             for page in range(pages):

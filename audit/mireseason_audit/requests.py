@@ -8,7 +8,6 @@ A request has its own name in the messages of its investor (131), and one for ea
 from collections import defaultdict
 from collections.abc import Iterator
 from dataclasses import dataclass, field
-from typing import NamedTuple
 
 from .exchanges import Exchange, Told
 from .frame import text_of
@@ -16,7 +15,8 @@ from .lines import Came
 from .reading import Reader, Words, moment_of
 
 
-class Note(NamedTuple):
+@dataclass(frozen=True)
+class Note:
     """What a firm was told."""
 
     firm: str
@@ -25,7 +25,8 @@ class Note(NamedTuple):
     words: Words
 
 
-class Act(NamedTuple):
+@dataclass(frozen=True)
+class Act:
     """An exchange, as far as it is about one request."""
 
     place: int
