@@ -262,7 +262,8 @@ def tls_begun_anew(stage: Stage) -> None:
                 wire.logon(DEALER.name.encode(), DEALER.password.encode())
                 check(wire.read_kind(b"A") is not None, "it is not logged on")
                 begun, number = wire.socket.session, wire.number
-    stage.ping(stage.investor)
+    stage.log_on(stage.other)
+    stage.ping(stage.other)
 
 
 def certificate_of_another_firm(stage: Stage) -> None:
