@@ -47,7 +47,11 @@ TlsServer::TlsServer(const std::string &certificate, const std::string &key,
     : context_(SSL_CTX_new(TLS_server_method())) {
     require(context_ != nullptr, "TLS");
     SSL_CTX_set_min_proto_version(context_.get(), TLS1_2_VERSION);
-    SSL_CTX_set_options(context_.get(), SSL_OP_NO_RENEGOTIATION);
+    // No session of TLS is resumed: each connection shows its certificate. (OpenSSL refuses a
+    // handshake that would resume one, where certificates are asked for and it has no context.)
+    SSL_CTX_set_options(context_.get(), SSL_OP_NO_RENEGOTIATION | SSL_OP_NO_TICKET);
+    SSL_CTX_set_session_cache_mode(context_.get(), SSL_SESS_CACHE_OFF);
+    SSL_CTX_set_num_tickets(context_.get(), 0);
     SSL_CTX_set_mode(context_.get(),
                      SSL_MODE_ENABLE_PARTIAL_WRITE | SSL_MODE_ACCEPT_MOVING_WRITE_BUFFER);
     require(SSL_CTX_use_certificate_chain_file(context_.get(), certificate.c_str()) == 1,

@@ -22,9 +22,6 @@ constexpr auto last_words = seconds(2);
 // How often a session looks at its clock.
 constexpr auto tick = milliseconds(500);
 
-// How long a new connection waits for the old one of its firm to be gone.
-constexpr auto old_connection = milliseconds(2000);
-
 // The value of a tag in a message, empty without one.
 std::string value_in(const std::string &message, const char *tag) {
     const std::string mark = std::string("\x01") + tag + "=";
@@ -254,14 +251,8 @@ bool Connection::find_session(const std::string &logon) {
         shut("an unknown firm");
         return false;
     }
-    const Clock::time_point latest = Clock::now() + old_connection;
-    while (!found->second->attach(*this)) {
-        if (Clock::now() >= latest || shut_) {
-            events_.refused("second connection", peer_ + ": " + firm);
-            shut("the firm has a connection");
-            return false;
-        }
-        std::this_thread::sleep_for(milliseconds(20));
+    if (!found->second->admit(*this, logon)) {
+        return false;
     }
     session_ = found->second.get();
     return true;

@@ -42,6 +42,7 @@ class Connection final : public FIX::Responder {
     // Ends now. Any thread may call it.
     void shut(const std::string &why);
 
+    bool is_shut() const { return shut_; }
     bool has_ended() const { return ended_; }
     bool over_tls() const { return tls_; }
     std::string certificate() const { return channel_.common_name(); }

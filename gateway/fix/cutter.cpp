@@ -1,5 +1,7 @@
 #include "cutter.h"
 
+#include <algorithm>
+
 namespace gateway {
 
 namespace {
@@ -24,23 +26,26 @@ bool read_length(const std::string &text, std::size_t from, std::size_t end, std
 } // namespace
 
 void Cutter::add(const char *bytes, std::size_t count) {
+    // Once for all that was taken, and not with each message.
+    kept_.erase(0, begin_);
+    begin_ = 0;
     kept_.append(bytes, count);
 }
 
 Cutter::Result Cutter::too_long_or_more() const {
-    return kept_.size() > longest_ ? Result::too_long : Result::more;
+    return kept_.size() - begin_ > longest_ ? Result::too_long : Result::more;
 }
 
 Cutter::Result Cutter::next(std::string &message) {
     for (;;) {
-        const std::size_t begin = kept_.find("8=");
-        if (begin == std::string::npos) {
+        const std::size_t from = begin_;
+        begin_ = kept_.find("8=", from);
+        if (begin_ == std::string::npos) {
             // The last byte may be the `8`.
-            kept_.erase(0, kept_.empty() ? 0 : kept_.size() - 1);
+            begin_ = std::max(from, kept_.empty() ? 0 : kept_.size() - 1);
             return Result::more;
         }
-        kept_.erase(0, begin);
-        const std::size_t first_end = kept_.find(soh);
+        const std::size_t first_end = kept_.find(soh, begin_);
         if (first_end == std::string::npos || first_end + 3 > kept_.size()) {
             return too_long_or_more();
         }
@@ -51,7 +56,7 @@ Cutter::Result Cutter::next(std::string &message) {
         std::size_t length = 0;
         if (kept_.compare(first_end + 1, 2, "9=") != 0 ||
             !read_length(kept_, first_end + 3, second_end, length)) {
-            kept_.erase(0, 2);
+            begin_ += 2;
             continue;
         }
         if (length > longest_) {
@@ -63,8 +68,8 @@ Cutter::Result Cutter::next(std::string &message) {
         if (end == std::string::npos) {
             return too_long_or_more();
         }
-        message.assign(kept_, 0, end + 1);
-        kept_.erase(0, end + 1);
+        message.assign(kept_, begin_, end + 1 - begin_);
+        begin_ = end + 1;
         return Result::message;
     }
 }

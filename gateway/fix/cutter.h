@@ -28,6 +28,7 @@ class Cutter {
 
     std::size_t longest_;
     std::string kept_;
+    std::size_t begin_ = 0; // what stands in front of it was taken
 };
 
 // Whether what was cut is a frame: 8=FIXT.1.1, the length and the sum are right, and 35 stands

@@ -8,6 +8,7 @@
 
 #include <algorithm>
 #include <stdexcept>
+#include <thread>
 
 namespace gateway {
 
@@ -24,6 +25,9 @@ constexpr auto filling = std::chrono::seconds(30);
 
 // Resent at once: so much of a firm's day is in memory at a time.
 constexpr int resent_at_once = 500;
+
+// How long a new connection waits for the old one of its firm to be gone.
+constexpr auto old_connection = std::chrono::seconds(2);
 
 // The longest time between two heartbeats that a firm may ask for.
 constexpr int longest_heartbeat = 300;
@@ -87,6 +91,27 @@ FirmSession::FirmSession(const SessionStart &start, const EngineSettings &settin
 
 FirmSession::~FirmSession() = default;
 
+bool FirmSession::admit(Connection &connection, const std::string &bytes) {
+    FIX::Message logon;
+    if (!read(bytes, logon)) {
+        return false;
+    }
+    const std::string refusal = refusal_of_sender(logon, connection);
+    const Clock::time_point latest =
+        Clock::now() + (refusal.empty() ? old_connection : std::chrono::seconds(0));
+    while (!attach(connection)) {
+        if (Clock::now() >= latest || connection.is_shut()) {
+            events_.refused("second connection", connection.peer() + ": " + firm_);
+            connection.shut("the firm has a connection");
+            return false;
+        }
+        std::this_thread::sleep_for(std::chrono::milliseconds(20));
+    }
+    is_admitted_ = true;
+    refusal_ = refusal;
+    return true;
+}
+
 bool FirmSession::attach(Connection &connection) {
     const std::lock_guard<std::mutex> lock(mutex_);
     if (connection_ != nullptr) {
@@ -100,7 +125,10 @@ bool FirmSession::attach(Connection &connection) {
 }
 
 void FirmSession::detach(Connection &connection) {
-    // Takes the connection away from the engine, under the engine's own lock, and tells onLogout().
+    // What the host does about it may wait for the log, under the engine's own lock: whoever would
+    // deliver at once is told that the session is at work.
+    const std::lock_guard<std::mutex> at_work(at_work_);
+    // Takes the connection away from the engine, under that lock, and tells onLogout().
     session_->disconnect();
     settle();
     ahead_.clear();
@@ -131,16 +159,23 @@ void FirmSession::log_out(const std::string &reason) {
     }
 }
 
-void FirmSession::take(const std::string &bytes) {
-    const std::lock_guard<std::mutex> lock(at_work_);
-    FIX::Message message;
+bool FirmSession::read(const std::string &bytes, FIX::Message &message) {
     try {
         if (!is_frame(bytes)) {
             throw FIX::InvalidMessage("no frame of FIXT.1.1");
         }
         message.setString(bytes, false);
+        return true;
     } catch (const FIX::InvalidMessage &fault) {
         events_.dropped("no message", firm_ + ": " + fault.what());
+        return false;
+    }
+}
+
+void FirmSession::take(const std::string &bytes) {
+    const std::lock_guard<std::mutex> lock(at_work_);
+    FIX::Message message;
+    if (!read(bytes, message)) {
         return;
     }
     const std::string type = text_in(message.getHeader(), FIX::FIELD::MsgType);
@@ -195,14 +230,10 @@ std::string FirmSession::refusal_of(const FIX::Message &logon) {
     if (session_->isLoggedOn()) {
         return "logged on already";
     }
-    LogonFacts facts;
-    facts.firm = firm_;
-    facts.username = text_in(logon, FIX::FIELD::Username);
-    facts.password = text_in(logon, FIX::FIELD::Password);
-    const Connection &connection = own_connection();
-    facts.over_tls = connection.over_tls();
-    facts.certificate = connection.certificate();
-    const std::string refusal = host_.refusal_of(facts);
+    // The first one's sender was looked at before.
+    const std::string refusal =
+        is_admitted_ ? refusal_ : refusal_of_sender(logon, own_connection());
+    is_admitted_ = false;
     if (!refusal.empty()) {
         return refusal;
     }
@@ -216,6 +247,17 @@ std::string FirmSession::refusal_of(const FIX::Message &logon) {
         return "108 is not 1 to 300";
     }
     return {};
+}
+
+std::string FirmSession::refusal_of_sender(const FIX::Message &logon,
+                                           const Connection &connection) {
+    LogonFacts facts;
+    facts.firm = firm_;
+    facts.username = text_in(logon, FIX::FIELD::Username);
+    facts.password = text_in(logon, FIX::FIELD::Password);
+    facts.over_tls = connection.over_tls();
+    facts.certificate = connection.certificate();
+    return host_.refusal_of(facts);
 }
 
 void FirmSession::refuse(const std::string &why) {

@@ -27,8 +27,10 @@ class FirmSession final : private FIX::Application, private FIX::Log {
     FirmSession(const FirmSession &) = delete;
     FirmSession &operator=(const FirmSession &) = delete;
 
-    // False where another connection has it.
-    bool attach(Connection &connection);
+    // A connection's first message, a Logon in this firm's name. Who sends it is looked at before
+    // the connection has the session: so a stranger keeps no firm out of its own. False where it
+    // does not have it: what came is no message, or another connection has it and stays.
+    bool admit(Connection &connection, const std::string &bytes);
     // Ends what the connection had. No call of this session reaches the connection behind it.
     void detach(Connection &connection);
 
@@ -53,11 +55,16 @@ class FirmSession final : private FIX::Application, private FIX::Log {
     const std::string &firm() const { return firm_; }
 
   private:
+    // False where another connection has it.
+    bool attach(Connection &connection);
+    // False where it is no message; that is told.
+    bool read(const std::string &bytes, FIX::Message &message);
     void take_logon(const FIX::Message &message);
     void take_resend_request(FIX::Message message, Connection &connection);
     Connection &own_connection();
     void take_application(const FIX::Message &message, const std::string &bytes);
     std::string refusal_of(const FIX::Message &logon);
+    std::string refusal_of_sender(const FIX::Message &logon, const Connection &connection);
     void refuse(const std::string &why);
     bool is_settling() const { return std::chrono::steady_clock::now() < settled_at_.load(); }
     void settle();
@@ -117,6 +124,8 @@ class FirmSession final : private FIX::Application, private FIX::Log {
     std::atomic<bool> has_logged_on_{false};
     // Of the connection's thread.
     unsigned questions_ = 0;
+    bool is_admitted_ = false;  // its Logon is taken next
+    std::string refusal_;       // why that one is refused, if its sender is
     bool has_received_ = false; // what the host was not told the end of
 
     std::mutex at_work_; // over what the connection's thread does here, and deliver_at_once()

@@ -14,6 +14,10 @@ const std::string marks_body = "\x01"
 // `10=`, three digits and SOH.
 constexpr std::size_t trailer = 7;
 
+// The greatest number that a firm may go on with: behind it there is room for all messages of a day
+// in the engine's numbers, and in the log's.
+constexpr int greatest_target = 1000000000;
+
 // The value behind `TAG=` in a header, empty without one.
 std::string value_in(const std::string &bytes, const std::string &field) {
     const std::size_t begin = bytes.find("\x01" + field);
@@ -98,6 +102,9 @@ void SessionStore::setNextSenderMsgSeqNum(int) throw(FIX::IOException) {
 }
 
 void SessionStore::setNextTargetMsgSeqNum(int number) throw(FIX::IOException) {
+    if (number < 1 || number > greatest_target) {
+        throw FIX::IOException("a session goes on with 1 to 1000000000");
+    }
     try {
         host_.store_target(firm_, static_cast<std::uint32_t>(number));
     } catch (const std::runtime_error &fault) {

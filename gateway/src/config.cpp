@@ -187,6 +187,7 @@ class ConfigReader {
   private:
     static constexpr std::array<std::string_view, 7> sections = {
         "venue", "log", "fix", "tls", "limits", "metrics", "events"};
+    static constexpr std::array<std::string_view, 4> levels = {"debug", "info", "warning", "error"};
 
     Section section(std::string_view name) const {
         return {path_, std::string(name), table_[name].as_table()};
@@ -366,6 +367,9 @@ class ConfigReader {
         metrics.end();
         Section events = section("events");
         config_.event_level = events.text("level", "info");
+        if (std::find(levels.begin(), levels.end(), config_.event_level) == levels.end()) {
+            events.fail_at("level", "is none of debug, info, warning and error");
+        }
         events.end();
     }
 

@@ -13,9 +13,14 @@ namespace {
 
 using namespace std::chrono_literals;
 
-// How long rows wait that nobody waits for, and how many of them are no longer let wait.
+// How long rows wait that nobody waits for, where no entry is committed, and how many of them are
+// no longer let wait.
 constexpr auto patience = 20ms;
 constexpr std::size_t many = 512;
+
+// Rows are committed with an entry once for so long: each such commit has few of them, and keeps
+// its entry waiting for little.
+constexpr auto whole_at_least = 5ms;
 
 // Bytes of entries that may wait, however few these are.
 constexpr std::size_t many_bytes = 4 << 20;
@@ -233,7 +238,7 @@ void Log::use_lull(std::unique_lock<std::mutex> &lock, int looks) {
 
 Log::Filling Log::take(bool all) {
     const auto now = std::chrono::steady_clock::now();
-    if (all || urgent_ || now - whole_at_ >= patience || filling_.size >= many) {
+    if (all || urgent_ || now - whole_at_ >= whole_at_least || filling_.size >= many) {
         urgent_ = false;
         whole_at_ = now;
         ++filling_ticket_;

@@ -4,9 +4,11 @@
 
 #include <csignal>
 #include <iostream>
+#include <memory>
 #include <string_view>
 #include <thread>
 
+#include <spdlog/pattern_formatter.h>
 #include <spdlog/sinks/stdout_sinks.h>
 #include <spdlog/spdlog.h>
 
@@ -30,11 +32,29 @@ int print_hash() {
     return 0;
 }
 
+// The words of an event in one line, whatever they have of a stranger's bytes: SOH is a bar, and
+// any other control character a question mark.
+class OneLine final : public spdlog::custom_flag_formatter {
+  public:
+    void format(const spdlog::details::log_msg &event, const std::tm &,
+                spdlog::memory_buf_t &line) override {
+        for (const char c : event.payload) {
+            const auto byte = static_cast<unsigned char>(c);
+            line.push_back(byte >= ' ' && byte != 0x7f ? c : byte == 1 ? '|' : '?');
+        }
+    }
+    std::unique_ptr<custom_flag_formatter> clone() const override {
+        return std::make_unique<OneLine>();
+    }
+};
+
 std::shared_ptr<spdlog::logger> make_events(const std::string &level) {
     auto sink = std::make_shared<spdlog::sinks::stderr_sink_mt>();
     auto events = std::make_shared<spdlog::logger>("gateway", std::move(sink));
     events->set_level(spdlog::level::from_str(level));
-    events->set_pattern("%Y-%m-%dT%H:%M:%S.%eZ %l %v", spdlog::pattern_time_type::utc);
+    auto form = std::make_unique<spdlog::pattern_formatter>(spdlog::pattern_time_type::utc);
+    form->add_flag<OneLine>('*').set_pattern("%Y-%m-%dT%H:%M:%S.%eZ %l %*");
+    events->set_formatter(std::move(form));
     events->flush_on(spdlog::level::debug);
     return events;
 }

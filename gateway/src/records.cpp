@@ -1,5 +1,6 @@
 #include "records.h"
 
+#include <memory>
 #include <stdexcept>
 
 #include <fmt/format.h>
@@ -44,12 +45,25 @@ Digest digest_of(std::string_view digits) {
 
 constexpr std::string_view end_of_head = "%%\n";
 
+struct FreeMethod {
+    void operator()(EVP_MD *method) const { EVP_MD_free(method); }
+};
+
+// Looked up once: OpenSSL would for each digest.
+const EVP_MD *sha256_method() {
+    static const std::unique_ptr<EVP_MD, FreeMethod> method(
+        EVP_MD_fetch(nullptr, "SHA256", nullptr));
+    return method.get();
+}
+
 } // namespace
 
 Digest sha256(std::string_view bytes) {
     Digest digest{};
     unsigned size = 0;
-    if (EVP_Digest(bytes.data(), bytes.size(), digest.data(), &size, EVP_sha256(), nullptr) != 1 ||
+    const EVP_MD *method = sha256_method();
+    if (method == nullptr ||
+        EVP_Digest(bytes.data(), bytes.size(), digest.data(), &size, method, nullptr) != 1 ||
         size != digest.size()) {
         throw std::runtime_error("SHA-256 was refused");
     }
@@ -57,9 +71,12 @@ Digest sha256(std::string_view bytes) {
 }
 
 std::string text_of(const Digest &digest) {
+    static constexpr std::string_view digits = "0123456789abcdef";
     std::string text;
+    text.reserve(digest.size() * 2);
     for (const unsigned char byte : digest) {
-        text += fmt::format("{:02x}", byte);
+        text += digits[byte >> 4];
+        text += digits[byte & 15];
     }
     return text;
 }

@@ -136,6 +136,9 @@ class SqliteReader final : public LogReader {
 // checkpoint.
 constexpr std::size_t usual_length = 8 << 20;
 
+// Of a new file. A commit writes whole pages, as a rule the last one of `entry` alone.
+constexpr int page_bytes = 2048;
+
 // Where there is no room it grows as it would have.
 void lengthen(const std::string &log) {
     const Descriptor file(::open(log.c_str(), O_WRONLY | O_CLOEXEC));
@@ -213,7 +216,8 @@ class SqliteWriter final : public LogWriter {
         ConnectionPointer connection = connect(path, SQLITE_OPEN_READWRITE);
         execute(connection.get(), "PRAGMA synchronous = FULL");
         // Where there never is a rest a commit does it, at the usual length.
-        execute(connection.get(), "PRAGMA wal_autocheckpoint = 2000");
+        const int pages = static_cast<int>(usual_length) / page_bytes;
+        sqlite3_wal_autocheckpoint(connection.get(), pages);
         lengthen(path + "-wal");
         return connection;
     }
@@ -259,6 +263,7 @@ class Sqlite final : public Database {
     explicit Sqlite(const std::string &path)
         : path_(path), lock_(path + ".lock"),
           connection_(connect(path, SQLITE_OPEN_READWRITE | SQLITE_OPEN_CREATE)) {
+        execute(connection_.get(), fmt::format("PRAGMA page_size = {}", page_bytes).c_str());
         execute(connection_.get(), "PRAGMA journal_mode = WAL");
         execute(connection_.get(), "PRAGMA synchronous = FULL");
         if (!has_tables()) {

@@ -14,6 +14,10 @@ constexpr auto patience = 100ms;
 // How long a mark is waited for before the next look.
 constexpr auto look = 10ms;
 
+// How long messages are held at most: a firm whose session ends may wait for them, and the thread
+// that reads the venue for that firm. Behind it they go on, and are held again.
+constexpr auto longest_hold = 500ms;
+
 } // namespace
 
 Sweeper::Sweeper(Answers &answers, Log &log, DayClock &clock)
@@ -54,7 +58,7 @@ void Sweeper::sweep(Answers::Deadline due, const std::stop_token &stop) {
 
 void Sweeper::sweep_held(const std::stop_token &stop) {
     const Log::Hold hold(log_);
-    answers_.wait(log_.last_place(), stop);
+    answers_.wait(log_.last_place(), longest_hold, stop);
     const auto due = answers_.deadline();
     if (due && clock_.until(due->moment) <= 0ms) {
         sweep_behind(due->place, stop);

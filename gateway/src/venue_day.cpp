@@ -42,7 +42,8 @@ VenueDay::VenueDay(const Config &config, Metrics &metrics, Status &status,
                    std::shared_ptr<spdlog::logger> events)
     : config_(config), metrics_(metrics), status_(status), events_(std::move(events)),
       clock_(config_.firms.date), database_(open_database(config_, clock_)),
-      comparison_(*database_, status_.stopping()), ahead_(config_.waiting_messages) {}
+      stored_(*database_, status_.stopping()), comparison_(*database_, status_.stopping()),
+      ahead_(config_.waiting_messages) {}
 
 VenueDay::~VenueDay() {
     close();
@@ -128,13 +129,13 @@ bool VenueDay::read_on(LogReader &log) {
 
 // Nobody else writes any more. False where the gateway is to stop.
 bool VenueDay::catch_up() {
-    reader_ = database_->reader();
-    const std::vector<Entry> same = reader_->entries(last_.place, 1);
+    const auto reader = database_->reader();
+    const std::vector<Entry> same = reader->entries(last_.place, 1);
     if (same.empty() || same.front().hash != last_.hash) {
         throw std::runtime_error(
             fmt::format("entry {} was in the log, and is not any more", last_.place));
     }
-    while (read_on(*reader_)) {
+    while (read_on(*reader)) {
     }
     ahead_.lift_limit();
     const auto writer = database_->writer();
@@ -144,8 +145,8 @@ bool VenueDay::catch_up() {
         }
         writer->be_seen();
     }
-    ahead_.settle(*reader_);
-    states_ = reader_->states();
+    ahead_.settle(*reader);
+    states_ = reader->states();
     comparison_.check_sent(states_);
     return true;
 }
@@ -321,27 +322,21 @@ void VenueDay::venue_gave(std::uint32_t place, std::uint32_t number, std::string
     }
 }
 
-// The first message of what was read stays at hand until the venue pauses: then this thread hands
-// it over itself, while those of the mailboxes are at the others. Behind a firm's message that is
-// at hand another of the firm puts it into the mailbox, so that they keep their order.
+// The first message of what was read, as a rule the answer to whoever waits for one, is handed over
+// by this thread and before the others are put into their mailboxes: to wake their threads takes
+// time.
 void VenueDay::hand_over(Delivery delivery) {
-    if (at_hand_ && at_hand_->firm == delivery.firm) {
-        firm_of(at_hand_->firm).mailbox->put(std::move(*at_hand_));
-        at_hand_.reset();
-    }
-    if (at_hand_) {
-        firm_of(delivery.firm).mailbox->put(std::move(delivery));
+    Mailbox &mailbox = *firm_of(delivery.firm).mailbox;
+    if (is_first_) {
+        is_first_ = false;
+        mailbox.put_now(std::move(delivery));
     } else {
-        at_hand_ = std::move(delivery);
+        mailbox.put(std::move(delivery));
     }
 }
 
 void VenueDay::venue_pauses() {
-    if (at_hand_) {
-        Delivery delivery = std::move(*at_hand_);
-        at_hand_.reset();
-        firm_of(delivery.firm).mailbox->put_now(std::move(delivery));
-    }
+    is_first_ = true;
 }
 
 void VenueDay::venue_answered(std::uint32_t place, std::optional<Moment> deadline) {

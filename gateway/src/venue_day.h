@@ -13,6 +13,7 @@
 #include "mailbox.h"
 #include "metrics.h"
 #include "moment.h"
+#include "patient_reader.h"
 #include "status.h"
 #include "sweeper.h"
 #include "venue.h"
@@ -119,8 +120,8 @@ class VenueDay final : private SessionHost, private VenueListener {
     bool speaks_ = false;
     std::atomic<bool> has_term_{false};
 
-    std::mutex reader_mutex_;
-    std::unique_ptr<LogReader> reader_; // for what sessions send again
+    std::mutex stored_mutex_;
+    PatientReader stored_; // for what sessions send again
 
     Entry last_;              // the last entry of the log, as far as it was read
     std::uint32_t found_ = 0; // the one when the venue was started
@@ -128,7 +129,7 @@ class VenueDay final : private SessionHost, private VenueListener {
     std::unique_ptr<Committed> committed_;
     Comparison comparison_;
     Ahead ahead_;
-    std::optional<Delivery> at_hand_; // of the thread that reads the venue
+    bool is_first_ = true; // of what was read; of the thread that reads the venue
     Answers answers_;
     std::unique_ptr<Log> log_;
     std::unique_ptr<Venue> venue_;

@@ -87,9 +87,10 @@ void VenueDay::store_target(const std::string &firm, std::uint32_t target) {
 std::vector<StoredMessage> VenueDay::stored_messages(const std::string &firm, std::uint32_t first,
                                                      std::uint32_t last) {
     log_->flush();
-    const std::lock_guard lock(reader_mutex_);
+    const std::lock_guard lock(stored_mutex_);
     std::vector<StoredMessage> messages;
-    for (Outgoing &row : reader_->outgoing(firm, first, last)) {
+    for (Outgoing &row :
+         stored_.ask([&](LogReader &log) { return log.outgoing(firm, first, last); })) {
         messages.push_back({row.number, row.sent.has_value(), std::move(row.bytes)});
     }
     return messages;

@@ -7,10 +7,11 @@ from pathlib import Path
 from firm import Firm, Identity, Received
 from stage import DEALER, INVESTOR, LOGON_SECONDS, OTHER, Stage, check, quiet
 from wait import LONG, until, within
-from wire import Wire
+from wire import Wire, framed, now
 
 SLACK = LONG  # that a limit of the gateway may be late on a busy machine
 MOST_GROWTH = 24 * 2**20
+NO_MESSAGE, SECOND = 'mireseason_dropped_total{reason="no message"}', 'mireseason_refused_total{reason="second connection"}'
 
 
 def is_logout(message: Received) -> bool:
@@ -64,6 +65,35 @@ def unknown_firm(stage: Stage) -> None:
             check(wire.waiting == b"", "%r was told %r" % (name, wire.waiting))
         check(grown(before, stage.counters()), "no counter has grown for %r" % name)
     stage.ping(stage.other)
+
+
+def words_of_a_stranger(stage: Stage) -> None:
+    """What a stranger says stands within a line of the events: it can't write lines of its own there."""
+    stage.open(stage.other)
+    with Wire(stage.door.port) as wire:
+        wire.logon(b"NOBODY\nstop \x1b[2J", b"secret")
+        check(wire.closed_within(LOGON_SECONDS + SLACK), "the connection stays")
+    lines = stage.door.told.read_bytes().split(b"\n")
+    check(any(b"NOBODY?stop ?[2J" in line for line in lines), "it is not told")
+    check(not any(line.startswith(b"stop") for line in lines), "a line of a stranger")
+
+
+def stranger_in_a_firms_name(stage: Stage) -> None:
+    """A Logon in a firm's name that is no message, or has a wrong password, keeps the firm out for no time."""
+    stage.door.limits["logon_seconds"] = int(3 * LONG)
+    stage.open(stage.other)
+    before = stage.counters().get(NO_MESSAGE, 0)
+    with Wire(stage.door.port) as wrong_sum, Wire(stage.door.port) as no_field:
+        frame = wrong_sum.message(b"A", DEALER.name.encode(), [(98, b"0"), (108, b"30"), (1137, b"9")])
+        wrong_sum.raw(frame[:-4] + b"999\x01")
+        no_field.raw(framed(b"35=A\x0149=DLR1\x0156=VENUE\x0134=1\x0152=%s\x01nothing\x01" % now()))
+        until("both are counted", LONG, lambda: stage.counters().get(NO_MESSAGE, 0) == before + 2)
+        stage.log_on(stage.dealer)
+        stage.ping(stage.dealer)
+        check(SECOND not in stage.counters(), "the firm was refused as a second connection")
+        wrong_sum.logon(DEALER.name.encode(), b"wrong")
+        check(wrong_sum.closed_within(SLACK), "a wrong password waits for the firm to be gone")
+    stage.ping(stage.dealer)
 
 
 def second_connection(stage: Stage) -> None:
@@ -217,6 +247,25 @@ def by_tls(stage: Stage) -> None:
     stage.auction()
 
 
+def tls_begun_anew(stage: Stage) -> None:
+    """A client that would resume its TLS, as some engines do, is given a new one each time."""
+    with_tls(stage)
+    stage.open(stage.investor)
+    number = 1
+    for version in (ssl.TLSVersion.TLSv1_2, ssl.TLSVersion.TLSv1_3):
+        known, begun = context(stage.folder, DEALER.name), None
+        known.maximum_version = version
+        for _ in range(3):
+            with Wire(stage.door.port, known, begun) as wire:
+                check(not wire.socket.session_reused, "TLS was resumed")
+                wire.number = number
+                wire.logon(DEALER.name.encode(), DEALER.password.encode())
+                check(wire.read_kind(b"A") is not None, "it is not logged on")
+                begun, number = wire.socket.session, wire.number
+    stage.log_on(stage.other)
+    stage.ping(stage.other)
+
+
 def certificate_of_another_firm(stage: Stage) -> None:
     """The right password behind another firm's certificate."""
     with_tls(stage)
@@ -273,6 +322,6 @@ def plain_to_tls(stage: Stage) -> None:
     check(INVESTOR.name == stage.investor.name and stage.investor.is_on, "another session was disturbed")
 
 
-TRIED = [wrong_password, wrong_words, unknown_firm, second_connection, numbers_are_not_reset, reset_as_the_first, heartbeats,
-         half_a_logon, endless_logon, many_connections,
-         beyond_the_loopback, by_tls, certificate_of_another_firm, certificate_of_another_authority, plain_to_tls]
+TRIED = [wrong_password, wrong_words, unknown_firm, words_of_a_stranger, stranger_in_a_firms_name, second_connection,
+         numbers_are_not_reset, reset_as_the_first, heartbeats, half_a_logon, endless_logon, many_connections,
+         beyond_the_loopback, by_tls, tls_begun_anew, certificate_of_another_firm, certificate_of_another_authority, plain_to_tls]

@@ -248,6 +248,23 @@ def no_numbers_of_the_venue(stage: Stage) -> None:
     stage.whole()
 
 
+def number_without_end(stage: Stage) -> None:
+    """A SequenceReset past 1,000,000,000 ends the connection, and the number that is expected stands."""
+    stage.open(stage.other, stage.investor)
+    number = 1
+    for past in (1_000_000_001, 2**31 - 1):
+        with on_a_wire(stage, number) as wire:
+            number = wire.number
+            wire.raw(wire.message(b"4", b"DLR1", [(36, b"%d" % past)]))
+            wire.raw(wire.message(b"Z", b"DLR1", cancel(b"far"), number=past))
+            check(wire.closed_within(LONG), "the connection stays")
+    check(stage.entries_of(stage.dealer) == 0, "a message under such a number is in the log")
+    with on_a_wire(stage, number) as wire:
+        wire.raw(wire.message(b"Z", b"DLR1", cancel(b"next")))
+        check(answered(wire, b"next").value(297) == b"9", "the next is not answered as ever")
+    stage.whole()
+
+
 def answered_messages(wire: Wire) -> list[Received]:
     """What the venue gives for a message without a trader, and for five cancels."""
     wire.raw(wire.message(b"Z", b"DLR1", [(50, b"T9"), (298, b"4")]))
@@ -335,5 +352,6 @@ def one_that_does_not_read(stage: Stage) -> None:
 
 
 TRIED = [every_byte_in_text, another_firms_words, five_thousand_bytes, about_the_longest_frame, microseconds,
-         wrong_clock, poss_resend, unknown_trader, poss_dup, fields_of_no_use, no_frames, no_numbers_of_the_venue, resent_as_it_was,
+         wrong_clock, poss_resend, unknown_trader, poss_dup, fields_of_no_use, no_frames, no_numbers_of_the_venue,
+         number_without_end, resent_as_it_was,
          resent_after_a_crash, faster_than_the_log, longer_than_the_limit, one_that_does_not_read]

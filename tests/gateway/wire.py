@@ -25,11 +25,12 @@ def framed(body: bytes) -> bytes:
 
 
 class Wire:
-    def __init__(self, port: int, context: ssl.SSLContext | None = None) -> None:
+    def __init__(self, port: int, context: ssl.SSLContext | None = None, begun: ssl.SSLSession | None = None) -> None:
+        """`begun` is a session of TLS that it would resume."""
         # Of sendall() this is the limit for all bytes together.
         plain = socket.create_connection(("127.0.0.1", port), timeout=2 * LONG)
         plain.setsockopt(socket.IPPROTO_TCP, socket.TCP_NODELAY, 1)
-        self.socket = context.wrap_socket(plain, server_hostname="localhost") if context else plain
+        self.socket = context.wrap_socket(plain, server_hostname="localhost", session=begun) if context else plain
         self.name, self.number, self.waiting, self.is_over = b"", 1, b"", False
 
     def __enter__(self) -> "Wire":
