@@ -2,10 +2,8 @@
 
 import marshal
 import sqlite3
-from collections.abc import Iterator
-from dataclasses import dataclass
 from pathlib import Path
-from typing import Any
+from typing import Any, NamedTuple
 
 from .prices import Price
 from .reading import Shape, Words
@@ -13,13 +11,12 @@ from .requests import Act, Note
 
 TABLES = """
 CREATE TABLE act (request INTEGER NOT NULL, place INTEGER NOT NULL, act BLOB NOT NULL);
-CREATE TABLE fault (place INTEGER NOT NULL, fault BLOB NOT NULL);
+CREATE TABLE fault (number INTEGER PRIMARY KEY, fault BLOB NOT NULL);
 """
 ROWS_AT_ONCE = 1000
 
 
-@dataclass(frozen=True)
-class Fault:
+class Fault(NamedTuple):
     """A message of a firm that was refused, rejected, or dropped without an answer."""
 
     place: int
@@ -32,8 +29,7 @@ class Fault:
 
 
 def packed_fault(fault: Fault) -> bytes:
-    head = (fault.place, fault.moment, fault.firm, fault.said)
-    row: Any = (*head, fault.why, fault.detail, fault.request)
+    row: Any = tuple(fault)
     return marshal.dumps(row)
 
 
@@ -73,7 +69,7 @@ class Book:
             self._connection.executescript(TABLES)
             self._connection.execute("BEGIN")
         self._acts: list[tuple[int, int, bytes]] = []
-        self._faults: list[tuple[int, bytes]] = []
+        self._faults: list[tuple[bytes]] = []
 
     def put(self, request: int, act: Act) -> None:
         self._acts.append((request, act.place, packed(act)))
@@ -81,13 +77,13 @@ class Book:
             self._write()
 
     def put_fault(self, fault: Fault) -> None:
-        self._faults.append((fault.place, packed_fault(fault)))
+        self._faults.append((packed_fault(fault),))
         if len(self._faults) >= ROWS_AT_ONCE:
             self._write()
 
     def _write(self) -> None:
         self._connection.executemany("INSERT INTO act VALUES (?, ?, ?)", self._acts)
-        self._connection.executemany("INSERT INTO fault VALUES (?, ?)", self._faults)
+        self._connection.executemany("INSERT INTO fault (fault) VALUES (?)", self._faults)
         self._acts, self._faults = [], []
 
     def finish(self) -> None:
@@ -109,9 +105,11 @@ class Book:
             found[place] = (*found.get(place, ()), request)
         return found
 
-    def faults(self) -> Iterator[Fault]:
-        for data, in self._connection.execute("SELECT fault FROM fault ORDER BY place"):
-            yield Fault(*marshal.loads(data))
+    def faults(self, first: int, count: int) -> list[Fault]:
+        """So many from one on, the first having the number 0, by the entries."""
+        query = "SELECT fault FROM fault WHERE number > ? ORDER BY number LIMIT ?"
+        rows = self._connection.execute(query, (first, count))
+        return [Fault(*marshal.loads(data)) for data, in rows]
 
     def close(self) -> None:
         self._connection.close()

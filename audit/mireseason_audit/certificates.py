@@ -4,6 +4,8 @@ them again.
 
 import hashlib
 import itertools
+import shutil
+from collections.abc import Iterator
 from dataclasses import dataclass
 from pathlib import Path
 
@@ -15,7 +17,8 @@ from .progress import Step
 from .reading import Reader
 from .records import Day, Firm
 from .requests import Request
-from .second_day import Moved, MovedDay, append, on_request
+from .second_day import Moved, MovedDay, append, needle, on_request
+from .streams import digest_of, lines_of
 from .templates import Templates
 from .venue import Venue, message_of
 
@@ -68,31 +71,31 @@ class CertificateJob:
                 sums.take(line)
                 file.write(line)
         messages_path = self.folder / "certificates" / (name + ".messages")
-        digest = self.venue.to_file(["alone", "--frames"], list_path, messages_path)
+        shutil.copyfile(self.files.alone(name), messages_path)
+        digest = digest_of(messages_path)
         compared = None
         before: list[Seen] = []
         after: list[Seen] = []
         if self.second is not None:
             compared = compare(self.venue, name, self.second.both)
-            before = self._seen(self.files.day, self.second.request)
-            after = self._seen(self.second.day, self.second.request)
+            request = self.second.request
+            before = self._seen(lines_of(self.files.alone(name)), request)
+            arguments = ["replay", name, "--live", "--frames"]
+            with self.venue.run(arguments, self.second.day) as run:
+                after = self._seen(run.lines(), request)
         self._write(sums, digest, messages_path, compared, before, after)
         step(1)
 
-    def _seen(self, day: Path, request: Request) -> list[Seen]:
-        """What the venue gives the dealer about one request on a day."""
-        name = request.shown.get(self.dealer.name)
+    def _seen(self, lines: Iterator[bytes], request: Request) -> list[Seen]:
+        """What is about one request of all that the venue gives the dealer on a day."""
+        about = b"|131=%s|" % request.shown.get(self.dealer.name, "").encode()
         found = []
-        with self.venue.run(["replay", self.dealer.name, "--live", "--frames"], day) as run:
-            for line in run.lines():
-                _, frame = message_of(line)
-                if b"\x01131=%s\x01" % (name or "").encode() not in frame:
-                    continue
-                fields = fields_of(frame)
-                words = self.reader.told(fields, is_dealer=True)
-                text = " ".join([words.text, str(words.price or "")]).strip()
-                moment = text_of(fields, 52).partition("-")[2]
-                found.append(Seen(text_of(fields, 34), moment, text, barred(frame)))
+        for _, frame in (message_of(line) for line in lines if about in line):
+            fields = fields_of(frame)
+            words = self.reader.told(fields, is_dealer=True)
+            text = " ".join([words.text, str(words.price or "")]).strip()
+            moment = text_of(fields, 52).partition("-")[2]
+            found.append(Seen(text_of(fields, 34), moment, text, barred(frame)))
         return found
 
     def _write(
@@ -163,7 +166,8 @@ def seconds_for(
             path, both = folder / ("second-%s.live" % name), folder / ("both-%s.live" % name)
             changed, by = MovedDay(), -MOVED_BY if request.buys else MOVED_BY
             with source.open() as log:
-                changed.write(log, day, on_request(request, mover, by), path)
+                move = on_request(request, mover, by)
+                changed.write(log, day, move, path, needle(request.shown.get(mover, "")))
             if changed.moved:
                 append(day_file, path, both)
                 found.append(Second(request, mover, tuple(changed.moved), path, both))

@@ -1,33 +1,29 @@
 """The order of the entries and their chain, and the day as a file that the venue reads."""
 
-import hashlib
 from collections.abc import Iterator
 from dataclasses import dataclass, field
+from hashlib import sha256
 from pathlib import Path
 
 from .findings import Finding
 from .lines import firm_and_time
 from .log import Log
-from .progress import ROWS_AT_A_TIME, Step
-from .records import Day, Entry
+from .progress import Step
+from .records import Day, Entry, EntryRow
 
 NO_HASH = bytes(32)
 CHECKPOINT = 100  # entries from one hash of a seal to the next
+NO_NUMBER = (0, 0)
+
+Numbers = dict[str, tuple[int, int]]  # of each firm, a number of its session, and an entry's place
 
 
-def hash_of(entry: Entry) -> bytes:
+def hash_of(entry: EntryRow) -> bytes:
     """The hash that an entry must have, from its other columns."""
-    number = "-" if entry.number is None else entry.number
-    head = "%s %s %s %s %s %s %s\n" % (
-        entry.before.hex(),
-        entry.place,
-        entry.term,
-        entry.moment,
-        entry.firm or "-",
-        number,
-        len(entry.line),
-    )
-    return hashlib.sha256(head.encode() + entry.line).digest()
+    place, term, moment, firm, number, line, before, _ = entry
+    name, count = firm or "-", "-" if number is None else number
+    head = f"{before.hex()} {place} {term} {moment} {name} {count} {len(line)}\n"
+    return sha256(head.encode() + line).digest()
 
 
 @dataclass
@@ -39,6 +35,8 @@ class Chained:
     last: bytes = NO_HASH  # the hash of the last entry
     checkpoints: dict[int, str] = field(default_factory=dict)  # place to hash, in hexadecimal
     findings: list[Finding] = field(default_factory=list)
+    firms: set[str] = field(default_factory=set)  # that entries name
+    numbers: Numbers = field(default_factory=dict)  # the greatest, and the last entry with one
 
 
 class ChainReader:
@@ -47,9 +45,17 @@ class ChainReader:
     def __init__(self, has_chain: bool) -> None:
         self.found = Chained()
         self._has_chain = has_chain
-        self._before: Entry | None = None
-        self._numbers: dict[str, int] = {}
+        self._before: EntryRow | None = None
         self._told: set[str] = set()
+
+    def take_rows(self, rows: list[EntryRow]) -> None:
+        """Entries in their order: together where all are plainly right, else one by one."""
+        if self._before is None:  # entry 0 is like no other
+            self.take(Entry._make(rows[0]))
+            rows = rows[1:]
+        if rows and not self._pass(rows):
+            for row in rows:
+                self.take(Entry._make(row))
 
     def take(self, entry: Entry) -> None:
         self._check_order(entry)
@@ -57,19 +63,61 @@ class ChainReader:
             self._check_chain(entry)
         if entry.place > 0:
             self._check_line(entry)
-        self._before = entry
-        self.found.entries += 1
-        self.found.last_place, self.found.last = entry.place, entry.hash
-        if entry.place % CHECKPOINT == 0:
-            self.found.checkpoints[entry.place] = entry.hash.hex()
+        self._note([entry])
+
+    def _note(self, rows: list[EntryRow]) -> None:
+        """Keeps what is left of entries behind them."""
+        found = self.found
+        found.entries += len(rows)
+        self._before = rows[-1]
+        found.last_place, found.last = rows[-1][0], rows[-1][7]
+        found.firms.update(row[3] for row in rows if row[3] is not None)
+        marks = {row[0]: row[7].hex() for row in rows if row[0] % CHECKPOINT == 0}
+        found.checkpoints.update(marks)
 
     def tell(self, kind: str, entry: Entry, text: str) -> None:
         if kind not in self._told:
             self._told.add(kind)
             self.found.findings.append(Finding("entries", text, place=entry.place))
 
-    def _check_order(self, entry: Entry) -> None:
+    # ------------------------------------------------------------ many entries
+
+    def _pass(self, rows: list[EntryRow]) -> bool:
+        """Takes entries that are plainly right: all that `take` looks at is as it should be."""
+        if self._before is None or not self._has_chain:
+            return False
+        places, terms, moments, firms, numbers, lines, _, hashes = zip(*rows)
         before = self._before
+        first = before[0] + 1
+        moved = self._moved_numbers(rows)
+        if moved is None or places != tuple(range(first, first + len(rows))):
+            return False
+        if not never_falls([before[1], *terms]) or not never_falls([before[2], *moments]):
+            return False
+        if [row[6] for row in rows] != [before[7], *hashes[:-1]]:
+            return False
+        if not all(map(is_step_line, lines, firms, moments)):
+            return False
+        if list(map(hash_of, rows)) != list(hashes):
+            return False
+        self.found.numbers = moved
+        self._note(rows)
+        return True
+
+    def _moved_numbers(self, rows: list[EntryRow]) -> Numbers | None:
+        """The numbers of the sessions behind some entries; None where one does not rise."""
+        moved = dict(self.found.numbers)
+        for place, _, _, firm, number, _, _, _ in rows:
+            if firm is not None and number is not None:
+                if number <= moved.get(firm, NO_NUMBER)[0]:
+                    return None
+                moved[firm] = number, place
+        return moved
+
+    # ------------------------------------------------------------ one entry
+
+    def _check_order(self, entry: Entry) -> None:
+        before = None if self._before is None else Entry._make(self._before)
         place = 0 if before is None else before.place + 1
         if entry.place != place:
             text = "entry %d is missing" % place
@@ -86,22 +134,20 @@ class ChainReader:
     def _check_chain(self, entry: Entry) -> None:
         if entry.hash != hash_of(entry):
             self.tell("hash", entry, "it was changed: its SHA-256 is another than it says")
-        elif entry.before != (NO_HASH if self._before is None else self._before.hash):
+        elif entry.before != (NO_HASH if self._before is None else self._before[7]):
             self.tell("before", entry, "it does not follow on the entry before it, as that is now")
 
     def _check_line(self, entry: Entry) -> None:
         if not self._has_chain:
             return
-        if entry.firm is None or not entry.line.startswith(
-            b"hex %s %s " % (entry.firm.encode(), entry.moment.encode())
-        ):
+        if not is_step_line(entry.line, entry.firm, entry.moment):
             self._check_words(entry)
         if entry.firm is not None and entry.number is not None:
-            before = self._numbers.get(entry.firm, 0)
+            before, _ = self.found.numbers.get(entry.firm, NO_NUMBER)
             if entry.number <= before:
                 text = "number %d of %s's session comes behind %d"
                 self.tell("number", entry, text % (entry.number, entry.firm, before))
-            self._numbers[entry.firm] = entry.number
+            self.found.numbers[entry.firm] = max(before, entry.number), entry.place
 
     def _check_words(self, entry: Entry) -> None:
         """The firm and the time of a line against those of its row."""
@@ -113,27 +159,33 @@ class ChainReader:
             self.tell("time", entry, text)
 
 
+def never_falls(values: list[int] | list[str]) -> bool:
+    return sorted(values) == values
+
+
+def is_step_line(line: bytes, firm: str | None, moment: str) -> bool:
+    """Whether a line begins as that of this firm at this moment; without a firm, of a clock."""
+    if firm:
+        return line.startswith(f"hex {firm} {moment} ".encode())
+    return firm is None and line == b"clock " + moment.encode()
+
+
 def read_chain(log: Log, step: Step) -> Chained:
     """One pass over all entries."""
-    reader, done = ChainReader(log.has_chain), 0
-    for done, entry in enumerate(log.entries(), 1):
-        reader.take(entry)
-        if done % ROWS_AT_A_TIME == 0:
-            step(ROWS_AT_A_TIME)
-    step(done % ROWS_AT_A_TIME)
+    reader = ChainReader(log.has_chain)
+    for rows in log.entry_blocks():
+        reader.take_rows(rows)
+        step(len(rows))
     return reader.found
 
 
 def write_day(log: Log, day: Day, path: Path, step: Step) -> None:
     """Writes the day into a file as the venue reads it."""
-    done = 0
-    with path.open("wb", buffering=1 << 20) as file:
+    with path.open("wb") as file:
         file.write(day.head)
-        for done, line in enumerate(log.lines(), 1):
-            file.write(line + b"\n")
-            if done % ROWS_AT_A_TIME == 0:
-                step(ROWS_AT_A_TIME)
-    step(done % ROWS_AT_A_TIME)
+        for lines in log.line_blocks():
+            file.write(b"\n".join([*lines, b""]))
+            step(len(lines))
 
 
 def lines_before(day: Day) -> int:

@@ -1,20 +1,20 @@
 """The check of a day: its entries and their chain, and what firms were sent against the venue.
 
-The day is written into a file. Over that file the venue's program is run by each job of a list, in
-as many processes as there are processors; each holds what is printed against the log as it comes.
+All that can be done beside something else is a job, in a process of its own, and each begins as
+soon as what it needs is there.
 """
 
 from collections.abc import Iterable
 from dataclasses import dataclass, field
 
-from .chain import Chained, read_chain, write_day
+from .chain import Chained, Numbers, read_chain, write_day
 from .findings import Finding
-from .jobs import AloneJob, Audited, ChainJob, Files, PlacesJob, ReplayJob, WireJob
-from .log import Counts, Log, Source
+from .jobs import AloneJob, Audited, ChainJob, DayJob, Files, GivenJob, LiveJob, SentJob
+from .log import Source
 from .progress import Progress
 from .records import Day, Firm
 from .venue import Venue
-from .work import Job, run_jobs
+from .work import Plan, run_jobs
 
 Result = Chained | list[Finding]  # of a job
 
@@ -25,11 +25,12 @@ class Verdict:
 
     source: str
     day: Day
-    counts: Counts
     has_chain: bool
-    chained: Chained
     program: str  # what the venue's program says of itself
     messages: dict[str, int]  # of each firm, how many it was sent
+    addressed: set[str]  # firms to which any message went
+    targets: dict[str, int]  # of each firm, the number that its session expects next
+    chained: Chained = field(default_factory=Chained)
     findings: list[Finding] = field(default_factory=list)
     seal: str = ""  # what was found of the seal, where there is one
 
@@ -70,46 +71,56 @@ class Checker:
     progress: Progress
 
     def check(self) -> Verdict:
-        """Writes the day into a file, and then does all jobs."""
+        """Does all jobs."""
         verdict = self.begun()
-        jobs = self.jobs(verdict)
-        self.progress.begin("messages", rows_of(verdict))
-        results = run_jobs(jobs, self.at_once, self.progress)
+        plan: Plan[Result] = Plan()
+        self.add_jobs(plan, verdict)
+        self.progress.begin("messages", self.rows_of(verdict))
+        results = run_jobs(plan, self.at_once, self.progress)
         self.progress.end()
         return judged(verdict, results)
 
-    def jobs(self, verdict: Verdict) -> list[Job[Result]]:
-        """All jobs of a check, those that take longest in front."""
+    def add_jobs(self, plan: "Plan[Result]", verdict: Verdict) -> None:
+        """All jobs of a check, those on which others wait and those that take longest in front."""
         audited = Audited(self.source, self.venue, self.files, verdict.day)
-        jobs: list[Job[Result]] = [ReplayJob(audited), PlacesJob(audited)]
-        jobs += [AloneJob(audited, dealer.name) for dealer in verdict.day.dealers]
-        jobs.append(ChainJob(self.source))
-        if verdict.has_chain:
-            jobs += [WireJob(audited, firm.name) for firm in verdict.day.firms]
-        return jobs
+        written = plan.add(DayJob(audited))
+        live = plan.add(LiveJob(audited), [written])
+        plan.add(ChainJob(self.source))
+        sent = {firm.name: plan.add(SentJob(audited, firm.name)) for firm in verdict.day.firms}
+        for dealer in verdict.day.dealers:
+            plan.add(AloneJob(audited, dealer.name), [written, sent[dealer.name]])
+        plan.add(GivenJob(audited), [live, *sent.values()])
+
+    def rows_of(self, verdict: Verdict) -> int:
+        """How many rows the jobs that tell their steps go over: entries and messages, twice."""
+        with self.source.open() as log:
+            return 2 * (log.last_place() + 1 + sum(verdict.messages.values()))
 
     def begun(self) -> Verdict:
-        """The day and its counts, and the file that the venue reads."""
+        """The day, and what of it is counted at once."""
         with self.source.open() as log:
-            counts, day = log.counts(), log.day()
-            self.progress.begin("entries", counts.entries)
+            day = log.day()
+            return Verdict(
+                self.source.name,
+                day,
+                log.has_chain,
+                self.venue.version(),
+                {firm.name: log.count_of(firm.name) for firm in day.firms},
+                log.firms(),
+                log.targets() if log.has_chain else {},
+            )
+
+    def write_day(self, day: Day) -> None:
+        """The file that the venue reads."""
+        with self.source.open() as log:
+            self.progress.begin("entries", log.last_place() + 1)
             write_day(log, day, self.files.day, self.progress.step)
             self.progress.end()
-            messages = {firm.name: log.count_of(firm.name) for firm in day.firms}
-            version = self.venue.version()
-            name = self.source.name
-            verdict = Verdict(name, day, counts, log.has_chain, Chained(), version, messages)
-            for stranger in sorted(log.firms() - set(messages)):
-                text = "the configuration has no such firm"
-                verdict.findings.append(Finding(stranger, text))
-            if log.has_chain:
-                verdict.findings += target_findings(log)
-        return verdict
 
     def chain(self) -> Chained:
         """The entries alone."""
         with self.source.open() as log:
-            self.progress.begin("entries", log.counts().entries)
+            self.progress.begin("entries", log.last_place() + 1)
             chained = read_chain(log, self.progress.step)
             self.progress.end()
         return chained
@@ -117,30 +128,31 @@ class Checker:
 
 def judged(verdict: Verdict, results: Iterable[Result]) -> Verdict:
     """The verdict with what the jobs found."""
+    found: list[Finding] = []
     for result in results:
         if isinstance(result, Chained):
             verdict.chained = result
-            verdict.findings = result.findings + verdict.findings
         else:
-            verdict.findings += result
-    verdict.findings = once_each(verdict.findings)
+            found += result
+    chained = verdict.chained
+    listed = chained.findings + stranger_findings(verdict)
+    if verdict.has_chain:
+        listed += target_findings(verdict.targets, chained.numbers)
+    verdict.findings = once_each(listed + found)
     return verdict
 
 
-def rows_of(verdict: Verdict) -> int:
-    """How many rows the jobs that tell their steps go over."""
-    dealers = sum(verdict.messages[firm.name] for firm in verdict.day.dealers)
-    return verdict.counts.entries + 2 * verdict.counts.sent + dealers
+def stranger_findings(verdict: Verdict) -> list[Finding]:
+    """Firms that rows name and the configuration does not."""
+    named = verdict.addressed | verdict.chained.firms
+    text = "the configuration has no such firm"
+    return [Finding(stranger, text) for stranger in sorted(named - set(verdict.messages))]
 
 
-def target_findings(log: Log) -> list[Finding]:
+def target_findings(targets: dict[str, int], numbers: Numbers) -> list[Finding]:
     """A session expects a number behind that of each message that came."""
-    last: dict[str, tuple[int, int]] = {}
-    for firm, number, place in log.last_numbers():
-        last[firm] = (number, place)
-    targets = log.targets()
     found = []
-    for firm, (number, place) in last.items():
+    for firm, (number, place) in sorted(numbers.items()):
         if targets.get(firm, 0) <= number:
             text = "its session expects number %s, and number %d came"
             found.append(Finding(firm, text % (targets.get(firm, "none"), number), place))
@@ -172,7 +184,7 @@ def report(verdict: Verdict) -> list[str]:
 
 
 def entries_line(verdict: Verdict) -> str:
-    count = verdict.counts.entries
+    count = verdict.chained.entries
     if not verdict.has_chain:
         return "entries   %d, without a chain" % count
     if verdict.of("entries"):

@@ -1,7 +1,7 @@
 """A day as exchanges: what came at one place of the order, and all that the venue gave for it."""
 
 from collections.abc import Iterator
-from dataclasses import dataclass
+from typing import NamedTuple
 
 from .frame import Fields, fields_of, text_of
 from .lines import Came, came_of
@@ -9,25 +9,20 @@ from .log import Log
 from .records import Day, Entry, Firm, Sent
 
 
-@dataclass(frozen=True)
-class Told:
+class Told(NamedTuple):
     """A message of the venue to a firm."""
 
     firm: Firm
     number: int
+    kind: str  # 35
     fields: Fields
     bytes: bytes
-
-    @property
-    def kind(self) -> str:
-        return text_of(self.fields, 35)
 
     def text(self, tag: int) -> str:
         return text_of(self.fields, tag)
 
 
-@dataclass(frozen=True)
-class Exchange:
+class Exchange(NamedTuple):
     """An entry, its message, and what was told for it: the answer to its firm first."""
 
     entry: Entry
@@ -51,20 +46,27 @@ class Exchange:
         return [told for told in self.told if told.firm.name == self.firm]
 
 
+NOWHERE = 1 << 63  # behind all places
+
+
 class Waiting:
-    """A firm's messages that are still to come, with the next one at hand."""
+    """A firm's messages that are still to come, with the next one and its place at hand."""
 
     def __init__(self, firm: Firm, rows: Iterator[Sent]) -> None:
         self.firm = firm
         self._rows = rows
-        self._next = next(rows, None)
+        self._take()
+
+    def _take(self) -> None:
+        self._next = next(self._rows, None)
+        self.place = NOWHERE if self._next is None else self._next.place
 
     def up_to(self, place: int) -> Iterator[Told]:
         """Those of entries up to this one."""
-        while self._next is not None and self._next.place <= place:
-            row = self._next
-            self._next = next(self._rows, None)
-            yield Told(self.firm, row.number, fields_of(row.bytes), row.bytes)
+        while self._next is not None and self.place <= place:
+            row, fields = self._next, fields_of(self._next.bytes)
+            yield Told(self.firm, row.number, text_of(fields, 35), fields, row.bytes)
+            self._take()
 
 
 def exchanges(log: Log, day: Day) -> Iterator[Exchange]:
@@ -74,7 +76,8 @@ def exchanges(log: Log, day: Day) -> Iterator[Exchange]:
         if entry.place == 0:
             continue
         came = came_of(entry.line)
-        told = [message for one in waiting for message in one.up_to(entry.place)]
+        place = entry.place
+        told = [told for one in waiting if one.place <= place for told in one.up_to(place)]
         if came is not None:
             speaker = came.firm
             told.sort(key=lambda message: message.firm.name != speaker)

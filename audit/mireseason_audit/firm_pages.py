@@ -40,8 +40,7 @@ class FirmJob:
         writer = MessageWriter(read_dictionary(self.dictionary))
         templates = Templates(self.day)
         with self.source.open() as log, closing(Book(self.book)) as book:
-            last = log.counts().entries - 1
-            pages = last // ENTRIES_A_PAGE + 1
+            pages = log.last_place() // ENTRIES_A_PAGE + 1
             messages = merged(log, self.firm.name)
             waiting = next(messages, None)
             for page in range(pages):

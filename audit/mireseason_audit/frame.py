@@ -3,12 +3,12 @@
 import re
 import zlib
 from collections.abc import Iterable
+from functools import lru_cache
 
 from .records import SOH
 
 START = re.compile(rb"8=FIXT\.1\.1\x019=([0-9]{1,6})\x01")
 CHECKSUM_BYTES = 7  # 10=ccc and its SOH
-TAGS = {b"%d" % tag: tag for tag in range(1, 2000)}  # those that messages have, at hand
 
 
 class Fields(list[tuple[int, bytes]]):
@@ -21,14 +21,15 @@ class Fields(list[tuple[int, bytes]]):
 
 def fields_of(data: bytes) -> Fields:
     """All fields; of what is no field (no digits, no equals sign) the tag is 0."""
-    fields = []
-    for part in data.removesuffix(SOH).split(SOH):
-        text, equals, value = part.partition(b"=")
-        tag = TAGS.get(text)
-        if tag is None:
-            tag = int(text) if text.isdigit() else 0
-        fields.append((tag, value) if tag and equals else (0, part))
-    return Fields(fields)
+    return Fields(map(field_of, data.removesuffix(SOH).split(SOH)))
+
+
+@lru_cache(maxsize=1 << 14)
+def field_of(part: bytes) -> tuple[int, bytes]:
+    """One field; most of a message's stand in many others."""
+    text, equals, value = part.partition(b"=")
+    tag = int(text) if text.isdigit() else 0
+    return (tag, value) if tag and equals else (0, part)
 
 
 def text_of(fields: Fields, tag: int) -> str:
@@ -43,10 +44,9 @@ def sum_of(data: bytes) -> int:
     The lower half of an Adler-32 is one more than the sum, as long as that is below 65,521, and so
     of up to 256 bytes. It is many times faster than `sum`, and a day has a million messages.
     """
-    total = 0
-    for at in range(0, len(data), 256):
-        total += (zlib.adler32(data[at : at + 256]) & 0xFFFF) - 1
-    return total % 256
+    if len(data) <= 256:
+        return (zlib.adler32(data) - 1) % 256
+    return sum(zlib.adler32(data[at : at + 256]) - 1 for at in range(0, len(data), 256)) % 256
 
 
 def framed(fields: Iterable[tuple[int, bytes]]) -> bytes:

@@ -1,19 +1,24 @@
-"""The jobs of a check: each runs the venue's program once, and holds the lines that it prints
-against the log.
+"""The jobs of a check: those that run the venue's program leave in a file what it prints, and what
+`sent` has is left in files of the same form, so that whole blocks are held against one another.
+Only where two differ are they gone through line by line, for the first difference.
 """
 
 import itertools
 from abc import ABC, abstractmethod
+from array import array
+from collections import defaultdict
 from collections.abc import Iterable, Iterator
 from dataclasses import dataclass
 from pathlib import Path
 
-from .chain import Chained, lines_before, places_of, read_chain
+from .chain import Chained, lines_before, places_of, read_chain, write_day
 from .findings import Finding
 from .lines import decoded
 from .log import Log, Source
-from .progress import ROWS_AT_A_TIME, Step
-from .records import Day, Sent
+from .plain_wire import PlainSession
+from .progress import Step
+from .records import SOH, Day, Messages, Sent
+from .streams import Followed, is_same, line_blocks_of, lines_of
 from .venue import LineFault, Venue, message_of
 from .wire import check_wire
 
@@ -21,6 +26,8 @@ NOT_GIVEN = "the log has a message that the venue does not give"
 NOT_SENT = "the log lacks a message that the venue gives"
 ANOTHER = "the log has another message than the venue gives"
 ALONE = "what was due to it alone gives another message than it was sent"
+MARKS = (b"done ", b"fault ")
+BARS = bytes.maketrans(SOH, b"|")
 
 
 @dataclass(frozen=True)
@@ -33,8 +40,25 @@ class Files:
     def day(self) -> Path:
         return self.folder / "day.live"
 
+    @property
+    def given(self) -> Path:
+        """What `live --marks` prints of the day."""
+        return self.folder / "day.given"
+
     def due(self, dealer: str) -> Path:
         return self.folder / ("%s.due" % dealer)
+
+    def alone(self, dealer: str) -> Path:
+        """What `alone` prints of that."""
+        return self.folder / ("%s.alone" % dealer)
+
+    def sent(self, firm: str) -> Path:
+        """What a firm was sent, as lines that the program prints."""
+        return self.folder / ("%s.sent" % firm)
+
+    def places(self, firm: str) -> Path:
+        """The places of these, eight bytes each."""
+        return self.folder / ("%s.places" % firm)
 
 
 @dataclass(frozen=True)
@@ -73,22 +97,36 @@ class FindingsJob(ABC):
         """What is not as it should be."""
 
 
-class ReplayJob(FindingsJob):
-    """`replay --live`, all firms, against `sent`."""
+class DayJob(FindingsJob):
+    """The day as a file that the venue reads."""
 
     def _findings(self, log: Log, step: Step) -> Iterator[Finding]:
-        names = [firm.name for firm in self.audited.day.firms]
-        arguments = ["replay", "--live", "--frames"]
-        with self.audited.venue.run(arguments, self.audited.files.day) as run:
-            for word, lines in itertools.groupby(run.lines(), first_word):
-                while names and names[0] != word:
-                    yield from held(names[0], log.sent(names[0]), (), step)
-                    names.pop(0)
-                names = names[1:]
-                yield from held(word, log.sent(word), lines, step)
-            for name in names:
-                yield from held(name, log.sent(name), (), step)
-        yield from self._faulty_lines(log, run.faults)
+        write_day(log, self.audited.day, self.audited.files.day, step)
+        return iter(())
+
+
+@dataclass(frozen=True)
+class SentJob(FindingsJob):
+    """What a firm was sent, left as a file; and what its session carried, against that."""
+
+    firm: str
+
+    def _findings(self, log: Log, step: Step) -> Iterator[Finding]:
+        sent = kept(log, self.firm, self.audited.files, step)
+        is_right = not log.has_chain or PlainSession(log, self.firm, sent).is_right()
+        for _ in sent:
+            pass
+        if not is_right:
+            yield from check_wire(log, self.firm)
+
+
+class LiveJob(FindingsJob):
+    """`live --marks` over the day, left as a file."""
+
+    def _findings(self, log: Log, step: Step) -> Iterator[Finding]:
+        files, arguments = self.audited.files, ["live", "--frames", "--marks"]
+        faults = self.audited.venue.to_file(arguments, files.day, files.given)
+        yield from self._faulty_lines(log, faults)
 
     def _faulty_lines(self, log: Log, faults: list[LineFault]) -> Iterator[Finding]:
         """Entries whose line the venue does not take; a day of no gateway may have some."""
@@ -99,26 +137,77 @@ class ReplayJob(FindingsJob):
             yield Finding("entries", text, place)
 
 
-class PlacesJob(FindingsJob):
-    """`live --marks` against the places that `sent` has."""
+class GivenJob(FindingsJob):
+    """What `live --marks` gave, all firms, against `sent`: the messages and their places."""
 
     def _findings(self, log: Log, step: Step) -> Iterator[Finding]:
-        rows: dict[str, Iterator[Sent]] = {}
-        numbers: dict[str, int] = {}
-        told: set[str] = set()
-        arguments = ["live", "--frames", "--marks"]
-        with self.audited.venue.run(arguments, self.audited.files.day) as run:
-            for place, messages in by_place(run.lines(), places_of(log)):
-                for line in messages:
-                    firm = first_word(line)
-                    numbers[firm] = number = numbers.get(firm, 0) + 1
-                    if firm not in rows:
-                        rows[firm] = log.sent(firm)
-                    row = next(rows[firm], None)
-                    if (row is None or row.place != place) and firm not in told:
-                        told.add(firm)
-                        yield place_finding(row, place, number, line)
-                step(len(messages))
+        files, firms = self.audited.files, [firm.name for firm in self.audited.day.firms]
+        reader = GivenReader(files, firms, self._places(log))
+        for lines in line_blocks_of(files.given):
+            step(reader.take(lines))
+        texts, places = reader.ended()
+        for firm in texts:
+            lines_given = (line for _, line in self._given(log, firm))
+            yield from held(firm, log.sent(firm), lines_given)
+        for firm in [*texts, *(firm for firm in places if firm not in texts)]:
+            yield from misplaced(firm, log.sent(firm), self._given(log, firm))
+
+    def _places(self, log: Log) -> Iterator[int]:
+        """The places of the day's lines."""
+        return places_of(log) if log.has_gaps() else itertools.count(1)
+
+    def _given(self, log: Log, firm: str) -> Iterator[tuple[int, bytes]]:
+        """What the venue gave one firm: the entry's place, and the line."""
+        lines = lines_of(self.audited.files.given)
+        for place, messages in by_place(lines, self._places(log)):
+            for line in messages:
+                if first_word(line) == firm:
+                    yield place, line
+
+
+class GivenReader:
+    """Holds what `live --marks` gives against the files of what firms were sent."""
+
+    def __init__(self, files: Files, firms: list[str], places: Iterator[int]) -> None:
+        self._files, self._waiting = files, places
+        self._place = next(places, -1)
+        self._texts: dict[str, Followed] = {}
+        self._places: dict[str, Followed] = {}
+        for firm in firms:
+            self._follow(firm)
+
+    def _follow(self, firm: str) -> None:
+        self._texts[firm] = Followed(self._files.sent(firm))
+        self._places[firm] = Followed(self._files.places(firm))
+
+    def take(self, lines: list[bytes]) -> int:
+        """Some lines; answers how many of them are messages."""
+        texts: dict[bytes, list[bytes]] = defaultdict(list)
+        places: dict[bytes, array[int]] = defaultdict(lambda: array("q"))
+        place, waiting = self._place, self._waiting
+        for line in lines:
+            if line.startswith(MARKS):
+                place = next(waiting, -1)
+                continue
+            word = line[: line.find(b" ")]
+            texts[word].append(line)
+            places[word].append(place)
+        self._place = place
+        for word, its in texts.items():
+            self._hold(decoded(word), its, places[word])
+        return sum(map(len, places.values()))
+
+    def _hold(self, firm: str, lines: list[bytes], places: "array[int]") -> None:
+        if firm not in self._texts:
+            self._follow(firm)
+        self._texts[firm].take(b"\n".join([*lines, b""]))
+        self._places[firm].take(places.tobytes())
+
+    def ended(self) -> tuple[list[str], list[str]]:
+        """The firms that were sent other messages, and those with messages of other entries."""
+        texts = [firm for firm, followed in self._texts.items() if not followed.is_same()]
+        places = [firm for firm, followed in self._places.items() if not followed.is_same()]
+        return texts, places
 
 
 @dataclass(frozen=True)
@@ -128,29 +217,48 @@ class AloneJob(FindingsJob):
     dealer: str
 
     def _findings(self, log: Log, step: Step) -> Iterator[Finding]:
-        venue, files = self.audited.venue, self.audited.files
-        due = files.due(self.dealer)
-        venue.to_file(["due", self.dealer, "--live"], files.day, due)
-        with venue.run(["alone", "--frames"], due) as run:
-            yield from held(self.dealer, log.sent(self.dealer), run.lines(), step, ALONE)
+        venue, files, dealer = self.audited.venue, self.audited.files, self.dealer
+        venue.to_file(["due", dealer, "--live"], files.day, files.due(dealer))
+        venue.to_file(["alone", "--frames"], files.due(dealer), files.alone(dealer))
+        if not is_same(files.alone(dealer), files.sent(dealer)):
+            yield from held(dealer, log.sent(dealer), lines_of(files.alone(dealer)), ALONE)
 
 
-@dataclass(frozen=True)
-class WireJob(FindingsJob):
-    """What a firm's session carried, against what the venue gave for it."""
+def kept(log: Log, firm: str, files: Files, step: Step) -> Iterator[Messages]:
+    """What a firm was sent, block by block, which is left in files as it goes by.
 
-    firm: str
+    Where a message is no line that the program prints, or its number is not the next, there is no
+    file in the end, and nothing is the same as it.
+    """
+    before, number, is_plain = b"%b " % firm.encode(), 0, True
+    with files.sent(firm).open("wb") as file, files.places(firm).open("wb") as places:
+        for block in log.sent_blocks(firm):
+            text = before + (b"\n" + before).join([*block.bytes[:-1], block.bytes[-1] + b"\n"])
+            count = len(block.numbers)
+            is_plain &= block.numbers == tuple(range(number + 1, number + count + 1))
+            is_plain &= text.count(b"\n") == count and b"|" not in text
+            number += count
+            file.write(text.translate(BARS))
+            array("q", [-1 if place is None else place for place in block.others]).tofile(places)
+            step(count)
+            yield block
+    if not is_plain:
+        files.sent(firm).unlink()
 
-    def _findings(self, log: Log, step: Step) -> Iterator[Finding]:
-        return check_wire(log, self.firm)
 
-
-def place_finding(row: Sent | None, place: int, number: int, line: bytes) -> Finding:
-    """A message that stands for another entry, or nowhere."""
-    firm, given = message_of(line)
-    if row is None:
-        return Finding(firm, NOT_SENT, place, number, given=given)
-    return Finding(firm, "it is given for entry %d" % place, row.place, row.number)
+def misplaced(
+    firm: str, rows: Iterator[Sent], given: Iterator[tuple[int, bytes]]
+) -> Iterator[Finding]:
+    """The first message of a firm that the venue gave for another entry, or that is not there."""
+    for number, (place, line) in enumerate(given, 1):
+        row = next(rows, None)
+        if row is None:
+            text = message_of(line)[1]
+            yield Finding(firm, NOT_SENT, place, number, given=text)
+            return
+        if row.place != place:
+            yield Finding(firm, "it is given for entry %d" % place, row.place, row.number)
+            return
 
 
 def first_word(line: bytes) -> str:
@@ -161,7 +269,7 @@ def by_place(lines: Iterable[bytes], places: Iterator[int]) -> Iterator[tuple[in
     """The lines of `live --marks`, those of each entry together."""
     messages: list[bytes] = []
     for line in lines:
-        if line.startswith((b"done ", b"fault ")):
+        if line.startswith(MARKS):
             yield next(places, -1), messages
             messages = []
         else:
@@ -169,12 +277,10 @@ def by_place(lines: Iterable[bytes], places: Iterator[int]) -> Iterator[tuple[in
 
 
 def held(
-    firm: str, rows: Iterable[Sent], lines: Iterable[bytes], step: Step, another: str = ANOTHER
+    firm: str, rows: Iterable[Sent], lines: Iterable[bytes], another: str = ANOTHER
 ) -> Iterator[Finding]:
     """Holds a firm's rows against the lines that the venue prints; the first difference."""
-    number = 0
-    for row, line in itertools.zip_longest(rows, lines):
-        number += 1
+    for number, (row, line) in enumerate(itertools.zip_longest(rows, lines), 1):
         given = None if line is None else message_of(line)[1]
         if row is None:
             yield Finding(firm, NOT_SENT, number=number, given=given)
@@ -189,6 +295,3 @@ def held(
         if row.bytes != given:
             yield Finding(firm, another, row.place, number, given=given, found=row.bytes)
             return
-        if number % ROWS_AT_A_TIME == 0:
-            step(ROWS_AT_A_TIME)
-    step(number % ROWS_AT_A_TIME)

@@ -1,20 +1,24 @@
 """Step lines as they stand in a log: whose message came, and its fields."""
 
-from dataclasses import dataclass
+from typing import NamedTuple
 
 from .frame import Fields, barred, fields_of
 from .records import SOH
 
 
-@dataclass(frozen=True)
-class Came:
+class Came(NamedTuple):
     """A message that came from a firm."""
 
     firm: str
     time: str  # HH:MM:SS or HH:MM:SS.sss, as the line has it
     fields: Fields
-    text: str  # the bytes, a bar for each SOH; of a `say` line, the line
+    line: bytes
     frame: bytes | None  # None where the program frames it
+
+    @property
+    def text(self) -> str:
+        """The bytes, a bar for each SOH; of a `say` line, the line."""
+        return barred(self.line if self.frame is None else self.frame)
 
 
 def came_of(line: bytes) -> Came | None:
@@ -26,11 +30,11 @@ def came_of(line: bytes) -> Came | None:
         frame = frame_of(verb, data)
         if frame is None:
             return None
-        return Came(decoded(firm), decoded(time), fields_of(frame), barred(frame), frame)
+        return Came(decoded(firm), decoded(time), fields_of(frame), line, frame)
     if verb == b"say" and rest.count(b" ") >= 4:
         firm, trader, time, kind, body = rest.split(b" ", 4)
         fields = Fields([(35, kind), (50, trader), *fields_of(body.replace(b"|", SOH))])
-        return Came(decoded(firm), decoded(time), fields, barred(line), None)
+        return Came(decoded(firm), decoded(time), fields, line, None)
     return None
 
 

@@ -1,30 +1,21 @@
 """A log behind one interface: a file of SQLite, a schema of PostgreSQL, or two files of text."""
 
+import itertools
 from abc import ABC, abstractmethod
-from collections.abc import Iterator
-from dataclasses import dataclass
+from collections.abc import Iterator, Sequence
 
 from .closing import Closing
 from .faults import Wrong
-from .records import Day, Entry, Outgoing, Sent, configured, day_of
-
-
-@dataclass(frozen=True)
-class Counts:
-    """How many rows a log has."""
-
-    entries: int
-    sent: int
-    outgoing: int
+from .records import Day, Entry, EntryRow, Messages, Outgoing, Sent, configured, day_of
 
 
 class Log(Closing):
-    """Reads the rows of a log. Every list is read row by row, so none is held."""
+    """Reads the rows of a log. Every list is read in blocks of some rows, so none is held."""
 
     has_chain: bool = True  # whether the entries have hashes, and the sessions their messages
 
     @abstractmethod
-    def entries(self) -> Iterator[Entry]:
+    def entry_blocks(self) -> Iterator[list[EntryRow]]:
         """All entries, by their places."""
 
     @abstractmethod
@@ -32,15 +23,15 @@ class Log(Closing):
         """The entries of one firm, by their places."""
 
     @abstractmethod
-    def sent(self, firm: str) -> Iterator[Sent]:
+    def sent_blocks(self, firm: str) -> Iterator[Messages]:
         """What the venue gave for a firm, by its numbers."""
 
     @abstractmethod
-    def outgoing(self, firm: str) -> Iterator[Outgoing]:
+    def outgoing_blocks(self, firm: str) -> Iterator[Messages]:
         """The messages of a firm's session, by its numbers."""
 
     @abstractmethod
-    def lines(self) -> Iterator[bytes]:
+    def line_blocks(self) -> Iterator[list[bytes]]:
         """The lines of the entries behind place 0, in their order."""
 
     @abstractmethod
@@ -48,8 +39,16 @@ class Log(Closing):
         """The places of the entries, in their order."""
 
     @abstractmethod
-    def session_numbers(self, firm: str) -> dict[int, int]:
-        """By place, the session's number of each message of a firm that a Reject answers."""
+    def last_place(self) -> int:
+        """The last entry's place; -1 where there is none."""
+
+    @abstractmethod
+    def has_gaps(self) -> bool:
+        """Whether the places are others than 0, 1, 2 and so on."""
+
+    @abstractmethod
+    def session_numbers(self, places: Sequence[int]) -> dict[int, int]:
+        """Of the messages at some places, by place, the numbers that they had in their session."""
 
     @abstractmethod
     def targets(self) -> dict[str, int]:
@@ -57,19 +56,25 @@ class Log(Closing):
 
     @abstractmethod
     def firms(self) -> set[str]:
-        """The firms that any row names."""
+        """The firms to which any message went."""
 
     @abstractmethod
     def count_of(self, firm: str) -> int:
         """How many messages a firm was sent."""
 
-    @abstractmethod
-    def last_numbers(self) -> list[tuple[str, int, int]]:
-        """Of each firm, the greatest number of its session that came, and the entry's place."""
+    def entries(self) -> Iterator[Entry]:
+        """All entries, one by one."""
+        return (Entry._make(row) for rows in self.entry_blocks() for row in rows)
 
-    @abstractmethod
-    def counts(self) -> Counts:
-        """How many rows there are."""
+    def sent(self, firm: str) -> Iterator[Sent]:
+        """What the venue gave for a firm, one by one."""
+        for block in self.sent_blocks(firm):
+            yield from map(Sent, itertools.repeat(firm), *block)
+
+    def outgoing(self, firm: str) -> Iterator[Outgoing]:
+        """The messages of a firm's session, one by one."""
+        for block in self.outgoing_blocks(firm):
+            yield from map(Outgoing, itertools.repeat(firm), *block)
 
     def day(self) -> Day:
         """The day in entry 0."""

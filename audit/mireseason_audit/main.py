@@ -1,4 +1,7 @@
-"""The command line of mireseason-audit."""
+"""The command line of mireseason-audit.
+
+What one command alone needs is imported by it: jinja2 takes longer than the check of a short day.
+"""
 
 import argparse
 import os
@@ -16,11 +19,8 @@ from .files_log import TwoFiles
 from .findings import Finding
 from .jobs import Files
 from .log import Source
-from .pages import Pager
-from .pair_command import PairCommand
-from .postgres_log import PostgresSource
 from .progress import Progress
-from .seal import Sealed, compared, read_seal, sealed, write_seal, write_sums
+from .seal import Sealed, compared, read_seal, sealed, write_seal
 from .sqlite_log import SqliteSource
 from .venue import Venue
 from .work import processors
@@ -28,6 +28,7 @@ from .work import processors
 ROOT = Path(__file__).resolve().parent.parent.parent
 VENUE = ROOT / "crates" / "rfq_venue" / "out" / "rfq_venue"
 DICTIONARY = ROOT / "fix" / "MIRESEASON.xml"
+AT_ONCE = processors() + 1  # a process that waits for the disk leaves its processor
 LOG_HELP = "a file of SQLite; postgres:CONNECTION with --schema; or a day of `live` with --sent"
 
 
@@ -86,7 +87,7 @@ def command(
     parser.add_argument("--sent", type=Path, help="what was sent, as `live --frames` prints it")
     venue = os.environ.get("VENUE", shlex.quote(str(VENUE)))
     parser.add_argument("--venue", default=venue, help="the words of the venue's program (VENUE)")
-    parser.add_argument("--jobs", type=int, default=processors(), help="processes at one time")
+    parser.add_argument("--jobs", type=int, default=AT_ONCE, help="processes at one time")
     return parser
 
 
@@ -97,10 +98,10 @@ def source_of(words: argparse.Namespace, venue: Venue, folder: Path) -> Source:
             if not path.is_file():
                 raise Unreadable("%s: there is no such file" % path)
         return TwoFiles(Path(words.log), words.sent, venue).to_log(folder / "files.db")
-    if words.log.startswith("postgres:"):
+    if words.log.startswith(("postgres:", "postgresql:")):
+        from .postgres_log import PostgresSource
+
         return PostgresSource(words.log.removeprefix("postgres:"), words.schema)
-    if words.log.startswith("postgresql:"):
-        return PostgresSource(words.log, words.schema)
     return SqliteSource(Path(words.log))
 
 
@@ -151,7 +152,7 @@ def seal_words(verdict: Verdict, found: list[Finding]) -> str:
 
 
 def do_seal(work: Work) -> int:
-    if not isinstance(work.source, (SqliteSource, PostgresSource)) or work.words.sent is not None:
+    if work.words.sent is not None:
         raise Unreadable("two files have no chain, so there is nothing to be sealed")
     chained = work.checker().chain()
     if chained.findings:
@@ -168,18 +169,22 @@ def do_seal(work: Work) -> int:
 
 
 def do_page(work: Work) -> int:
+    from .pages import Pager
+
     words, seal = work.words, seal_of(work)
     key = None if words.request is None else words.request - 1
     pager = Pager(work.checker(), words.dictionary, words.folder, work.folder, key)
     verdict, summary = pager.check()
     pager.write(compared_with(work, seal, verdict), summary)
-    write_sums(words.folder, words.sign)
+    pager.sign(words.sign)
     print("\n".join(report(verdict)))
     print("%d requests: %s" % (len(summary.requests), words.folder / "index.html"))
     return 0 if verdict.is_good else 1
 
 
 def do_pair(work: Work) -> int:
+    from .pair_command import PairCommand
+
     with work.source.open() as log:
         firm = log.day().firm(work.words.dealer)
     if firm is None or not firm.is_dealer:

@@ -1,14 +1,13 @@
 """A message as HTML: its text, and its fields by their names."""
 
-from dataclasses import dataclass
 from html import escape
+from typing import NamedTuple
 
 from .dictionary import Dictionary
 from .frame import Fields, barred, text_of
 
 
-@dataclass(frozen=True)
-class Shown:
+class Shown(NamedTuple):
     """A message, and what stands above it."""
 
     anchor: str

@@ -3,22 +3,25 @@
 import shutil
 from contextlib import closing
 from dataclasses import dataclass
-from itertools import islice
 from pathlib import Path
 
 from .book import Book, Fault
 from .certificates import CertificateJob, second_for, seconds_for
-from .check import Checker, Result, Verdict, judged, rows_of
+from .check import Checker, Result, Verdict, judged
 from .dictionary import read_dictionary
 from .faults import Unreadable
 from .firm_pages import FirmJob, page_name
 from .reading import Reader
+from .progress import Step
+from .records import Day
 from .request_pages import RequestJob, file_name
+from .seal import SumsJob, write_sums
 from .summary import Summary, SummaryJob
 from .templates import HERE, Templates
-from .work import Job, run_jobs
+from .work import Job, Plan, plan_of, run_jobs
 
 ROWS_A_PAGE = 500
+PAGES_A_JOB, FILES_A_JOB = 50, 250
 FAULTS_ON_THE_DAY = 30
 FOLDERS = ("requests", "firms", "certificates")
 
@@ -43,12 +46,11 @@ class Pager:
         checker = self.checker
         verdict = checker.begun()
         dictionary = read_dictionary(self.dictionary)
-        jobs: list[Job[Result | Summary]] = [
-            SummaryJob(checker.source, verdict.day, dictionary, self._book)
-        ]
-        jobs += checker.jobs(verdict)
-        checker.progress.begin("messages", rows_of(verdict))
-        results = run_jobs(jobs, checker.at_once, checker.progress)
+        plan: Plan[Result | Summary] = Plan()
+        plan.add(SummaryJob(checker.source, verdict.day, dictionary, self._book))
+        checker.add_jobs(plan, verdict)
+        checker.progress.begin("messages", checker.rows_of(verdict))
+        results = run_jobs(plan, checker.at_once, checker.progress)
         checker.progress.end()
         (summary,) = [result for result in results if isinstance(result, Summary)]
         found = [result for result in results if not isinstance(result, Summary)]
@@ -59,11 +61,22 @@ class Pager:
         checker = self.checker
         rows = len(summary.requests) + summary.came + summary.sent
         checker.progress.begin("pages", rows)
-        run_jobs(self._jobs(verdict, summary), checker.at_once, checker.progress)
+        run_jobs(plan_of(self._jobs(verdict, summary)), checker.at_once, checker.progress)
         with closing(Book(self._book)) as book:
             self._write_day(verdict, summary, book)
         shutil.copyfile(checker.files.day, self.folder / "day.live")
         shutil.copyfile(HERE / "style.css", self.folder / "style.css")
+        checker.progress.end()
+
+    def sign(self, key: Path | None) -> None:
+        """The sums of all files, and the signature of these where there is a key."""
+        checker = self.checker
+        paths = sorted(path for path in self.folder.rglob("*") if path.is_file())
+        starts = range(0, len(paths), FILES_A_JOB)
+        jobs = [SumsJob(self.folder, tuple(paths[at : at + FILES_A_JOB])) for at in starts]
+        checker.progress.begin("sums", len(paths))
+        lines = run_jobs(plan_of(jobs), checker.at_once, checker.progress)
+        write_sums(self.folder, "".join(lines).encode(), key)
         checker.progress.end()
 
     def _jobs(self, verdict: Verdict, summary: Summary) -> list[Job[object]]:
@@ -98,14 +111,16 @@ class Pager:
             )
             for at in range(0, len(requests), ROWS_A_PAGE)
         ]
+        total = sum(summary.faults.values())
+        jobs += [
+            FaultsJob(day, total, at, book, self.folder)
+            for at in range(0, pages_of(total), PAGES_A_JOB)
+        ]
         return jobs
 
     def _write_day(self, verdict: Verdict, summary: Summary, book: Book) -> None:
         templates = Templates(verdict.day)
-        pages = max(1, -(-len(summary.requests) // ROWS_A_PAGE))
-        faults = book.faults()
-        some = list(islice(faults, FAULTS_ON_THE_DAY))
-        fault_pages = self._write_faults(templates, book, summary) if summary.faults else 0
+        pages = max(1, pages_of(len(summary.requests)))
         for page in range(pages):
             text = templates.page(
                 "day.html",
@@ -115,8 +130,8 @@ class Pager:
                 requests=summary.requests[page * ROWS_A_PAGE : (page + 1) * ROWS_A_PAGE],
                 page=page + 1,
                 pages=pages,
-                faults=some,
-                fault_pages=fault_pages,
+                faults=book.faults(0, FAULTS_ON_THE_DAY),
+                fault_pages=pages_of(sum(summary.faults.values())),
                 day_page=day_page,
                 file_name=file_name,
                 fault_link=fault_link,
@@ -124,24 +139,39 @@ class Pager:
             )
             (self.folder / day_page(page + 1)).write_text(text)
 
-    def _write_faults(self, templates: Templates, book: Book, summary: Summary) -> int:
-        """All that was refused, so many a page; answers how many pages."""
-        faults = book.faults()
-        total = sum(summary.faults.values())
-        pages = -(-total // ROWS_A_PAGE)
-        for page in range(pages):
-            text = templates.page(
-                "faults.html",
-                "",
-                faults=list(islice(faults, ROWS_A_PAGE)),
-                total=total,
-                page=page + 1,
-                pages=pages,
-                file_name=file_name,
-                fault_link=fault_link,
-            )
-            (self.folder / ("refused-%d.html" % (page + 1))).write_text(text)
-        return pages
+
+@dataclass(frozen=True)
+class FaultsJob:
+    """Writes pages of what was refused, in a process of its own; answers how many."""
+
+    day: Day
+    total: int  # of all that was refused
+    first: int  # page
+    book: Path
+    folder: Path
+
+    def __call__(self, step: Step) -> int:
+        templates, pages = Templates(self.day), pages_of(self.total)
+        mine = range(self.first, min(pages, self.first + PAGES_A_JOB))
+        with closing(Book(self.book)) as book:
+            for page in mine:
+                text = templates.page(
+                    "faults.html",
+                    "",
+                    faults=book.faults(page * ROWS_A_PAGE, ROWS_A_PAGE),
+                    total=self.total,
+                    page=page + 1,
+                    pages=pages,
+                    file_name=file_name,
+                    fault_link=fault_link,
+                )
+                (self.folder / ("refused-%d.html" % (page + 1))).write_text(text)
+        step(0)
+        return len(mine)
+
+
+def pages_of(rows: int) -> int:
+    return -(-rows // ROWS_A_PAGE)
 
 
 def day_page(page: int) -> str:

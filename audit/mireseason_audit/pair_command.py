@@ -48,6 +48,7 @@ class PairCommand:
     def run(self) -> Told:
         told = Told()
         day = self.checker.begun().day
+        self.checker.write_day(day)
         venue, files = self.checker.venue, self.checker.files
         venue.to_file(["due", self.dealer, "--live"], files.day, files.due(self.dealer))
         self._prices(day, told)
@@ -120,7 +121,7 @@ class PairCommand:
         path, second = self.folder / "without.live", LeftOutDay(self.dealer)
         progress = self.checker.progress
         with self.checker.source.open() as log:
-            progress.begin("entries", log.counts().entries)
+            progress.begin("entries", log.last_place() + 1)
             second.write(log, day, self.checker.venue, path, progress.step)
             progress.end()
         dealers = {firm.name for firm in day.dealers}

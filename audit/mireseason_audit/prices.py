@@ -2,6 +2,7 @@
 
 from dataclasses import dataclass
 from decimal import Decimal, InvalidOperation
+from functools import lru_cache
 
 TICKS = 256  # in a point
 MOST_DIGITS = 15
@@ -35,12 +36,7 @@ class Price:
     @property
     def thirty_seconds(self) -> str:
         """Points, 32nds and eighths of a 32nd, a plus sign for four; empty where it has none."""
-        ticks = self.ticks
-        if ticks is None:
-            return ""
-        points, part = divmod(ticks, TICKS)
-        whole, eighths = divmod(part, 8)
-        return "%d-%02d%s" % (points, whole, {0: "", 4: "+"}.get(eighths, str(eighths)))
+        return thirty_seconds_of(self)
 
     def moved(self, thirty_seconds: int) -> str:
         """The price so many 32nds higher, as it is written in a message."""
@@ -50,3 +46,14 @@ class Price:
 
     def __str__(self) -> str:
         return self.text
+
+
+@lru_cache(maxsize=4096)
+def thirty_seconds_of(price: Price) -> str:
+    """A price in 32nds. A day has the same prices again and again."""
+    ticks = price.ticks
+    if ticks is None:
+        return ""
+    points, part = divmod(ticks, TICKS)
+    whole, eighths = divmod(part, 8)
+    return "%d-%02d%s" % (points, whole, {0: "", 4: "+"}.get(eighths, str(eighths)))

@@ -5,7 +5,6 @@ from collections.abc import Callable
 from typing import TextIO
 
 Step = Callable[[int], None]  # told how many rows were done
-ROWS_AT_A_TIME = 1024  # so many are told together
 WIDTH = 40
 
 

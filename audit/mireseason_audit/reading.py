@@ -1,7 +1,7 @@
 """What messages say, in words: the message of a firm, and those that the venue tells."""
 
-from dataclasses import dataclass
 from enum import Enum
+from typing import NamedTuple
 
 from .dictionary import Dictionary
 from .frame import Fields, text_of
@@ -43,8 +43,7 @@ GLYPHS = {
 }
 
 
-@dataclass(frozen=True)
-class Words:
+class Words(NamedTuple):
     """What was said or told, by whom or to whom it stands beside."""
 
     shape: Shape

@@ -3,7 +3,7 @@
 import hashlib
 import tomllib
 from dataclasses import dataclass
-from typing import NamedTuple
+from typing import Any, NamedTuple
 
 from .faults import Wrong
 
@@ -23,6 +23,17 @@ class Entry(NamedTuple):
     line: bytes
     before: bytes
     hash: bytes
+
+
+EntryRow = tuple[int, int, str, str | None, int | None, bytes, bytes, bytes]  # as an Entry has it
+
+
+class Messages(NamedTuple):
+    """Some messages of a firm, column by column."""
+
+    numbers: tuple[int, ...]
+    others: tuple[Any, ...]  # of `sent` the places; of `outgoing` which message each carries
+    bytes: tuple[bytes, ...]
 
 
 class Sent(NamedTuple):

@@ -8,6 +8,7 @@ A request has its own name in the messages of its investor (131), and one for ea
 from collections import defaultdict
 from collections.abc import Iterator
 from dataclasses import dataclass, field
+from typing import NamedTuple
 
 from .exchanges import Exchange, Told
 from .frame import text_of
@@ -15,8 +16,7 @@ from .lines import Came
 from .reading import Reader, Words, moment_of
 
 
-@dataclass(frozen=True)
-class Note:
+class Note(NamedTuple):
     """What a firm was told."""
 
     firm: str
@@ -25,8 +25,7 @@ class Note:
     words: Words
 
 
-@dataclass(frozen=True)
-class Act:
+class Act(NamedTuple):
     """An exchange, as far as it is about one request."""
 
     place: int

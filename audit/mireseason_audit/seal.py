@@ -19,7 +19,9 @@ from .chain import Chained
 from .faults import Unreadable, Wrong
 from .findings import Finding
 from .log import Log
-from .records import Day
+from .progress import Step
+from .records import Day, Messages
+from .streams import digest_of
 
 TITLE = "mireseason-seal 1"
 SIGNATURE = "signature "
@@ -50,20 +52,21 @@ def sealed(log: Log, day: Day, chained: Chained) -> Sealed:
     lines += ["entry %d %s" % item for item in sorted(chained.checkpoints.items())]
     lines.append("last %d %s" % (chained.last_place, chained.last.hex()))
     for firm in day.firms:
-        sent = digest((row.number, row.place, row.bytes) for row in log.sent(firm.name))
-        lines.append("sent %s %s" % (firm.name, sent))
-        went = digest((row.number, row.sent, row.bytes) for row in log.outgoing(firm.name))
-        lines.append("session %s %s" % (firm.name, went))
+        lines.append("sent %s %s" % (firm.name, digest(log.sent_blocks(firm.name))))
+        lines.append("session %s %s" % (firm.name, digest(log.outgoing_blocks(firm.name))))
     return Sealed(tuple(lines))
 
 
-def digest(rows: Iterable[tuple[int, int | None, bytes]]) -> str:
+def digest(blocks: Iterable[Messages]) -> str:
     """How many rows, and their SHA-256: of each its numbers, its length, its bytes."""
     found, count = hashlib.sha256(), 0
-    for number, other, data in rows:
-        found.update(b"%d %d %d\n" % (number, -1 if other is None else other, len(data)))
-        found.update(data)
-        count += 1
+    for block in blocks:
+        rows = [
+            b"%d %d %d\n%b" % (number, -1 if other is None else other, len(data), data)
+            for number, other, data in zip(*block)
+        ]
+        found.update(b"".join(rows))
+        count += len(rows)
     return "%d %s" % (count, found.hexdigest())
 
 
@@ -128,17 +131,21 @@ def between(first: int, last: int) -> str:
     return "from entry %d to %d they are not those that were sealed" % (first, last)
 
 
-def write_sums(folder: Path, key: Path | None) -> None:
-    """The SHA-256 of each file of a folder, as sha256sum reads them, and a signature of that."""
-    lines = []
-    for path in sorted(folder.rglob("*")):
-        if path.is_file():
-            with path.open("rb") as file:
-                found = hashlib.sha256()
-                while block := file.read(1 << 20):
-                    found.update(block)
-            lines.append("%s  %s\n" % (found.hexdigest(), path.relative_to(folder)))
-    text = "".join(lines).encode()
+@dataclass(frozen=True)
+class SumsJob:
+    """The SHA-256 of some files of a folder, as sha256sum reads them, in a process of its own."""
+
+    folder: Path
+    paths: tuple[Path, ...]
+
+    def __call__(self, step: Step) -> str:
+        lines = ["%s  %s\n" % (digest_of(one), one.relative_to(self.folder)) for one in self.paths]
+        step(len(lines))
+        return "".join(lines)
+
+
+def write_sums(folder: Path, text: bytes, key: Path | None) -> None:
+    """The sums of all files, and a signature of them."""
     (folder / "SHA256SUMS").write_bytes(text)
     if key is not None:
         (folder / "SHA256SUMS.sig").write_bytes(sign(text, key))

@@ -1,6 +1,6 @@
 """A second day beside the one in a log: other dealers' prices moved, or their messages left out."""
 
-from collections.abc import Callable, Iterator
+from collections.abc import Callable
 from dataclasses import dataclass, field
 from pathlib import Path
 
@@ -10,6 +10,7 @@ from .log import Log
 from .prices import Price
 from .records import Day
 from .requests import Request
+from .streams import blocks_of
 
 BID, OFFER, SEQ_NUM, QUOTE = 132, 133, 34, 117
 
@@ -34,13 +35,17 @@ class MovedDay:
 
     moved: list[Moved] = field(default_factory=list)
 
-    def write(self, log: Log, day: Day, move: Move, path: Path) -> None:
-        """Writes the second day; prices alone differ, and with them lengths and sums of frames."""
+    def write(self, log: Log, day: Day, move: Move, path: Path, part: bytes = b"") -> None:
+        """Writes the second day; prices alone differ, and with them lengths and sums of frames.
+
+        Lines without the part, in small hexadecimal digits, are left as they are.
+        """
         with path.open("wb", buffering=1 << 20) as file:
             file.write(day.head)
-            for entry in log.entries():
-                if entry.place > 0:
-                    file.write(self._line(entry.place, entry.line, move) + b"\n")
+            for place, _, _, _, _, line, _, _ in log.entries():
+                if place > 0:
+                    moved = self._line(place, line, move) if is_with(line, part) else line
+                    file.write(moved + b"\n")
 
     def _line(self, place: int, line: bytes, move: Move) -> bytes:
         came = came_of(line)
@@ -54,6 +59,16 @@ class MovedDay:
         number = text_of(came.fields, SEQ_NUM)
         self.moved.append(Moved(place, came.firm, number, before, after))
         return line_of(came, fields)
+
+
+def needle(request: str) -> bytes:
+    """What stands in a `hex` line of a message about a request, in small digits."""
+    return (b"\x01131=%b\x01" % request.encode()).hex().encode()
+
+
+def is_with(line: bytes, part: bytes) -> bool:
+    """Whether a line may have a part; one that is no `hex` line always may."""
+    return not line.startswith(b"hex ") or part in line.lower()
 
 
 def line_of(came: Came, fields: Fields) -> bytes:
@@ -95,9 +110,3 @@ def append(first: Path, second: Path, both: Path) -> None:
                 file.write(b"%%\n")
             for block in blocks_of(path):
                 file.write(block)
-
-
-def blocks_of(path: Path) -> Iterator[bytes]:
-    with path.open("rb") as file:
-        while block := file.read(1 << 20):
-            yield block

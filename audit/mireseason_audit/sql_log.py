@@ -1,59 +1,137 @@
 """A log in tables: what is read of SQLite and of PostgreSQL alike."""
 
 from abc import abstractmethod
-from collections.abc import Iterator
+from collections.abc import Iterator, Sequence
 from typing import Any
 
 from .faults import Unreadable
-from .log import Counts, Log
+from .log import Log
+from .records import Entry, EntryRow, Messages
 
-COUNTS = """SELECT (SELECT count(*) FROM entry), (SELECT count(*) FROM sent),
-    (SELECT count(*) FROM outgoing)"""
-FIRMS = """SELECT DISTINCT firm FROM sent UNION SELECT DISTINCT firm FROM outgoing
-    UNION SELECT DISTINCT firm FROM entry WHERE firm IS NOT NULL"""
-LAST_NUMBERS = """SELECT firm, max(number), max(place) FROM entry
-    WHERE number IS NOT NULL AND firm IS NOT NULL GROUP BY firm"""
+ROWS_AT_A_TIME = 1024
+ENTRY = "SELECT place, term, moment, firm, number, line, before, hash FROM entry"
+LINES = "SELECT line FROM entry WHERE place > 0 ORDER BY place"
+SENT = "SELECT number, place, bytes FROM sent WHERE firm = ? ORDER BY number"
+OUTGOING = "SELECT number, sent, bytes FROM outgoing WHERE firm = ? ORDER BY number"
+EXTENT = "SELECT count(*), min(place), max(place) FROM entry"
+NUMBERS = "SELECT place, number FROM entry WHERE number IS NOT NULL AND place IN (%s)"
+# From each firm to the next one by the index, since there are few and they have many rows.
+FIRMS = """WITH RECURSIVE found(firm) AS (SELECT min(firm) FROM TABLE_ UNION ALL
+    SELECT (SELECT min(firm) FROM TABLE_ WHERE firm > found.firm) FROM found
+    WHERE found.firm IS NOT NULL) SELECT firm FROM found WHERE firm IS NOT NULL"""
+
+NONE = type(None)
+ENTRY_TYPES = ({int}, {int}, {str}, {str, NONE}, {int, NONE}, {bytes}, {bytes}, {bytes})
+MESSAGE_TYPES = ({int}, {int, NONE}, {bytes})
+
+Rows = list[tuple[Any, ...]]
 
 
 class SqlLog(Log):
     """One transaction over the tables of gateway/schema.sql."""
 
     @abstractmethod
-    def rows(self, query: str, *values: object) -> Iterator[tuple[Any, ...]]:
-        """The rows of a query, one by one; Unreadable where the database has a fault."""
+    def blocks(self, query: str, *values: object) -> Iterator[Rows]:
+        """The rows of a query, so many at a time; Unreadable where the database has a fault."""
 
     @staticmethod
     @abstractmethod
     def bytes_of(value: Any) -> bytes:
         """The bytes of a column."""
 
-    def lines(self) -> Iterator[bytes]:
-        rows = self.rows("SELECT line FROM entry WHERE place > 0 ORDER BY place")
-        return (self.bytes_of(line) for line, in rows)
+    def rows(self, query: str, *values: object) -> Iterator[tuple[Any, ...]]:
+        """The rows of a query, one by one."""
+        for rows in self.blocks(query, *values):
+            yield from rows
+
+    def entry_blocks(self) -> Iterator[list[EntryRow]]:
+        return map(self._entry_rows, self.blocks(ENTRY + " ORDER BY place"))
+
+    def came(self, firm: str) -> Iterator[Entry]:
+        for rows in self.blocks(ENTRY + " WHERE firm = ? ORDER BY place", firm):
+            yield from map(Entry._make, self._entry_rows(rows))
+
+    def _entry_rows(self, rows: Rows) -> list[EntryRow]:
+        """The rows with each column as it should be."""
+        if are_of(zip(*rows), ENTRY_TYPES):
+            return rows  # type: ignore[return-value]  # that was just looked at
+        return [self._entry(*row) for row in rows]
+
+    def _entry(
+        self, place: int, term: int, moment: Any, firm: Any, number: int | None, *data: Any
+    ) -> EntryRow:
+        check_numbers("entry", place, place, term, number)
+        line, before, hash_ = map(self.bytes_of, data)
+        firm = None if firm is None else as_text(firm)
+        return place, term, as_text(moment), firm, number, line, before, hash_
+
+    def sent_blocks(self, firm: str) -> Iterator[Messages]:
+        return self._messages(SENT, "sent %s" % firm, firm)
+
+    def outgoing_blocks(self, firm: str) -> Iterator[Messages]:
+        return self._messages(OUTGOING, "outgoing %s" % firm, firm)
+
+    def _messages(self, query: str, table: str, firm: str) -> Iterator[Messages]:
+        """The messages of a firm, as rows of a table."""
+        for rows in self.blocks(query, firm):
+            numbers, others, data = zip(*rows)
+            if not are_of((numbers, others, data), MESSAGE_TYPES):
+                for number, other in zip(numbers, others):
+                    check_numbers(table, number, number, other)
+                data = tuple(map(self.bytes_of, data))
+            yield Messages(numbers, others, data)
+
+    def line_blocks(self) -> Iterator[list[bytes]]:
+        for rows in self.blocks(LINES):
+            lines = [line for line, in rows]
+            yield lines if are_of([lines], [{bytes}]) else list(map(self.bytes_of, lines))
 
     def places(self) -> Iterator[int]:
         return (row[0] for row in self.rows("SELECT place FROM entry ORDER BY place"))
+
+    def last_place(self) -> int:
+        ((place,),) = self.rows("SELECT max(place) FROM entry")
+        return -1 if place is None else int(place)
+
+    def has_gaps(self) -> bool:
+        ((count, first, last),) = self.rows(EXTENT)
+        return (first, last) != (0, count - 1)
+
+    def session_numbers(self, places: Sequence[int]) -> dict[int, int]:
+        if not places:
+            return {}
+        query = NUMBERS % ", ".join("%d" % place for place in places)
+        return {place: number for place, number in self.rows(query)}
 
     def targets(self) -> dict[str, int]:
         rows = self.rows("SELECT firm, target FROM session")
         return {as_text(firm): target for firm, target in rows}
 
     def firms(self) -> set[str]:
-        return {as_text(firm) for firm, in self.rows(FIRMS)}
+        tables = "sent", "outgoing"
+        queries = [FIRMS.replace("TABLE_", table) for table in tables]
+        return {as_text(firm) for query in queries for firm, in self.rows(query)}
 
-    def last_numbers(self) -> list[tuple[str, int, int]]:
-        rows = self.rows(LAST_NUMBERS)
-        return [(as_text(firm), number, place) for firm, number, place in rows]
-
-    def counts(self) -> Counts:
-        (row,) = self.rows(COUNTS)
-        return Counts(*row)
+    def count_of(self, firm: str) -> int:
+        ((count,),) = self.rows("SELECT count(*) FROM sent WHERE firm = ?", firm)
+        return int(count)
 
 
-def check_form(name: str, rows: list[tuple[Any, ...]], form: int) -> None:
+def are_of(columns: Any, types: Sequence[set[type]]) -> bool:
+    """Whether each column has values of its types and no others."""
+    return all(set(map(type, column)) <= wanted for column, wanted in zip(columns, types))
+
+
+def check_form(name: str, rows: Rows, form: int) -> None:
     """The one row of the table `form`."""
     if [tuple(row) for row in rows] != [(form,)]:
         raise Unreadable("%s: the form of its tables is not %d" % (name, form))
+
+
+def check_numbers(table: str, row: object, *values: object) -> None:
+    for value in values:
+        if value is not None and type(value) is not int:
+            raise Unreadable("%s %s: %r stands where a number should" % (table, row, value))
 
 
 def as_text(value: object) -> str:

@@ -1,24 +1,16 @@
 """A log in a file of SQLite, read in one transaction."""
 
 import sqlite3
-from collections.abc import Callable, Iterator
+from collections.abc import Iterator
 from dataclasses import dataclass
 from pathlib import Path
-from typing import Any, TypeVar
+from typing import Any
 
 from .faults import Unreadable
 from .log import Log, Source
-from .records import Entry, Outgoing, Sent
-from .sql_log import SqlLog, as_text, check_form
+from .sql_log import ROWS_AT_A_TIME, Rows, SqlLog, check_form
 
 FORM = 1  # of the tables, as gateway/schema.sql has it
-ENTRY = "SELECT place, term, moment, firm, number, line, before, hash FROM entry"
-SENT = "SELECT firm, number, place, bytes FROM sent WHERE firm = ? ORDER BY number"
-OUTGOING = "SELECT firm, number, sent, bytes FROM outgoing WHERE firm = ? ORDER BY number"
-REJECTED = """SELECT place, number FROM entry WHERE number IS NOT NULL AND place IN
-    (SELECT place FROM sent WHERE firm = ? AND instr(bytes, x'0133353D3301') > 0)"""
-
-Row = TypeVar("Row")
 
 
 @dataclass(frozen=True)
@@ -52,9 +44,11 @@ class SqliteLog(SqlLog):
             raise Unreadable("%s is no log of the gateway: %s" % (source.path, fault)) from None
         check_form(str(source.path), forms, FORM)
 
-    def rows(self, query: str, *values: object) -> Iterator[tuple[Any, ...]]:
+    def blocks(self, query: str, *values: object) -> Iterator[Rows]:
         try:
-            yield from self._connection.execute(query, values)
+            cursor = self._connection.execute(query, values)
+            while rows := cursor.fetchmany(ROWS_AT_A_TIME):
+                yield rows
         except sqlite3.Error as fault:
             raise Unreadable("%s: %s" % (self._name, fault)) from None
 
@@ -64,48 +58,6 @@ class SqliteLog(SqlLog):
         if isinstance(value, bytes):
             return value
         return b"" if value is None else str(value).encode()
-
-    def entries(self) -> Iterator[Entry]:
-        return self._entries(" ORDER BY place")
-
-    def came(self, firm: str) -> Iterator[Entry]:
-        return self._entries(" WHERE firm = ? ORDER BY place", firm)
-
-    def _entries(self, which: str, *values: object) -> Iterator[Entry]:
-        as_bytes = self.bytes_of
-        for row in self.rows(ENTRY + which, *values):
-            place, term, moment, firm, number, line, before, hash_ = row
-            if type(line) is not bytes or type(before) is not bytes or type(hash_) is not bytes:
-                line, before, hash_ = as_bytes(line), as_bytes(before), as_bytes(hash_)
-            if type(moment) is not str or not (firm is None or type(firm) is str):
-                moment, firm = as_text(moment), None if firm is None else as_text(firm)
-            if type(place) is not int or type(term) is not int or type(number) is not int:
-                check_numbers("entry", place, place, term, number)
-            yield Entry(place, term, moment, firm, number, line, before, hash_)
-
-    def sent(self, firm: str) -> Iterator[Sent]:
-        return self._messages(SENT, "sent %s" % firm, firm, Sent)
-
-    def outgoing(self, firm: str) -> Iterator[Outgoing]:
-        return self._messages(OUTGOING, "outgoing %s" % firm, firm, Outgoing)
-
-    def _messages(
-        self, query: str, table: str, firm: str, row: Callable[[str, int, int, bytes], Row]
-    ) -> Iterator[Row]:
-        """The messages of a firm, as rows of a table."""
-        for name, number, other, data in self.rows(query, firm):
-            if type(data) is not bytes:
-                data = self.bytes_of(data)
-            if type(number) is not int or type(other) is not int:
-                check_numbers(table, number, number, other)
-            yield row(name, number, other, data)
-
-    def session_numbers(self, firm: str) -> dict[int, int]:
-        return {place: number for place, number in self.rows(REJECTED, firm)}
-
-    def count_of(self, firm: str) -> int:
-        ((count,),) = self.rows("SELECT count(*) FROM sent WHERE firm = ?", firm)
-        return int(count)
 
     def close(self, failed: bool = False) -> None:
         self._connection.close()
@@ -125,9 +77,3 @@ def connected(path: Path) -> sqlite3.Connection:
             if path.with_name(path.name + "-wal").exists() or "immutable" in ending:
                 raise
     raise AssertionError("the loop returns or raises")
-
-
-def check_numbers(table: str, row: object, *values: object) -> None:
-    for value in values:
-        if value is not None and type(value) is not int:
-            raise Unreadable("%s %s: %r stands where a number should" % (table, row, value))

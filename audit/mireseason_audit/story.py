@@ -1,6 +1,6 @@
 """One request, whole: its acts in their order, and the life of each quote."""
 
-from dataclasses import dataclass, field, replace
+from dataclasses import dataclass, field
 from itertools import pairwise
 
 from .prices import Price
@@ -99,8 +99,8 @@ def story_of(request: Request, acts: list[Act]) -> Story:
             before = live.pop(act.actor, None)
             if before is not None:
                 end(before, "replaced", index, act)
-                words = replace(act.said, shape=Shape.REPLACE, text="replaces")
-                story.acts[index] = replace(act, said=words)
+                words = act.said._replace(shape=Shape.REPLACE, text="replaces")
+                story.acts[index] = act._replace(said=words)
             live[act.actor] = quote = quote_of(request, act, index)
             story.quotes.append(quote)
         for note in act.told:

@@ -1,5 +1,6 @@
 """The templates of the pages, and how values are written in them."""
 
+from functools import lru_cache
 from pathlib import Path
 
 import jinja2
@@ -28,13 +29,16 @@ def date_text(text: str) -> str:
 
 def price_html(price: Price | str | None) -> Markup:
     """A price in 32nds and as a decimal."""
-    price = Price(price) if isinstance(price, str) else price
-    if price is None or not price.text:
-        return Markup("")
+    text = price.text if isinstance(price, Price) else price
+    return price_of_text(text) if text else Markup("")
+
+
+@lru_cache(maxsize=4096)
+def price_of_text(text: str) -> Markup:
+    price = Price(text)
     if not price.thirty_seconds:
-        return Markup('<span class="price">%s</span>') % price.text
-    text = Markup('<span class="price">%s <small>%s</small></span>')
-    return text % (price.thirty_seconds, price.text)
+        return Markup('<span class="price">%s</span>') % text
+    return Markup('<span class="price">%s <small>%s</small></span>') % (price.thirty_seconds, text)
 
 
 def capitalize_first(text: str) -> str:

@@ -36,7 +36,7 @@ class Drawing:
     """Draws one story."""
 
     def __init__(self, story: Story, roles: dict[str, str]) -> None:
-        self._story, self._roles = story, roles
+        self._story, self._roles, self._gaps = story, roles, [0.0, *story.gaps]
         self._lane_width = min(WIDEST, max(NARROWEST, ALL_LANES // len(story.lanes)))
         self._lanes = {
             name: EDGE + TIME_WIDTH + self._lane_width * at + 10
@@ -69,8 +69,7 @@ class Drawing:
         """The rows, one under the other, with more room where more time went by."""
         rows: list[Row] = []
         y = float(HEAD_HEIGHT)
-        gaps = [0.0, *self._story.gaps]
-        for act, gap in zip(self._story.acts, gaps):
+        for act, gap in zip(self._story.acts, self._gaps):
             y += min(MOST_GAP, 5 * math.log2(1 + max(0.0, gap)))
             cells = cells_of(act, int(self._lane_width / LETTER))
             most = max((len(lines) for lines in cells.values()), default=1)
@@ -128,7 +127,7 @@ class Drawing:
     def _time(self, row: Row, at: int) -> str:
         moment = escape(row.act.moment)
         text = '<text class="time" x="%d" y="%g">%s</text>' % (EDGE, row.y + 10, moment)
-        gap = self._story.gaps[at - 1] if at else 0.0
+        gap = self._gaps[at]
         if gap > 0:
             text += '<text class="gap" x="%d" y="%g">%s</text>' % (EDGE, row.y + 25, gap_text(gap))
         return text

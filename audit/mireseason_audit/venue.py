@@ -1,12 +1,12 @@
 """The venue's program: every rule is asked of it."""
 
-import hashlib
 import os
 import re
 import select
 import subprocess
 import tempfile
 from collections.abc import Iterator
+from contextlib import ExitStack
 from dataclasses import dataclass, field
 from pathlib import Path
 from typing import Self
@@ -37,18 +37,15 @@ class Venue:
     def __str__(self) -> str:
         return " ".join(self.words)
 
-    def run(self, arguments: list[str], input_: Path) -> "Run":
+    def run(self, arguments: list[str], input_: Path, output: Path | None = None) -> "Run":
         """The program over a file, read line by line: `with venue.run(..) as run`."""
-        return Run(self, arguments, input_)
+        return Run(self, arguments, input_, output)
 
-    def to_file(self, arguments: list[str], input_: Path, output: Path) -> str:
-        """Writes into a file what the program prints; answers its SHA-256."""
-        with self.run(arguments, input_) as run, output.open("wb") as file:
-            digest = hashlib.sha256()
-            for block in run.blocks():
-                digest.update(block)
-                file.write(block)
-        return digest.hexdigest()
+    def to_file(self, arguments: list[str], input_: Path, output: Path) -> list["LineFault"]:
+        """The program writes into a file; answers the lines that it did not take."""
+        with self.run(arguments, input_, output) as run:
+            run.end()
+        return run.faults
 
     def version(self) -> str:
         """What `--version` says; `unknown` where it says nothing."""
@@ -72,16 +69,18 @@ class Run(Closing):
     venue: Venue
     arguments: list[str]
     input: Path
+    output: Path | None = None  # where it prints to; None: it is read by `lines`
     faults: list[LineFault] = field(default_factory=list)  # whole once the run has ended
 
     def __enter__(self) -> Self:
         self._told = tempfile.TemporaryFile()
         try:
-            with self.input.open("rb") as file:
+            with ExitStack() as files:
+                output = self.output and files.enter_context(self.output.open("wb"))
                 self._process = subprocess.Popen(
                     [*self.venue.words, *self.arguments],
-                    stdin=file,
-                    stdout=subprocess.PIPE,
+                    stdin=files.enter_context(self.input.open("rb")),
+                    stdout=output or subprocess.PIPE,
                     stderr=self._told,
                     bufsize=1 << 20,
                 )
@@ -95,16 +94,10 @@ class Run(Closing):
         assert self._process.stdout is not None
         for line in self._process.stdout:
             yield line.removesuffix(b"\n")
-        self._end()
+        self.end()
 
-    def blocks(self) -> Iterator[bytes]:
-        """What it prints, in blocks."""
-        assert self._process.stdout is not None
-        while block := self._process.stdout.read(1 << 20):
-            yield block
-        self._end()
-
-    def _end(self) -> None:
+    def end(self) -> None:
+        """Waits for its end."""
         status = self._process.wait()
         self._told.seek(0)
         last = b""

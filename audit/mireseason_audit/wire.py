@@ -7,7 +7,7 @@ venue's, byte for byte.
 """
 
 import re
-from collections.abc import Iterator
+from collections.abc import Callable, Iterator
 from typing import NamedTuple
 
 from .findings import Finding
@@ -46,9 +46,8 @@ def parts_of(frame: bytes) -> Parts | None:
 def carried(parts: Parts, session_number: int | None) -> bytes:
     """What stands from 1181 to the last field of the message that carries a frame of the venue."""
     body = parts.body
-    if parts.kind == REJECT and session_number is not None and body.startswith(REFERS):
-        _, soh, rest = body[1:].partition(SOH)
-        body = REFERS + b"%d" % session_number + soh + rest
+    if parts.kind == REJECT and session_number is not None:
+        body = with_number(body, session_number)
     before = IN_FRONT_OF.get(parts.kind)
     at = body.find(before) if before else -1
     if at < 0:
@@ -56,15 +55,37 @@ def carried(parts: Parts, session_number: int | None) -> bytes:
     return CARRIED + parts.number + body[:at] + b"\x0160=" + parts.moment + body[at:]
 
 
+def with_number(body: bytes, session_number: int) -> bytes:
+    """The body of a Reject with the session's number in RefSeqNum (45)."""
+    if not body.startswith(REFERS):
+        return body
+    _, soh, rest = body[1:].partition(SOH)
+    return REFERS + b"%d" % session_number + soh + rest
+
+
+def header_fault(data: bytes, number: int, firm: str, carries: bool) -> str | None:
+    """What is wrong with a message of a session, whatever it carries."""
+    fault = fault_of(data)
+    if fault is not None:
+        return fault
+    head = data.partition(CARRIED)[0] + SOH
+    if b"\x0134=%d\x01" % number not in head:
+        return "its 34 is another"
+    if b"\x0149=VENUE\x01" not in head or b"\x0156=%b\x01" % firm.encode() not in head:
+        return "it is not of the venue for this firm"
+    if not carries and CARRIED in data:
+        return "it carries what the log does not say"
+    return None
+
+
 class WireReader:
     """Holds the messages of one session against what the venue gave for the firm."""
 
-    def __init__(self, firm: str, sent: Iterator[Sent], rejects: dict[int, int]) -> None:
-        self._rejects = rejects
+    def __init__(self, sent: Iterator[Sent], session_number: Callable[[int], int | None]) -> None:
+        self._session_number = session_number  # of the message of an entry
         self._waiting = sent
         self._expected = next(sent, None)
         self._number = 0
-        self._to = b"\x0156=" + firm.encode() + SOH
 
     def take(self, row: Outgoing) -> Finding | None:
         """What is wrong with the next message."""
@@ -72,11 +93,14 @@ class WireReader:
         if row.number != self._number:
             text = "its session has no message %d; %d comes"
             return Finding(row.firm, text % (self._number, row.number))
-        head, mark, rest = row.bytes.partition(CARRIED)
-        finding = self._header_finding(row, head + SOH)
-        if finding is None and row.sent is not None:
-            finding = self._carried_finding(row, head, mark + rest[: -CHECKSUM_BYTES - 1])
-            self._expected = next(self._waiting, None)
+        fault = header_fault(row.bytes, self._number, row.firm, row.sent is not None)
+        if fault is not None:
+            text = "message %d of its session: %s" % (row.number, fault)
+            return Finding(row.firm, text, found=row.bytes)
+        if row.sent is None:
+            return None
+        finding = self._carried_finding(row)
+        self._expected = next(self._waiting, None)
         return finding
 
     def rest(self, firm: str) -> Finding | None:
@@ -86,21 +110,7 @@ class WireReader:
         where = self._expected.place, self._expected.number
         return Finding(firm, "no message of its session carries it", *where)
 
-    def _header_finding(self, row: Outgoing, head: bytes) -> Finding | None:
-        """What is wrong with a message, whatever it carries."""
-        fault = fault_of(row.bytes)
-        if fault is None and b"\x0134=%d\x01" % self._number not in head:
-            fault = "its 34 is another"
-        if fault is None and (b"\x0149=VENUE\x01" not in head or self._to not in head):
-            fault = "it is not of the venue for this firm"
-        if fault is None and row.sent is None and CARRIED in row.bytes:
-            fault = "it carries what the log does not say"
-        if fault is None:
-            return None
-        text = "message %d of its session: %s" % (row.number, fault)
-        return Finding(row.firm, text, found=row.bytes)
-
-    def _carried_finding(self, row: Outgoing, head: bytes, body: bytes) -> Finding | None:
+    def _carried_finding(self, row: Outgoing) -> Finding | None:
         """Holds a message that carries one of the venue's against that."""
         expected = self._expected
         text = "message %d of its session carries number %s" % (row.number, row.sent)
@@ -109,19 +119,31 @@ class WireReader:
         where = expected.place, expected.number
         if row.sent != expected.number:
             return Finding(row.firm, text + " where %d comes next" % expected.number, *where)
-        parts = parts_of(expected.bytes)
-        if parts is not None and body == carried(parts, self._rejects.get(expected.place)):
-            if b"\x0135=" + parts.kind + SOH in head:
-                return None
+        if self._carries(row.bytes, expected):
+            return None
         text = "message %d of its session carries another text" % row.number
         return Finding(
             row.firm, text, *where, expected.bytes, row.bytes, "`sent` has", "the session has"
         )
 
+    def _carries(self, data: bytes, expected: Sent) -> bool:
+        parts = parts_of(expected.bytes)
+        if parts is None:
+            return False
+        head, mark, rest = data.partition(CARRIED)
+        if b"\x0135=" + parts.kind + SOH not in head + SOH:
+            return False
+        number = self._session_number(expected.place) if parts.kind == REJECT else None
+        return mark + rest[: -CHECKSUM_BYTES - 1] == carried(parts, number)
+
 
 def check_wire(log: Log, firm: str) -> Iterator[Finding]:
     """Holds a firm's session against what the venue gave for it; the first fault is told."""
-    reader = WireReader(firm, log.sent(firm), log.session_numbers(firm))
+
+    def session_number(place: int) -> int | None:
+        return log.session_numbers([place]).get(place)
+
+    reader = WireReader(log.sent(firm), session_number)
     for row in log.outgoing(firm):
         finding = reader.take(row)
         if finding is not None:

@@ -3,8 +3,10 @@
 import ctypes
 import multiprocessing
 import os
-from collections.abc import Callable, Sequence
-from dataclasses import dataclass
+import signal
+import sys
+from collections.abc import Callable, Iterable, Sequence
+from dataclasses import dataclass, field
 from multiprocessing.connection import Connection, wait
 from multiprocessing.process import BaseProcess
 from multiprocessing.sharedctypes import Synchronized
@@ -16,6 +18,33 @@ from .progress import Progress, Step
 Result = TypeVar("Result")
 Job = Callable[[Step], Result]  # what a process does; it tells the step how many rows it did
 LOOK = 0.2  # seconds from one look at the counter to the next
+
+
+class Plan(Generic[Result]):
+    """Jobs, those that should begin first in front, and behind which others each has to wait."""
+
+    def __init__(self) -> None:
+        self.jobs: list[Job[Result]] = []
+        self._behind: list[frozenset[int]] = []
+
+    def add(self, job: Job[Result], behind: Iterable[int] = ()) -> int:
+        """A job that begins when others, by their numbers, are done; answers its own."""
+        self.jobs.append(job)
+        self._behind.append(frozenset(behind))
+        return len(self.jobs) - 1
+
+    def ready(self, waiting: Iterable[int], done: Iterable[int]) -> list[int]:
+        """The jobs that can begin."""
+        over = frozenset(done)
+        return [index for index in waiting if self._behind[index] <= over]
+
+
+def plan_of(jobs: Iterable[Job[Result]]) -> Plan[Result]:
+    """Jobs of which none waits for another."""
+    plan: Plan[Result] = Plan()
+    for job in jobs:
+        plan.add(job)
+    return plan
 
 
 @dataclass
@@ -31,36 +60,65 @@ def processors() -> int:
     return len(os.sched_getaffinity(0))
 
 
-def run_jobs(jobs: Sequence[Job[Result]], at_once: int, progress: Progress) -> list[Result]:
-    """Does all jobs; answers their results in the jobs' order. The first that fails is raised."""
-    context = multiprocessing.get_context("fork")
-    counter: "Synchronized[int]" = context.Value(ctypes.c_longlong, 0)  # type: ignore[assignment]
-    waiting = list(enumerate(jobs))
-    results: dict[int, Result] = {}
-    running: list[Running[Result]] = []
-    try:
-        while waiting or running:
-            while waiting and len(running) < max(1, at_once):
-                index, job = waiting.pop(0)
-                here, there = context.Pipe(duplex=False)
-                process = context.Process(target=do_job, args=(job, there, counter), daemon=True)
-                process.start()
-                there.close()
-                running.append(Running(index, process, here))
-            ready = wait([one.answers for one in running], LOOK)
-            progress.stand(counter.value)
-            for one in [one for one in running if one.answers in ready]:
-                results[one.index] = result_of(one)
-                running.remove(one)
-    finally:
-        for one in running:
+@dataclass
+class Workers(Generic[Result]):
+    """The processes that do the jobs of a plan."""
+
+    plan: Plan[Result]
+    running: list[Running[Result]] = field(default_factory=list)
+    results: dict[int, Result] = field(default_factory=dict)
+
+    def __post_init__(self) -> None:
+        self._context = multiprocessing.get_context("fork")
+        self.counter: "Synchronized[int]"
+        self.counter = self._context.Value(ctypes.c_longlong, 0)  # type: ignore[assignment]
+        self._waiting = list(range(len(self.plan.jobs)))
+
+    @property
+    def is_over(self) -> bool:
+        return not self._waiting and not self.running
+
+    def begin(self, at_once: int) -> None:
+        """Begins what can begin."""
+        ready = self.plan.ready(self._waiting, self.results)
+        for index in ready[: max(1, at_once) - len(self.running)]:
+            self._waiting.remove(index)
+            here, there = self._context.Pipe(duplex=False)
+            arguments = (self.plan.jobs[index], there, self.counter)
+            process = self._context.Process(target=do_job, args=arguments, daemon=True)
+            process.start()
+            there.close()
+            self.running.append(Running(index, process, here))
+
+    def take(self) -> None:
+        """Waits a while for results."""
+        ready = wait([one.answers for one in self.running], LOOK)
+        for one in [one for one in self.running if one.answers in ready]:
+            self.results[one.index] = result_of(one)
+            self.running.remove(one)
+
+    def end(self) -> None:
+        for one in self.running:
             one.process.terminate()
             one.process.join()
-    return [results[index] for index in range(len(jobs))]
+
+
+def run_jobs(plan: Plan[Result], at_once: int, progress: Progress) -> list[Result]:
+    """Does all jobs; answers their results in the jobs' order. The first that fails is raised."""
+    workers = Workers(plan)
+    try:
+        while not workers.is_over:
+            workers.begin(at_once)
+            workers.take()
+            progress.stand(workers.counter.value)
+    finally:
+        workers.end()
+    return [workers.results[index] for index in range(len(plan.jobs))]
 
 
 def do_job(job: Job[Result], answers: Connection, counter: "Synchronized[int]") -> None:
-    """In the process of the job."""
+    """In the process of the job. Where it has to end, it ends the program that it runs."""
+    signal.signal(signal.SIGTERM, lambda number, frame: sys.exit(1))
 
     def step(rows: int) -> None:
         with counter.get_lock():

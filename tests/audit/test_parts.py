@@ -7,11 +7,14 @@ import io
 import os
 import unittest
 from collections import Counter
+from dataclasses import dataclass
 from pathlib import Path
 from typing import Any
+from unittest.mock import patch
 
 from common import ROOT, folder
 
+from mireseason_audit import streams
 from mireseason_audit.chain import ChainReader, hash_of
 from mireseason_audit.dictionary import read_dictionary
 from mireseason_audit.faults import Unreadable, Wrong
@@ -19,14 +22,15 @@ from mireseason_audit.frame import barred, fault_of, fields_of, framed, sum_of
 from mireseason_audit.jobs import held
 from mireseason_audit.lines import came_of, firm_and_time
 from mireseason_audit.pair import Compared, Differences, difference_words, differences
+from mireseason_audit.plain_wire import carries
 from mireseason_audit.prices import Price
-from mireseason_audit.progress import Progress
+from mireseason_audit.progress import Progress, Step
 from mireseason_audit.reading import Reader
 from mireseason_audit.records import Entry, Sent, day_of
 from mireseason_audit.second_day import moved_fields
 from mireseason_audit.timeline import broken, gap_text
 from mireseason_audit.wire import carried, parts_of
-from mireseason_audit.work import run_jobs
+from mireseason_audit.work import Plan, plan_of, run_jobs
 
 # Frames of docs/FORMATS.md and docs/CONNECTING.md, with a bar for each SOH.
 ACCEPTED = (
@@ -144,6 +148,12 @@ def entry(place: int, moment: str, line: bytes, before: bytes, **other: Any) -> 
     return made._replace(hash=hash_of(made))
 
 
+SPOILT: list[tuple[str, Any]] = [  # a column of an entry, and what stands there
+    ("place", 99), ("term", -1), ("moment", "08:59:59.000"), ("firm", "NOBODY"), ("number", 0),
+    ("line", b"clock 09:00:00"), ("before", bytes(32)), ("hash", bytes(32)),
+]
+
+
 class Chains(unittest.TestCase):
     def test_the_hash_is_that_of_the_schema(self) -> None:
         """The text of gateway/schema.sql: BEFORE PLACE TERM MOMENT FIRM NUMBER LENGTH, a line
@@ -184,6 +194,33 @@ class Chains(unittest.TestCase):
         foreign = entry(2, "09:00:02.000", b"clock 09:00:02.000", bytes(32))
         self.assertEqual(len(self.found(first, second, foreign)), 1)
 
+    def test_blocks_say_what_entries_one_by_one_say(self) -> None:
+        """Forty entries, one of them spoilt in each way: taken in blocks of any size."""
+        rows: list[Entry] = []
+        for place in range(40):
+            firm = None if place % 5 == 0 else "DLR%d" % (place % 3)
+            moment = "09:00:%02d.000" % place
+            text = "clock " + moment if firm is None else "hex %s %s 00" % (firm, moment)
+            line, before = text.encode(), rows[-1].hash if rows else bytes(32)
+            number = None if firm is None else place
+            rows.append(entry(place, moment, line, before, firm=firm, number=number))
+        self.assertEqual(self.in_blocks(rows, 7), [])
+        for at in range(2, 40):
+            for name, value in SPOILT:
+                spoilt = rows[at]._replace(**{name: value})
+                for made in (spoilt, spoilt._replace(hash=hash_of(spoilt))):
+                    changed = [*rows[:at], made, *rows[at + 1 :]]
+                    found = self.found(*changed)
+                    self.assertEqual(bool(found), made != rows[at], (at, name))
+                    for size in (1, 7, 64):
+                        self.assertEqual(self.in_blocks(changed, size), found, (at, name))
+
+    def in_blocks(self, rows: list[Entry], size: int) -> list[str]:
+        reader = ChainReader(has_chain=True)
+        for at in range(0, len(rows), size):
+            reader.take_rows(list(rows[at : at + size]))
+        return [finding.text for finding in reader.found.findings]
+
     def test_the_day_of_entry_0(self) -> None:
         digest = hashlib.sha256(CONFIGURATION).hexdigest().encode()
         line = b"version v 1\nprogram 00\nconfiguration " + digest + b"\n%%\n" + CONFIGURATION
@@ -219,10 +256,65 @@ class Wires(unittest.TestCase):
         self.assertIsNone(parts_of(b"8=FIXT.1.1\x01"))
 
 
+class Streams(unittest.TestCase):
+    """Files that are read in blocks of any size."""
+
+    def test_lines(self) -> None:
+        for data in (b"", b"\n", b"a", b"a\n", b"a\n\nbb\nccc", b"a" * 99 + b"\nb\n"):
+            with folder() as name:
+                path = Path(name) / "file"
+                path.write_bytes(data)
+                expected = data.removesuffix(b"\n").split(b"\n") if data else []
+                self.assertEqual(list(streams.lines_of(path)), expected)
+                for size in (1, 3, 64, 1 << 20):
+                    with patch.object(streams, "BLOCK", size):
+                        blocks = list(streams.line_blocks_of(path))
+                    self.assertEqual([line for block in blocks for line in block], expected)
+
+    def test_files_that_are_the_same(self) -> None:
+        with folder() as name, patch.object(streams, "BLOCK", 4):
+            one, other = Path(name) / "one", Path(name) / "other"
+            one.write_bytes(b"0123456789")
+            self.assertFalse(streams.is_same(one, other))
+            self.assertFalse(self.follows(other, b""))
+            for data in (b"", b"012345678", b"0123456789", b"0123x56789", b"0123456789x"):
+                other.write_bytes(data)
+                self.assertEqual(streams.is_same(one, other), data == b"0123456789")
+                self.assertEqual(self.follows(one, data), data == b"0123456789")
+
+    def follows(self, path: Path, data: bytes) -> bool:
+        followed = streams.Followed(path)
+        for at in range(0, len(data), 3):
+            followed.take(data[at : at + 3])
+        return followed.is_same()
+
+
+class Sessions(unittest.TestCase):
+    """A message that plainly carries a frame: no other byte of it may stand there."""
+
+    def test_each_changed_byte(self) -> None:
+        end = b"\x0156=DLR1"
+        for text in (ACCEPTED, SHOWN, REJECT):
+            frame = soh(text)
+            parts = parts_of(frame)
+            assert parts is not None
+            head = soh("35=%s|34=7|49=VENUE|52=20250314-09:00:10.001|56=DLR1")
+            body = head.replace(b"%s", parts.kind) + carried(parts, None) + b"\x01"
+            wire = framed(fields_of(body))
+            self.assertIsNone(fault_of(wire))
+            self.assertTrue(carries(wire, 7, frame, end))
+            self.assertFalse(carries(wire, 8, frame, end))
+            self.assertFalse(carries(wire, 7, frame, b"\x0156=DLR2"))
+            for at in range(len(wire)):
+                for other in (wire[at] ^ 1, 1, 0x7C):
+                    changed = wire[:at] + bytes([other]) + wire[at + 1 :]
+                    self.assertEqual(carries(changed, 7, frame, end), changed == wire, at)
+
+
 class Holding(unittest.TestCase):
     def found(self, rows: list[bytes], lines: list[bytes]) -> list[tuple[str, int | None]]:
         sent = [Sent("DLR1", at, at + 10, data) for at, data in enumerate(rows, 1)]
-        findings = held("DLR1", sent, lines, lambda rows: None)
+        findings = held("DLR1", sent, lines)
         return [(one.text.partition(" ")[2].split(" ")[0], one.number) for one in findings]
 
     def test_the_first_difference(self) -> None:
@@ -287,6 +379,19 @@ class Terminal(io.StringIO):
         return True
 
 
+@dataclass(frozen=True)
+class Writes:
+    """A job that adds its number to what the job before it left; answers what that was."""
+
+    place: Path
+    number: int
+
+    def __call__(self, step: Step) -> str:
+        before = (self.place / str(self.number - 1)).read_text() if self.number else ""
+        (self.place / str(self.number)).write_text(before + str(self.number))
+        return before
+
+
 class Bars(unittest.TestCase):
     def test_a_bar_on_a_terminal_and_nothing_elsewhere(self) -> None:
         for stream, shown in ((Terminal(), True), (io.StringIO(), False)):
@@ -304,8 +409,8 @@ class Bars(unittest.TestCase):
         """Results come in the order of the jobs; a fault of a process is raised here."""
         progress = Progress(io.StringIO())
         jobs = [lambda step, at=at: at * at for at in range(9)]
-        self.assertEqual(run_jobs(jobs, 3, progress), [at * at for at in range(9)])
-        self.assertEqual(run_jobs([], 3, progress), [])
+        self.assertEqual(run_jobs(plan_of(jobs), 3, progress), [at * at for at in range(9)])
+        self.assertEqual(run_jobs(plan_of([]), 3, progress), [])
 
         def fails(step: object) -> int:
             raise Unreadable("this")
@@ -313,8 +418,22 @@ class Bars(unittest.TestCase):
         def ends(step: object) -> int:
             os._exit(3)
 
-        self.assertRaisesRegex(Unreadable, "this", run_jobs, [*jobs, fails], 2, progress)
-        self.assertRaisesRegex(Unreadable, "status 3", run_jobs, [ends], 1, progress)
+        failing, ending = plan_of([*jobs, fails]), plan_of([ends])
+        self.assertRaisesRegex(Unreadable, "this", run_jobs, failing, 2, progress)
+        self.assertRaisesRegex(Unreadable, "status 3", run_jobs, ending, 1, progress)
+
+    def test_jobs_that_wait_for_others(self) -> None:
+        """Each of a chain of jobs reads what the one before it wrote, whatever stands in front."""
+        for at_once in (1, 2, 9):
+            with folder() as name:
+                plan: Plan[str] = Plan()
+                written: list[int] = []
+                for at in range(5):
+                    written.append(plan.add(Writes(Path(name), at), written[-1:]))
+                self.assertEqual(
+                    run_jobs(plan, at_once, Progress(io.StringIO())),
+                    ["", "0", "01", "012", "0123"],
+                )
 
 
 class Pairs(unittest.TestCase):

@@ -11,10 +11,12 @@ from concurrent.futures import ProcessPoolExecutor
 from dataclasses import dataclass
 from multiprocessing import get_context
 from pathlib import Path
+from unittest.mock import patch
 
 from common import HERE, Folder, audit, folder, keys, venue_words
 from tamper import Tamperer
 
+from mireseason_audit import sqlite_log, streams
 from mireseason_audit.check import report
 from mireseason_audit.faults import Unreadable, Wrong
 from mireseason_audit.main import Work, checked, parser_of, source_of
@@ -23,6 +25,7 @@ from mireseason_audit.venue import Run, Venue
 CHANGES = int(os.environ.get("CHANGES", "500"))
 SEED = int(os.environ.get("SEED", "1"))
 AT_ONCE = 4
+BLOCKS = ((1024, 1 << 20), (7, 300), (1, 64))  # rows and bytes that are read at one time
 PRINT = 'cat "$1"; cat "$2" >&2; exit "$(cat "$3")"'
 
 
@@ -34,13 +37,14 @@ class KeptVenue(Venue):
 
     kept: Path = Path()
 
-    def run(self, arguments: list[str], input_: Path) -> Run:
+    def run(self, arguments: list[str], input_: Path, output: Path | None = None) -> Run:
         asked = " ".join(arguments).encode() + b"\0" + input_.read_bytes()
         digest = hashlib.sha256(asked).hexdigest()
         parts = [self.kept / (digest + end) for end in (".out", ".err", ".status")]
         if not parts[2].exists():
             self.answer(arguments, input_, parts)
-        return Run(Venue(("/bin/sh", "-c", PRINT, "sh")), [str(path) for path in parts], input_)
+        print_it = Venue(("/bin/sh", "-c", PRINT, "sh"))
+        return Run(print_it, [str(path) for path in parts], input_, output)
 
     def answer(self, arguments: list[str], input_: Path, parts: list[Path]) -> None:
         mine = [path.with_name("%s.%d" % (path.name, os.getpid())) for path in parts]
@@ -86,7 +90,9 @@ class Sealed:
         path = self.place / ("tampered-%d.db" % number)
         shutil.copyfile(self.log, path)
         change = Tamperer(path, random.Random("%d %d" % (SEED, number))).change()
-        status, text = self.check(path)
+        rows, size = BLOCKS[number % len(BLOCKS)]
+        with patch.object(sqlite_log, "ROWS_AT_A_TIME", rows), patch.object(streams, "BLOCK", size):
+            status, text = self.check(path)
         path.unlink()
         if status == 1 and re.search(change.pattern, text):
             return ""
@@ -113,8 +119,11 @@ class Tampered(unittest.TestCase):
         cls.kept.cleanup()
 
     def test_the_day_as_it_is(self) -> None:
-        status, text = self.sealed.check(self.sealed.log)
-        self.assertEqual((status, "as it was sealed" in text), (0, True), text)
+        for rows, size in BLOCKS:
+            with patch.object(sqlite_log, "ROWS_AT_A_TIME", rows):
+                with patch.object(streams, "BLOCK", size):
+                    status, text = self.sealed.check(self.sealed.log)
+            self.assertEqual((status, "as it was sealed" in text), (0, True), text)
 
     def test_changes_that_are_drawn(self) -> None:
         with ProcessPoolExecutor(AT_ONCE, get_context("fork")) as pool:

@@ -1,0 +1,134 @@
+"""A session that is plainly right, many messages at a time.
+
+A day has hundreds of thousands of messages, and nearly always nothing is wrong with any. What
+is looked at here is as strict as `wire`, but says no more than yes or no: where it says no, `wire`
+looks at the session message by message, and says what is wrong, if anything is.
+"""
+
+from collections.abc import Iterator
+
+from .frame import sum_of
+from .log import Log
+from .records import SOH, Messages
+from .wire import CARRIED, IN_FRONT_OF, header_fault, with_number
+
+FRONTS = {b"35=" + kind: before for kind, before in IN_FRONT_OF.items()}
+REJECTED = b"\x0135=3\x01"
+END_BYTES = 8  # 10=ccc, with an SOH before it and behind it
+ENDS = [b"\x0110=%03d\x01" % number for number in range(256)]
+HEAD = b"8=FIXT.1.1\x019=%d\x01%b\x0134=%d\x0149=VENUE\x0152="
+
+
+class Waiting:
+    """Rows of `sent` that are still to be carried."""
+
+    def __init__(self, blocks: Iterator[Messages]) -> None:
+        self._blocks = blocks
+        self._rows: list[tuple[int, bytes]] = []
+
+    def take(self, count: int) -> list[tuple[int, bytes]]:
+        """The places and the frames of the next ones; fewer where no more are left."""
+        while len(self._rows) < count and (block := next(self._blocks, None)) is not None:
+            self._rows += zip(block.others, block.bytes)
+        taken, self._rows = self._rows[:count], self._rows[count:]
+        return taken
+
+    def is_empty(self) -> bool:
+        return not self._rows and next(self._blocks, None) is None
+
+
+class PlainSession:
+    """How far a session was looked at."""
+
+    def __init__(self, log: Log, firm: str, sent: Iterator[Messages]) -> None:
+        self._log, self._firm = log, firm
+        self._end = b"\x0156=" + firm.encode()
+        self._waiting = Waiting(sent)
+        self._number = self._carried = 0
+
+    def is_right(self) -> bool:
+        """Whether all of it is plainly right, and carries all that was sent."""
+        blocks = self._log.outgoing_blocks(self._firm)
+        return all(map(self._is_right, blocks)) and self._waiting.is_empty()
+
+    def _is_right(self, block: Messages) -> bool:
+        """The same of the next messages."""
+        numbers, others, data = block
+        carriers = [other for other in others if other is not None]
+        own, sent = self._number + len(numbers), self._carried + len(carriers)
+        if numbers != tuple(range(self._number + 1, own + 1)):
+            return False
+        if carriers != list(range(self._carried + 1, sent + 1)):
+            return False
+        self._number, self._carried = own, sent
+        if len(carriers) < len(numbers) and not self._are_its_own(block):
+            return False
+        rows = self._waiting.take(len(carriers))
+        if len(rows) < len(carriers):
+            return False
+        carrying = [
+            (number, one) for number, other, one in zip(numbers, others, data) if other is not None
+        ]
+        return self._carry(carrying, rows)
+
+    def _are_its_own(self, block: Messages) -> bool:
+        """Whether the messages that carry nothing are right."""
+        return not any(
+            other is None and header_fault(data, number, self._firm, carries=False)
+            for number, other, data in zip(*block)
+        )
+
+    def _carry(self, carrying: list[tuple[int, bytes]], rows: list[tuple[int, bytes]]) -> bool:
+        """Whether messages, with their numbers, carry frames, with their places."""
+        rejects = [place for place, frame in rows if REJECTED in frame]
+        numbers = self._log.session_numbers(rejects)
+        if rejects:
+            frames = [
+                numbered(frame, numbers.get(place)) if REJECTED in frame else frame
+                for place, frame in rows
+            ]
+        else:
+            frames = [frame for _, frame in rows]
+        end = self._end
+        return all(
+            [
+                carries(data, number, frame, end)
+                for (number, data), frame in zip(carrying, frames)
+            ]
+        )
+
+
+def numbered(frame: bytes, session_number: int | None) -> bytes:
+    """A Reject with the session's number in it; its length and its sum are those that it had."""
+    parts = frame.split(SOH, 7)
+    if session_number is None or len(parts) < 8:
+        return frame
+    return SOH.join(parts[:7]) + with_number(SOH + parts[7], session_number)
+
+
+def carries(data: bytes, number: int, frame: bytes, end: bytes) -> bool:
+    """Whether a message with this number of its session plainly carries a frame of the venue.
+
+    Its header ends as given: the header of stock engines is in the order of its tags, 56 last.
+    """
+    parts = frame.split(SOH, 7)  # 8, 9, 35, 49, 56, 34, 52 and the rest
+    if len(parts) < 8:
+        return False
+    kind, rest = parts[2], SOH + parts[7]
+    front = FRONTS.get(kind)
+    at = rest.find(front) if front else -1
+    if at < 0:
+        at = len(rest) - END_BYTES
+    text = b"%b%b\x0160=%b%b" % (parts[5][3:], rest[:at], parts[6][3:], rest[at:-END_BYTES])
+    head, _, tail = data.partition(CARRIED)
+    return (
+        tail[:-END_BYTES] == text
+        and head.endswith(end)
+        and head.startswith(HEAD % (length_of(len(data)), kind, number))
+        and data.endswith(ENDS[sum_of(data[: 1 - END_BYTES])])
+    )
+
+
+def length_of(size: int) -> int:
+    """The BodyLength (9) of a message of so many bytes in all, of those with two digits to four."""
+    return size - 23 if size < 123 else size - 24 if size < 1024 else size - 25

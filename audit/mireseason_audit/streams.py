@@ -1,0 +1,66 @@
+"""Files that are read in blocks, so that none is held."""
+
+from collections.abc import Iterator
+from hashlib import sha256
+from itertools import zip_longest
+from pathlib import Path
+
+BLOCK = 1 << 20
+
+
+def blocks_of(path: Path) -> Iterator[bytes]:
+    with path.open("rb") as file:
+        while block := file.read(BLOCK):
+            yield block
+
+
+def lines_of(path: Path) -> Iterator[bytes]:
+    """The lines of a file, without their line feeds."""
+    with path.open("rb") as file:
+        for line in file:
+            yield line.removesuffix(b"\n")
+
+
+def line_blocks_of(path: Path) -> Iterator[list[bytes]]:
+    """The same, many at a time."""
+    rest = b""
+    for block in blocks_of(path):
+        *lines, rest = (rest + block).split(b"\n")
+        yield lines
+    if rest:
+        yield [rest]
+
+
+def digest_of(path: Path) -> str:
+    """The SHA-256 of a file."""
+    found = sha256()
+    for block in blocks_of(path):
+        found.update(block)
+    return found.hexdigest()
+
+
+def is_same(one: Path, other: Path) -> bool:
+    """Whether two files have the same bytes; not if one is not there."""
+    if not (one.exists() and other.exists()) or one.stat().st_size != other.stat().st_size:
+        return False
+    return all(left == right for left, right in zip_longest(blocks_of(one), blocks_of(other)))
+
+
+class Followed:
+    """A file that is read as far as what is given has the same bytes."""
+
+    def __init__(self, path: Path) -> None:
+        self._file = path.open("rb") if path.exists() else None
+        self._is_same = self._file is not None
+
+    def take(self, data: bytes) -> None:
+        """What comes next."""
+        if self._is_same and self._file is not None:
+            self._is_same = self._file.read(len(data)) == data
+
+    def is_same(self) -> bool:
+        """Whether all was the same, and the file has no more. It is closed."""
+        if self._file is None:
+            return False
+        with self._file as file:
+            return self._is_same and not file.read(1)
