@@ -87,9 +87,9 @@ class Checker:
         live = plan.add(LiveJob(audited), [written])
         plan.add(ChainJob(self.source))
         sent = {firm.name: plan.add(SentJob(audited, firm.name)) for firm in verdict.day.firms}
+        plan.add(GivenJob(audited), [live, *sent.values()])
         for dealer in verdict.day.dealers:
             plan.add(AloneJob(audited, dealer.name), [written, sent[dealer.name]])
-        plan.add(GivenJob(audited), [live, *sent.values()])
 
     def rows_of(self, verdict: Verdict) -> int:
         """How many rows the jobs that tell their steps go over: entries and messages, twice."""

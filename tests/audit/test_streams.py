@@ -1,0 +1,114 @@
+"""Files that are read in blocks, jobs in processes, and the bar."""
+
+import io
+import os
+import unittest
+from dataclasses import dataclass
+from pathlib import Path
+from unittest.mock import patch
+
+from common import folder
+
+from mireseason_audit import streams
+from mireseason_audit.faults import Unreadable
+from mireseason_audit.progress import Progress, Step
+from mireseason_audit.work import Plan, plan_of, run_jobs
+
+
+class Streams(unittest.TestCase):
+    """Files that are read in blocks of any size."""
+
+    def test_lines(self) -> None:
+        for data in (b"", b"\n", b"a", b"a\n", b"a\n\nbb\nccc", b"a" * 99 + b"\nb\n"):
+            with folder() as name:
+                path = Path(name) / "file"
+                path.write_bytes(data)
+                expected = data.removesuffix(b"\n").split(b"\n") if data else []
+                self.assertEqual(list(streams.lines_of(path)), expected)
+                for size in (1, 3, 64, 1 << 20):
+                    with patch.object(streams, "BLOCK", size):
+                        blocks = list(streams.line_blocks_of(path))
+                    self.assertEqual([line for block in blocks for line in block], expected)
+
+    def test_files_that_are_the_same(self) -> None:
+        with folder() as name, patch.object(streams, "BLOCK", 4):
+            one, other = Path(name) / "one", Path(name) / "other"
+            one.write_bytes(b"0123456789")
+            self.assertFalse(streams.is_same(one, other))
+            self.assertFalse(self.follows(other, b""))
+            for data in (b"", b"012345678", b"0123456789", b"0123x56789", b"0123456789x"):
+                other.write_bytes(data)
+                self.assertEqual(streams.is_same(one, other), data == b"0123456789")
+                self.assertEqual(self.follows(one, data), data == b"0123456789")
+
+    def follows(self, path: Path, data: bytes) -> bool:
+        followed = streams.Followed(path)
+        for at in range(0, len(data), 3):
+            followed.take(data[at : at + 3])
+        return followed.is_same()
+
+
+class Terminal(io.StringIO):
+    def isatty(self) -> bool:
+        return True
+
+
+@dataclass(frozen=True)
+class Writes:
+    """A job that adds its number to what the job before it left; answers what that was."""
+
+    place: Path
+    number: int
+
+    def __call__(self, step: Step) -> str:
+        before = (self.place / str(self.number - 1)).read_text() if self.number else ""
+        (self.place / str(self.number)).write_text(before + str(self.number))
+        return before
+
+
+class Bars(unittest.TestCase):
+    def test_a_bar_on_a_terminal_and_nothing_elsewhere(self) -> None:
+        for stream, shown in ((Terminal(), True), (io.StringIO(), False)):
+            progress = Progress(stream)
+            progress.begin("entries", 4000)
+            for _ in range(4):
+                progress.step(1000)
+            progress.end()
+            drawn = [text for text in stream.getvalue().split("\r") if "[" in text and "%" in text]
+            bars = [text.partition("]")[0] for text in drawn]
+            self.assertEqual([bar.count("#") for bar in bars], [0, 10, 20, 30, 40] if shown else [])
+            self.assertEqual(stream.getvalue().endswith("\r\x1b[K"), shown)
+
+    def test_jobs_in_processes(self) -> None:
+        """Results come in the order of the jobs; a fault of a process is raised here."""
+        progress = Progress(io.StringIO())
+        jobs = [lambda step, at=at: at * at for at in range(9)]
+        self.assertEqual(run_jobs(plan_of(jobs), 3, progress), [at * at for at in range(9)])
+        self.assertEqual(run_jobs(plan_of([]), 3, progress), [])
+
+        def fails(step: object) -> int:
+            raise Unreadable("this")
+
+        def ends(step: object) -> int:
+            os._exit(3)
+
+        failing, ending = plan_of([*jobs, fails]), plan_of([ends])
+        self.assertRaisesRegex(Unreadable, "this", run_jobs, failing, 2, progress)
+        self.assertRaisesRegex(Unreadable, "status 3", run_jobs, ending, 1, progress)
+
+    def test_jobs_that_wait_for_others(self) -> None:
+        """Each of a chain of jobs reads what the one before it wrote, whatever stands in front."""
+        for at_once in (1, 2, 9):
+            with folder() as name:
+                plan: Plan[str] = Plan()
+                written: list[int] = []
+                for at in range(5):
+                    written.append(plan.add(Writes(Path(name), at), written[-1:]))
+                self.assertEqual(
+                    run_jobs(plan, at_once, Progress(io.StringIO())),
+                    ["", "0", "01", "012", "0123"],
+                )
+
+
+if __name__ == "__main__":
+    unittest.main()
