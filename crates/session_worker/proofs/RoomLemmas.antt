@@ -342,6 +342,14 @@ parts_read f n all first later front back =
 le_true : (m n : ℕ) → m ≤ n → nat_le m n ≡ true
 le_true m n below = grind (arith, nat_tests)
 
+-- what is read at an index of a list stands there
+pub get_there : {A : Type 0} (xs : List A) (i : ℕ) (x : A) → i < length xs
+    → x ≡ get_or xs i x → slice_get xs i ≡ Some x
+get_there [] i x below is = let never : ⊥ = omega (arith, below) in absurd never
+get_there (y ∷ xs) zero x below is = ap (λ z. Some z) (sym is)
+get_there (y ∷ xs) (suc i) x below is =
+    let inside : i < length xs = omega (arith, below) in get_there xs i x inside is
+
 -- the investor in this row has a room for each request that it may make
 pub rooms_of_row : (config : Configuration) (firm at : ℕ) (row : InvestorRow)
     → firm ≡ length config.dealers + at → slice_get config.investors at ≡ Some row
