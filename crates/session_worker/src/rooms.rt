@@ -168,7 +168,12 @@ impl<J: Naming> LockedRoom<J> {
           day = record { events = self.events; order = self.order };
         } }
     {
-        let Self { at, room, order, .. } = self;
+        let Self {
+            at,
+            room,
+            order,
+            ..
+        } = self;
         DayRoom::new(at, room, order)
     }
 }
