@@ -4,6 +4,7 @@ use Rattle.dealer_desk.specs.DealerOutput.{DeskEvents, number_in, rooms_at}
 use Rattle.investor_desk.specs.InvestorFacts.{knows}
 use Rattle.investor_desk.specs.InvestorOutput.{DeskEvents as InvestorEvents, book_at}
 use Rattle.investor_desk.specs.declared.events.InvestorEvent.TheVariants as at_investor
+use Rattle.market_terms.specs.declared.rooms.RoomRef.{RoomRef}
 use Rattle.quote_word.specs.Board.{BoardName, Front}
 use Rattle.request_room.specs.Book.{room_after}
 use Rattle.request_room.specs.RoomFacts.{hears, is_opening, is_vacant}
@@ -59,25 +60,27 @@ investor_brought config desk after (to_investor.Close request moment) keeps is =
     (at_investor.Closed request moment) keeps is
 
 -- a room
-pub room_brought : (board : BoardName) (events after : List RoomEvent) (seen : Front)
-    (what : ForRoom) → KeepsRoom board events seen → after ≡ room_with events what
-    → KeepsRoom board after seen
+pub room_brought : (board : BoardName) (config : Configuration) (at : RoomRef)
+    (events after : List RoomEvent) (seen : Front) (what : ForRoom)
+    → KeepsRoom board config at events seen → after ≡ room_with events what
+    → KeepsRoom board config at after seen
 unfolding room_with
-room_brought board events after seen (to_room.Open ask dealers moment) keeps is =
-    quiet_kept board events after seen (is_vacant (room_after events))
+room_brought board config at events after seen (to_room.Open ask dealers moment) keeps is =
+    quiet_kept board config at events after seen (is_vacant (room_after events))
     (in_room.Open (record { ask = ask; dealers = dealers })) keeps refl is
-room_brought board events after seen (to_room.Ready moment) keeps is =
-    quiet_kept board events after seen (is_opening (room_after events)) in_room.Ready keeps refl is
-room_brought board events after seen (to_room.Post dealer offer moment) keeps is =
-    quiet_kept board events after seen (hears (room_after events) dealer)
+room_brought board config at events after seen (to_room.Ready moment) keeps is =
+    quiet_kept board config at events after seen (is_opening (room_after events)) in_room.Ready
+    keeps refl is
+room_brought board config at events after seen (to_room.Post dealer offer moment) keeps is =
+    quiet_kept board config at events after seen (hears (room_after events) dealer)
     (in_room.Post dealer offer.word offer.price offer.valid_until) keeps refl is
-room_brought board events after seen (to_room.Unpost dealer word moment) keeps is =
-    quiet_kept board events after seen (hears (room_after events) dealer)
+room_brought board config at events after seen (to_room.Unpost dealer word moment) keeps is =
+    quiet_kept board config at events after seen (hears (room_after events) dealer)
     (in_room.Unpost dealer word) keeps refl is
-room_brought board events after seen (to_room.Decline dealer moment) keeps is =
-    quiet_kept board events after seen (hears (room_after events) dealer)
+room_brought board config at events after seen (to_room.Decline dealer moment) keeps is =
+    quiet_kept board config at events after seen (hears (room_after events) dealer)
     (in_room.Decline dealer) keeps refl is
-room_brought board events after seen (to_room.Pass response moment) keeps is =
-    quiet_kept board events after seen true (in_room.Pass moment) keeps refl is
-room_brought board events after seen (to_room.Expire moment) keeps is =
-    quiet_kept board events after seen true (in_room.Expire moment) keeps refl is
+room_brought board config at events after seen (to_room.Pass response moment) keeps is =
+    quiet_kept board config at events after seen true (in_room.Pass moment) keeps refl is
+room_brought board config at events after seen (to_room.Expire moment) keeps is =
+    quiet_kept board config at events after seen true (in_room.Expire moment) keeps refl is

@@ -17,6 +17,7 @@ use Rattle.investor_desk.specs.InvestorOutput.{DeskEvents as InvestorEvents, mar
 use Rattle.investor_desk.specs.InvestorOutput.{no_events}
 use Rattle.investor_desk.specs.declared.events.InvestorEvent.{InvestorEvent}
 use Rattle.market_terms.specs.declared.closes.HitRefusal.{HitRefusal}
+use Rattle.market_terms.specs.declared.rooms.RoomRef.{RoomRef}
 use Rattle.request_room.specs.Book.{hit_refusal, room_after, word_or}
 use Rattle.request_room.specs.declared.events.RoomEvent.{RoomEvent}
 use Rattle.request_room.specs.declared.events.RoomEvent.TheVariants as in_room
@@ -108,20 +109,24 @@ opened_keeps config given firm desk same is =
 -- A room.
 
 -- the room as it was, with a later token
-pub room_later : (board : BoardName) (events : List RoomEvent) (seen later : Front)
-    → KeepsRoom board events seen → IsLater seen later → KeepsRoom board events later
-room_later board events seen later keeps is = record {
+pub room_later : (board : BoardName) (config : Configuration) (at : RoomRef)
+    (events : List RoomEvent) (seen later : Front) → KeepsRoom board config at events seen
+    → IsLater seen later → KeepsRoom board config at events later
+room_later board config at events seen later keeps is = record {
   of_board = is.0 ∙ keeps.of_board;
+  room_is = keeps.room_is;
   answers_stand = answers_stay seen.log later.log is.1 (answers_in events) keeps.answers_stand;
 }
 
 -- the room with one event more, whose answer stands in the log of a later token
-pub room_event : (board : BoardName) (events : List RoomEvent) (seen later : Front)
-    (more : RoomEvent) → KeepsRoom board events seen → IsLater seen later
+pub room_event : (board : BoardName) (config : Configuration) (at : RoomRef)
+    (events : List RoomEvent) (seen later : Front) (more : RoomEvent)
+    → KeepsRoom board config at events seen → IsLater seen later
     → All (StandsIn later.log) (answers_in (more ∷ []))
-    → KeepsRoom board (events ++ more ∷ []) later
-room_event board events seen later more keeps is stands = record {
+    → KeepsRoom board config at (events ++ more ∷ []) later
+room_event board config at events seen later more keeps is stands = record {
   of_board = is.0 ∙ keeps.of_board;
+  room_is = keeps.room_is;
   answers_stand = subst (All (StandsIn later.log))
       (sym (filter_map-append answered_hit events (more ∷ [])))
       (All-append (StandsIn later.log) (answers_in events) (answers_in (more ∷ []))
@@ -129,16 +134,17 @@ room_event board events seen later more keeps is stands = record {
 }
 
 -- the room after an event that asks no word, where it takes place
-pub quiet_kept : (board : BoardName) (events after : List RoomEvent) (seen : Front) (done : Bool)
-    (more : RoomEvent) → KeepsRoom board events seen → answered_hit more ≡ None
-    → after ≡ where_done done events more → KeepsRoom board after seen
-quiet_kept board events after seen true more keeps quiet is =
+pub quiet_kept : (board : BoardName) (config : Configuration) (at : RoomRef)
+    (events after : List RoomEvent) (seen : Front) (done : Bool) (more : RoomEvent)
+    → KeepsRoom board config at events seen → answered_hit more ≡ None
+    → after ≡ where_done done events more → KeepsRoom board config at after seen
+quiet_kept board config at events after seen true more keeps quiet is =
     let none : answers_in (more ∷ []) ≡ [] = rw quiet refl in
-    subst (λ e. KeepsRoom board e seen) (sym is)
-    (room_event board events seen seen more keeps (as_late seen)
+    subst (λ e. KeepsRoom board config at e seen) (sym is)
+    (room_event board config at events seen seen more keeps (as_late seen)
     (subst (All (StandsIn seen.log)) (sym none) (All-nil (StandsIn seen.log))))
-quiet_kept board events after seen false more keeps quiet is =
-    subst (λ e. KeepsRoom board e seen) (sym is) keeps
+quiet_kept board config at events after seen false more keeps quiet is =
+    subst (λ e. KeepsRoom board config at e seen) (sym is) keeps
 
 -- the answer of a hit stands in the log from which it is taken
 pub hit_found : (log : List Settlement) (word moment : ℕ) (found : Option Settled)
@@ -155,38 +161,36 @@ hit_stands log word moment None = hit_found log word moment (entry_of word log) 
 hit_stands log word moment (Some refused) = All-nil (StandsIn log)
 
 -- the room and the token after a hit
-pub hit_kept : (board : BoardName) (events after : List RoomEvent) (held seen later : Front)
-    (word moment : ℕ) (asked : Option ℕ) (has : Bool)
-    → KeepsRoom board events held → seen ≡ held
+pub hit_kept : (board : BoardName) (config : Configuration) (at : RoomRef)
+    (events after : List RoomEvent) (held seen later : Front) (word moment : ℕ)
+    (asked : Option ℕ) (has : Bool)
+    → KeepsRoom board config at events held → seen ≡ held
     → AsksAtMost SettlesOnBoard entry_seen seen asked Lifted later
     → after ≡ where_done has events (in_room.Hit word moment
     (answer_in (entry_seen later) (hit_word (room_after events) word moment)))
-    → KeepsRoom board after later
-hit_kept board events after held seen later word moment asked true keeps same asks is =
-    let kept : KeepsRoom board events seen = subst (KeepsRoom board events) (sym same) keeps in
-    subst (λ e. KeepsRoom board e later) (sym is)
-    (room_event board events seen later (in_room.Hit word moment
+    → KeepsRoom board config at after later
+hit_kept board config at events after held seen later word moment asked true keeps same asks is =
+    let kept : KeepsRoom board config at events seen =
+    subst (KeepsRoom board config at events) (sym same) keeps in
+    subst (λ e. KeepsRoom board config at e later) (sym is)
+    (room_event board config at events seen later (in_room.Hit word moment
     (answer_in (entry_seen later) (hit_word (room_after events) word moment))) kept
     (asks_later seen asked Lifted later asks)
     (hit_stands later.log word moment (hit_refusal (room_after events) word moment)))
-hit_kept board events after held seen later word moment asked false keeps same asks is =
-    let kept : KeepsRoom board events seen = subst (KeepsRoom board events) (sym same) keeps in
-    subst (λ e. KeepsRoom board e later) (sym is)
-    (room_later board events seen later kept (asks_later seen asked Lifted later asks))
+hit_kept board config at events after held seen later word moment asked false keeps same asks is =
+    let kept : KeepsRoom board config at events seen =
+    subst (KeepsRoom board config at events) (sym same) keeps in
+    subst (λ e. KeepsRoom board config at e later) (sym is)
+    (room_later board config at events seen later kept (asks_later seen asked Lifted later asks))
 
 -- the room as it was, and the token after a hit
-pub hit_refused_kept : (board : BoardName) (events after : List RoomEvent) (held seen later : Front)
-    (asked : Option ℕ) → KeepsRoom board events held → seen ≡ held
+pub hit_refused_kept : (board : BoardName) (config : Configuration) (at : RoomRef)
+    (events after : List RoomEvent) (held seen later : Front) (asked : Option ℕ)
+    → KeepsRoom board config at events held → seen ≡ held
     → AsksAtMost SettlesOnBoard entry_seen seen asked Lifted later → after ≡ events
-    → KeepsRoom board after later
-hit_refused_kept board events after held seen later asked keeps same asks is =
-    let kept : KeepsRoom board events seen = subst (KeepsRoom board events) (sym same) keeps in
-    subst (λ e. KeepsRoom board e later) (sym is)
-    (room_later board events seen later kept (asks_later seen asked Lifted later asks))
-
--- a vacant room
-pub vacant_keeps : (board : BoardName) (seen : Front) → seen.board ≡ board → KeepsRoom board [] seen
-vacant_keeps board seen ours = record {
-  of_board = ours;
-  answers_stand = All-nil (StandsIn seen.log);
-}
+    → KeepsRoom board config at after later
+hit_refused_kept board config at events after held seen later asked keeps same asks is =
+    let kept : KeepsRoom board config at events seen =
+    subst (KeepsRoom board config at events) (sym same) keeps in
+    subst (λ e. KeepsRoom board config at e later) (sym is)
+    (room_later board config at events seen later kept (asks_later seen asked Lifted later asks))

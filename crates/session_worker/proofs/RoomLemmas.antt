@@ -1,12 +1,15 @@
 -- The rooms of a day, and their names.
 use Rattle.std.proofs.Common.{◌≡◌, ◌<◌, ◌≤◌, ◌∙◌, sym, ap, subst, refl, ℕ, ◌+◌, ◌-◌, zero, suc}
-use Rattle.std.proofs.Common.{List, [], ◌∷◌, ◌++◌, length, map, take, drop, get_or, Some}
+use Rattle.std.proofs.Common.{List, [], ◌∷◌, ◌++◌, length, map, take, drop, get_or, Some, None}
 use Rattle.std.proofs.Common.{◌⊎◌, inl, inr, append_assoc, arith, length-append, length-drop}
-use Rattle.std.specs.Prelude.{slice_get}
+use Rattle.std.proofs.Common.{true, ◌&&◌, nat_le}
+use Rattle.std.specs.Prelude.{if◌then◌else◌, slice_get}
+use Rattle.std.proofs.lemmas.Bool.Decides.{nat_tests}
 use Rattle.std.proofs.lemmas.List.{append-nil, drop-map, drop_at, drop_more, take-append-drop}
 use Rattle.std.proofs.lemmas.List.{map-append, map_more, take-map, take_at}
 use Rattle.std.proofs.lemmas.Grind.{common_steps, take_at_read}
 use Rattle.market_terms.specs.declared.rooms.RoomRef.{RoomRef}
+use Rattle.venue_config.specs.Rows.{Configuration, has_room, may_request}
 use Rattle.venue_config.specs.declared.investor_rows.InvestorRow.{InvestorRow}
 use Rattle.recorded_days.specs.Records.{InvestorLists, RoomLists}
 use Rattle.session_worker.specs.DayChecks.{DayRoom}
@@ -333,3 +336,33 @@ parts_read f n all first later front back =
     ap (λ list. map f list ++ map f later) front
     ∙ ap (λ list. map f (take n all) ++ map f list) back
     ∙ sym (map-append f (take n all) (drop n all)) ∙ ap (map f) (take-append-drop n all)
+
+-- The rooms of a configuration.
+
+le_true : (m n : ℕ) → m ≤ n → nat_le m n ≡ true
+le_true m n below = grind (arith, nat_tests)
+
+-- what is read at an index of a list stands there
+pub get_there : {A : Type 0} (xs : List A) (i : ℕ) (x : A) → i < length xs
+    → x ≡ get_or xs i x → slice_get xs i ≡ Some x
+get_there [] i x below is = let never : ⊥ = omega (arith, below) in absurd never
+get_there (y ∷ xs) zero x below is = ap (λ z. Some z) (sym is)
+get_there (y ∷ xs) (suc i) x below is =
+    let inside : i < length xs = omega (arith, below) in get_there xs i x inside is
+
+-- the investor in this row has a room for each request that it may make
+pub rooms_of_row : (config : Configuration) (firm at : ℕ) (row : InvestorRow)
+    → firm ≡ length config.dealers + at → slice_get config.investors at ≡ Some row
+    → (index : ℕ) → index < row.requests → has_room config firm (index + 1) ≡ true
+rooms_of_row config firm at row firm_is found index below =
+    let behind : nat_le (length config.dealers) firm ≡ true =
+    le_true (length config.dealers) firm (omega (arith, firm_is)) in
+    let place : firm - length config.dealers ≡ at = omega (arith, firm_is) in
+    let least : nat_le 1 (index + 1) ≡ true = le_true 1 (index + 1) (omega arith) in
+    let most : nat_le (index + 1) row.requests ≡ true =
+    le_true (index + 1) row.requests (omega (arith, below)) in
+    ap (λ so. may_request (if so then slice_get config.investors (firm - length config.dealers)
+    else None) (index + 1)) behind
+    ∙ ap (λ k. may_request (slice_get config.investors k) (index + 1)) place
+    ∙ ap (λ own. may_request own (index + 1)) found
+    ∙ ap (λ so. so && nat_le (index + 1) row.requests) least ∙ most

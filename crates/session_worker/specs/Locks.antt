@@ -1,5 +1,5 @@
 -- What lies under the locks of a venue, and what holds of it whenever a lock is free.
-use Rattle.std.specs.Prelude.{◌≡◌, ℕ, ◌-◌, nat_lt, List, ◌∷◌, [], ◌++◌, map, slice_get}
+use Rattle.std.specs.Prelude.{◌≡◌, ℕ, ◌-◌, nat_lt, true, List, ◌∷◌, [], ◌++◌, map, slice_get}
 use Rattle.std.specs.Prelude.{Option, Some, None, All, if◌then◌else◌}
 use Rattle.std.specs.List.{filter_map}
 use Rattle.std.specs.Option.{option_map}
@@ -17,7 +17,7 @@ use Rattle.request_room.specs.declared.events.RoomEvent.TheVariants as in_room
 use Rattle.step_replay.specs.Actions.{dealer_of, first_word}
 use Rattle.recorded_days.specs.DayDues.{AreAnswered}
 use Rattle.recorded_days.specs.Records.{ActionRef}
-use Rattle.venue_config.specs.Rows.{Configuration, dealer_numbered}
+use Rattle.venue_config.specs.Rows.{Configuration, dealer_numbered, has_room}
 use Rattle.venue_steps.specs.Words.{word_of}
 
 -- Answers.
@@ -87,10 +87,12 @@ pub record KeepsDealer (board : BoardName) (config : Configuration) (firm first 
 abbrev pub KeepsInvestor : Configuration → investor.DeskEvents → Type 0
 KeepsInvestor config desk = market_for config desk.market.firm ≡ Some desk.market
 
--- Under the lock of a room the token is one of the venue's board, and each word that was hit in the
--- room is in its log what the hit was answered.
-pub record KeepsRoom (board : BoardName) (events : List RoomEvent) (seen : Front) : Type 0 where
+-- Under the lock of a room lies a room of the configuration. The token is one of the venue's board,
+-- and each word that was hit in the room is in its log what the hit was answered.
+pub record KeepsRoom (board : BoardName) (config : Configuration) (at : RoomRef)
+    (events : List RoomEvent) (seen : Front) : Type 0 where
   pub of_board : seen.board ≡ board
+  pub room_is : has_room config at.investor at.n ≡ true
   pub answers_stand : All (StandsIn seen.log) (answers_in events)
 
 -- Places. Which place is which is said by its number.

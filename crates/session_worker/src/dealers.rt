@@ -10,6 +10,7 @@ ghost use Rattle.step_replay.specs.Actions as actions;
 ghost use Rattle.step_replay.specs.Actions.{dealer_of};
 ghost use Rattle.venue_config.specs.Rows.{dealer_numbered};
 ghost use Rattle.venue_places.specs.Brought as spec;
+ghost use Rattle.venue_places.specs.declared.actors.Actor.TheVariants as actor;
 ghost use Rattle.venue_steps.specs.DealerSteps as steps;
 ghost use Rattle.venue_steps.specs.Words.{answer_in, has_word, word_to_ask};
 
@@ -88,14 +89,22 @@ impl<J: Naming> LockedDealer<J> {
         })
     }
 
-    /// A message of the dealer comes.
+    /// The dealer's number among the firms.
+    pub(crate) fn firm(&self) -> u16
+        ensures { result ≡ self.now.firm }
+    {
+        self.firm
+    }
+
+    /// A message of the dealer comes, from its own session.
     pub(crate) fn own<G: Gate>(
         &mut self,
         acting: &Acting<'_, G>,
         moment: Moment,
         bytes: &[u8],
     ) -> Result<Done, Memory>
-        requires { acting.now.board.now ≡ J.board }
+        requires board { acting.now.board.now ≡ J.board }
+        requires by { acting.now.by ≡ actor.Firm self.old.firm }
         ensures desk { OnOk result (self.new.desk ≡ steps.desk_after_own
             self.old.desk moment bytes.now
             (has_word J.board.words (steps.own_word self.old.first self.old.desk moment bytes.now))
@@ -124,14 +133,17 @@ impl<J: Naming> LockedDealer<J> {
         Ok(Done { duties, word })
     }
 
-    /// The next quote of a cancel of all is dropped, of those up to `last`.
+    /// The next quote of a cancel of all of the dealer with this number is dropped, of those up to
+    /// `last`.
     pub(crate) fn drop_next<G: Gate>(
         &mut self,
         acting: &Acting<'_, G>,
+        firm: u16,
         last: u32,
         moment: Moment,
     ) -> Result<Done, Memory>
-        requires { acting.now.board.now ≡ J.board }
+        requires board { acting.now.board.now ≡ J.board }
+        requires firm { self.old.firm ≡ firm }
         ensures desk { OnOk result (self.new.desk ≡ steps.desk_after_drop
             self.old.desk last moment
             (has_word J.board.words (steps.drop_word self.old.first self.old.desk last))
@@ -160,8 +172,14 @@ impl<J: Naming> LockedDealer<J> {
         Ok(Done { duties, word })
     }
 
-    /// What comes to the dealer's desk for a duty, and asks no word.
-    pub(crate) fn bring(&mut self, action: (Actor, u64), what: ForDealer) -> Result<Done, Memory>
+    /// What comes to the desk of the dealer with this number for a duty, and asks no word.
+    pub(crate) fn bring(
+        &mut self,
+        action: (Actor, u64),
+        firm: u16,
+        what: ForDealer,
+    ) -> Result<Done, Memory>
+        requires { self.old.firm ≡ firm }
         ensures desk { OnOk result (self.new.desk ≡ spec.dealer_with self.old.desk what) }
         ensures duties { IfOk result (λ done. done.duties.items ≡ []) }
         ensures unasked { IfOk result (λ done. done.word ≡ None) }

@@ -1,6 +1,7 @@
 //! What an action does: it takes the lock of the one place that the market's table gives, and brings
 //! it what comes there.
 ghost use Rattle.std.specs.Prelude.{◌≡◌};
+ghost use Rattle.venue_places.specs.declared.actors.Actor.TheVariants as actor;
 
 use crate::done::Done;
 use crate::gates::Gate;
@@ -79,10 +80,10 @@ impl<J: Naming> SharedVenue<J> {
         firm: u16,
         what: ForDealer,
     ) -> Result<Done, Memory> {
-        let Some(place) = self.dealer(firm) else {
+        let Some(mut desk) = self.lock_dealer(rt, firm) else {
             return Ok(Done::nothing());
         };
-        let done = place.desk.lock(rt).bring(action, what)?;
+        let done = desk.bring(action, firm, what)?;
         Ok(done)
     }
 
@@ -97,10 +98,10 @@ impl<J: Naming> SharedVenue<J> {
     ) -> Result<Done, Memory>
         requires { acting.now.board.now ≡ J.board }
     {
-        let Some(place) = self.dealer(firm) else {
+        let Some(mut desk) = self.lock_dealer(rt, firm) else {
             return Ok(Done::nothing());
         };
-        let done = place.desk.lock(rt).drop_next(acting, last, moment)?;
+        let done = desk.drop_next(acting, firm, last, moment)?;
         Ok(done)
     }
 
@@ -112,10 +113,10 @@ impl<J: Naming> SharedVenue<J> {
         firm: u16,
         what: ForInvestor,
     ) -> Result<Done, Memory> {
-        let Some(place) = self.investor(firm) else {
+        let Some(mut desk) = self.lock_investor(rt, firm) else {
             return Ok(Done::nothing());
         };
-        let done = place.desk.lock(rt).bring(action, what)?;
+        let done = desk.bring(action, firm, what)?;
         Ok(done)
     }
 
@@ -124,13 +125,13 @@ impl<J: Naming> SharedVenue<J> {
         &self,
         rt: &R,
         action: (Actor, u64),
-        room: RoomRef,
+        at: RoomRef,
         what: ForRoom,
     ) -> Result<Done, Memory> {
-        let Some(place) = self.room(room) else {
+        let Some(mut room) = self.lock_room(rt, at) else {
             return Ok(Done::nothing());
         };
-        let done = place.lock(rt).bring(action, what)?;
+        let done = room.bring(action, at, what)?;
         Ok(done)
     }
 
@@ -139,17 +140,17 @@ impl<J: Naming> SharedVenue<J> {
         &self,
         rt: &R,
         acting: &Acting<'_, G>,
-        room: RoomRef,
+        at: RoomRef,
         response: ResponseRef,
         word: u32,
         moment: Moment,
     ) -> Result<Done, Memory>
         requires { acting.now.board.now ≡ J.board }
     {
-        let Some(place) = self.room(room) else {
+        let Some(mut room) = self.lock_room(rt, at) else {
             return Ok(Done::nothing());
         };
-        let done = place.lock(rt).hit(acting, response, word, moment)?;
+        let done = room.hit(acting, at, response, word, moment)?;
         Ok(done)
     }
 
@@ -166,11 +167,11 @@ impl<J: Naming> SharedVenue<J> {
         let Actor::Firm(firm) = acting.by else {
             return Ok(Done::nothing());
         };
-        let Some(place) = self.dealer(firm) else {
+        let Some(mut desk) = self.lock_dealer(rt, firm) else {
             let done = self.investor_says(rt, acting, firm, moment, bytes)?;
             return Ok(done);
         };
-        let done = place.desk.lock(rt).own(acting, moment, bytes)?;
+        let done = desk.own(acting, moment, bytes)?;
         Ok(done)
     }
 
@@ -182,12 +183,14 @@ impl<J: Naming> SharedVenue<J> {
         firm: u16,
         moment: Moment,
         bytes: &[u8],
-    ) -> Result<Done, Memory> {
-        let Some(place) = self.investor(firm) else {
+    ) -> Result<Done, Memory>
+        requires { acting.now.by ≡ actor.Firm firm }
+    {
+        let Some(mut desk) = self.lock_investor(rt, firm) else {
             return Ok(Done::nothing());
         };
         let action = (acting.by, acting.number);
-        let done = place.desk.lock(rt).own(action, moment, bytes)?;
+        let done = desk.own(action, moment, bytes)?;
         Ok(done)
     }
 }

@@ -14,9 +14,10 @@ pub enum DayFault {
     /// Memory was refused.
     #[error("out of memory")]
     Memory,
-    /// The desk of the firm with this number is another firm's, or its own events are not its
-    /// inbox. Of several such firms it is the first. Also, looked at last: an event at its desk, or
-    /// in a room of its requests, is not that of an action there.
+    /// The desk of the firm with this number is another firm's, a room of its requests is another
+    /// request's, or its own events are not its inbox. Of several such firms it is the first. Also,
+    /// looked at last: an event at its desk, or in a room of its requests, is not that of an action
+    /// there.
     #[error("the desk of firm {0} does not have the messages that came to it, or its actions")]
     Inbox(u16),
     /// The closing notices of the dealer with this number do not agree with how the rooms of its

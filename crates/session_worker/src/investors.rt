@@ -6,6 +6,7 @@ ghost use Rattle.session_worker.specs.KeptDays.{InvestorKeeps};
 ghost use Rattle.session_worker.specs.Locks.{with_action};
 ghost use Rattle.venue_config.specs.Rows.{investor_numbered};
 ghost use Rattle.venue_places.specs.Brought as spec;
+ghost use Rattle.venue_places.specs.declared.actors.Actor.TheVariants as actor;
 ghost use Rattle.venue_steps.specs.InvestorSteps as steps;
 
 use crate::day_checks::is_inbox_of_investor;
@@ -56,13 +57,21 @@ impl<J: Naming> LockedInvestor<J> {
         })
     }
 
-    /// A message of the investor comes.
+    /// The investor's number among the firms.
+    pub(crate) fn firm(&self) -> u16
+        ensures { result ≡ self.now.desk.market.firm }
+    {
+        self.desk.firm()
+    }
+
+    /// A message of the investor comes, from its own session.
     pub(crate) fn own(
         &mut self,
         action: (Actor, u64),
         moment: Moment,
         bytes: &[u8],
     ) -> Result<Done, Memory>
+        requires { action.0 ≡ actor.Firm self.old.desk.market.firm }
         ensures desk { OnOk result
             (self.new.desk ≡ steps.desk_after_own self.old.desk moment bytes.now) }
         ensures duties { IfOk result (λ done. done.duties.items
@@ -76,8 +85,14 @@ impl<J: Naming> LockedInvestor<J> {
         Ok(Done::unasked(duties))
     }
 
-    /// What comes to the investor's desk for a duty.
-    pub(crate) fn bring(&mut self, action: (Actor, u64), what: ForInvestor) -> Result<Done, Memory>
+    /// What comes to the desk of the investor with this number for a duty.
+    pub(crate) fn bring(
+        &mut self,
+        action: (Actor, u64),
+        firm: u16,
+        what: ForInvestor,
+    ) -> Result<Done, Memory>
+        requires { self.old.desk.market.firm ≡ firm }
         ensures desk { OnOk result (self.new.desk ≡ spec.investor_with self.old.desk what) }
         ensures duties { IfOk result (λ done. done.duties.items ≡ []) }
         ensures unasked { IfOk result (λ done. done.word ≡ None) }

@@ -9,10 +9,11 @@ ghost use Rattle.session_worker.specs.KeptDays.{RoomsStand, names_by, names_from
 ghost use Rattle.session_worker.specs.KeptDays.{rooms_of, rooms_of_venue, without_rooms};
 
 use crate::day_rooms::DayRoom;
+use crate::dealers::LockedDealer;
 use crate::faults::DayFault;
 use crate::naming::Naming;
 use crate::rooms::LockedRoom;
-use crate::venue::{DealerPlace, InvestorPlace};
+use crate::venue::InvestorPlace;
 use fix_fields::Memory;
 use market_terms::RoomRef;
 use quote_word::{Board, BoardSeen};
@@ -40,7 +41,7 @@ pub(crate) fn dealer_days<J: Naming>(
     alloc: Global,
     board: &Board,
     seen: BoardSeen,
-    places: Vec<DealerPlace<J>>,
+    places: Vec<Mutex<LockedDealer<J>>>,
     sessions: Vec<Session>,
 ) -> Result<(Vec<DealerDay>, BoardSeen), DayFault>
     requires board { board.now ≡ J.board }
@@ -57,8 +58,7 @@ pub(crate) fn dealer_days<J: Naming>(
     let mut days = Vec::with_capacity(alloc, places.len())?;
     let mut seen = seen;
     for (place, session) in places.into_iter().zip(sessions) {
-        let DealerPlace { desk, .. } = place;
-        let locked = desk.into_inner();
+        let locked = place.into_inner();
         seen = board.both(seen, locked.seen());
         let day = locked.day_at(days.len(), session)?;
         days.push(day)?;
@@ -68,7 +68,7 @@ pub(crate) fn dealer_days<J: Naming>(
 
 /// The days of the investors, still without their rooms, which stand in a list of all rooms; and a
 /// token that is later than those of all rooms. The fault is the first investor whose desk is
-/// another's, or whose own events are not its inbox.
+/// another's, whose own events are not its inbox, or with a room that is another request's.
 pub(crate) fn investor_days<J: Naming>(
     alloc: Global,
     board: &Board,
@@ -107,14 +107,14 @@ pub(crate) fn investor_days<J: Naming>(
 }
 
 /// Puts the rooms of an investor behind the others, each by the number of its request, and gives a
-/// token that is later than those of their locks.
+/// token that is later than those of their locks. The fault is a room that is another request's.
 fn put_rooms<J: Naming>(
     board: &Board,
     seen: BoardSeen,
     investor: u16,
     rooms: Vec<Mutex<LockedRoom<J>>>,
     all: &mut Vec<DayRoom>,
-) -> Result<BoardSeen, Memory>
+) -> Result<BoardSeen, DayFault>
     requires board { board.now ≡ J.board }
     requires seen { seen.board ≡ J.board }
     requires legal { IsLegal seen.log }
@@ -133,7 +133,8 @@ fn put_rooms<J: Naming>(
         let locked = room.into_inner();
         seen = board.both(seen, locked.seen());
         n += 1;
-        all.push(locked.into_day(RoomRef { investor, n }))?;
+        let day = locked.day_at(RoomRef { investor, n })?;
+        all.push(day)?;
     }
     Ok(seen)
 }

@@ -1,16 +1,18 @@
 //! What lies under the lock of a room.
-ghost use Rattle.std.specs.Prelude.{◌≡◌, None, All, IfOk, OnOk};
+ghost use Rattle.std.specs.Prelude.{◌≡◌, ◌↔◌, true, None, All, IsTrue, IfOk, OnOk};
 ghost use Rattle.quote_word.specs.SettleLog.{entry_of};
 ghost use Rattle.request_room.specs.Book.{room_after};
 ghost use Rattle.request_room.specs.declared.events.RoomEvent.TheVariants as event;
 ghost use Rattle.session_worker.specs.Locks.{StandsIn, answers_in, with_action};
 ghost use Rattle.session_worker.specs.Watched.{asked_of};
+ghost use Rattle.venue_config.specs.Rows.{has_room};
 ghost use Rattle.venue_places.specs.Brought as spec;
 ghost use Rattle.venue_steps.specs.RoomSteps as steps;
 ghost use Rattle.venue_steps.specs.Words.{answer_in, has_word, word_to_ask};
 
 use crate::day_rooms::DayRoom;
 use crate::done::Done;
+use crate::faults::DayFault;
 use crate::gates::Gate;
 use crate::naming::Naming;
 use crate::watched::{Acting, WatchedWords};
@@ -47,13 +49,15 @@ impl<J: Naming> Model for LockedRoom<J> {
       order = locked.order.items;
     } };
 
-    ghost invariant = { λ locked. KeepsRoom J.board locked.room locked.seen };
+    ghost invariant = { λ locked.
+        KeepsRoom J.board J.config locked.at locked.room locked.seen };
 }
 
 impl<J: Naming> LockedRoom<J> {
-    /// A vacant room.
+    /// A room of the configuration at the start of the day: vacant.
     pub(crate) fn vacant(alloc: Global, at: RoomRef, seen: BoardSeen) -> Self
-        requires { seen.board ≡ J.board }
+        requires room { has_room J.config at.investor at.n ≡ true }
+        requires seen { seen.board ≡ J.board }
     {
         LockedRoom {
             at,
@@ -64,36 +68,54 @@ impl<J: Naming> LockedRoom<J> {
         }
     }
 
-    /// What comes to the room for a duty or a sweep, and asks no word.
-    pub(crate) fn bring(&mut self, action: (Actor, u64), what: ForRoom) -> Result<Done, Memory>
+    /// Whether it is the room with this name.
+    pub(crate) fn is(&self, at: RoomRef) -> bool
+        ensures { IsTrue result ↔ (self.now.at ≡ at) }
+    {
+        if self.at.investor != at.investor {
+            return false;
+        }
+        self.at.n == at.n
+    }
+
+    /// What comes to the room with this name for a duty or a sweep, and asks no word.
+    pub(crate) fn bring(
+        &mut self,
+        action: (Actor, u64),
+        at: RoomRef,
+        what: ForRoom,
+    ) -> Result<Done, Memory>
+        requires { self.old.at ≡ at }
         ensures room { OnOk result (self.new.events ≡ spec.room_with self.old.events what) }
         ensures duties { IfOk result (λ done. done.duties.items
-            ≡ spec.duties_in_room self.old.at self.old.events what) }
+            ≡ spec.duties_in_room at self.old.events what) }
         ensures unasked { IfOk result (λ done. done.word ≡ None) }
         ensures order { OnOk result (self.new.order ≡ with_action self.old.order action) }
     {
         self.order.reserve(1)?;
-        let duties = bring_to_room(&mut self.room, self.at, what)?;
+        let duties = bring_to_room(&mut self.room, at, what)?;
         self.order.push(action)?;
         Ok(Done::unasked(duties))
     }
 
-    /// The investor hits the quote with this word.
+    /// The investor hits the quote with this word, in the room with this name.
     pub(crate) fn hit<G: Gate>(
         &mut self,
         acting: &Acting<'_, G>,
+        at: RoomRef,
         response: ResponseRef,
         word: u32,
         moment: Moment,
     ) -> Result<Done, Memory>
-        requires { acting.now.board.now ≡ J.board }
+        requires board { acting.now.board.now ≡ J.board }
+        requires room { self.old.at ≡ at }
         ensures room { OnOk result (self.new.events
             ≡ steps.where_done (has_word J.board.words
             (steps.hit_word (room_after self.old.events) word moment)) self.old.events
             (event.Hit word moment (answer_in (λ w. entry_of w self.new.seen.log)
             (steps.hit_word (room_after self.old.events) word moment)))) }
         ensures duties { IfOk result (λ done. done.duties.items
-            ≡ steps.duties_of_hit (room_after self.old.events) self.old.at
+            ≡ steps.duties_of_hit (room_after self.old.events) at
             response word moment (has_word J.board.words
             (steps.hit_word (room_after self.old.events) word moment))
             (answer_in (λ w. entry_of w self.new.seen.log)
@@ -106,7 +128,7 @@ impl<J: Naming> LockedRoom<J> {
     {
         self.order.reserve(1)?;
         let mut words = WatchedWords::new(acting, self.seen.again());
-        let done = do_hit(&mut self.room, &mut words, self.at, response, word, moment);
+        let done = do_hit(&mut self.room, &mut words, at, response, word, moment);
         let (seen, asked) = words.into_parts();
         self.seen = seen;
         let duties = done?;
@@ -126,12 +148,32 @@ impl<J: Naming> LockedRoom<J> {
         self.seen.again()
     }
 
-    /// The room and the actions in it, as that of the request with this name.
-    pub(crate) fn into_day(self, at: RoomRef) -> DayRoom
-        ensures { result
-            ≡ record { at = at; day = record { events = self.events; order = self.order } } }
+    /// The room and the actions in it, as that of the request with this name. The fault is that the
+    /// room is another request's.
+    pub(crate) fn day_at(self, at: RoomRef) -> Result<DayRoom, DayFault>
+        ensures { IfOk result (λ room. room
+            ≡ record { at = at; day = record { events = self.events; order = self.order } }) }
     {
-        let Self { room, order, .. } = self;
+        if !self.is(at) {
+            return Err(DayFault::Inbox(at.investor));
+        }
+        let day = self.into_day();
+        Ok(day)
+    }
+
+    /// The room and the actions in it, by its own name.
+    fn into_day(self) -> DayRoom
+        ensures { result ≡ record {
+          at = self.at;
+          day = record { events = self.events; order = self.order };
+        } }
+    {
+        let Self {
+            at,
+            room,
+            order,
+            ..
+        } = self;
         DayRoom::new(at, room, order)
     }
 }

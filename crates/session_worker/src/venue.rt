@@ -1,10 +1,12 @@
 //! The venue that threads share.
-ghost use Rattle.std.specs.Prelude.{◌≡◌, ◌<◌, ◌^◌, length, map, slice_get, IfOk};
+ghost use Rattle.std.specs.Prelude.{◌≡◌, ◌<◌, ◌^◌, ℕ, ◌+◌, true, length, map, slice_get, IfOk, IfSome};
 ghost use Rattle.std.specs.Prelude.{option_and_then};
 ghost use Rattle.std.specs.Option.{option_copied};
+ghost use Rattle.std.specs.Sync.Mutex.{mutex_guard_value};
 ghost use Rattle.session_worker.specs.KeptDays.{requests_of};
 ghost use Rattle.session_worker.specs.Locks.{numbered_from};
 ghost use Rattle.step_replay.specs.Actions.{words_of};
+ghost use Rattle.venue_config.specs.Rows.{has_room};
 
 use crate::dealers::LockedDealer;
 use crate::investors::LockedInvestor;
@@ -15,15 +17,8 @@ use market_terms::RoomRef;
 use quote_word::{Board, BoardSeen};
 use std::alloc::Global;
 use std::marker::Model;
-use std::sync::Mutex;
+use std::sync::{Mutex, MutexGuard, Wait};
 use venue_config::VenueConfig;
-
-/// The place of a dealer.
-#[derive(Drop)]
-pub(crate) struct DealerPlace<J: Naming> {
-    /// Its desk.
-    pub(crate) desk: Mutex<LockedDealer<J>>,
-}
 
 /// The place of an investor.
 #[derive(Drop)]
@@ -42,7 +37,7 @@ pub struct SharedVenue<J: Naming> {
     pub(crate) alloc: Global,
     pub(crate) config: VenueConfig,
     pub(crate) board: Board,
-    pub(crate) dealers: Vec<DealerPlace<J>>,
+    pub(crate) dealers: Vec<Mutex<LockedDealer<J>>>,
     pub(crate) investors: Vec<InvestorPlace<J>>,
     pub(crate) ghost board_is: { board ≡ J.board },
     pub(crate) ghost config_is: { config ≡ J.config },
@@ -77,15 +72,64 @@ impl<J: Naming> SharedVenue<J> {
         })
     }
 
-    /// The place of the dealer with this number among the firms.
-    pub(crate) fn dealer(&self, firm: u16) -> Option<&DealerPlace<J>>
+    /// The desk of the dealer with this number among the firms, once its lock is had. What lies
+    /// there bears that number.
+    pub(crate) fn lock_dealer<R: Wait>(
+        &self,
+        rt: &R,
+        firm: u16,
+    ) -> Option<MutexGuard<'_, LockedDealer<J>>>
+        ensures { IfSome result (λ desk. (mutex_guard_value desk).firm ≡ firm) }
+    {
+        let place = self.dealer(firm)?;
+        let desk = place.lock(rt);
+        if desk.firm() != firm {
+            return None;
+        }
+        Some(desk)
+    }
+
+    /// The same of an investor.
+    pub(crate) fn lock_investor<R: Wait>(
+        &self,
+        rt: &R,
+        firm: u16,
+    ) -> Option<MutexGuard<'_, LockedInvestor<J>>>
+        ensures { IfSome result (λ desk. (mutex_guard_value desk).desk.market.firm ≡ firm) }
+    {
+        let place = self.investor(firm)?;
+        let desk = place.desk.lock(rt);
+        if desk.firm() != firm {
+            return None;
+        }
+        Some(desk)
+    }
+
+    /// The room with this name, once its lock is had. What lies there bears that name.
+    pub(crate) fn lock_room<R: Wait>(
+        &self,
+        rt: &R,
+        at: RoomRef,
+    ) -> Option<MutexGuard<'_, LockedRoom<J>>>
+        ensures { IfSome result (λ room. (mutex_guard_value room).at ≡ at) }
+    {
+        let place = self.room(at)?;
+        let room = place.lock(rt);
+        if !room.is(at) {
+            return None;
+        }
+        Some(room)
+    }
+
+    /// The lock of the dealer with this number among the firms.
+    fn dealer(&self, firm: u16) -> Option<&Mutex<LockedDealer<J>>>
         ensures { option_copied result ≡ slice_get self.now.dealers.items firm }
     {
         self.dealers.get(usize::from(firm))
     }
 
     /// The place of the investor with this number among the firms.
-    pub(crate) fn investor(&self, firm: u16) -> Option<&InvestorPlace<J>>
+    fn investor(&self, firm: u16) -> Option<&InvestorPlace<J>>
         ensures { option_copied result
             ≡ numbered_from (length self.now.dealers.items) self.now.investors.items firm }
     {
@@ -94,7 +138,7 @@ impl<J: Naming> SharedVenue<J> {
     }
 
     /// The lock of a room, where the venue has it.
-    pub(crate) fn room(&self, room: RoomRef) -> Option<&Mutex<LockedRoom<J>>>
+    fn room(&self, room: RoomRef) -> Option<&Mutex<LockedRoom<J>>>
         ensures { option_copied result
             ≡ option_and_then (λ place. numbered_from 1 place.rooms.items room.n)
             (numbered_from (length self.now.dealers.items) self.now.investors.items
@@ -111,7 +155,7 @@ fn dealers_at_start<J: Naming>(
     alloc: Global,
     config: &VenueConfig,
     seen: &BoardSeen,
-) -> Result<Vec<DealerPlace<J>>, Memory>
+) -> Result<Vec<Mutex<LockedDealer<J>>>, Memory>
     requires seen { seen.now.board ≡ J.board }
     requires config { config.now ≡ J.config }
     ensures { IfOk result (λ places. length places.items ≡ length J.config.dealers) }
@@ -121,8 +165,7 @@ fn dealers_at_start<J: Naming>(
     let mut first_word = 0;
     for row in config.dealers() {
         let desk = LockedDealer::new(alloc, config, firm, row, first_word, seen.again())?;
-        let desk = Mutex::new(desk);
-        places.push(DealerPlace { desk })?;
+        places.push(Mutex::new(desk))?;
         firm += 1;
         first_word += row.quotes;
     }
@@ -154,14 +197,16 @@ fn investors_at_start<J: Naming>(
     Ok(places)
 }
 
-/// So many vacant rooms of an investor.
+/// So many vacant rooms of an investor, which may make so many requests.
 fn vacant_rooms<J: Naming>(
     alloc: Global,
     investor: u16,
     count: u32,
     seen: &BoardSeen,
 ) -> Result<Vec<Mutex<LockedRoom<J>>>, Memory>
-    requires { seen.now.board ≡ J.board }
+    requires seen { seen.now.board ≡ J.board }
+    requires rooms { (index : ℕ) → index < count
+        → has_room J.config investor (index + 1) ≡ true }
     ensures { IfOk result (λ rooms. length rooms.items ≡ count) }
 {
     let mut rooms = Vec::with_capacity(alloc, count as usize)?;

@@ -20,11 +20,11 @@ invariant_of-self-in_err-duties g c =
     let count = before.front.board.words in
     let same : before.front ≡ i.seen =
     ap (λ (w : Watched). w.front) c.new-words.ensures ∙ c.again.ensures.same in
-    subst (λ seen. KeepsRoom g.J.Naming.board c.do_hit-done.new.room seen)
+    subst (KeepsRoom g.J.Naming.board g.J.Naming.config i.at c.do_hit-done.new.room)
     (sym c.into_parts-seen.ensures.seen)
-    (hit_refused_kept g.J.Naming.board i.room c.do_hit-done.new.room i.seen before.front
-    after.front (word_to_ask count word) c.self.invariant
-    same (asks_on_board before after (word_to_ask count word) Lifted
+    (hit_refused_kept g.J.Naming.board g.J.Naming.config i.at i.room c.do_hit-done.new.room
+    i.seen before.front after.front (word_to_ask count word) c.self.invariant same
+    (asks_on_board before after (word_to_ask count word) Lifted
     c.do_hit-done.ensures.words)
     c.in_err-duties.ensures.err)
 
@@ -38,10 +38,10 @@ invariant_of-self-2 g c =
     let count = before.front.board.words in
     let same : before.front ≡ i.seen =
     ap (λ (w : Watched). w.front) c.new-words.ensures ∙ c.again.ensures.same in
-    subst (λ seen. KeepsRoom g.J.Naming.board c.do_hit-done.new.room seen)
+    subst (KeepsRoom g.J.Naming.board g.J.Naming.config i.at c.do_hit-done.new.room)
     (sym c.into_parts-seen.ensures.seen)
-    (hit_kept g.J.Naming.board i.room c.do_hit-done.new.room i.seen before.front
-    after.front c.args.word c.args.moment (word_to_ask count word) (has_word count word)
+    (hit_kept g.J.Naming.board g.J.Naming.config i.at i.room c.do_hit-done.new.room i.seen
+    before.front after.front c.args.word c.args.moment (word_to_ask count word) (has_word count word)
     c.self.invariant same (asks_on_board before after (word_to_ask count word) Lifted
     c.do_hit-done.ensures.words)
     c.in_ok-duties.ensures.ok)
