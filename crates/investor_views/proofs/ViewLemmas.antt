@@ -1,7 +1,7 @@
 -- What the desk of an investor sends for all that comes to it is the investor view of what is due.
 use Rattle.std.proofs.Common.{◌≡◌, ℕ, ◌+◌, Bool, true, false, List, [], ◌∷◌, ◌++◌, map, fold, length}
 use Rattle.std.proofs.Common.{Some, refl, ap, sym, subst, ◌∙◌, arith, ◌&&◌, Option, None}
-use Rattle.std.proofs.lemmas.List.Elements.{map-append}
+use Rattle.std.proofs.lemmas.List.{map-append}
 use Rattle.quote_messages.specs.declared.out_messages.OutMessage.{OutMessage}
 use Rattle.investor_desk.specs.InvestorFacts.{InvestorFact, InvestorBook, book_of, knows, offers_of}
 use Rattle.investor_desk.specs.InvestorRules.{InvestorMarket}

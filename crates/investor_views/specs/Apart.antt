@@ -2,13 +2,13 @@
 -- nothing on one side changes what is due on the other. `AreApart` is what is claimed; it is not
 -- proved yet.
 --
--- That two investors ask no dealer in common is not enough. A third one may ask a dealer of each: a
--- hit of the first investor takes from the exposure of its dealer, so this dealer's quote to the
--- third is refused; so the third one's `Q1` is a quote of another dealer, its hit goes there, and
--- takes from the exposure of a dealer that the second investor asks. So a side has, with a dealer,
--- every investor that asks it, and with an investor every dealer that it asks. Nor may the clock have
--- duties left: it has one queue, in which the notices of one room stand behind those of another. It
--- has none left in a day whose steps come one by one.
+-- That two investors ask no dealer in common is not enough. A third one may ask a dealer of each:
+-- while a request of the first stays open, the quote on it takes from the exposure of its dealer, and
+-- this dealer's quote to the third is refused; so the third has no `Q2` to hit, its request stays
+-- open too, and takes from the exposure of the dealer that the second asks. So a side has, with a
+-- dealer, every investor that asks it, and with an investor every dealer that it asks. Nor may the
+-- clock have duties left: it has one queue, in which the notices of one room stand behind those of
+-- another. It has none left in a day whose steps come one by one.
 use Rattle.std.specs.Prelude.{◌≡◌, ℕ, ◌&&◌, ◌||◌, not, Bool, true, false, List, filter, Some}
 use Rattle.std.specs.List.{list_any}
 use Rattle.venue_config.specs.Rows.{Configuration, dealer_numbered, investor_numbered}
