@@ -123,6 +123,7 @@ module _ (config : Configuration) (number : ℕ) (row : InvestorRow)
           → DeskStands market_here
           (facts ++ (done_for (market_for config firm) (investor_gets facts what)).facts)
           (desk_where desk (at_desk_of number (Some (arrival.Investor firm what))))
+      unfolding after_coming
       investor_stands firm what = by_test (firm == number) refl
         where
           by_row : (found : Option InvestorRow) → (firm == number) ≡ false
@@ -136,7 +137,6 @@ module _ (config : Configuration) (number : ℕ) (row : InvestorRow)
               → DeskStands market_here
               (facts ++ (done_for (market_for config firm) (investor_gets facts what)).facts)
               (desk_where desk (if same then Some (For what) else None))
-          unfolding after_coming
           by_test true is =
               let equal : firm ≡ number = grind (arith, nat_tests) in
               subst (λ (found : Option InvestorMarket). DeskStands market_here

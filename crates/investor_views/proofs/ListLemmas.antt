@@ -44,8 +44,8 @@ count_changed e p q same xs =
 pub found_has : {X : Type 0} (P : X → Type 0) (p : X → Bool) (xs : List X) → Every P xs → (x : X)
     → find p xs ≡ Some x → P x
 found_has P p [] every x is = cc
-found_has P p (y ∷ ys) every x is = by_test (p y) is
+found_has P p (y ∷ ys) every x is = by_test (p y) (found_has P p ys every.1 x) is
   where
-    by_test : (b : Bool) → cond b (Some y) (find p ys) ≡ Some x → P x
-    by_test true found = subst P (same_value y x found) every.0
-    by_test false found = found_has P p ys every.1 x found
+    by_test : (b : Bool) → (find p ys ≡ Some x → P x) → cond b (Some y) (find p ys) ≡ Some x → P x
+    by_test true later found = subst P (same_value y x found) every.0
+    by_test false later found = later found

@@ -51,18 +51,15 @@ standing_rises : (request count : ℕ) (facts : List InvestorFact) → NumberedF
     → Rising count (standing_on request facts)
 standing_rises request count [] numbered = tt
 standing_rises request count (Offered shown ∷ later) numbered =
-    by_test (stands_on request shown later)
+    by_test (stands_on request shown later) (standing_rises request (count + 1) later numbered.1)
   where
-    rest : Rising (count + 1) (standing_on request later)
-    rest = standing_rises request (count + 1) later numbered.1
-
-    by_test : (b : Bool) → Rising count
+    by_test : (b : Bool) → Rising (count + 1) (standing_on request later) → Rising count
         (if b then shown ∷ standing_on request later else standing_on request later)
-    by_test true =
+    by_test true rest =
         let is : shown.number ≡ count + 1 = numbered.0 in
         let above : count < shown.number = omega arith in
         (above, subst (λ (n : ℕ). Rising n (standing_on request later)) (sym is) rest)
-    by_test false =
+    by_test false rest =
         let under : count ≤ count + 1 = omega arith in
         rising_above count (count + 1) (standing_on request later) under rest
 standing_rises request count (fact ∷ later) numbered = standing_rises request count later numbered
@@ -108,36 +105,40 @@ open_rises facts request own numbered is =
 found_above : (least : ℕ) (p : ShownOffer → Bool) (quotes : List ShownOffer) → Rising least quotes
     → (found : ShownOffer) → find p quotes ≡ Some found → least < found.number
 found_above least p [] rising found is = cc
-found_above least p (shown ∷ later) rising found is = by_test (p shown) is
+found_above least p (shown ∷ later) rising found is =
+    by_test (p shown) (found_above shown.number p later rising.1 found) is
   where
-    by_test : (b : Bool) → cond b (Some shown) (find p later) ≡ Some found → least < found.number
-    by_test true same =
+    by_test : (b : Bool) → (find p later ≡ Some found → shown.number < found.number)
+        → cond b (Some shown) (find p later) ≡ Some found → least < found.number
+    by_test true behind same =
         subst (λ (s : ShownOffer). least < s.number) (same_value shown found same) rising.0
-    by_test false same =
+    by_test false behind same =
         let first : least < shown.number = rising.0 in
-        let above : shown.number < found.number =
-        found_above shown.number p later rising.1 found same in
+        let above : shown.number < found.number = behind same in
         omega arith
 
 found_again : (least : ℕ) (p : ShownOffer → Bool) (quotes : List ShownOffer) → Rising least quotes
     → (found : ShownOffer) → find p quotes ≡ Some found
     → find (λ (shown : ShownOffer). shown.number == found.number) quotes ≡ Some found
 found_again least p [] rising found is = cc
-found_again least p (shown ∷ later) rising found is = by_test (p shown) is
+found_again least p (shown ∷ later) rising found is =
+    by_test (p shown) (found_again shown.number p later rising.1 found) is
   where
-    by_test : (b : Bool) → cond b (Some shown) (find p later) ≡ Some found
+    by_test : (b : Bool) → (find p later ≡ Some found → find (λ (shown : ShownOffer). shown.number == found.number) later
+        ≡ Some found)
+        → cond b (Some shown) (find p later) ≡ Some found
         → cond (shown.number == found.number) (Some shown)
         (find (λ (shown : ShownOffer). shown.number == found.number) later) ≡ Some found
-    by_test true same =
+    by_test true behind same =
         let test : (shown.number == found.number) ≡ true =
         eq-eqb shown.number found.number
         (ap (λ (s : ShownOffer). s.number) (same_value shown found same)) in
         rw test same
-    by_test false same =
+    by_test false behind same =
         let above : shown.number < found.number =
         found_above shown.number p later rising.1 found same in
         let test : (shown.number == found.number) ≡ false = grind (arith, nat_tests) in
-        rw test (found_again shown.number p later rising.1 found same)
+        rw test (behind same)
 
 none_is_0 : (least : ℕ) (quotes : List ShownOffer) → Rising least quotes
     → find (λ (shown : ShownOffer). shown.number == 0) quotes ≡ None

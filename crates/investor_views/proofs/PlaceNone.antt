@@ -22,10 +22,11 @@ use Rattle.venue_places.specs.declared.arrivals.ForDealer.TheVariants as to_deal
 use Rattle.venue_places.specs.declared.arrivals.ForRoom.{ForRoom}
 use Rattle.venue_places.specs.declared.arrivals.ForRoom.TheVariants as to_room
 use Rattle.step_replay.specs.Actions.{Effect, at_dealer, dealer_says, done_by, dropped_by, hit_in}
-use Rattle.step_replay.specs.Actions.{hit_with, in_room, lifting, nothing, said_by_dealer, told_of}
+use Rattle.step_replay.specs.Actions.{hit_with, in_room, left_by, left_by_drop, lifting, nothing}
+use Rattle.step_replay.specs.Actions.{said_by_dealer, told_of, verdict_on}
 use Rattle.step_replay.specs.Coming.{dealer_gets, room_gets}
 use Rattle.step_replay.specs.PlaceLemmas.{investor_at_dealer, investor_grown, investor_in_room}
-use Rattle.step_replay.specs.VenueFacts.{Fact, InRoom, of_investor, of_room}
+use Rattle.step_replay.specs.VenueFacts.{Fact, InRoom, of_dealer, of_investor, of_room}
 
 module _ (number : ℕ) where
   -- an effect that adds nothing to the investor's trail
@@ -68,11 +69,16 @@ module _ (number : ℕ) where
 
     pub drop_adds : (last moment : ℕ) (dealer : Dealer)
         → Adds (dropped_by config facts last moment dealer)
-    drop_adds last moment dealer = if_adds _ _ nothing (desk_adds dealer _ _) nothing_adds
+    drop_adds last moment dealer =
+        if_adds _ _ nothing
+        (desk_adds dealer _ (left_by_drop config facts last moment dealer)) nothing_adds
 
     pub said_adds : (moment : ℕ) (bytes : List ℕ) (dealer : Dealer)
         → Adds (said_by_dealer config facts moment bytes dealer)
-    said_adds moment bytes dealer = if_adds _ _ nothing (desk_adds dealer _ _) nothing_adds
+    said_adds moment bytes dealer =
+        if_adds _ _ nothing
+        (desk_adds dealer _ (left_by (of_dealer dealer.number facts) moment
+        (verdict_on config facts moment bytes dealer))) nothing_adds
 
     -- In a room.
 

@@ -1,5 +1,5 @@
 -- What an investor is sent, as a function of what is due to it and of the market that it sees.
-use Rattle.std.specs.Prelude.{ℕ, ◌+◌, List, fold, map}
+use Rattle.std.specs.Prelude.{ℕ, ◌+◌, List, fold, map, Option}
 use Rattle.market_terms.specs.declared.rooms.Offer.{Offer}
 use Rattle.venue_config.specs.Rows.{Configuration}
 use Rattle.venue_config.specs.declared.bond_rows.BondRow.{BondRow}
