@@ -14,10 +14,14 @@
 //!   due to it, after every list of steps of every venue.
 //! - [`investors_are_isolated`]: so two venues in which an investor sees one market, and one list was
 //!   due to it, sent it the same bytes.
+//! - [`investors_are_given_their_view`]: so is what a replay gives of an investor's day, and what a
+//!   venue tells it that answers as steps come.
 #![tactic(auto)]
 
 mod dues;
 mod laws;
 
 pub use dues::InvestorDue;
-pub use laws::{investors_are_isolated, investors_are_sent_their_view};
+pub use laws::{
+    investors_are_given_their_view, investors_are_isolated, investors_are_sent_their_view,
+};
