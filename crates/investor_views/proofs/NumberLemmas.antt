@@ -124,8 +124,9 @@ found_again least p [] rising found is = cc
 found_again least p (shown ∷ later) rising found is =
     by_test (p shown) (found_again shown.number p later rising.1 found) is
   where
-    by_test : (b : Bool) → (find p later ≡ Some found → find (λ (shown : ShownOffer). shown.number == found.number) later
-        ≡ Some found)
+    by_test : (b : Bool)
+        → (find p later ≡ Some found
+        → find (λ (shown : ShownOffer). shown.number == found.number) later ≡ Some found)
         → cond b (Some shown) (find p later) ≡ Some found
         → cond (shown.number == found.number) (Some shown)
         (find (λ (shown : ShownOffer). shown.number == found.number) later) ≡ Some found
