@@ -97,7 +97,8 @@ module _ (number : ℕ) (facts : List Fact) (market : InvestorMarket)
   answer_adds true may more = event_adds may more
   answer_adds false may more = nothing_adds number
 
-  another_adds : (what : ForInvestor) → of_investor number (investor_gets facts what market).facts ≡ []
+  another_adds : (what : ForInvestor)
+      → of_investor number (investor_gets facts what market).facts ≡ []
   unfolding investor_gets
   another_adds (to_investor.Relay request offer moment) = event_adds _ _
   another_adds (to_investor.Gone request word moment) = event_adds _ _

@@ -1,5 +1,6 @@
 -- What an investor was sent in a day is what its desk sends for all that came to it.
-use Rattle.std.proofs.Common.{◌≡◌, ◌≤◌, ◌<◌, ℕ, ◌+◌, ◌==◌, ◌-◌, nat_lt, Bool, true, false, List, [], ◌∷◌, ◌++◌, fold}
+use Rattle.std.proofs.Common.{◌≡◌, ◌≤◌, ◌<◌, ℕ, ◌+◌, ◌==◌, ◌-◌, nat_lt, Bool, true, false, List, []}
+use Rattle.std.proofs.Common.{◌∷◌, ◌++◌, fold}
 use Rattle.std.proofs.Common.{length, nat_le, Option, Some, None, is_some, option_map}
 use Rattle.std.proofs.Common.{if◌then◌else◌, refl, sym, ap, subst, ◌∙◌, arith}
 use Rattle.std.specs.Prelude.{slice_get}
@@ -20,7 +21,8 @@ use Rattle.venue_places.specs.declared.actors.Actor.{Actor}
 use Rattle.venue_places.specs.declared.arrivals.Arrival.TheVariants as arrival
 use Rattle.venue_places.specs.declared.arrivals.ForRoom.TheVariants as to_room
 use Rattle.step_replay.specs.Actions.{Effect, done_by, done_for, duty_effect}
-use Rattle.step_replay.specs.Actions.{message_effect, said_by_dealer, said_by_investor, sweep_effect}
+use Rattle.step_replay.specs.Actions.{message_effect, said_by_dealer, said_by_investor}
+use Rattle.step_replay.specs.Actions.{sweep_effect}
 use Rattle.step_replay.specs.AuditTrail.{AuditTrail, after_step, after_turn, audit_trail, no_steps}
 use Rattle.step_replay.specs.AuditTrail.{pending, sent_to}
 use Rattle.step_replay.specs.Coming.{effect_where}
@@ -43,7 +45,8 @@ pub no_dealer : (config : Configuration) (number : ℕ) (row : InvestorRow)
 no_dealer config number row is = by_test (nat_le (length config.dealers) number) refl is
   where
     by_test : (b : Bool) → nat_le (length config.dealers) number ≡ b
-        → (if b then slice_get config.investors (number - length config.dealers) else None) ≡ Some row
+        → (if b then slice_get config.investors (number - length config.dealers) else None)
+        ≡ Some row
         → dealer_numbered config number ≡ None
     by_test true behind found =
         let beyond : length config.dealers ≤ number = grind (arith, nat_tests) in
@@ -56,7 +59,8 @@ pub investor_within : (config : Configuration) (number : ℕ) (row : InvestorRow
 investor_within config number row is = by_test (nat_le (length config.dealers) number) refl is
   where
     by_test : (b : Bool) → nat_le (length config.dealers) number ≡ b
-        → (if b then slice_get config.investors (number - length config.dealers) else None) ≡ Some row
+        → (if b then slice_get config.investors (number - length config.dealers) else None)
+        ≡ Some row
         → nat_lt number (firms_of config) ≡ true
     by_test true behind found =
         let after : length config.dealers ≤ number = grind (arith, nat_tests) in
@@ -104,7 +108,8 @@ module _ (duties_come : DutiesCome) (sweeps_come : SweepsCome) (config : Configu
         (by_place (has_room config room.investor room.n))
       where
         by_place : (b : Bool) → StandsAfter facts
-            (effect_where config facts (where_so b (arrival.Room room (to_room.Expire moment)))) desk
+            (effect_where config facts (where_so b (arrival.Room room (to_room.Expire moment))))
+            desk
         by_place true =
             effect_stands config number row is_investor facts desk before
             (Some (arrival.Room room (to_room.Expire moment)))
@@ -194,11 +199,13 @@ module _ (duties_come : DutiesCome) (sweeps_come : SweepsCome) (config : Configu
       (fold after_coming desk (comings_from config number trail steps))
   steps_stand trail desk [] before = before
   steps_stand trail desk (more ∷ steps) before =
-      subst (DeskStands market (fold (after_step config) (after_step config trail more) steps).facts)
+      subst
+      (DeskStands market (fold (after_step config) (after_step config trail more) steps).facts)
       (sym (came_first desk (comes_by config number trail more)
       (comings_from config number (after_step config trail more) steps)))
-      (steps_stand (after_step config trail more) (desk_where desk (comes_by config number trail more))
-      steps (step_stands trail desk more before))
+      (steps_stand (after_step config trail more)
+      (desk_where desk (comes_by config number trail more)) steps
+      (step_stands trail desk more before))
 
   -- the desk by all that came to it has come where the day has
   pub day_stands : (steps : List Step)

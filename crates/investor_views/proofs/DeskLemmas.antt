@@ -95,7 +95,8 @@ module _ (market : InvestorMarket) (trail : List InvestorEntry) (more : Investor
   trail_push = both _ _ _ _ (sym facts_grown) (sym sent_grown)
 
 -- The desk of the investor with this number and market has come where the facts of the venue have.
-pub record DeskStands (market : InvestorMarket) (facts : List Fact) (desk : DeskEvents) : Type 0 where
+pub record DeskStands (market : InvestorMarket) (facts : List Fact) (desk : DeskEvents)
+    : Type 0 where
   pub market_is : desk.market ≡ market
   pub state_is : desk_after market desk.events ≡ desk_of (of_investor market.firm facts)
 

@@ -7,16 +7,20 @@ use Rattle.market_terms.specs.declared.closes.HitRefusal.{HitRefusal}
 use Rattle.market_terms.specs.declared.closes.Reply.{Reply}
 use Rattle.market_terms.specs.declared.rooms.Offer.{Offer}
 use Rattle.market_terms.specs.declared.rooms.ResponseRef.{ResponseRef}
-use Rattle.investor_desk.specs.InvestorFacts.{InvestorFact, InvestorBook, StandingRequest, Came, Gone, Offered}
+use Rattle.investor_desk.specs.InvestorFacts.{InvestorFact, InvestorBook, StandingRequest, Came}
+use Rattle.investor_desk.specs.InvestorFacts.{Gone, Offered}
 use Rattle.investor_desk.specs.InvestorFacts.{book_of, offer_numbered, offer_of_dealer}
-use Rattle.investor_desk.specs.InvestorFacts.{offer_with_word, offers_of, offers_shown, open_request}
+use Rattle.investor_desk.specs.InvestorFacts.{offer_with_word, offers_of, offers_shown}
+use Rattle.investor_desk.specs.InvestorFacts.{open_request}
 use Rattle.investor_desk.specs.InvestorFacts.{request_numbered}
 use Rattle.investor_desk.specs.InvestorRules.{InvestorMarket, investor_verdict}
 use Rattle.investor_desk.specs.InvestorOutput.{answer_facts, answer_messages, award_of, close_by}
 use Rattle.investor_desk.specs.InvestorOutput.{close_by_answer, closed_facts, decline_messages}
 use Rattle.investor_desk.specs.InvestorOutput.{event_facts, event_messages, expiry_facts}
-use Rattle.investor_desk.specs.InvestorOutput.{expiry_messages, gone_facts, gone_message, next_offer}
-use Rattle.investor_desk.specs.InvestorOutput.{offer_facts, offer_message, offer_messages, refusal_of}
+use Rattle.investor_desk.specs.InvestorOutput.{expiry_messages, gone_facts, gone_message}
+use Rattle.investor_desk.specs.InvestorOutput.{next_offer}
+use Rattle.investor_desk.specs.InvestorOutput.{offer_facts, offer_message, offer_messages}
+use Rattle.investor_desk.specs.InvestorOutput.{refusal_of}
 use Rattle.investor_desk.specs.InvestorOutput.{response_message}
 use Rattle.investor_desk.specs.InvestorOutput.{uses_number, verdict_facts, verdict_message}
 use Rattle.investor_desk.specs.InvestorOutput.{withdrawal_facts, withdrawal_messages}
@@ -101,7 +105,8 @@ module _ (market : InvestorMarket) (facts : List InvestorFact) where
         facts_are =
             ap (λ (b : Bool). Came moment bytes b ∷ verdict_facts
             (investor_verdict (unnumbered market) again moment bytes)) same.uses_are
-            ∙ ap (λ l. Came moment bytes (uses_number (investor_verdict market book moment bytes)) ∷ l)
+            ∙ ap (λ l. Came moment bytes
+            (uses_number (investor_verdict market book moment bytes)) ∷ l)
             same.facts_are;
         messages_are = ap option_to_list same.message_is;
         numbered_on = verdict_numbered (length (offers_of facts))
@@ -193,7 +198,8 @@ module _ (market : InvestorMarket) (facts : List InvestorFact) where
         ≡ map renamed_fact (withdrawal_facts request word found)
     gone_there None is = refl
     gone_there (Some own) is =
-        ap (gone_facts request) (meant_same own word (open_rises facts request own numbered_so_far is))
+        ap (gone_facts request)
+        (meant_same own word (open_rises facts request own numbered_so_far is))
         ∙ gone_kept request (offer_with_word own word)
 
     gone_told : (found : Option StandingRequest) → open_request book request ≡ found

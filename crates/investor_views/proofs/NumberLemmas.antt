@@ -167,4 +167,5 @@ meant_same own word rises = by_found (offer_with_word own word) refl
     by_found (Some found) is =
         numbers found.number
         ∙ ap (option_map renamed)
-        (found_again 0 (λ (shown : ShownOffer). shown.offer.word == word) own.standing rises found is)
+        (found_again 0 (λ (shown : ShownOffer). shown.offer.word == word) own.standing rises found
+        is)

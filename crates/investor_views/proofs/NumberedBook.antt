@@ -142,7 +142,8 @@ alike one other same = record {
 
 module _ (book : InvestorBook) where
   with_id : (id : List ℕ)
-      → request_with_id (renamed_book book) id ≡ option_map renamed_request (request_with_id book id)
+      → request_with_id (renamed_book book) id
+      ≡ option_map renamed_request (request_with_id book id)
   unfolding request_with_id
   with_id id =
       find_changed renamed_request (λ (own : StandingRequest). same_text own.request.id id)

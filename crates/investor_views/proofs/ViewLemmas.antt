@@ -1,5 +1,6 @@
 -- What the desk of an investor sends for all that comes to it is the investor view of what is due.
-use Rattle.std.proofs.Common.{◌≡◌, ℕ, ◌+◌, Bool, true, false, List, [], ◌∷◌, ◌++◌, map, fold, length}
+use Rattle.std.proofs.Common.{◌≡◌, ℕ, ◌+◌, Bool, true, false, List, [], ◌∷◌, ◌++◌, map, fold}
+use Rattle.std.proofs.Common.{length}
 use Rattle.std.proofs.Common.{Some, refl, ap, sym, subst, ◌∙◌, arith, ◌&&◌, Option, None}
 use Rattle.std.proofs.lemmas.List.{map-append}
 use Rattle.quote_messages.specs.declared.out_messages.OutMessage.{OutMessage}
@@ -37,8 +38,8 @@ module _ (market : InvestorMarket) where
       ap (λ l. written (head_of market number moment) message ∷ l)
       (written_same (number + 1) moment messages)
 
-  -- The view's desk stands where the desk of the day does: it has the same facts, with own numbers in
-  -- the place of words, and sent the same.
+  -- The view's desk stands where the desk of the day does: it has the same facts, with own numbers
+  -- in the place of words, and sent the same.
   pub record Sees (desk view : DeskEvents) : Type 0 where
     pub own_market : desk.market ≡ market
     pub view_market : view.market ≡ unnumbered market
@@ -68,7 +69,8 @@ module _ (market : InvestorMarket) where
 
     book_here : book ≡ book_at desk
     book_here =
-        ap (λ (m : InvestorMarket). book_of (desk_after m desk.events).facts) (sym before.own_market)
+        ap (λ (m : InvestorMarket). book_of (desk_after m desk.events).facts)
+        (sym before.own_market)
 
     book_there : renamed_book book ≡ book_at view
     book_there =
@@ -111,7 +113,8 @@ module _ (market : InvestorMarket) where
           ∙ ap (λ (b : InvestorBook). sent_with (unnumbered market) here.sent (moment_of other)
           (event_messages (unnumbered market) b other))
           (ap book_of before.facts_are ∙ book_same stood)
-          ∙ ap (λ (l : List OutMessage). sent_with (unnumbered market) here.sent (moment_of other) l)
+          ∙ ap (λ (l : List OutMessage).
+          sent_with (unnumbered market) here.sent (moment_of other) l)
           same.messages_are
           ∙ ap (λ (n : ℕ). sent_with (unnumbered market) here.sent n
           (event_messages market book one)) same_moment
@@ -217,6 +220,7 @@ module _ (market : InvestorMarket) where
       ≡ sent_at (fold after_due (no_events (unnumbered market)) (dues_from (no_events market) came))
   sends_its_view came =
       let seen = comings_see (no_events market) (no_events (unnumbered market)) came start_sees in
-      let view = fold after_due (no_events (unnumbered market)) (dues_from (no_events market) came) in
+      let view =
+      fold after_due (no_events (unnumbered market)) (dues_from (no_events market) came) in
       sym seen.sent_are
       ∙ ap (λ (m : InvestorMarket). investor_output m view.events) (sym seen.view_market)

@@ -3,12 +3,12 @@
 -- proved yet.
 --
 -- That two investors ask no dealer in common is not enough. A third one may ask a dealer of each:
--- while a request of the first stays open, the quote on it takes from the exposure of its dealer, and
--- this dealer's quote to the third is refused; so the third has no `Q2` to hit, its request stays
--- open too, and takes from the exposure of the dealer that the second asks. So a side has, with a
--- dealer, every investor that asks it, and with an investor every dealer that it asks. Nor may the
--- clock have duties left: it has one queue, in which the notices of one room stand behind those of
--- another. It has none left in a day whose steps come one by one.
+-- while a request of the first stays open, the quote on it takes from the exposure of its dealer,
+-- and this dealer's quote to the third is refused; so the third has no `Q2` to hit, its request
+-- stays open too, and takes from the exposure of the dealer that the second asks. So a side has,
+-- with a dealer, every investor that asks it, and with an investor every dealer that it asks. Nor
+-- may the clock have duties left: it has one queue, in which the notices of one room stand behind
+-- those of another. It has none left in a day whose steps come one by one.
 use Rattle.std.specs.Prelude.{◌≡◌, ℕ, ◌&&◌, ◌||◌, not, Bool, true, false, List, filter, Some}
 use Rattle.std.specs.List.{list_any}
 use Rattle.venue_config.specs.Rows.{Configuration, dealer_numbered, investor_numbered}
@@ -45,8 +45,8 @@ abbrev pub acts_there : (ℕ → Bool) → Actor → Bool
 acts_there side (actor.Firm firm) = side firm
 acts_there side actor.Clock = false
 
--- whether a step is one of this side: a message or a turn of a firm there, or a sweep of the room of
--- an investor there
+-- whether a step is one of this side: a message or a turn of a firm there, or a sweep of the room
+-- of an investor there
 abbrev pub is_there : (ℕ → Bool) → Step → Bool
 is_there side (step.In firm moment message) = side firm
 is_there side (step.Turn by) = acts_there side by

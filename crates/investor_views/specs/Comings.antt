@@ -1,5 +1,5 @@
--- What comes to the desk of one investor in a day, in the order in which it comes: its own messages,
--- and what the market's table brings there for the duties that are done.
+-- What comes to the desk of one investor in a day, in the order in which it comes: its own
+-- messages, and what the market's table brings there for the duties that are done.
 use Rattle.std.specs.Prelude.{ℕ, ◌==◌, List, [], ◌∷◌, ◌++◌, fold, Option, Some, None}
 use Rattle.std.specs.Prelude.{if◌then◌else◌}
 use Rattle.std.specs.Option.{option_to_list}

@@ -13,9 +13,9 @@ use Rattle.investor_views.specs.Comings.{Coming, Own, For, after_coming}
 use Rattle.investor_views.specs.declared.dues.InvestorDue.{InvestorDue}
 use Rattle.investor_views.specs.declared.dues.InvestorDue.TheVariants as due
 
--- The market as an investor sees it: the day, its own row, the bonds with their grids, and the names
--- of the dealers in their order. Nothing else of a configuration stands in it: no limit of a dealer,
--- no other investor, and not the investor's number among the firms.
+-- The market as an investor sees it: the day, its own row, the bonds with their grids, and the
+-- names of the dealers in their order. Nothing else of a configuration stands in it: no limit of a
+-- dealer, no other investor, and not the investor's number among the firms.
 pub record SeenMarket : Type 0 where
   pub date : List ℕ
   pub row : InvestorRow
@@ -31,8 +31,8 @@ seen_by config row = record {
   dealers = map (λ (dealer : DealerRow). dealer.name) config.dealers;
 }
 
--- The same as the market of a desk. A desk names its rooms by the investor's number among the firms,
--- which goes into no message; the view has no rooms, and that number is 0.
+-- The same as the market of a desk. A desk names its rooms by the investor's number among the
+-- firms, which goes into no message; the view has no rooms, and that number is 0.
 abbrev pub market_seen : SeenMarket → InvestorMarket
 market_seen seen = record {
   date = seen.date;

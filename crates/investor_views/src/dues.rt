@@ -5,8 +5,8 @@ use market_terms::{Reply, ResponseRef};
 use quote_messages::Message;
 use venue_config::Name;
 
-/// One item of what is due to an investor. Requests and quotes have the investor's own numbers, from
-/// 1: its accepted requests, and the quotes that it was shown (QuoteID 117).
+/// One item of what is due to an investor. Requests and quotes have the investor's own numbers,
+/// from 1: its accepted requests, and the quotes that it was shown (QuoteID 117).
 #[derive(Drop)]
 pub enum InvestorDue {
     /// A message of the investor's own.
