@@ -1,11 +1,11 @@
 -- An investor's desk stands where its trail has come, after what happens there and after what
 -- happens anywhere else.
 use Rattle.std.proofs.Common.{◌≡◌, ℕ, ◌+◌, Bool, true, false, List, [], ◌∷◌, ◌++◌, map, filter_map}
-use Rattle.std.proofs.Common.{length, Option, Some, None, if◌then◌else◌, refl, sym, ap, subst, ◌∙◌}
+use Rattle.std.proofs.Common.{length, Option, Some, None, if◌then◌else◌, refl, sym, ap, ◌∙◌}
 use Rattle.std.proofs.lemmas.List.{append-nil}
 use Rattle.std.proofs.lemmas.List.Elements.{filter_map-append}
 use Rattle.std.proofs.lemmas.List.Sums.{fold-append}
-use Rattle.investor_desk.specs.InvestorFacts.{InvestorFact, InvestorBook, book_of}
+use Rattle.investor_desk.specs.InvestorFacts.{InvestorFact, book_of}
 use Rattle.investor_desk.specs.InvestorRules.{InvestorMarket}
 use Rattle.investor_desk.specs.InvestorOutput.{DeskEvents, DeskState, after_event, book_at}
 use Rattle.investor_desk.specs.InvestorOutput.{desk_after, event_facts, event_messages, moment_of}

@@ -10,7 +10,7 @@ use Rattle.market_terms.specs.declared.rooms.ResponseRef.{ResponseRef}
 use Rattle.investor_desk.specs.InvestorFacts.{InvestorFact, InvestorBook, StandingRequest, Came}
 use Rattle.investor_desk.specs.InvestorFacts.{Gone, Offered}
 use Rattle.investor_desk.specs.InvestorFacts.{book_of, offer_numbered, offer_of_dealer}
-use Rattle.investor_desk.specs.InvestorFacts.{offer_with_word, offers_of, offers_shown}
+use Rattle.investor_desk.specs.InvestorFacts.{offer_with_word, offers_of}
 use Rattle.investor_desk.specs.InvestorFacts.{open_request}
 use Rattle.investor_desk.specs.InvestorFacts.{request_numbered}
 use Rattle.investor_desk.specs.InvestorRules.{InvestorMarket, investor_verdict}
@@ -22,7 +22,7 @@ use Rattle.investor_desk.specs.InvestorOutput.{next_offer}
 use Rattle.investor_desk.specs.InvestorOutput.{offer_facts, offer_message, offer_messages}
 use Rattle.investor_desk.specs.InvestorOutput.{refusal_of}
 use Rattle.investor_desk.specs.InvestorOutput.{response_message}
-use Rattle.investor_desk.specs.InvestorOutput.{uses_number, verdict_facts, verdict_message}
+use Rattle.investor_desk.specs.InvestorOutput.{uses_number, verdict_facts}
 use Rattle.investor_desk.specs.InvestorOutput.{withdrawal_facts, withdrawal_messages}
 use Rattle.investor_desk.specs.declared.events.InvestorEvent.{InvestorEvent}
 use Rattle.investor_desk.specs.declared.events.InvestorEvent.TheVariants as event
@@ -32,7 +32,7 @@ use Rattle.investor_desk.specs.declared.verdicts.InvestorVerdict.{InvestorVerdic
 use Rattle.investor_desk.specs.declared.verdicts.InvestorVerdict.TheVariants as verdict
 use Rattle.investor_views.specs.InvestorDues.{number_of, quote_meant}
 use Rattle.investor_views.specs.InvestorView.{offer_due}
-use Rattle.investor_views.proofs.NumberedBook.{Alike, dealers_offer, numbered, offered}
+use Rattle.investor_views.proofs.NumberedBook.{dealers_offer, numbered, offered}
 use Rattle.investor_views.proofs.NumberedBook.{open_numbered, shown_same, verdict_alike}
 use Rattle.investor_views.proofs.NumberLemmas.{NumberedFrom, meant_same, open_rises}
 use Rattle.investor_views.proofs.Renamed.{renamed, renamed_book, renamed_fact, renamed_request}

@@ -1,6 +1,6 @@
 -- Lists whose items are changed: who does not ask for the change finds the same.
 use Rattle.std.proofs.Common.{◌≡◌, ℕ, ◌+◌, Bool, true, false, cond, List, [], ◌∷◌, map}
-use Rattle.std.proofs.Common.{fold, sum_by, count_by, Option, Some, None, option_map}
+use Rattle.std.proofs.Common.{fold, count_by, Option, Some, None, option_map}
 use Rattle.std.proofs.Common.{is_some, find, refl, ap, subst, ◌∙◌}
 use Rattle.std.specs.List.{list_any}
 use Rattle.step_replay.specs.EachLemmas.{Every}

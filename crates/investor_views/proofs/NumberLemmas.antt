@@ -4,7 +4,7 @@ use Rattle.std.proofs.Common.{◌≡◌, ◌<◌, ◌≤◌, ℕ, ◌+◌, ◌==
 use Rattle.std.proofs.Common.{List, [], ◌∷◌, ◌++◌, length, find, Option, Some, None, option_map}
 use Rattle.std.proofs.Common.{if◌then◌else◌, refl, sym, ap, subst, ◌∙◌, arith, eq-eqb}
 use Rattle.std.proofs.lemmas.Bool.Decides.{nat_tests}
-use Rattle.investor_desk.specs.InvestorFacts.{InvestorFact, InvestorBook, StandingRequest, Asked}
+use Rattle.investor_desk.specs.InvestorFacts.{InvestorFact, StandingRequest, Asked}
 use Rattle.investor_desk.specs.InvestorFacts.{Offered, book_of, is_open, offer_with_word, offers_of}
 use Rattle.investor_desk.specs.InvestorFacts.{open_request, request_numbered, requests_of}
 use Rattle.investor_desk.specs.InvestorFacts.{standing_on, stands_on, while_open}

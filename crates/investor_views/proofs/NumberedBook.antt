@@ -1,8 +1,7 @@
 -- The book of a desk with own numbers in the place of words, and every verdict by it.
-use Rattle.std.proofs.Common.{◌≡◌, ℕ, ◌==◌, Bool, true, false, ◌&&◌, not, cond}
+use Rattle.std.proofs.Common.{◌≡◌, ℕ, ◌==◌, Bool, true, false, ◌&&◌, not}
 use Rattle.std.proofs.Common.{List, [], ◌∷◌, map, Option, Some, None}
 use Rattle.std.proofs.Common.{option_map, is_some, if◌then◌else◌, refl, ap, subst, sym, ◌∙◌}
-use Rattle.std.specs.Option.{option_or}
 use Rattle.std.proofs.lemmas.List.{length-map}
 use Rattle.quote_messages.specs.declared.arrivals.Arrival.{Arrival}
 use Rattle.quote_messages.specs.declared.arrivals.Arrival.TheVariants as arrival
@@ -17,7 +16,7 @@ use Rattle.quote_messages.specs.Written.{quote_name}
 use Rattle.venue_config.specs.Texts.{same_text}
 use Rattle.venue_config.specs.declared.bond_rows.BondRow.{BondRow}
 use Rattle.investor_desk.specs.InvestorFacts.{InvestorFact, InvestorBook, StandingRequest}
-use Rattle.investor_desk.specs.InvestorFacts.{Asked, Offered, Gone, Closed, used_number}
+use Rattle.investor_desk.specs.InvestorFacts.{Asked, Offered, used_number}
 use Rattle.investor_desk.specs.InvestorFacts.{closes, says_gone, first_said, stands_on, standing_on}
 use Rattle.investor_desk.specs.InvestorFacts.{requests_of, offers_of, book_of}
 use Rattle.investor_desk.specs.InvestorFacts.{expected_number, requests_accepted, offers_shown}
@@ -30,7 +29,6 @@ use Rattle.investor_desk.specs.InvestorRules.{InvestorMarket, request_refusal, r
 use Rattle.investor_desk.specs.InvestorRules.{request_verdict, bond_with_id, hit_of, hit_verdict}
 use Rattle.investor_desk.specs.InvestorRules.{pass_of, pass_verdict, arrival_verdict}
 use Rattle.investor_desk.specs.InvestorRules.{dealer_named, investor_verdict}
-use Rattle.investor_desk.specs.declared.standing.RequestClose.{RequestClose}
 use Rattle.investor_desk.specs.declared.standing.ShownOffer.{ShownOffer}
 use Rattle.investor_desk.specs.declared.verdicts.InvestorVerdict.{InvestorVerdict}
 use Rattle.investor_desk.specs.declared.verdicts.InvestorVerdict.TheVariants as verdict

@@ -1,5 +1,5 @@
 -- What happens at a dealer's desk or in a room adds nothing to the trail of an investor.
-use Rattle.std.proofs.Common.{◌≡◌, ℕ, Bool, true, false, List, [], ◌∷◌, ◌++◌, map}
+use Rattle.std.proofs.Common.{◌≡◌, ℕ, Bool, true, false, List, [], ◌++◌, map}
 use Rattle.std.proofs.Common.{Option, Some, None, if◌then◌else◌, refl, ap, ◌∙◌}
 use Rattle.std.proofs.Common.{Result, Ok, Err}
 use Rattle.market_terms.specs.declared.closes.Close.{Close}
@@ -10,7 +10,6 @@ use Rattle.market_terms.specs.declared.rooms.RoomRef.{RoomRef}
 use Rattle.quote_word.specs.declared.settled.Settled.{Settled}
 use Rattle.venue_config.specs.Rows.{Configuration}
 use Rattle.dealer_desk.specs.declared.events.DealerEvent.{DealerEvent}
-use Rattle.dealer_desk.specs.declared.verdicts.DealerVerdict.{DealerVerdict}
 use Rattle.request_room.specs.Book.{event_facts, hit_outcome}
 use Rattle.request_room.specs.RoomFacts.{RoomFact}
 use Rattle.request_room.specs.declared.ends.End.{End}
@@ -21,7 +20,7 @@ use Rattle.venue_places.specs.declared.arrivals.ForDealer.{ForDealer}
 use Rattle.venue_places.specs.declared.arrivals.ForDealer.TheVariants as to_dealer
 use Rattle.venue_places.specs.declared.arrivals.ForRoom.{ForRoom}
 use Rattle.venue_places.specs.declared.arrivals.ForRoom.TheVariants as to_room
-use Rattle.step_replay.specs.Actions.{Effect, at_dealer, dealer_says, done_by, dropped_by, hit_in}
+use Rattle.step_replay.specs.Actions.{Effect, at_dealer, done_by, dropped_by, hit_in}
 use Rattle.step_replay.specs.Actions.{hit_with, in_room, left_by, left_by_drop, lifting, nothing}
 use Rattle.step_replay.specs.Actions.{said_by_dealer, told_of, verdict_on}
 use Rattle.step_replay.specs.Coming.{dealer_gets, room_gets}

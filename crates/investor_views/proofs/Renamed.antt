@@ -1,5 +1,5 @@
 -- The desk of an investor with its own numbers in the place of the words of quotes.
-use Rattle.std.proofs.Common.{List, map}
+use Rattle.std.proofs.Common.{map}
 use Rattle.investor_desk.specs.InvestorFacts.{InvestorFact, InvestorBook, StandingRequest, Offered}
 use Rattle.investor_desk.specs.InvestorRules.{InvestorMarket}
 use Rattle.investor_desk.specs.declared.standing.ShownOffer.{ShownOffer}

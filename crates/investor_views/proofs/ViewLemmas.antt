@@ -1,7 +1,7 @@
 -- What the desk of an investor sends for all that comes to it is the investor view of what is due.
 use Rattle.std.proofs.Common.{◌≡◌, ℕ, ◌+◌, Bool, true, false, List, [], ◌∷◌, ◌++◌, map, fold}
 use Rattle.std.proofs.Common.{length}
-use Rattle.std.proofs.Common.{Some, refl, ap, sym, subst, ◌∙◌, arith, ◌&&◌, Option, None}
+use Rattle.std.proofs.Common.{refl, ap, sym, subst, ◌∙◌, arith, ◌&&◌, None}
 use Rattle.std.proofs.lemmas.List.{map-append}
 use Rattle.quote_messages.specs.declared.out_messages.OutMessage.{OutMessage}
 use Rattle.investor_desk.specs.InvestorFacts.{InvestorFact, InvestorBook, book_of, knows, offers_of}
@@ -19,7 +19,6 @@ use Rattle.venue_places.specs.declared.arrivals.ForInvestor.TheVariants as to_in
 use Rattle.investor_views.specs.Comings.{Coming, Own, For, after_coming, desk_by}
 use Rattle.investor_views.specs.InvestorDues.{due_by, dues_from, number_of, quote_meant}
 use Rattle.investor_views.specs.InvestorView.{after_due, coming_by, offer_due, sent_at}
-use Rattle.investor_views.specs.declared.dues.InvestorDue.{InvestorDue}
 use Rattle.investor_views.proofs.DeskLemmas.{desk_push}
 use Rattle.investor_views.proofs.ItemLemmas.{Answers, answered_answers, came_answers}
 use Rattle.investor_views.proofs.ItemLemmas.{declined_answers, expired_answers, gone_answers}
