@@ -72,8 +72,7 @@ requests_rise : (count : ℕ) (facts : List InvestorFact) → NumberedFrom count
     → Every Rises (requests_of facts)
 requests_rise count [] numbered = tt
 requests_rise count (Asked request ∷ later) numbered =
-    let under : 0 ≤ count = omega arith in
-    (
+    let under : 0 ≤ count = omega arith in (
       rising_above 0 count (standing_on request.number later) under
           (standing_rises request.number count later numbered),
       requests_rise count later numbered,
