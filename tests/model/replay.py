@@ -1,5 +1,6 @@
-"""The venue of a day, step by step; what was due to a dealer; and a dealer's view of such a list."""
+"""The venue of a day, step by step; what was due to a firm; and a dealer's or an investor's view of such a list."""
 
+from configuration import Configuration, Dealer
 from dealer import DealerDesk
 from investor import InvestorDesk
 from room import Room
@@ -26,7 +27,7 @@ class Venue:
         self.desks = [self.desk(firm) for firm in range(len(configuration.firms))]
         self.rooms = {}
         self.queues = {actor: [] for actor in [*range(len(self.desks)), CLOCK]}
-        self.due = {firm: [] for firm in range(len(configuration.dealers))}
+        self.due = {firm: [] for firm in range(len(self.desks))}
         self.log = []  # (firm, fields) of each message, in the order in which they were sent
 
     def desk(self, firm):
@@ -48,8 +49,7 @@ class Venue:
     # ------------------------------------------------------------ steps
 
     def came(self, firm, moment, data):
-        if self.configuration.is_dealer(firm):
-            self.due[firm].append(("own", moment, data))
+        self.due[firm].append(("own", moment, data))
         self.queues[firm] += self.logged(firm, lambda desk: desk.take(moment, data))
 
     def turn(self, actor):
@@ -91,6 +91,7 @@ class Venue:
 
     def do_relay(self, dealer, room, word, ticks, until, moment):
         name, (investor, n) = self.configuration.firms[dealer].name, room
+        self.due[investor].append(("quoted", n, name, ticks, until, moment))
         self.logged(investor, lambda desk: desk.quote_came(n, name, word, ticks, until, moment))
 
     def do_unpost(self, dealer, room, q, moment):
@@ -99,7 +100,15 @@ class Venue:
 
     def do_gone(self, _dealer, room, word, moment):
         investor, n = room
+        self.due[investor].append(("gone", n, self.number_of(investor, n, word), moment))
         self.logged(investor, lambda desk: desk.quote_gone(n, word, moment))
+
+    def number_of(self, investor, n, word):
+        """The number of the quote with this word that stands on the open request; 0 where none does."""
+        desk = self.desks[investor]
+        request = desk.requests[n - 1]
+        standing = desk.standing(request) if request.is_open() else []
+        return next((quote.k for quote in standing if quote.word == word), 0)
 
     def do_decline(self, _dealer, room, moment):
         if self.room(room).takes():
@@ -107,6 +116,7 @@ class Venue:
 
     def do_declined(self, dealer, room, moment):
         name, (investor, n) = self.configuration.firms[dealer].name, room
+        self.due[investor].append(("declined", n, name, moment))
         self.logged(investor, lambda desk: desk.dealer_declined(n, name, moment))
 
     def do_drop(self, dealer, last, moment):
@@ -133,16 +143,41 @@ class Venue:
 
     def do_answer(self, _investor, room, response, reply, moment):
         investor, n = room
+        self.due[investor].append(("answered", n, response, reply, moment))
         self.logged(investor, lambda desk: desk.answered(n, response, reply, moment))
 
     def do_close(self, _actor, room, moment):
         investor, n = room
+        self.due[investor].append(("expired", n, moment))
         self.logged(investor, lambda desk: desk.closed(n, moment))
 
     def do_tell(self, _actor, dealer, room, close, moment):
         request = self.desks[dealer].request_in(room)
         if self.logged(dealer, lambda desk: desk.tell(request, close, moment)):
             self.due[dealer].append(("closed", request.k, close, moment))
+
+
+def seen_by(configuration, investor):
+    """What an investor sees of a venue: the day, its row, the bonds, and the names of the dealers."""
+    dealers = [row.name for row in configuration.dealers]
+    return configuration.date, configuration.firms[investor], configuration.bonds, dealers
+
+
+def investor_alone(seen, due):
+    """The desk of an investor that sees this and to which this is due; nothing else of the venue is known."""
+    date, row, bonds, names = seen
+    dealers = [Dealer(name, (), 0, 0) for name in names]
+    desk = InvestorDesk(Configuration(date, bonds, dealers, [row]), len(dealers))
+    for kind, *item in due:
+        if kind == "own":
+            desk.take(*item)
+        elif kind == "quoted":
+            n, dealer, ticks, until, moment = item
+            desk.quote_came(n, dealer, len(desk.shown) + 1, ticks, until, moment)
+        else:
+            act = {"gone": desk.quote_gone, "declined": desk.dealer_declined, "answered": desk.answered}
+            act.get(kind, desk.closed)(*item)
+    return desk
 
 
 def alone(date, row, due):

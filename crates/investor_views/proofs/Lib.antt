@@ -1,0 +1,10 @@
+mod ArrivalLemmas
+mod DayLemmas
+mod DeskLemmas
+mod ItemLemmas
+mod ListLemmas
+mod NumberedBook
+mod NumberLemmas
+mod PlaceNone
+mod Renamed
+mod ViewLemmas

@@ -1,0 +1,225 @@
+-- What the desk of an investor sends for all that comes to it is the investor view of what is due.
+use Rattle.std.proofs.Common.{◌≡◌, ℕ, ◌+◌, Bool, true, false, List, [], ◌∷◌, ◌++◌, map, fold}
+use Rattle.std.proofs.Common.{length}
+use Rattle.std.proofs.Common.{refl, ap, sym, subst, ◌∙◌, arith, ◌&&◌, None}
+use Rattle.std.proofs.lemmas.List.{map-append}
+use Rattle.quote_messages.specs.declared.out_messages.OutMessage.{OutMessage}
+use Rattle.investor_desk.specs.InvestorFacts.{InvestorFact, InvestorBook, book_of, knows, offers_of}
+use Rattle.investor_desk.specs.InvestorRules.{InvestorMarket}
+use Rattle.investor_desk.specs.InvestorOutput.{DeskEvents, DeskState, after_event, book_at}
+use Rattle.investor_desk.specs.InvestorOutput.{desk_after, event_facts, event_messages, head_of}
+use Rattle.investor_desk.specs.InvestorOutput.{investor_output, moment_of, no_events, sent_with}
+use Rattle.investor_desk.specs.InvestorOutput.{with_event, written_from}
+use Rattle.investor_desk.specs.declared.events.InvestorEvent.{InvestorEvent}
+use Rattle.investor_desk.specs.declared.events.InvestorEvent.TheVariants as event
+use Rattle.quote_messages.specs.Written.{written}
+use Rattle.venue_steps.specs.InvestorSteps.{answers, where_so}
+use Rattle.venue_places.specs.Brought.{investor_with}
+use Rattle.venue_places.specs.declared.arrivals.ForInvestor.TheVariants as to_investor
+use Rattle.investor_views.specs.Comings.{Coming, Own, For, after_coming, desk_by}
+use Rattle.investor_views.specs.InvestorDues.{due_by, dues_from, number_of, quote_meant}
+use Rattle.investor_views.specs.InvestorView.{after_due, coming_by, offer_due, sent_at}
+use Rattle.investor_views.proofs.DeskLemmas.{desk_push}
+use Rattle.investor_views.proofs.ItemLemmas.{Answers, answered_answers, came_answers}
+use Rattle.investor_views.proofs.ItemLemmas.{declined_answers, expired_answers, gone_answers}
+use Rattle.investor_views.proofs.ItemLemmas.{own_answers}
+use Rattle.investor_views.proofs.NumberedBook.{book_same, knows_same}
+use Rattle.investor_views.proofs.NumberLemmas.{NumberedFrom, numbered_both}
+use Rattle.investor_views.proofs.Renamed.{renamed_book, renamed_fact, unnumbered}
+
+module _ (market : InvestorMarket) where
+  -- a message does not bear the investor's number among the firms
+  written_same : (number moment : ℕ) (messages : List OutMessage)
+      → written_from (unnumbered market) number moment messages
+      ≡ written_from market number moment messages
+  written_same number moment [] = refl
+  written_same number moment (message ∷ messages) =
+      ap (λ l. written (head_of market number moment) message ∷ l)
+      (written_same (number + 1) moment messages)
+
+  -- The view's desk stands where the desk of the day does: it has the same facts, with own numbers
+  -- in the place of words, and sent the same.
+  pub record Sees (desk view : DeskEvents) : Type 0 where
+    pub own_market : desk.market ≡ market
+    pub view_market : view.market ≡ unnumbered market
+    pub facts_are : (desk_after (unnumbered market) view.events).facts
+        ≡ map renamed_fact (desk_after market desk.events).facts
+    pub sent_are : (desk_after (unnumbered market) view.events).sent
+        ≡ (desk_after market desk.events).sent
+    pub numbered_are : NumberedFrom 0 (desk_after market desk.events).facts
+
+  start_sees : Sees (no_events market) (no_events (unnumbered market))
+  unfolding desk_after
+  start_sees = record {
+    own_market = refl;
+    view_market = refl;
+    facts_are = refl;
+    sent_are = refl;
+    numbered_are = tt;
+  }
+
+  module _ (desk view : DeskEvents) (before : Sees desk view) where
+    -- the facts that stand at the desk, and its book
+    abbrev stood : List InvestorFact
+    stood = (desk_after market desk.events).facts
+
+    abbrev book : InvestorBook
+    book = book_of stood
+
+    book_here : book ≡ book_at desk
+    book_here =
+        ap (λ (m : InvestorMarket). book_of (desk_after m desk.events).facts)
+        (sym before.own_market)
+
+    book_there : renamed_book book ≡ book_at view
+    book_there =
+        sym (ap book_of before.facts_are ∙ book_same stood)
+        ∙ ap (λ (m : InvestorMarket). book_of (desk_after m view.events).facts)
+        (sym before.view_market)
+
+    -- the same of the books that the desks have
+    by_books : (P : InvestorBook → InvestorBook → Type 0) → P book (renamed_book book)
+        → P (book_at desk) (book_at view)
+    by_books P is =
+        subst (λ (b : InvestorBook). P b (book_at view)) book_here
+        (subst (λ (b : InvestorBook). P book b) book_there is)
+
+    -- one event more at each
+    module _ (one other : InvestorEvent) (same_moment : moment_of other ≡ moment_of one)
+        (same : Answers market stood one other) where
+      -- the desk of the day, and that of the view, before and after
+      abbrev here : DeskState
+      here = desk_after market desk.events
+
+      abbrev there : DeskState
+      there = desk_after (unnumbered market) view.events
+
+      facts_there : (after_event (unnumbered market) there other).facts
+          ≡ map renamed_fact (after_event market here one).facts
+      facts_there =
+          ap (λ (facts : List InvestorFact). facts
+          ++ event_facts (unnumbered market) (book_of facts) other) before.facts_are
+          ∙ ap (λ (b : InvestorBook). map renamed_fact stood
+          ++ event_facts (unnumbered market) b other) (book_same stood)
+          ∙ ap (λ l. map renamed_fact stood ++ l) same.facts_are
+          ∙ sym (map-append renamed_fact stood (event_facts market book one))
+
+      sent_there : (after_event (unnumbered market) there other).sent
+          ≡ (after_event market here one).sent
+      sent_there =
+          ap (λ (sent : List (List ℕ)). sent_with (unnumbered market) sent (moment_of other)
+          (event_messages (unnumbered market) (book_of there.facts) other)) before.sent_are
+          ∙ ap (λ (b : InvestorBook). sent_with (unnumbered market) here.sent (moment_of other)
+          (event_messages (unnumbered market) b other))
+          (ap book_of before.facts_are ∙ book_same stood)
+          ∙ ap (λ (l : List OutMessage).
+          sent_with (unnumbered market) here.sent (moment_of other) l)
+          same.messages_are
+          ∙ ap (λ (n : ℕ). sent_with (unnumbered market) here.sent n
+          (event_messages market book one)) same_moment
+          ∙ ap (λ l. here.sent ++ l) (written_same (length here.sent + 1) (moment_of one)
+          (event_messages market book one))
+
+      numbered_here : NumberedFrom 0 (after_event market here one).facts
+      numbered_here =
+          let all : length (offers_of stood) ≡ 0 + length (offers_of stood) = omega arith in
+          numbered_both 0 (length (offers_of stood)) stood (event_facts market book one) all
+          before.numbered_are same.numbered_on
+
+      one_more : Sees (with_event desk one) (with_event view other)
+      one_more =
+          let pushed = desk_push market desk.events one in
+          let pushed_there = desk_push (unnumbered market) view.events other in
+          record {
+            own_market = before.own_market;
+            view_market = before.view_market;
+            facts_are = ap (λ (s : DeskState). s.facts) pushed_there ∙ facts_there
+                ∙ ap (λ (s : DeskState). map renamed_fact s.facts) (sym pushed);
+            sent_are = ap (λ (s : DeskState). s.sent) pushed_there ∙ sent_there
+                ∙ ap (λ (s : DeskState). s.sent) (sym pushed);
+            numbered_are = subst (λ (s : DeskState). NumberedFrom 0 s.facts) (sym pushed)
+                numbered_here;
+          }
+
+      one_if : (may may_too : Bool) → may_too ≡ may
+          → Sees (where_so may desk one) (where_so may_too view other)
+      one_if true true is = one_more
+      one_if false false is = before
+      one_if true false is = cc
+      one_if false true is = cc
+
+    -- what comes, and the item in its place
+    coming_sees : (came : Coming)
+        → Sees (after_coming desk came) (after_due view (due_by (book_at desk) came))
+    unfolding after_coming after_due due_by coming_by investor_with
+    coming_sees (Own moment bytes) =
+        one_more (event.Own moment bytes) (event.Own moment bytes) refl
+        (own_answers market stood moment bytes)
+    coming_sees (For (to_investor.Relay request offer moment)) =
+        by_books (λ here there. Sees
+        (where_so (knows here request None) desk (event.QuoteCame request offer moment))
+        (where_so (knows there request None) view (event.QuoteCame request
+        (offer_due there offer.dealer offer.price offer.valid_until) moment)))
+        (one_if (event.QuoteCame request offer moment)
+        (event.QuoteCame request
+        (offer_due (renamed_book book) offer.dealer offer.price offer.valid_until) moment) refl
+        (came_answers market stood request offer moment)
+        (knows book request None) (knows (renamed_book book) request None)
+        (knows_same book request None))
+    coming_sees (For (to_investor.Gone request word moment)) =
+        by_books (λ here there. Sees
+        (where_so (knows here request None) desk (event.QuoteGone request word moment))
+        (where_so (knows there request None) view (event.QuoteGone request
+        (number_of (quote_meant here request word)) moment)))
+        (one_if (event.QuoteGone request word moment)
+        (event.QuoteGone request (number_of (quote_meant book request word)) moment) refl
+        (gone_answers market stood request word before.numbered_are moment)
+        (knows book request None) (knows (renamed_book book) request None)
+        (knows_same book request None))
+    coming_sees (For (to_investor.Declined request dealer moment)) =
+        by_books (λ here there. Sees
+        (where_so (knows here request None) desk (event.DealerDeclined request dealer moment))
+        (where_so (knows there request None) view (event.DealerDeclined request dealer moment)))
+        (one_if (event.DealerDeclined request dealer moment)
+        (event.DealerDeclined request dealer moment) refl
+        (declined_answers market stood request dealer moment)
+        (knows book request None) (knows (renamed_book book) request None)
+        (knows_same book request None))
+    coming_sees (For (to_investor.Answer request response reply moment)) =
+        by_books (λ here there. Sees
+        (where_so (knows here request response.k && answers response.k reply) desk
+        (event.Answered request response reply moment))
+        (where_so (knows there request response.k && answers response.k reply) view
+        (event.Answered request response reply moment)))
+        (one_if (event.Answered request response reply moment)
+        (event.Answered request response reply moment) refl
+        (answered_answers market stood request response reply moment)
+        (knows book request response.k && answers response.k reply)
+        (knows (renamed_book book) request response.k && answers response.k reply)
+        (ap (λ (b : Bool). b && answers response.k reply) (knows_same book request response.k)))
+    coming_sees (For (to_investor.Close request moment)) =
+        by_books (λ here there. Sees
+        (where_so (knows here request None) desk (event.Closed request moment))
+        (where_so (knows there request None) view (event.Closed request moment)))
+        (one_if (event.Closed request moment) (event.Closed request moment) refl
+        (expired_answers market stood request moment)
+        (knows book request None) (knows (renamed_book book) request None)
+        (knows_same book request None))
+
+  comings_see : (desk view : DeskEvents) (came : List Coming) → Sees desk view
+      → Sees (fold after_coming desk came) (fold after_due view (dues_from desk came))
+  comings_see desk view [] before = before
+  comings_see desk view (first ∷ later) before =
+      comings_see (after_coming desk first) (after_due view (due_by (book_at desk) first)) later
+      (coming_sees desk view before first)
+
+  -- so what it sends is what the view sends
+  pub sends_its_view : (came : List Coming)
+      → investor_output market (desk_by market came).events
+      ≡ sent_at (fold after_due (no_events (unnumbered market)) (dues_from (no_events market) came))
+  sends_its_view came =
+      let seen = comings_see (no_events market) (no_events (unnumbered market)) came start_sees in
+      let view =
+      fold after_due (no_events (unnumbered market)) (dues_from (no_events market) came) in
+      sym seen.sent_are
+      ∙ ap (λ (m : InvestorMarket). investor_output m view.events) (sym seen.view_market)

@@ -1,0 +1,5 @@
+pub mod Apart
+pub mod Comings
+pub mod InvestorDues
+pub mod InvestorView
+pub mod Silence

@@ -1,0 +1,57 @@
+//! Laws of what an investor is sent: what is true of every list of steps of every venue.
+ghost use Rattle.std.specs.Prelude.{◌≡◌, ℕ, List, Some, slice_get};
+ghost use Rattle.std.specs.Option.{option_map};
+ghost use Rattle.venue_config.specs.Rows.{Configuration, investor_numbered};
+ghost use Rattle.venue_config.specs.declared.investor_rows.InvestorRow.{InvestorRow};
+ghost use Rattle.step_replay.specs.AuditTrail as venue;
+ghost use Rattle.step_replay.specs.FirmDays.{FirmDay, firm_days};
+ghost use Rattle.step_replay.specs.LiveDays.{live_messages, live_steps, messages_for};
+ghost use Rattle.step_replay.specs.declared.steps.Step.{Step};
+ghost use Rattle.investor_views.specs.InvestorDues.{due_to_investor};
+ghost use Rattle.investor_views.specs.InvestorView.{investor_view, seen_by};
+
+use step_replay::{actions_do_what_comes_by_the_table, firms_are_sent_one_list};
+
+/// A law: in every venue, after every list of steps, an investor was sent the investor view of the
+/// market that it sees and of what was due to it. It does nothing.
+pub fn investors_are_sent_their_view()
+    ensures { (config : Configuration) (steps : List Step) (investor : ℕ) (row : InvestorRow)
+        → investor_numbered config investor ≡ Some row
+        → venue.sent_to config investor (venue.audit_trail config steps)
+        ≡ investor_view (seen_by config row) (due_to_investor config investor steps) }
+{
+    actions_do_what_comes_by_the_table();
+}
+
+/// A law over two venues: where an investor sees one market and one list was due to it in both, it
+/// was sent the same messages in both, byte for byte. The limits of the dealers may differ, all
+/// other investors, the investor's number among the firms, the steps of every other firm and the
+/// words of all quotes. It does nothing.
+pub fn investors_are_isolated()
+    ensures { (one other : Configuration) (steps others : List Step) (investor number : ℕ)
+        (row again : InvestorRow)
+        → investor_numbered one investor ≡ Some row → investor_numbered other number ≡ Some again
+        → seen_by one row ≡ seen_by other again
+        → due_to_investor one investor steps ≡ due_to_investor other number others
+        → venue.sent_to one investor (venue.audit_trail one steps)
+        ≡ venue.sent_to other number (venue.audit_trail other others) }
+{
+    investors_are_sent_their_view();
+}
+
+/// A law: what a replay gives of an investor's day, and what a venue tells it that answers as steps
+/// come, are the investor view of what was due to it. It does nothing.
+pub fn investors_are_given_their_view()
+    ensures days { (config : Configuration) (steps : List Step) (investor : ℕ) (row : InvestorRow)
+        → investor_numbered config investor ≡ Some row
+        → option_map (λ (day : FirmDay). day.sent)
+        (slice_get (firm_days config (venue.audit_trail config steps).facts) investor)
+        ≡ Some (investor_view (seen_by config row) (due_to_investor config investor steps)) }
+    ensures live { (config : Configuration) (steps : List Step) (investor : ℕ) (row : InvestorRow)
+        → investor_numbered config investor ≡ Some row
+        → messages_for investor (live_messages config steps)
+        ≡ investor_view (seen_by config row) (due_to_investor config investor (live_steps steps)) }
+{
+    investors_are_sent_their_view();
+    firms_are_sent_one_list();
+}

@@ -1,0 +1,27 @@
+//! What is due to an investor in a day of the venue, and what it is sent for that, the *investor
+//! view*.
+//!
+//! An investor learns six things of a day, in some order: its own messages come, quotes come,
+//! quotes are taken back, dealers decline, its hits and passes are answered, and its requests
+//! expire. A list of these is what is [`InvestorDue`] to it (`due_to_investor`). The *investor
+//! view* of the list is every message that the investor is sent for it (`investor_view`). It takes
+//! the market that the investor sees, that is the day, its own row, the bonds with their grids and
+//! the names of the dealers, and the list; nothing else of the venue goes into it.
+//!
+//! # What is promised
+//!
+//! - [`investors_are_sent_their_view`]: what an investor was sent is the investor view of what was
+//!   due to it, after every list of steps of every venue.
+//! - [`investors_are_isolated`]: so two venues in which an investor sees one market, and one list
+//!   was due to it, sent it the same bytes.
+//! - [`investors_are_given_their_view`]: so is what a replay gives of an investor's day, and what a
+//!   venue tells it that answers as steps come.
+#![tactic(auto)]
+
+mod dues;
+mod laws;
+
+pub use dues::InvestorDue;
+pub use laws::{
+    investors_are_given_their_view, investors_are_isolated, investors_are_sent_their_view,
+};
