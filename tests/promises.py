@@ -28,7 +28,7 @@ tables stands one caller of the crate, as it is proved.
 CALLERS = {
     "fix_fields": ("quote_messages/src/arrivals.rt", "turn_of"),
     "bond_prices": ("dealer_desk/src/rules.rt", "if_on_grid"),
-    "venue_config": ("venue_text/src/venue_parts.rt", "read_venue"),
+    "venue_config": ("input_lines/src/venue_parts.rt", "read_venue"),
     "market_terms": ("investor_desk/src/rules.rt", "asked_dealers"),
     "quote_messages": ("dealer_desk/src/rules.rt", "dealer_verdict"),
     "quote_word": ("venue_steps/src/words.rt", "settle"),
@@ -38,6 +38,7 @@ CALLERS = {
     "venue_steps": ("step_replay/src/hits.rt", "hit"),
     "step_replay": ("venue_text/src/printed.rt", "alone_text"),
     "recorded_days": ("venue_commands/src/days.rt", "count_woven"),
+    "input_lines": ("venue_text/src/asked_days.rt", "read_open_day"),
     "venue_text": ("venue_commands/src/live.rt", "answer_step"),
     "venue_commands": ("rfq_venue/src/main.rt", "main"),
     "venue_places": ("session_worker/src/duties.rt", "act"),

@@ -4,16 +4,13 @@ ghost use Rattle.std.specs.Prelude.{◌≡◌, ◌≢◌, length, map, None, Ok,
 ghost use Rattle.step_replay.specs.StepFaults.{first_fault};
 ghost use Rattle.venue_config.specs.Rows.{KeepsLimits, values_of};
 ghost use Rattle.venue_text.specs.ArrivingDays as spec;
-ghost use Rattle.venue_text.specs.StepLines.{names_of_firms};
+ghost use Rattle.input_lines.specs.StepLines.{names_of_firms};
 
-use crate::faults::ProgramFault;
-use crate::heard::Heard;
-use crate::lines::{MOST_INPUT, SpokenLines};
-use crate::parts::{cut_part, same_text};
-use crate::spelled::push_spelled;
-use crate::step_lines::read_line;
-use crate::venue_parts::{day_parts, read_venue};
 use fix_fields::Memory;
+use input_lines::{
+    Heard, MOST_INPUT, ProgramFault, SpokenLines, cut_part, day_parts, push_spelled, read_line,
+    read_venue, same_text,
+};
 use quote_messages::Message;
 use recorded_days::{Inbound, Sweep};
 use std::alloc::Global;
@@ -81,7 +78,7 @@ fn count_firms(config: &VenueConfig) -> u16
 }
 
 /// Reads the lines of a day on threads, or gives their first fault, as
-/// [`read_steps`](crate::read_steps); a line of turns is not of its form.
+/// [`read_steps`](input_lines::read_steps); a line of turns is not of its form.
 fn read_arrivals(
     alloc: Global,
     config: &VenueConfig,

@@ -7,9 +7,7 @@ ghost use Rattle.step_replay.specs.StepFaults.{first_fault};
 ghost use Rattle.venue_config.specs.Rows.{dealer_numbered, values_of};
 ghost use Rattle.venue_text.specs.AskedDays as spec;
 
-use crate::faults::ProgramFault;
-use crate::step_text::read_steps;
-use crate::venue_parts::{DayParts, asked_dealer, asked_firm, read_venue};
+use input_lines::{DayParts, ProgramFault, asked_dealer, asked_firm, read_steps, read_venue};
 use std::alloc::Global;
 use step_replay::{Due, ReplayFault, Step, World, due, run};
 use venue_config::{DealerRow, VenueConfig};

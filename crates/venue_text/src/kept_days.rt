@@ -7,14 +7,13 @@ ghost use Rattle.venue_text.specs.KeptDays as spec;
 ghost use Rattle.venue_text.specs.LiveLines.{Taken};
 
 use crate::asked_days::asked_firms;
-use crate::faults::ProgramFault;
 use crate::live_form::LiveForm;
 use crate::live_lines::LiveDay;
 use crate::printed_blotter::lines_text;
 use crate::printed_due::written_text;
 use crate::printed_replay::days_text;
-use crate::venue_parts::{asked_dealer, asked_firm};
 use fix_fields::Memory;
+use input_lines::{ProgramFault, asked_dealer, asked_firm};
 use std::alloc::Global;
 use venue_config::VenueConfig;
 

@@ -2,10 +2,8 @@
 ghost use Rattle.std.specs.Prelude.{◌≡◌, ◌≢◌, Some, IfOk, IfErr};
 ghost use Rattle.venue_text.specs.AloneText as spec;
 
-use crate::due_text::read_due_text;
-use crate::faults::ProgramFault;
-use crate::lines::MOST_INPUT;
 use crate::message_lines::messages_text;
+use input_lines::{MOST_INPUT, ProgramFault, read_due_text};
 use std::alloc::Global;
 use step_replay::alone;
 

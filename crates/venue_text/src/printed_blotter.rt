@@ -4,11 +4,9 @@ ghost use Rattle.venue_text.specs.AskedDays as asked;
 ghost use Rattle.venue_text.specs.BlotterCommand as spec;
 
 use crate::asked_days::{read_firms_day, replayed};
-use crate::faults::ProgramFault;
-use crate::lines::MOST_INPUT;
-use crate::venue_parts::day_parts;
 use blotter::blotter_text;
 use fix_fields::Memory;
+use input_lines::{MOST_INPUT, ProgramFault, day_parts};
 use std::alloc::Global;
 use step_replay::World;
 

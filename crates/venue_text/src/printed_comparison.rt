@@ -8,11 +8,9 @@ ghost use Rattle.venue_text.specs.CompareCuts as cuts;
 ghost use Rattle.venue_text.specs.CompareText as spec;
 
 use crate::asked_days::{AskedDay, due_on, read_dealers_day, replayed};
-use crate::faults::ProgramFault;
-use crate::lines::MOST_INPUT;
 use crate::same_dues::is_same_due;
-use crate::venue_parts::two_days_parts;
 use fix_fields::Memory;
+use input_lines::{MOST_INPUT, ProgramFault, two_days_parts};
 use itoa::Buffer;
 use quote_messages::SentMessage;
 use std::alloc::Global;

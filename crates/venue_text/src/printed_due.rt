@@ -7,11 +7,9 @@ ghost use Rattle.venue_text.specs.DueCuts as cuts;
 ghost use Rattle.venue_text.specs.ReplayText.{one_at};
 
 use crate::asked_days::{dealer_row, due_on, read_dealers_day};
-use crate::faults::ProgramFault;
-use crate::lines::MOST_INPUT;
-use crate::venue_parts::day_parts;
 use crate::written_dues::push_dues;
 use fix_fields::{Date, Memory};
+use input_lines::{MOST_INPUT, ProgramFault, day_parts};
 use itoa::Buffer;
 use std::alloc::Global;
 use step_replay::Due;

@@ -7,11 +7,9 @@ ghost use Rattle.venue_text.specs.AskedDays as asked;
 ghost use Rattle.venue_text.specs.ReplayText as spec;
 
 use crate::asked_days::{read_open_day, replayed};
-use crate::faults::ProgramFault;
-use crate::lines::MOST_INPUT;
 use crate::message_lines::push_messages;
-use crate::venue_parts::day_parts;
 use fix_fields::Memory;
+use input_lines::{MOST_INPUT, ProgramFault, day_parts};
 use std::alloc::Global;
 use step_replay::World;
 use venue_config::{Name, VenueConfig};

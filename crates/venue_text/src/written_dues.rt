@@ -4,10 +4,10 @@ ghost use Rattle.std.specs.List.{list_any};
 ghost use Rattle.fix_fields.specs.TimeOfDay as times;
 ghost use Rattle.venue_text.specs.WrittenDues as spec;
 
-use crate::message_lines::push_barred;
 use bond_prices::Grid;
 use fix_fields::{Memory, Moment, time_text};
 use hex::encode;
+use input_lines::push_barred;
 use itoa::Buffer;
 use quote_messages::{Ask, Close};
 use std::alloc::Global;

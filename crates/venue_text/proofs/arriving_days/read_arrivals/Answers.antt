@@ -2,7 +2,7 @@ use Rattle.std.proofs.Common.{◌≡◌, ◌∷◌, false, true, ap, ◌∙◌, 
 use Rattle.venue_config.specs.Rows.{values_of}
 use Rattle.venue_text.specs.ArrivingDays.{arrivals_from, is_of_turns}
 use Rattle.venue_text.proofs.ArrivalLemmas.{arrivals_more, turns_end}
-use Rattle.venue_text.proofs.StepLemmas.{behind_steps, known_more}
+use Rattle.input_lines.specs.StepLemmas.{behind_steps, known_more}
 use Rattle.venue_text.proofs.arriving_days.read_arrivals.Goals as goal
 
 pub loop-line-preserved : goal.loop-line-preserved

@@ -2,7 +2,7 @@ use Rattle.std.proofs.Common.{◌≡◌, None}
 use Rattle.step_replay.specs.StepFaults.{first_fault}
 use Rattle.venue_config.specs.Rows.{values_of}
 use Rattle.venue_text.specs.ArrivingDays.{arrivals_of, arrivals_from}
-use Rattle.venue_text.proofs.StepLemmas.{behind_steps}
+use Rattle.input_lines.specs.StepLemmas.{behind_steps}
 use Rattle.venue_text.proofs.arriving_days.read_arrivals.Given as goal
 
 abbrev pub invariant-loop-line : goal.invariant-loop-line

@@ -2,7 +2,7 @@ use Rattle.std.proofs.Common.{◌≡◌, length, false, nat_lt, arith}
 use Rattle.std.proofs.lemmas.Bool.Decides.{nat_tests}
 use Rattle.venue_text.specs.AskedDays.{dealer_by}
 use Rattle.venue_text.specs.CompareCuts.{run_of}
-use Rattle.venue_text.specs.declared.lines.TheConstants.{MOST_INPUT}
+use Rattle.input_lines.specs.declared.lines.TheConstants.{MOST_INPUT}
 use Rattle.venue_text.proofs.AskedLemmas.{two_days_are}
 use Rattle.venue_text.proofs.printed_comparison.compare_text.Goals as goal
 

@@ -3,7 +3,7 @@ use Rattle.std.proofs.lemmas.Bool.Decides.{nat_tests}
 use Rattle.step_replay.specs.AuditTrail.{audit_trail, due_to}
 use Rattle.venue_text.specs.AskedDays.{dealer_by}
 use Rattle.venue_text.specs.DueCommand.{due_text}
-use Rattle.venue_text.specs.declared.lines.TheConstants.{MOST_INPUT}
+use Rattle.input_lines.specs.declared.lines.TheConstants.{MOST_INPUT}
 use Rattle.venue_text.proofs.AskedLemmas.{one_day_is}
 use Rattle.venue_text.proofs.printed_due.due_command_text.Goals as goal
 
