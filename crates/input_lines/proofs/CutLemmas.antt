@@ -1,9 +1,7 @@
 -- Cutting a text at the first place of a byte, and the parts that this gives.
 use Rattle.std.proofs.Common.{◌≡◌, ℕ, ◌+◌, ◌-◌, ◌≤◌, ◌==◌, Bool, cond, nat_lt, true, false, List}
-use Rattle.std.proofs.Common.{[], ◌∷◌, ◌++◌, length, take, drop, get_or, sym, ap, ◌∙◌, refl, arith}
-use Rattle.std.proofs.Common.{inl, inr, Some, None, suc, add-one, drop-drop}
-use Rattle.std.proofs.Math.Nat.{add_comm}
-use Rattle.std.proofs.Math.Seq.{take-add}
+use Rattle.std.proofs.Common.{[], ◌∷◌, length, take, drop, get_or, sym, ap, ◌∙◌, refl, arith}
+use Rattle.std.proofs.Common.{inl, inr, Some, None}
 use Rattle.std.proofs.lemmas.Bool.Decides.{nat_tests}
 use Rattle.std.specs.List.{before_first, after_first, onto_first, position, position_or_len}
 use Rattle.std.proofs.lemmas.Bool.{cases_Bool, false_from_ne_true}

@@ -1,26 +1,14 @@
 -- A `say` line: what it spells, by what each step of its reading gave.
-use Rattle.std.proofs.Common.{◌≡◌, ℕ, ◌+◌, ◌==◌, Bool, true, false, not, List, [], ◌∷◌, ◌++◌, length, map, refl, ap, sym, ◌∙◌}
-use Rattle.std.proofs.Common.{Some, None, Result, Ok, Err, append_assoc, replicate}
-use Rattle.std.proofs.Common.{zero, suc, nat_lt, if◌then◌else◌}
-use Rattle.venue_config.specs.Rows.{ConfigValues, Configuration, values_of}
-use Rattle.step_replay.specs.StepFaults.{first_fault, first_fault_from, firms_of}
-use Rattle.venue_places.specs.declared.actors.Actor.{Actor}
-use Rattle.venue_places.specs.declared.actors.Actor.TheVariants as actor
-use Rattle.step_replay.specs.declared.steps.Step.{Step}
+use Rattle.std.proofs.Common.{◌≡◌, ℕ, ◌+◌, ◌==◌, Bool, true, false, not, List, [], ◌∷◌, length, map, refl, ap, sym}
+use Rattle.std.proofs.Common.{Some, None, Ok, Err, if◌then◌else◌}
+use Rattle.venue_config.specs.Rows.{ConfigValues}
 use Rattle.step_replay.specs.declared.steps.Step.TheVariants as step
-use Rattle.input_lines.specs.ResultSteps.{◌>>=◌}
 use Rattle.input_lines.specs.Lines.{first_part, behind_part}
-use Rattle.input_lines.specs.SayLine.{with_bar}
-use Rattle.input_lines.specs.SayLine.{Said, has_tag, said_of, said_message}
-use Rattle.input_lines.specs.StepLines.{said_step, firm_named, Heard, with_number, number_for, steps_of_line, steps_from, in_steps}
-use Rattle.input_lines.specs.StepReading.{counted, read_as, steps_in, is_actor, is_known}
-use Rattle.input_lines.specs.DueText.{Lines}
-use Rattle.input_lines.specs.declared.faults.ProgramFault.{ProgramFault}
+use Rattle.input_lines.specs.SayLine.{Said, has_tag, said_of, said_message, with_bar}
+use Rattle.input_lines.specs.StepLines.{said_step, firm_named, Heard, with_number, number_for}
+use Rattle.input_lines.specs.StepReading.{counted, read_as}
 use Rattle.input_lines.specs.declared.faults.ProgramFault.TheVariants.{Form, UnknownFirm}
-use Rattle.input_lines.specs.declared.spelled.Spelled.{Spelled}
-use Rattle.input_lines.specs.declared.spelled.Spelled.TheVariants as spelled
-use Rattle.input_lines.specs.StepFaultLemmas.{none_then}
-use Rattle.input_lines.specs.RoomLemmas.{known_sweeps}
+use Rattle.input_lines.specs.declared.line_steps.Spelled.TheVariants as spelled
 
 -- a `say` line is counted where its number was written
 said_counted : (heard : Heard) (firm moment : ℕ) (message : List ℕ) (is_numbered : Bool)

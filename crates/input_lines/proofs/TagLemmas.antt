@@ -11,8 +11,7 @@ use Rattle.std.proofs.lemmas.Str.Parse.{digits_value_short}
 use Rattle.fix_fields.specs.Frame.{IsValue}
 use Rattle.fix_fields.specs.TextLaws.{digits_if_all, value_if_all}
 use Rattle.quote_messages.specs.Texts.{number_up_to}
-use Rattle.input_lines.specs.SayLine.{with_bar}
-use Rattle.input_lines.specs.SayLine.{is_plain_value, is_plain_character, is_plain_part}
+use Rattle.input_lines.specs.SayLine.{is_plain_value, is_plain_character, is_plain_part, with_bar}
 
 plain : IsNumeralModel (AllDigits 10) (digits_value 10)
 plain = numerals_by_value (AllDigits 10) tells_digits

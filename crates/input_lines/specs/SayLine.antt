@@ -12,7 +12,7 @@ use Rattle.fix_fields.specs.UtcTimestamp.{timestamp_text}
 use Rattle.quote_messages.specs.Texts.{number_of}
 use Rattle.input_lines.specs.Lines.{parts_of, first_part, behind_part, time_of}
 use Rattle.input_lines.specs.OptionSteps.{◌>>=◌}
-use Rattle.input_lines.specs.declared.fitting.TheConstants.{LONGEST_BODY}
+use Rattle.input_lines.specs.declared.say_frames.TheConstants.{LONGEST_BODY}
 
 -- a tag may not begin with the digit 0
 abbrev pub begins_with_zero : List ℕ → Bool

@@ -17,9 +17,8 @@ use Rattle.step_replay.specs.declared.steps.Step.TheVariants as step
 use Rattle.input_lines.specs.DueLines.{within}
 use Rattle.input_lines.specs.DueText.{Lines, at_line}
 use Rattle.input_lines.specs.Lines.{first_part, behind_part, time_of}
-use Rattle.input_lines.specs.SayLine.{with_bar}
 use Rattle.input_lines.specs.ResultSteps.{◌>>=◌}
-use Rattle.input_lines.specs.SayLine.{Said, said_of, said_message, received_of, hexed_of}
+use Rattle.input_lines.specs.SayLine.{Said, said_of, said_message, received_of, hexed_of, with_bar}
 use Rattle.input_lines.specs.SayLine.{has_tag}
 use Rattle.input_lines.specs.declared.faults.ProgramFault.{ProgramFault}
 use Rattle.input_lines.specs.declared.faults.ProgramFault.TheVariants.{Firm, Form, UnknownFirm}

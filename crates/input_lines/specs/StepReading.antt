@@ -11,8 +11,8 @@ use Rattle.step_replay.specs.declared.steps.Step.{Step}
 use Rattle.step_replay.specs.declared.steps.Step.TheVariants as step
 use Rattle.input_lines.specs.StepLines.{Heard, in_steps, number_for, with_number, Read}
 use Rattle.input_lines.specs.StepLines.{sweeps_at, venue_rooms}
-use Rattle.input_lines.specs.declared.spelled.Spelled.{Spelled}
-use Rattle.input_lines.specs.declared.spelled.Spelled.TheVariants as spelled
+use Rattle.input_lines.specs.declared.line_steps.Spelled.{Spelled}
+use Rattle.input_lines.specs.declared.line_steps.Spelled.TheVariants as spelled
 
 -- the steps of what a line spells, in a venue of this configuration
 abbrev pub steps_in : ConfigValues → Spelled → List Step

@@ -2,8 +2,8 @@
 ghost use Rattle.std.specs.Prelude.{◌≡◌, IfOk};
 ghost use Rattle.input_lines.specs.DueLines as spec;
 
+use crate::frame_lines::{read_hexed, read_received};
 use crate::parts::{cut_part, has_part_behind, read_side, read_time, same_text};
-use crate::received::{read_hexed, read_received};
 use bond_prices::Grid;
 use fix_fields::{Date, Memory};
 use quote_messages::{Ask, Close, Quantity, read_long_number, read_number};

@@ -10,7 +10,7 @@ use crate::due_items::read_by_keyword;
 use crate::faults::ProgramFault;
 use crate::lines::{MOST_INPUT, SpokenLines, has_divider, one_past};
 use crate::parts::{cut_part, same_text};
-use crate::said::Said;
+use crate::say_lines::Said;
 use fix_fields::{Date, Memory};
 use std::alloc::Global;
 use step_replay::Due;

@@ -6,11 +6,11 @@ ghost use Rattle.input_lines.specs.StepLines as spec;
 ghost use Rattle.input_lines.specs.StepReading.{read_as, is_known, is_actor};
 
 use crate::faults::ProgramFault;
-use crate::heard::Heard;
+use crate::firm_streams::Heard;
+use crate::frame_lines::{read_hexed, read_received};
+use crate::line_steps::Spelled;
 use crate::parts::{cut_part, read_time, same_text};
-use crate::received::{read_hexed, read_received};
-use crate::said::Said;
-use crate::spelled::Spelled;
+use crate::say_lines::Said;
 use crate::venue_parts::{firm_of, is_room};
 use quote_messages::{RoomRef, read_number};
 use std::alloc::Global;

@@ -5,9 +5,9 @@ ghost use Rattle.venue_config.specs.Rows.{values_of};
 ghost use Rattle.input_lines.specs.StepLines as spec;
 
 use crate::faults::ProgramFault;
-use crate::heard::Heard;
+use crate::firm_streams::Heard;
+use crate::line_steps::push_spelled;
 use crate::lines::SpokenLines;
-use crate::spelled::push_spelled;
 use crate::step_lines::read_line;
 use std::alloc::Global;
 use step_replay::Step;

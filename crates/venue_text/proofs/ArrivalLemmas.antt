@@ -16,7 +16,7 @@ use Rattle.input_lines.specs.StepLines.{Heard, Read, names_of_firms, steps_of_li
 use Rattle.input_lines.specs.StepReading.{counted, read_as, steps_in}
 use Rattle.input_lines.specs.declared.faults.ProgramFault.{ProgramFault}
 use Rattle.input_lines.specs.declared.faults.ProgramFault.TheVariants.{Form}
-use Rattle.input_lines.specs.declared.spelled.Spelled.{Spelled}
+use Rattle.input_lines.specs.declared.line_steps.Spelled.{Spelled}
 use Rattle.input_lines.specs.StepLemmas.{behind_steps, behind_steps-more}
 
 module _ (config : ConfigValues) (heard : Heard) (k : ℕ) (text : List ℕ) (rest : Lines) (done : List Step) where

@@ -21,8 +21,13 @@
 //! No call has a condition but those that say so; each returns, and only memory can be refused.
 #![tactic(auto)]
 
-mod arriving_days;
-mod asked_days;
+mod alone_command;
+mod blotter_command;
+mod compare_command;
+mod day_arguments;
+mod due_command;
+mod due_writing;
+mod inboxes;
 mod kept_comparison;
 mod kept_days;
 mod live_form;
@@ -30,17 +35,17 @@ mod live_laws;
 mod live_lines;
 mod live_marks;
 mod message_lines;
-mod printed;
-mod printed_blotter;
-mod printed_comparison;
-mod printed_due;
-mod printed_record;
-mod printed_replay;
 mod read_back;
+mod record_lines;
+mod replay_command;
 mod same_dues;
-mod written_dues;
 
-pub use arriving_days::{ArrivingDay, read_arriving_day};
+pub use alone_command::alone_text;
+pub use blotter_command::blotter_command_text;
+pub use compare_command::compare_text;
+pub use due_command::due_command_text;
+pub use due_writing::due_lines;
+pub use inboxes::{ArrivingDay, read_arriving_day};
 pub use kept_comparison::compared_text;
 pub use kept_days::{KeptDay, Wanted};
 pub use live_form::LiveForm;
@@ -50,11 +55,6 @@ pub use live_laws::{
 };
 pub use live_lines::{LineAnswer, LineTold, LiveDay};
 pub use message_lines::messages_text;
-pub use printed::alone_text;
-pub use printed_blotter::blotter_command_text;
-pub use printed_comparison::compare_text;
-pub use printed_due::due_command_text;
-pub use printed_record::{record_text, woven_line};
-pub use printed_replay::replay_text;
 pub use read_back::what_was_due_is_read_back;
-pub use written_dues::due_lines;
+pub use record_lines::{record_text, woven_line};
+pub use replay_command::replay_text;

@@ -14,7 +14,7 @@ ghost use Rattle.input_lines.specs.VenueParts.{venue_of};
 use crate::live_form::LiveForm;
 use crate::live_marks::{fault_mark, push_done_mark};
 use crate::message_lines::push_sent_line;
-use crate::printed_replay::firm_name;
+use crate::replay_command::firm_name;
 use fix_fields::{Memory, Moment};
 use input_lines::{
     Heard, ProgramFault, Spelled, count_line, cut_part, is_skipped, push_steps, read_line,
