@@ -1,8 +1,8 @@
 //! Two worked days that are one but for the price of another dealer.
 ghost use Rattle.std.specs.Prelude.{◌≡◌};
 ghost use Rattle.venue_laws.specs.PriceAlike.{IsPriceAlike};
-ghost use Rattle.venue_tests.specs.PricedDays as days;
-ghost use Rattle.venue_tests.specs.WorkedDays.{venue};
+ghost use Rattle.venue_laws.specs.PricedDays as days;
+ghost use Rattle.venue_laws.specs.WorkedDays.{venue};
 
 use fix_fields::frame_of_is_the_reading;
 use market_terms::Close;

@@ -27,9 +27,9 @@ use Rattle.step_replay.specs.VenueFacts as facts
 use Rattle.fix_fields.specs.Frame.{Field}
 use Rattle.venue_laws.specs.PriceAlike.{DiffersInPrices, IsPricedByAnother}
 use Rattle.step_replay.specs.declared.steps.Step.TheVariants as step
-use Rattle.venue_tests.specs.PricedDays.{dear, cheap}
-use Rattle.venue_tests.specs.WorkedDays.{venue, dlr2, with_soh, message, moment}
-use Rattle.venue_tests.proofs.priced_days.definitions_give_the_priced_days.Goals as goal
+use Rattle.venue_laws.specs.PricedDays.{dear, cheap}
+use Rattle.venue_laws.specs.WorkedDays.{venue, dlr2, with_soh, message, moment}
+use Rattle.venue_laws.proofs.priced_days.definitions_give_the_priced_days.Goals as goal
 
 -- the fields of the quote of DLR2
 abbrev fields : String → List Field

@@ -1,6 +1,6 @@
 //! Worked days of the whole venue, computed from the definitions.
 ghost use Rattle.std.specs.Prelude.{◌≡◌, map};
-ghost use Rattle.venue_tests.specs.WorkedDays as days;
+ghost use Rattle.venue_laws.specs.WorkedDays as days;
 
 /// On each worked day each firm is sent, by the definitions of the audit trail, what was written
 /// down beforehand, byte for byte; and on two of them what is due to a dealer is what was written
