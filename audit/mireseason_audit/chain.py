@@ -1,6 +1,6 @@
 """The order of the entries and their chain, and the day as a file that the venue reads."""
 
-from collections.abc import Iterator
+from collections.abc import Iterable, Iterator
 from dataclasses import dataclass, field
 from hashlib import sha256
 from pathlib import Path
@@ -21,8 +21,8 @@ Numbers = dict[str, tuple[int, int]]  # of each firm, a number of its session, a
 def hash_of(entry: EntryRow) -> bytes:
     """The hash that an entry must have, from its other columns."""
     place, term, moment, firm, number, line, before, _ = entry
-    name, count = firm or "-", "-" if number is None else number
-    head = f"{before.hex()} {place} {term} {moment} {name} {count} {len(line)}\n"
+    count = "-" if number is None else number
+    head = f"{before.hex()} {place} {term} {moment} {firm or '-'} {count} {len(line)}\n"
     return sha256(head.encode() + line).digest()
 
 
@@ -71,7 +71,7 @@ class ChainReader:
         found.entries += len(rows)
         self._before = rows[-1]
         found.last_place, found.last = rows[-1][0], rows[-1][7]
-        found.firms.update(row[3] for row in rows if row[3] is not None)
+        found.firms.update({row[3] for row in rows if row[3] is not None})
         marks = {row[0]: row[7].hex() for row in rows if row[0] % CHECKPOINT == 0}
         found.checkpoints.update(marks)
 
@@ -86,28 +86,30 @@ class ChainReader:
         """Takes entries that are plainly right: all that `take` looks at is as it should be."""
         if self._before is None or not self._has_chain:
             return False
-        places, terms, moments, firms, numbers, lines, _, hashes = zip(*rows)
+        places, terms, moments, firms, numbers, lines, links, hashes = zip(*rows)
         before = self._before
         first = before[0] + 1
-        moved = self._moved_numbers(rows)
+        moved = self._moved_numbers(firms, numbers, places)
         if moved is None or places != tuple(range(first, first + len(rows))):
             return False
         if not never_falls([before[1], *terms]) or not never_falls([before[2], *moments]):
             return False
-        if [row[6] for row in rows] != [before[7], *hashes[:-1]]:
+        if links != (before[7], *hashes[:-1]):
             return False
         if not all(map(is_step_line, lines, firms, moments)):
             return False
-        if list(map(hash_of, rows)) != list(hashes):
+        if tuple(map(hash_of, rows)) != hashes:
             return False
         self.found.numbers = moved
         self._note(rows)
         return True
 
-    def _moved_numbers(self, rows: list[EntryRow]) -> Numbers | None:
+    def _moved_numbers(
+        self, firms: Iterable[str | None], numbers: Iterable[int | None], places: Iterable[int]
+    ) -> Numbers | None:
         """The numbers of the sessions behind some entries; None where one does not rise."""
         moved = dict(self.found.numbers)
-        for place, _, _, firm, number, _, _, _ in rows:
+        for firm, number, place in zip(firms, numbers, places):
             if firm is not None and number is not None:
                 if number <= moved.get(firm, NO_NUMBER)[0]:
                     return None

@@ -87,7 +87,7 @@ class Checker:
         live = plan.add(LiveJob(audited), [written])
         plan.add(ChainJob(self.source))
         sent = {firm.name: plan.add(SentJob(audited, firm.name)) for firm in verdict.day.firms}
-        plan.add(GivenJob(audited), [live, *sent.values()])
+        plan.add(GivenJob(audited), behind=sent.values(), beside=[live])
         for dealer in verdict.day.dealers:
             plan.add(AloneJob(audited, dealer.name), [written, sent[dealer.name]])
 

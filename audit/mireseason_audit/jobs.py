@@ -18,7 +18,7 @@ from .log import Log, Source
 from .plain_wire import PlainSession
 from .progress import Step
 from .records import SOH, Day, Messages, Sent
-from .streams import Followed, is_same, line_blocks_of, lines_of
+from .streams import Followed, grown_blocks_of, is_same, lines_in, lines_of
 from .venue import LineFault, Venue, message_of
 from .wire import check_wire
 
@@ -44,6 +44,11 @@ class Files:
     def given(self) -> Path:
         """What `live --marks` prints of the day."""
         return self.folder / "day.given"
+
+    @property
+    def given_whole(self) -> Path:
+        """It is there once all of that is."""
+        return self.folder / "day.given.whole"
 
     def due(self, dealer: str) -> Path:
         return self.folder / ("%s.due" % dealer)
@@ -126,6 +131,7 @@ class LiveJob(FindingsJob):
     def _findings(self, log: Log, step: Step) -> Iterator[Finding]:
         files, arguments = self.audited.files, ["live", "--frames", "--marks"]
         faults = self.audited.venue.to_file(arguments, files.day, files.given)
+        files.given_whole.touch()
         yield from self._faulty_lines(log, faults)
 
     def _faulty_lines(self, log: Log, faults: list[LineFault]) -> Iterator[Finding]:
@@ -138,12 +144,16 @@ class LiveJob(FindingsJob):
 
 
 class GivenJob(FindingsJob):
-    """What `live --marks` gave, all firms, against `sent`: the messages and their places."""
+    """What `live --marks` gives, all firms, against `sent`: the messages and their places.
+
+    It is read while the program writes it.
+    """
 
     def _findings(self, log: Log, step: Step) -> Iterator[Finding]:
         files, firms = self.audited.files, [firm.name for firm in self.audited.day.firms]
         reader = GivenReader(files, firms, self._places(log))
-        for lines in line_blocks_of(files.given):
+        files.given.touch()  # the program may have been started just now
+        for lines in lines_in(grown_blocks_of(files.given, files.given_whole)):
             step(reader.take(lines))
         texts, places = reader.ended()
         for firm in texts:

@@ -6,6 +6,7 @@ looks at the session message by message, and says what is wrong, if anything is.
 """
 
 from collections.abc import Iterator
+from itertools import compress, repeat
 
 from .frame import sum_of
 from .log import Log
@@ -24,17 +25,20 @@ class Waiting:
 
     def __init__(self, blocks: Iterator[Messages]) -> None:
         self._blocks = blocks
-        self._rows: list[tuple[int, bytes]] = []
+        self._places: list[int] = []
+        self._frames: list[bytes] = []
 
-    def take(self, count: int) -> list[tuple[int, bytes]]:
+    def take(self, count: int) -> tuple[list[int], list[bytes]]:
         """The places and the frames of the next ones; fewer where no more are left."""
-        while len(self._rows) < count and (block := next(self._blocks, None)) is not None:
-            self._rows += zip(block.others, block.bytes)
-        taken, self._rows = self._rows[:count], self._rows[count:]
+        while len(self._frames) < count and (block := next(self._blocks, None)) is not None:
+            self._places += block.others
+            self._frames += block.bytes
+        taken = self._places[:count], self._frames[:count]
+        del self._places[:count], self._frames[:count]
         return taken
 
     def is_empty(self) -> bool:
-        return not self._rows and next(self._blocks, None) is None
+        return not self._frames and next(self._blocks, None) is None
 
 
 class PlainSession:
@@ -53,23 +57,18 @@ class PlainSession:
 
     def _is_right(self, block: Messages) -> bool:
         """The same of the next messages."""
-        numbers, others, data = block
-        carriers = [other for other in others if other is not None]
-        own, sent = self._number + len(numbers), self._carried + len(carriers)
-        if numbers != tuple(range(self._number + 1, own + 1)):
+        before, self._number = self._number, self._number + len(block.numbers)
+        if block.numbers != tuple(range(before + 1, self._number + 1)):
             return False
-        if carriers != list(range(self._carried + 1, sent + 1)):
+        if None in block.others:
+            if not self._are_its_own(block):
+                return False
+            block = carriers_of(block)
+        before, self._carried = self._carried, self._carried + len(block.others)
+        if block.others != tuple(range(before + 1, self._carried + 1)):
             return False
-        self._number, self._carried = own, sent
-        if len(carriers) < len(numbers) and not self._are_its_own(block):
-            return False
-        rows = self._waiting.take(len(carriers))
-        if len(rows) < len(carriers):
-            return False
-        carrying = [
-            (number, one) for number, other, one in zip(numbers, others, data) if other is not None
-        ]
-        return self._carry(carrying, rows)
+        places, frames = self._waiting.take(len(block.others))
+        return len(frames) == len(block.others) and self._carry(block, places, frames)
 
     def _are_its_own(self, block: Messages) -> bool:
         """Whether the messages that carry nothing are right."""
@@ -78,24 +77,27 @@ class PlainSession:
             for number, other, data in zip(*block)
         )
 
-    def _carry(self, carrying: list[tuple[int, bytes]], rows: list[tuple[int, bytes]]) -> bool:
-        """Whether messages, with their numbers, carry frames, with their places."""
-        rejects = [place for place, frame in rows if REJECTED in frame]
+    def _carry(self, block: Messages, places: list[int], frames: list[bytes]) -> bool:
+        """Whether messages carry frames, of which the places are known."""
+        if REJECTED in b"".join(frames):
+            frames = self._numbered(places, frames)
+        return all(map(carries, block.bytes, block.numbers, frames, repeat(self._end)))
+
+    def _numbered(self, places: list[int], frames: list[bytes]) -> list[bytes]:
+        """The frames, each Reject with the number of its session in it."""
+        rejects = [place for place, frame in zip(places, frames) if REJECTED in frame]
         numbers = self._log.session_numbers(rejects)
-        if rejects:
-            frames = [
-                numbered(frame, numbers.get(place)) if REJECTED in frame else frame
-                for place, frame in rows
-            ]
-        else:
-            frames = [frame for _, frame in rows]
-        end = self._end
-        return all(
-            [
-                carries(data, number, frame, end)
-                for (number, data), frame in zip(carrying, frames)
-            ]
-        )
+        return [
+            numbered(frame, numbers.get(place)) if REJECTED in frame else frame
+            for place, frame in zip(places, frames)
+        ]
+
+
+def carriers_of(block: Messages) -> Messages:
+    """Those of some messages of a session that carry one of the venue's."""
+    carrying = [other is not None for other in block.others]
+    numbers, others, data = (tuple(compress(column, carrying)) for column in block)
+    return Messages(numbers, others, data)
 
 
 def numbered(frame: bytes, session_number: int | None) -> bytes:

@@ -1,17 +1,31 @@
 """Files that are read in blocks, so that none is held."""
 
-from collections.abc import Iterator
+import time
+from collections.abc import Iterable, Iterator
 from hashlib import sha256
 from itertools import zip_longest
 from pathlib import Path
 
 BLOCK = 1 << 20
+LOOK = 0.02  # seconds from one look at a file that grows to the next
 
 
 def blocks_of(path: Path) -> Iterator[bytes]:
     with path.open("rb") as file:
         while block := file.read(BLOCK):
             yield block
+
+
+def grown_blocks_of(path: Path, whole: Path) -> Iterator[bytes]:
+    """The same of a file that another process still writes: all of it is there once `whole` is."""
+    is_whole = False
+    with path.open("rb") as file:
+        while not is_whole:
+            is_whole = whole.exists()  # before the file is read, so what is read then is the rest
+            while block := file.read(BLOCK):
+                yield block
+            if not is_whole:
+                time.sleep(LOOK)
 
 
 def lines_of(path: Path) -> Iterator[bytes]:
@@ -21,10 +35,10 @@ def lines_of(path: Path) -> Iterator[bytes]:
             yield line.removesuffix(b"\n")
 
 
-def line_blocks_of(path: Path) -> Iterator[list[bytes]]:
-    """The same, many at a time."""
+def lines_in(blocks: Iterable[bytes]) -> Iterator[list[bytes]]:
+    """The lines of blocks, without their line feeds, many at a time."""
     rest = b""
-    for block in blocks_of(path):
+    for block in blocks:
         *lines, rest = (rest + block).split(b"\n")
         yield lines
     if rest:

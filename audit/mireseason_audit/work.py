@@ -5,7 +5,7 @@ import multiprocessing
 import os
 import signal
 import sys
-from collections.abc import Callable, Iterable
+from collections.abc import Callable, Collection, Iterable
 from dataclasses import dataclass, field
 from multiprocessing.connection import Connection, wait
 from multiprocessing.process import BaseProcess
@@ -21,22 +21,33 @@ LOOK = 0.2  # seconds from one look at the counter to the next
 
 
 class Plan(Generic[Result]):
-    """Jobs, those that should begin first in front, and behind which others each has to wait."""
+    """Jobs, those that should begin first in front, and for which others each has to wait."""
 
     def __init__(self) -> None:
         self.jobs: list[Job[Result]] = []
         self._behind: list[frozenset[int]] = []
+        self._beside: list[frozenset[int]] = []
 
-    def add(self, job: Job[Result], behind: Iterable[int] = ()) -> int:
-        """A job that begins when others, by their numbers, are done; answers its own."""
+    def add(
+        self, job: Job[Result], behind: Iterable[int] = (), beside: Iterable[int] = ()
+    ) -> int:
+        """A job that begins when some others, by their numbers, are done, and others have begun.
+
+        Answers its own number.
+        """
         self.jobs.append(job)
         self._behind.append(frozenset(behind))
+        self._beside.append(frozenset(beside))
         return len(self.jobs) - 1
 
-    def ready(self, waiting: Iterable[int], done: Iterable[int]) -> list[int]:
+    def ready(self, waiting: Collection[int], done: Iterable[int]) -> list[int]:
         """The jobs that can begin."""
-        over = frozenset(done)
-        return [index for index in waiting if self._behind[index] <= over]
+        over, idle = frozenset(done), frozenset(waiting)
+        return [
+            index
+            for index in waiting
+            if self._behind[index] <= over and not self._beside[index] & idle
+        ]
 
 
 def plan_of(jobs: Iterable[Job[Result]]) -> Plan[Result]:

@@ -45,7 +45,7 @@ print(probe.getsockname()[1])' "$1"
 told() {
     count=$1 event=$2
     shift 2
-    for _ in $(seq 600); do
+    for _ in $(seq 1800); do
         [ "$(grep -c " $event " gateway.events)" -lt "$count" ] || return 0
         kill -0 "$@" 2>/dev/null || break
         sleep 0.1
@@ -70,6 +70,7 @@ sed -i "s/^SocketConnectPort=.*/SocketConnectPort=$port/" "$day"/*.cfg
 g++ -std=c++14 -O1 -Wall -Wextra -Wno-deprecated -o "$day/firm" "$here/firm.cpp" -lquickfix -lpthread
 
 cd "$day"
+: >gateway.events # it is looked at before the gateway may have begun to write it
 "$gateway" gateway.toml 2>gateway.events &
 server=$!
 pids=$server

@@ -2,6 +2,7 @@
 
 import io
 import os
+import threading
 import unittest
 from dataclasses import dataclass
 from pathlib import Path
@@ -27,8 +28,29 @@ class Streams(unittest.TestCase):
                 self.assertEqual(list(streams.lines_of(path)), expected)
                 for size in (1, 3, 64, 1 << 20):
                     with patch.object(streams, "BLOCK", size):
-                        blocks = list(streams.line_blocks_of(path))
+                        blocks = list(streams.lines_in(streams.blocks_of(path)))
                     self.assertEqual([line for block in blocks for line in block], expected)
+
+    def test_a_file_that_grows(self) -> None:
+        """All that is written is read, whatever is there when it is opened, and then it ends."""
+        parts = [b"%d\n" % number * number for number in range(40)]
+        for before in (0, 7, len(parts)):
+            with folder() as name, patch.object(streams, "LOOK", 0.001):
+                path, whole = Path(name) / "file", Path(name) / "whole"
+                path.write_bytes(b"".join(parts[:before]))
+                blocks = streams.grown_blocks_of(path, whole)
+                read = [next(blocks)] if before else []
+                writer = threading.Thread(target=self.write, args=(path, parts[before:], whole))
+                writer.start()
+                read += blocks
+                writer.join()
+                self.assertEqual(b"".join(read), b"".join(parts))
+
+    def write(self, path: Path, parts: list[bytes], whole: Path) -> None:
+        with path.open("ab", buffering=0) as file:
+            for part in parts:
+                file.write(part)
+        whole.touch()
 
     def test_files_that_are_the_same(self) -> None:
         with folder() as name, patch.object(streams, "BLOCK", 4):
@@ -64,6 +86,27 @@ class Writes:
         before = (self.place / str(self.number - 1)).read_text() if self.number else ""
         (self.place / str(self.number)).write_text(before + str(self.number))
         return before
+
+
+@dataclass(frozen=True)
+class Speaks:
+    """A job that writes into a pipe."""
+
+    pipe: Path
+
+    def __call__(self, step: Step) -> str:
+        self.pipe.write_text("spoken")
+        return ""
+
+
+@dataclass(frozen=True)
+class Hears:
+    """A job that reads from a pipe, as soon as somebody has it open."""
+
+    pipe: Path
+
+    def __call__(self, step: Step) -> str:
+        return self.pipe.read_text()
 
 
 class Bars(unittest.TestCase):
@@ -108,6 +151,21 @@ class Bars(unittest.TestCase):
                     run_jobs(plan, at_once, Progress(io.StringIO())),
                     ["", "0", "01", "012", "0123"],
                 )
+
+    def test_jobs_beside_others(self) -> None:
+        """A job that reads what another writes meanwhile begins once that has begun."""
+        with folder() as name:
+            pipe = Path(name) / "pipe"
+            os.mkfifo(pipe)
+            plan: Plan[str] = Plan()
+            first = plan.add(Writes(Path(name), 0))
+            writer = plan.add(Speaks(pipe), behind=[first])
+            plan.add(Hears(pipe), beside=[writer])
+            self.assertEqual(plan.ready([0, 1, 2], []), [0])
+            self.assertEqual(plan.ready([1, 2], [0]), [1])
+            self.assertEqual(plan.ready([2], [0]), [2])
+            found = run_jobs(plan, 2, Progress(io.StringIO()))
+            self.assertEqual(found, ["", "", "spoken"])
 
 
 if __name__ == "__main__":

@@ -5,7 +5,9 @@ from parts.database import DatabaseHost
 from parts.machine import Machine
 from parts.run import Fault, found_in
 
-PATIENCE = 60.0
+# Seconds in which hosts are as they were. On a machine that is busy a fail-over takes minutes,
+# also one that nobody asked for.
+PATIENCE = 420.0
 
 
 def rows(database: DatabaseHost, query: str) -> list[list[str]]:
