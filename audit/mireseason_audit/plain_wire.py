@@ -96,8 +96,11 @@ class PlainSession:
 def carriers_of(block: Messages) -> Messages:
     """Those of some messages of a session that carry one of the venue's."""
     carrying = [other is not None for other in block.others]
-    numbers, others, data = (tuple(compress(column, carrying)) for column in block)
-    return Messages(numbers, others, data)
+    return Messages(
+        tuple(compress(block.numbers, carrying)),
+        tuple(compress(block.others, carrying)),
+        tuple(compress(block.bytes, carrying)),
+    )
 
 
 def numbered(frame: bytes, session_number: int | None) -> bytes:

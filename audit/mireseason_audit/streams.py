@@ -7,7 +7,7 @@ from itertools import zip_longest
 from pathlib import Path
 
 BLOCK = 1 << 20
-LOOK = 0.02  # seconds from one look at a file that grows to the next
+LOOK = 0.05  # seconds from one look at a file that grows to the next
 
 
 def blocks_of(path: Path) -> Iterator[bytes]:

@@ -15,7 +15,7 @@ from common import STORED, Folder, folder
 from pages import Element, read_page
 
 WIDTHS = (1280, 400)
-SECONDS = 240
+SECONDS = 900  # a browser that is not done by then hangs; a busy machine takes minutes
 # Loads each page in a frame of the width that is asked, and writes down what stands where.
 HARNESS = """<!doctype html><meta charset="utf-8"><body style="margin:0"><pre id="found"></pre>
 <script>
