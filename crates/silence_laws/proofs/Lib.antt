@@ -1,0 +1,9 @@
+mod FilterLemmas
+mod LeftDuties
+mod OthersLeave
+mod Quiet
+mod QuietActions
+mod QuietInvestor
+mod QuietRoom
+mod QuietSteps
+mod SilenceLemmas
