@@ -1,4 +1,5 @@
 mod FilterLemmas
+mod HitMessages
 mod LeftDuties
 mod OthersLeave
 mod Quiet
