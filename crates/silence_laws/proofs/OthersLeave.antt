@@ -1,5 +1,5 @@
--- What another dealer does adds nothing that stays in the quiet day, and leaves nothing but what its
--- steps lead to: one line for each duty that may stand in its queue.
+-- What another dealer does adds nothing that stays in the quiet day, and leaves nothing but what
+-- its steps lead to: one line for each duty that may stand in its queue.
 use Rattle.std.proofs.Common.{◌≡◌, ℕ, ◌==◌, Bool, true, false, ◌&&◌, not, List, [], map}
 use Rattle.std.proofs.Common.{filter, Option, Some, None, option_map, is_some, refl, ap, ◌∙◌, subst}
 use Rattle.std.proofs.Common.{sym, if◌then◌else◌}

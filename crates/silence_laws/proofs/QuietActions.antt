@@ -1,5 +1,5 @@
--- What each form of action adds and leaves is what it adds and leaves in the quiet day: but for what
--- is left out of it.
+-- What each form of action adds and leaves is what it adds and leaves in the quiet day, but for
+-- what is left out of it.
 use Rattle.std.proofs.Common.{◌≡◌, ℕ, ◌==◌, Bool, true, false, ◌&&◌, not, List, [], map, filter}
 use Rattle.std.proofs.Common.{Option, Some, None, option_map, is_some, cond, refl, sym}
 use Rattle.std.proofs.Common.{ap, ◌∙◌, arith, subst, if◌then◌else◌}
@@ -128,7 +128,8 @@ its_own config own number row is isnt = by_test (number == own) refl
 
 pub anothers : (config : Configuration) (own number : ℕ) → is_another config own number ≡ true
     → (number == own) ≡ false
-anothers config own number is = by_tests (is_some (dealer_numbered config number)) (number == own) is
+anothers config own number is =
+    by_tests (is_some (dealer_numbered config number)) (number == own) is
   where
     by_tests : (b c : Bool) → (b && not c) ≡ true → c ≡ false
     by_tests true true both = cc

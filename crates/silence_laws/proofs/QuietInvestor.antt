@@ -46,7 +46,8 @@ use Rattle.investor_desk.specs.declared.verdicts.InvestorVerdict.{InvestorVerdic
 use Rattle.investor_desk.specs.declared.verdicts.InvestorVerdict.TheVariants as verdict
 use Rattle.step_replay.specs.InvestorTrail.{InvestorEntry, AtDesk, Sent, fact_in, facts_of, book_by}
 use Rattle.step_replay.specs.InvestorTrail.{sent_by, entries_of}
-use Rattle.silence_laws.proofs.FilterLemmas.{count_kept, kept_in, none_kept, found_of_kept, where_kept}
+use Rattle.silence_laws.proofs.FilterLemmas.{count_kept, kept_in, none_kept, found_of_kept}
+use Rattle.silence_laws.proofs.FilterLemmas.{where_kept}
 use Rattle.silence_laws.proofs.Quiet.{stays_at_desk, stays_there}
 
 -- Options and lists.
@@ -352,7 +353,8 @@ module _ (market : InvestorMarket) (book : InvestorBook) where
   offer_hushed number offer (Some own) =
       filter-append stays_at_desk (gone_facts number (offer_of_dealer own offer.dealer))
       (Offered (next_offer book number offer) ∷ [])
-      ∙ ap (λ (l : List InvestorFact). l ++ []) (gone_hushed number (offer_of_dealer own offer.dealer))
+      ∙ ap (λ (l : List InvestorFact). l ++ [])
+      (gone_hushed number (offer_of_dealer own offer.dealer))
 
   withdrawal_hushed : (number word : ℕ) (found : Option StandingRequest)
       → filter stays_at_desk (withdrawal_facts number word found) ≡ []
