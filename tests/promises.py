@@ -287,11 +287,13 @@ def crate_lines(crate: Path) -> list[str]:
 
 def page_text(root: Path) -> str:
     """The whole page, the crates in the order of crates.txt."""
-    lines = HEAD.split("\n")
+    lines: list[str] = []
     for line in (root / "crates.txt").read_text(encoding="utf-8").split("\n"):
         if ":" in line and not line.startswith("#"):
             lines += crate_lines(root / "crates" / re.split(r"[\s:]", line)[0])
-    return "\n".join(lines).rstrip("\n") + "\n"
+    crates = [line[3:] for line in lines if line.startswith("## ")]
+    contents = [f"- [{crate}](#{crate})" for crate in crates]
+    return "\n".join([HEAD, *contents, "", *lines]).rstrip("\n") + "\n"
 
 
 def main() -> int:
