@@ -120,11 +120,22 @@ def compared_entries(seal: Sealed, now: Sealed) -> Iterator[Finding]:
             return
         whole = int(name) + 1
     if last_said != last_found:
-        place, there = int(next(iter(last_said), "0")), int(next(iter(last_found), "0"))
-        end = "; the log ends at entry %d" % there if there < place else ""
-        yield Finding("entries", between(whole, place) + end, place)
+        last, there = int(next(iter(last_said), "0")), int(next(iter(last_found), "0"))
+        yield Finding("entries", at_the_end(whole, last, there), last)
     elif seal.lines[1:5] != now.lines[1:5]:
         yield Finding("entries", "the day is not the one that was sealed", 0)
+
+
+def at_the_end(whole: int, last: int, there: int) -> str:
+    """How a log ends otherwise than its seal, which has `last` and holds all before `whole`."""
+    if there < last:
+        return between(whole, last) + "; the log ends at entry %d" % there
+    if there == last:
+        return between(whole, last)
+    more = "the log goes on to entry %d, behind entry %d, the last that was sealed" % (there, last)
+    if whole > last:
+        return more
+    return more + "; whether entries %d to %d are those is not known" % (whole, last)
 
 
 def between(first: int, last: int) -> str:

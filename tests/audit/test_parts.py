@@ -21,6 +21,7 @@ from mireseason_audit.plain_wire import carries
 from mireseason_audit.prices import Price
 from mireseason_audit.reading import Reader
 from mireseason_audit.records import Entry, Sent, day_of
+from mireseason_audit.seal import Sealed, compared
 from mireseason_audit.second_day import moved_fields
 from mireseason_audit.timeline import broken, gap_text
 from mireseason_audit.wire import carried, parts_of
@@ -285,6 +286,26 @@ class Holding(unittest.TestCase):
         self.assertEqual(self.found([a], [one, two]), [("log", 2)])
         self.assertEqual(self.found([b, a], [one, two]), [("log", 1)])
         self.assertEqual(self.found([ACCEPTED.encode()], [one]), [("log", 1)])  # bars are no SOH
+
+
+class Seals(unittest.TestCase):
+    """How a log ends, against its seal; each hundredth entry stands in it, and the last."""
+
+    def found(self, sealed: int, now: int) -> list[str]:
+        return [one.text for one in compared(self.seal(sealed), self.seal(now))]
+
+    def seal(self, last: int) -> Sealed:
+        hundredths = ["entry %d hash%d" % (place, place) for place in range(0, last + 1, 100)]
+        return Sealed((*hundredths, "last %d hash%d" % (last, last)))
+
+    def test_how_a_log_ends(self) -> None:
+        self.assertEqual(self.found(120, 120), [])
+        behind = "the log goes on to entry 234, behind entry %d, the last that was sealed"
+        self.assertEqual(self.found(200, 234), [behind % 200])
+        unknown = "; whether entries 101 to 120 are those is not known"
+        self.assertEqual(self.found(120, 234), [behind % 120 + unknown])
+        text = "from entry 101 to 120 they are not those that were sealed; the log ends at entry 110"
+        self.assertEqual(self.found(120, 110), [text])
 
 
 class Words(unittest.TestCase):
