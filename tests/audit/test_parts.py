@@ -304,8 +304,8 @@ class Seals(unittest.TestCase):
         self.assertEqual(self.found(200, 234), [behind % 200])
         unknown = "; whether entries 101 to 120 are those is not known"
         self.assertEqual(self.found(120, 234), [behind % 120 + unknown])
-        text = "from entry 101 to 120 they are not those that were sealed; the log ends at entry 110"
-        self.assertEqual(self.found(120, 110), [text])
+        others = "from entry 101 to 120 they are not those that were sealed"
+        self.assertEqual(self.found(120, 110), [others + "; the log ends at entry 110"])
 
 
 class Words(unittest.TestCase):
