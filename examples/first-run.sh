@@ -4,7 +4,8 @@
 # the gateway, starts it with a log in SQLite, lets two dealers and an investor trade by stock
 # QuickFIX initiators, prints what each was sent, and ends all that it started.
 #
-#     examples/first-run.sh               40 minutes on four processors the first time, then seconds
+#     examples/first-run.sh               40 minutes on four processors the first time, then seconds;
+#                                         80 on two
 #     examples/first-run.sh --unproved    what can be seen in two minutes without a proof: the same
 #                                         program by `rt try`, on an auction as a text, and then the
 #                                         auction over TCP with the second implementation of the
@@ -20,11 +21,12 @@ case "${1:-}" in
     ;;
 esac
 command -v rt >/dev/null || { echo "the command rt is not on the PATH" >&2; exit 2; }
+trap 'status=$?; [ "$status" = 0 ] || echo "first-run.sh: not done, status $status: see above" >&2' EXIT
 
 start=$(date +%s)
 say() { printf '\n== %s (%d s from the start)\n' "$*" "$(($(date +%s) - start))"; }
 
-say "Packages of Debian"
+say "Packages of Debian: minutes, where many are missing"
 # shellcheck disable=SC2046 # a word for each package
 "$root/tests/packages.sh" $("$root/gateway/packages.sh")
 
@@ -38,10 +40,10 @@ else
     venue=$root/crates/rfq_venue/out/rfq_venue
 fi
 
-say "The gateway"
+say "The gateway: some minutes, the first time"
 cmake -S "$root/gateway" -B "$root/gateway/out" >/dev/null
 cmake --build "$root/gateway/out" -j "$(nproc)"
 
-say "An auction over TCP"
+say "An auction over TCP: a minute, since its initiators are compiled"
 VENUE=$venue "$root/examples/gateway/run.sh"
 say "Done"

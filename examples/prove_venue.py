@@ -22,6 +22,7 @@ from typing import IO
 
 ROOT = Path(__file__).resolve().parent.parent
 MEMORY_OF_A_CRATE = 3 << 30  # bytes
+MINUTES_OF_ONE = 160  # for all, on one processor
 LOOK, TELL = 1.0, 30.0  # seconds
 
 
@@ -170,7 +171,8 @@ def main() -> None:
         print("%s stands, and is newer than its sources" % program)
         return
     print("Proving %d crates, %d at a time:" % (len(names), given.jobs), flush=True)
-    print("about 40 minutes on four processors, the first time.", flush=True)
+    minutes = MINUTES_OF_ONE // given.jobs
+    print("about %d minutes the first time, where nothing else runs." % minutes, flush=True)
     Prover(crates, names, given.jobs).run()
     folder = ROOT / "crates" / given.program
     words = ["rt", "run", "--", "--version"]

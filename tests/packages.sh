@@ -1,10 +1,10 @@
 #!/bin/sh
-# Installs those of the named Debian packages that are missing; waits, within limits, where another
-# has apt's locks. Status 1, with a line for each, where one is missing still. usage: tests/packages.sh
-# PACKAGE ..
+# Installs those of the named Debian packages that are missing, and tells so first; waits, within limits,
+# where another has apt's locks. Status 1, with a line for each, where one is missing still. usage:
+# tests/packages.sh PACKAGE ..
 set -eu
-locked=300  # seconds that a lock is waited for
-longest=900 # seconds of one call of apt-get
+locked=300   # seconds that a lock is waited for
+longest=1800 # seconds of one call of apt-get
 
 missing() {
     for package in "$@"; do
@@ -17,7 +17,7 @@ set -- $(missing "$@")
 [ $# -gt 0 ] || exit 0
 as_root=
 [ "$(id -u)" = 0 ] || as_root="sudo -n"
-echo "installing $*" >&2
+echo "installing $*"
 export DEBIAN_FRONTEND=noninteractive
 told=$(mktemp)
 trap 'rm -f "$told"' EXIT

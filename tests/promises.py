@@ -28,7 +28,7 @@ tables stands one caller of the crate, as it is proved.
 CALLERS = {
     "fix_fields": ("quote_messages/src/arrivals.rt", "turn_of"),
     "bond_prices": ("dealer_desk/src/rules.rt", "if_on_grid"),
-    "venue_config": ("venue_text/src/venue_parts.rt", "read_venue"),
+    "venue_config": ("input_lines/src/venue_parts.rt", "read_venue"),
     "market_terms": ("investor_desk/src/rules.rt", "asked_dealers"),
     "quote_messages": ("dealer_desk/src/rules.rt", "dealer_verdict"),
     "quote_word": ("venue_steps/src/words.rt", "settle"),
@@ -36,12 +36,13 @@ CALLERS = {
     "request_room": ("venue_steps/src/ends.rt", "do_hit"),
     "investor_desk": ("venue_steps/src/investors.rt", "do_relay"),
     "venue_steps": ("step_replay/src/hits.rt", "hit"),
-    "step_replay": ("venue_text/src/printed.rt", "alone_text"),
+    "step_replay": ("venue_text/src/alone_command.rt", "alone_text"),
     "recorded_days": ("venue_commands/src/days.rt", "count_woven"),
+    "input_lines": ("venue_text/src/day_arguments.rt", "read_open_day"),
     "venue_text": ("venue_commands/src/live.rt", "answer_step"),
     "venue_commands": ("rfq_venue/src/main.rt", "main"),
     "venue_places": ("session_worker/src/duties.rt", "act"),
-    "blotter": ("venue_text/src/printed_blotter.rt", "lines_text"),
+    "blotter": ("venue_text/src/blotter_command.rt", "lines_text"),
     "session_worker": ("venue_commands/src/days.rt", "day_text"),
 }
 
@@ -286,11 +287,13 @@ def crate_lines(crate: Path) -> list[str]:
 
 def page_text(root: Path) -> str:
     """The whole page, the crates in the order of crates.txt."""
-    lines = HEAD.split("\n")
+    lines: list[str] = []
     for line in (root / "crates.txt").read_text(encoding="utf-8").split("\n"):
         if ":" in line and not line.startswith("#"):
             lines += crate_lines(root / "crates" / re.split(r"[\s:]", line)[0])
-    return "\n".join(lines).rstrip("\n") + "\n"
+    crates = [line[3:] for line in lines if line.startswith("## ")]
+    contents = [f"- [{crate}](#{crate})" for crate in crates]
+    return "\n".join([HEAD, *contents, "", *lines]).rstrip("\n") + "\n"
 
 
 def main() -> int:

@@ -6,10 +6,11 @@
 #     tests/run.sh                 the gate first
 #     tests/run.sh --beside        the short forms alone, with the program that stands
 #
-# Each short form prints a line of its own, with its seed and its time; one that fails is counted, its
-# last lines are printed, and the others go on. Its limit of time is many times what it takes: one that is
-# not done by then hangs, and has failed. What a machine can't do (a package that can't be had, no root)
-# is told as not run, and counts neither as passed nor as failed.
+# Each short form tells that it begins, and what it installs, and prints a line of its own with its seed
+# and its time; one that fails is counted, its last lines are printed, and the others go on. Its limit of
+# time is many times what it takes, also on two processors that have other work: one that is not done by
+# then hangs, and has failed. What a machine can't do (a package that can't be had, no root) is told as not
+# run, and counts neither as passed nor as failed.
 #
 # SEED is the seed of all (1), JOBS how many processors they take (all). GATEWAY has a gateway that is
 # built already.
@@ -61,6 +62,7 @@ form() {
         echo "$name: not run: can't be installed: $(sed -n 's/ is not installed.*//p' "$work/packages" | paste -sd ' ')"
         return
     fi
+    echo "$name: begins, $limit s at most" >&2
     began=$(date +%s)
     good=
     ! in_time "$limit" "$@" || good=$(sed -n "$tried" "$work/told" | tail -n 1)
@@ -89,7 +91,7 @@ build_gateway() {
     [ -z "$gateway" ] || return
     gateway=$root/gateway/out/mireseason-gateway
     # shellcheck disable=SC2016 # of the inner shell
-    form build 3600 "$(gateway/packages.sh)" 's/^100% tests passed, 0 tests failed out of \([0-9]*\)$/\1/p' \
+    form build 7200 "$(gateway/packages.sh)" 's/^100% tests passed, 0 tests failed out of \([0-9]*\)$/\1/p' \
         sh -c 'cmake -S gateway -B gateway/out && cmake --build gateway/out -j "$1" &&
             ctest --test-dir gateway/out --output-on-failure' build "$jobs"
 }
@@ -102,7 +104,7 @@ try_replicas() {
     fi
     images=/dev/shm/mireseason
     [ "$(df --output=avail -k /dev/shm 2>/dev/null | tail -n 1)" -gt 1500000 ] || images=$work/images
-    form replicas 1800 "$(gateway/packages.sh) postgresql patroni etcd-server etcd-client iproute2" \
+    form replicas 3600 "$(gateway/packages.sh) postgresql patroni etcd-server etcd-client iproute2" \
         's/^\([0-9]*\) passed, 0 failed$/\1/p' env VENUE="$program" GATEWAY="$gateway" \
         tests/replicas/run.sh short --messages 200 --faults 4 --seed "$seed" --images "$images"
 }
@@ -114,24 +116,24 @@ beside() {
         return
     fi
     start=$(date +%s)
-    form pages 600 python3 's/^\([0-9]*\) passed, 0 failed$/\1/p' \
+    form pages 1800 python3 's/^\([0-9]*\) passed, 0 failed$/\1/p' \
         python3 tests/pages.py --venue "$program"
-    form page_checks 300 python3 's/^Ran \([0-9]*\) tests in .*/\1/p' \
+    form page_checks 1800 python3 's/^Ran \([0-9]*\) tests in .*/\1/p' \
         env PYTHONPATH=tests python3 -m unittest page_checks.test_checks
-    form engines 900 "g++ libquickfix-dev" '$s/.*/1/p' tests/engines/run.sh "$program"
-    form model 600 python3 's/^\([0-9]*\) inputs, .*: no difference$/\1/p' \
+    form engines 1800 "g++ libquickfix-dev" '$s/.*/1/p' tests/engines/run.sh "$program"
+    form model 1800 python3 's/^\([0-9]*\) inputs, .*: no difference$/\1/p' \
         python3 tests/model/compare.py "$program" 1000 "$seed" "$jobs"
-    form threads 600 python3 's/^\([0-9]*\) passed, 0 failed$/\1/p' \
+    form threads 1800 python3 's/^\([0-9]*\) passed, 0 failed$/\1/p' \
         python3 tests/model/lawful.py "$program" 40 "$seed"
-    form isolation 600 python3 's/^seeds .*: \([0-9]*\) pairs with equal due lists.*/\1/p' \
+    form isolation 1800 python3 's/^seeds .*: \([0-9]*\) pairs with equal due lists.*/\1/p' \
         python3 tests/isolation/pairs.py "$program" 1000 "$seed" "$jobs"
-    form hostile 600 python3 's/^\([0-9]*\) inputs from seed .*/\1/p' \
+    form hostile 1800 python3 's/^\([0-9]*\) inputs from seed .*/\1/p' \
         python3 tests/hostile/inputs.py "$program" spoilt 1000 "$seed" "$jobs"
     build_gateway
-    form gateway 2400 "$(gateway/packages.sh) openssl postgresql" 's/^\([0-9]*\) passed, 0 failed$/\1/p' \
+    form gateway 5400 "$(gateway/packages.sh) openssl postgresql" 's/^\([0-9]*\) passed, 0 failed$/\1/p' \
         env VENUE="$program" GATEWAY="$gateway" SEED="$seed" tests/gateway/run.sh short
     tests/packages.sh chromium 2>"$work/packages" || echo "audit: without a browser: chromium can't be installed"
-    form audit 1800 "python3 python3-jinja2 python3-psycopg2 openssl sqlite3 postgresql" \
+    form audit 5400 "python3 python3-jinja2 python3-psycopg2 openssl sqlite3 postgresql" \
         's/^Ran \([0-9]*\) tests* in .*/\1/p' \
         env VENUE="$program" GATEWAY="$gateway" SEED="$seed" tests/audit/run.sh short
     try_replicas

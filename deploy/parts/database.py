@@ -14,6 +14,7 @@ from parts.site import Folders
 
 DISK_MEGABYTES = 900
 DATABASE = "mireseason"
+PSQL = "/usr/lib/postgresql/15/bin/psql"  # Debian's `psql` is a script that looks for this one
 USERS = {"etcd": "etcd", "postgres": "postgres"}  # folders on the disk, and whose they are
 
 
@@ -68,12 +69,12 @@ class DatabaseHost(Place):
         except (OSError, ValueError):
             return 0
 
-    def asked(self, query: str, limit: float = 5) -> str | None:
+    def asked(self, query: str, limit: float = 15) -> str | None:
         """The answer of this host's PostgreSQL to its superuser, nothing where it gives none."""
         try:
-            return run(*as_user("postgres"), "psql", "--no-psqlrc", "-AtX", "-h", str(self.own),
-                       "-U", "postgres", "-v", "ON_ERROR_STOP=1", "-c", query,
-                       DATABASE, limit=limit).strip()
+            return run(*as_user("postgres"), PSQL, "--no-psqlrc", "-AtX", "-h", str(self.own), "-U",
+                       "postgres", "-v", "ON_ERROR_STOP=1", "-c", query, DATABASE,
+                       limit=limit).strip()
         except Fault:
             return None
 

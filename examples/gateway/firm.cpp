@@ -26,7 +26,7 @@
 namespace {
 
 constexpr const char *bond = "BONDA0000001";
-constexpr auto patience = std::chrono::seconds(60);
+constexpr auto patience = std::chrono::seconds(180);
 
 std::string value_of(const FIX::FieldMap &fields, int tag) {
     return fields.isSetField(tag) ? fields.getField(tag) : std::string();
@@ -41,7 +41,7 @@ class Firm final : public FIX::Application {
     FIX::Message next() {
         std::unique_lock<std::mutex> lock(mutex_);
         if (!changed_.wait_for(lock, patience, [&] { return !messages_.empty(); })) {
-            throw std::runtime_error("nothing came for 30 seconds");
+            throw std::runtime_error("nothing came for three minutes");
         }
         FIX::Message message = std::move(messages_.front());
         messages_.pop_front();
@@ -51,7 +51,7 @@ class Firm final : public FIX::Application {
     void wait_for_logon() {
         std::unique_lock<std::mutex> lock(mutex_);
         if (!changed_.wait_for(lock, patience, [&] { return is_on_; })) {
-            throw std::runtime_error("no Logon within 30 seconds");
+            throw std::runtime_error("no Logon within three minutes");
         }
     }
 

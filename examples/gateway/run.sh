@@ -45,7 +45,7 @@ print(probe.getsockname()[1])' "$1"
 told() {
     count=$1 event=$2
     shift 2
-    for _ in $(seq 600); do
+    for _ in $(seq 1800); do
         [ "$(grep -c " $event " gateway.events)" -lt "$count" ] || return 0
         kill -0 "$@" 2>/dev/null || break
         sleep 0.1

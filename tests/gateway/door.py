@@ -155,7 +155,7 @@ class Door:
     def last_words(self) -> str:
         return self.told.read_text(errors="replace")[-2000:]
 
-    def venues(self) -> list[int]:
+    def children(self) -> list[int]:
         """The processes that the gateway has started."""
         task = Path("/proc/%d/task/" % self.process.pid)
         found = []
@@ -166,12 +166,18 @@ class Door:
                 continue
         return found
 
+    def venues(self) -> list[int]:
+        """Those of them that are a venue: not one that is the gateway's own program still, or again. A leak checker looks
+        at its process from such a one, and waits for its word for ever where that was ended."""
+        own = program_of(self.process.pid)
+        return [pid for pid in self.children() if program_of(pid) not in (None, own)]
+
     def kill(self) -> None:
         """Ends the gateway by SIGKILL; its venue has to end by itself."""
-        venues = self.venues()
+        started = self.children()
         self.process.kill()
         self.process.wait()
-        until("the venue of a gateway that is gone ends", LONG, lambda: not any(is_running(pid) for pid in venues))
+        until("the venue of a gateway that is gone ends", LONG, lambda: not any(is_running(pid) for pid in started))
 
     def kill_venue(self) -> bool:
         """Ends the venue by SIGKILL; whether there was one."""
@@ -190,13 +196,21 @@ class Door:
     def close(self) -> None:
         """Ends what is still there."""
         if self.process and not self.has_ended():
-            venues = self.venues()
+            started = self.children()
             self.process.kill()
             self.process.wait()
-            within(LONG, lambda: not any(is_running(pid) for pid in venues))
+            within(LONG, lambda: not any(is_running(pid) for pid in started))
 
     def ledger(self) -> Ledger:
         return read_ledger(self.postgres or self.database)
+
+
+def program_of(pid: int) -> str | None:
+    """The file that a process runs; None where it has ended."""
+    try:
+        return os.readlink("/proc/%d/exe" % pid)
+    except (FileNotFoundError, ProcessLookupError):
+        return None
 
 
 def is_running(pid: int) -> bool:

@@ -24,7 +24,7 @@ run "$bin/initdb" -D "$folder/data" -U mireseason --auth=trust >"$folder.told" 2
     { cat "$folder.told" >&2; rm -f "$folder.told"; exit 1; }
 rm -f "$folder.told"
 # Its socket alone: no port that another server may have.
-run "$bin/pg_ctl" -D "$folder/data" -w -l "$folder/log" \
+run "$bin/pg_ctl" -D "$folder/data" -w -t 300 -l "$folder/log" \
     -o "-c listen_addresses='' -c unix_socket_directories=$folder" start >/dev/null
 count=$#
 while [ "$count" -gt 0 ]; do

@@ -104,7 +104,7 @@ class Stage:
 
     def counters(self) -> dict[str, float]:
         """What the gateway counts, by the names of its page."""
-        with urllib.request.urlopen("http://127.0.0.1:%d/metrics" % self.door.metrics, timeout=5) as page:
+        with urllib.request.urlopen("http://127.0.0.1:%d/metrics" % self.door.metrics, timeout=LONG) as page:
             lines = page.read().decode().splitlines()
         return {name: float(value) for name, value in (line.rsplit(" ", 1) for line in lines if line and line[0] != "#")}
 

@@ -1,11 +1,14 @@
 """Firms that are away, whose quotes are cancelled for them, and deadlines that pass."""
 
+import time
+
 from held import milliseconds
 from market import moment_in
 from stage import DEALER, Stage, check
 from wait import LONG, until
 
 SOON = 25  # seconds: less than the gateway waits at most for a firm that fills a gap
+AS_AUCTIONS = 10  # or for so many times what an auction takes, on a machine that is slower than that
 
 
 def reject_for_one_away(stage: Stage) -> None:
@@ -49,7 +52,9 @@ def sent_while_away(stage: Stage) -> None:
 def gaps_on_both_sides(stage: Stage) -> None:
     """A firm that missed messages, and whose own were not taken: both are made good within seconds of its Logon."""
     stage.open(*stage.firms)
+    began = time.monotonic()
     stage.auction()
+    soon = max(SOON, AS_AUCTIONS * (time.monotonic() - began))
     stage.dealer.kill()
     stage.ask_of([stage.dealer, stage.other])
     until("the request is in the log", LONG, lambda: len(stage.door.ledger().sent.get("DLR1", [])) == 4)
@@ -61,7 +66,7 @@ def gaps_on_both_sides(stage: Stage) -> None:
     stage.door.start()
     stage.dealer.wait_on()
     for name in names:
-        stage.answer(stage.dealer, "what became of a cancel", lambda message: message.value(117) == name, limit=SOON)
+        stage.answer(stage.dealer, "what became of a cancel", lambda message: message.value(117) == name, limit=soon)
     stage.answer(stage.dealer, "a request", lambda message: message.kind == b"R" and message.value(131) == b"R2")
     stage.whole()
 

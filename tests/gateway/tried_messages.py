@@ -317,7 +317,7 @@ def faster_than_the_log(stage: Stage) -> None:
         sender = threading.Thread(target=wire.raw, args=(data,))
         sender.start()
         stage.ping(stage.other)
-        check(wire.read_until(lambda message: message.value(117) == b"c%d" % (count - 1), 2 * LONG) is not None, "the last is not answered")
+        check(wire.read_until(lambda message: message.value(117) == b"c%d" % (count - 1), 5 * LONG) is not None, "the last is not answered")
         sender.join()
         check(stage.memory() - before < 32 * 2**20, "%d bytes of memory more" % (stage.memory() - before))
     check(stage.entries_of(stage.dealer) == count, "%d of %d are in the log" % (stage.entries_of(stage.dealer), count))

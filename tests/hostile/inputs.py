@@ -2,7 +2,7 @@
 """Inputs that nobody would send: each command has to answer with a status and a line of its table.
 
 `spoilt` takes lawful inputs of every command and flips bytes, cuts, doubles, swaps and mixes lines.
-`large` fills 16 MiB with each kind of line. Each run has 400 MB of memory and ten seconds, and has to
+`large` fills 16 MiB with each kind of line. Each run has 400 MB of memory and ten seconds of a processor, and has to
 end with status 0 and nothing on standard error (`live` tells of lines at fault there and goes on),
 or with status 1 and one line of the table of faults (docs/PROGRAM.md). Lawful inputs of a usual
 size are never refused for memory.
@@ -17,6 +17,7 @@ import os
 import random
 import re
 import resource
+import signal
 import subprocess
 import sys
 import time
@@ -26,7 +27,8 @@ sys.path.insert(0, os.path.join(ROOT, "tests", "isolation"))
 from pairs import Day, Story  # noqa: E402
 
 MEMORY = 400_000_000
-SECONDS = 10
+SECONDS = 10  # of a processor
+PATIENCE = 600  # seconds of the clock, on a machine that has much else to do
 MOST_INPUT = 16_777_216
 LINE = rb"line [1-9][0-9]*: (form|unknown firm|unknown room|stream)"
 FAULT = re.compile(
@@ -37,14 +39,17 @@ LIVE = re.compile(rb"(" + LINE + rb"\n)*")
 
 def limited():
     resource.setrlimit(resource.RLIMIT_AS, (MEMORY, MEMORY))
+    resource.setrlimit(resource.RLIMIT_CPU, (SECONDS, SECONDS + 1))
 
 
 def answered(program, words, text):
     """Runs the program; answers what became of it in a word, or ends with what went wrong."""
     try:
-        run = subprocess.run([program] + words, input=text, capture_output=True, timeout=SECONDS, preexec_fn=limited)
+        run = subprocess.run([program] + words, input=text, capture_output=True, timeout=PATIENCE, preexec_fn=limited)
     except subprocess.TimeoutExpired:
-        return None, "no end after %d seconds" % SECONDS
+        return None, "no end after %d seconds" % PATIENCE
+    if run.returncode == -signal.SIGXCPU:
+        return None, "no end after %d seconds of a processor" % SECONDS
     told = run.stderr
     if run.returncode == 0 and (told == b"" or words[0] == "live" and LIVE.fullmatch(told)):
         return "done", None

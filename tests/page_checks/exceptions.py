@@ -27,7 +27,6 @@ ON_A_PAGE = [
     ("docs/SUPERVISING.md", "day_20261124"),  # a schema of a reader's
     ("docs/SUPERVISING.md", "sent.txt"),  # a list of a reader's
     ("docs/SUPERVISING.md", "pages/index.html"),  # a page that the audit writes
-    ("gateway/README.md", "ThreadedSSLSocketAcceptor"),  # of QuickFIX
 ]
 
 

@@ -3,15 +3,21 @@
 from ledger import Entry, Ledger
 from parts.database import DatabaseHost
 from parts.machine import Machine
-from parts.run import Fault, found_in
+from parts.run import found_in
 
-PATIENCE = 60.0
+# Seconds in which hosts are as they were. On a machine that is busy a fail-over takes minutes,
+# also one that nobody asked for.
+PATIENCE = 420.0
 
 
-def rows(database: DatabaseHost, query: str) -> list[list[str]]:
-    text = database.asked(query, limit=60)
-    if text is None:
-        raise Fault("%s does not answer: %s" % (database.name, query))
+def rows(machine: Machine, query: str) -> list[list[str]]:
+    """What the primary answers, which may be another one in the middle of a question."""
+
+    def look() -> str | None:
+        database = machine.cluster.primary()
+        return database.asked(query, limit=60) if database else None
+
+    text = found_in("a primary answers: %s" % query, PATIENCE, look)
     return [line.split("|") for line in text.splitlines()]
 
 
@@ -21,22 +27,21 @@ def primary(machine: Machine) -> DatabaseHost:
 
 
 def read_ledger(machine: Machine, schema: str) -> Ledger:
-    database = primary(machine)
     entries = tuple(
         Entry(int(place), firm or None, int(number) if number else None, bytes.fromhex(line))
         for place, firm, number, line in rows(
-            database, "SELECT place, firm, number, encode(line, 'hex') FROM %s.entry ORDER BY place"
+            machine, "SELECT place, firm, number, encode(line, 'hex') FROM %s.entry ORDER BY place"
             % schema))
     sent: dict[str, list[tuple[int, bytes]]] = {}
-    for firm, number, data in rows(database, "SELECT firm, number, encode(bytes, 'hex') "
-                                             "FROM %s.sent ORDER BY firm, number" % schema):
+    for firm, number, data in rows(machine, "SELECT firm, number, encode(bytes, 'hex') "
+                                            "FROM %s.sent ORDER BY firm, number" % schema):
         sent.setdefault(firm, []).append((int(number), bytes.fromhex(data)))
     return Ledger(entries, sent)
 
 
 def last_place(machine: Machine, schema: str) -> int:
-    return int(rows(primary(machine), "SELECT max(place) FROM %s.entry" % schema)[0][0])
+    return int(rows(machine, "SELECT max(place) FROM %s.entry" % schema)[0][0])
 
 
 def terms(machine: Machine, schema: str) -> int:
-    return int(rows(primary(machine), "SELECT term FROM %s.speaker" % schema)[0][0])
+    return int(rows(machine, "SELECT term FROM %s.speaker" % schema)[0][0])

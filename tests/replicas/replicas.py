@@ -24,7 +24,7 @@ sys.dont_write_bytecode = True
 
 import reach
 
-from book import last_place, read_ledger, terms
+from book import PATIENCE, last_place, read_ledger, terms
 from damage import Course, Damage, Damages
 from door import today
 from figures import Figures
@@ -44,8 +44,6 @@ CAST = Cast.of(dealers=4, investors=2)
 NAMES = ("north", "south", "east", "west")
 USUAL_PACE = 0.1  # seconds that a message waits for an answer
 PACE = 0.4  # the same while something is damaged
-RECOVERY = 420.0  # seconds in which all has to be as it was, on a machine that is busy, too
-LOGONS = 120.0  # seconds in which all firms log on
 STILL = 2.0  # seconds without an entry at the end of a day: longer than the shortest deadline
 LOOKS = 5  # how often the end of a day is looked at until no deadline comes in between
 
@@ -95,7 +93,7 @@ class Day:
         self.wait_all_on()
 
     def wait_all_on(self) -> None:
-        until("all firms are logged on", LOGONS, self.all_on)
+        until("all firms are logged on", PATIENCE, self.all_on)
 
     def all_on(self) -> bool:
         return all([side.all_on() for side in self.sides])
@@ -121,13 +119,13 @@ class Day:
             damage.look()
         if damage.silenced and self.starts_of(damage.silenced) == starts:
             self.problems.append("%s: %s did not end" % (damage.what, damage.silenced))
-        end = time.monotonic() + RECOVERY
+        end = time.monotonic() + PATIENCE
         with Watch(self.hosts_are_well) as watch:
             while not (watch.well and self.all_on()):
                 self.send(PACE)
                 if time.monotonic() > end:
                     text = "%s: not all is as it was within %g s"
-                    raise TooLong(text % (damage.what, RECOVERY))
+                    raise TooLong(text % (damage.what, PATIENCE))
         self.figures.add(damage.what, damage.began, time.monotonic())
         print("  %-34s %5.1f s until all was as before" % (
             damage.what, time.monotonic() - damage.began), flush=True)

@@ -59,8 +59,8 @@ part() {
         [ -n "${GATEWAY:-}" ] || part python3 "$here/appends.py" "$root/gateway/out" --seconds 5
         part python3 "$here/venues.py" "$gateway" "$work/player" -- $venue
         if [ -z "$short" ]; then
-            part python3 "$here/replicas.py" "$gateway" "$work/player" $several -- $venue
-            part python3 "$here/replicas.py" "$gateway" "$work/player" $upkeep -- $venue
+            part python3 "$here/replicas.py" "$gateway" "$work/player" "$@" $several -- $venue
+            part python3 "$here/replicas.py" "$gateway" "$work/player" "$@" $upkeep -- $venue
         fi
         ;;
     esac

@@ -14,7 +14,7 @@ from reach import ROOT
 from wait import until, within
 
 DICTIONARIES = (ROOT / "fix" / "FIXT11.xml", ROOT / "fix" / "MIRESEASON.xml")
-PATIENCE = 30.0  # seconds in which what is on its way comes
+PATIENCE = 120.0  # seconds in which what is on its way comes
 LATE = "no clock line came"  # of a fault of the gateway's tests: databases may be away for longer
 
 

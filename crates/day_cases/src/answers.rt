@@ -1,11 +1,11 @@
 //! Lines of an answer.
 use case_lines::{CaseFault, day, push_bytes, push_text};
 use fix_fields::{Moment, moment_text};
+use input_lines::{Parts, ProgramFault, fault_line};
 use market_terms::RoomRef;
 use quote_messages::SentMessage;
 use std::alloc::Global;
 use step_replay::{Actor, ReplayFault, Step};
-use venue_text::{Parts, ProgramFault, fault_line};
 
 /// Puts a line.
 pub(crate) fn put(answer: &mut String, line: &str) -> Result<(), CaseFault> {

@@ -3,12 +3,12 @@ use crate::values::settled_named;
 use case_lines::{Call, CaseFault, Words, close_of, frame_of, piped_bytes_of};
 use dealer_desk::DealerEvent;
 use fix_fields::Moment;
+use input_lines::{MOST_INPUT, read_due_text};
 use market_terms::RoomRef;
 use quote_messages::{Ask, Message};
 use quote_word::Settled;
 use std::alloc::Global;
 use step_replay::Due;
-use venue_text::{MOST_INPUT, read_due_text};
 
 /// Whether a call with this word is an event.
 pub(crate) fn is_event(word: &str) -> bool {

@@ -7,7 +7,7 @@
 //! | `view` | [`Views`] | `alone` on a list of any items |
 //! | `record` | [`Records`] | a `DayRecord` that is made by lines, and `weave` |
 //! | `inbox` | [`Inboxes`] | `inbox_of` of `session_worker` |
-//! | `text` | [`Texts`] | the calls of `venue_text` |
+//! | `text` | [`Texts`] | the calls of `input_lines` |
 //!
 //! The calls of each stand at its type. A call that answers nothing has done what it says.
 #![tactic(auto)]

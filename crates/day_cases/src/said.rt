@@ -2,9 +2,9 @@
 use crate::answers::{put, put_bytes, put_time};
 use crate::texts::day;
 use case_lines::{Call, CaseFault, bytes_of, push_text};
+use input_lines::{Said, read_fields, read_received};
 use std::alloc::Global;
 use venue_config::Name;
-use venue_text::{Said, read_fields, read_received};
 
 /// The fields of a BODY, a line each.
 pub(crate) fn tell_fields(alloc: Global, text: &str, answer: &mut String) -> Result<(), CaseFault> {

@@ -1,9 +1,9 @@
 //! Steps that lines spell.
 use case_lines::CaseFault;
+use input_lines::{MOST_INPUT, ProgramFault, SpokenLines, read_steps};
 use std::alloc::Global;
 use step_replay::Step;
 use venue_config::VenueConfig;
-use venue_text::{MOST_INPUT, ProgramFault, SpokenLines, read_steps};
 
 /// Puts the steps that the lines of a day spell behind others, or tells the first fault.
 pub(crate) fn put_spelled(

@@ -1,17 +1,17 @@
-//! The texts of days: lines and their parts, and what calls of `venue_text` make of an input.
+//! The texts of days: lines and their parts, and what calls of `input_lines` make of an input.
 use crate::answers::{put, put_count, put_fault, put_steps, put_text};
 use crate::said::{tell_fields, tell_received, tell_said};
 use crate::told::told_fault;
 use case_lines::{Call, CaseFault, Place, Words, bytes_of};
 use fix_fields::Date;
-use quote_messages::Side;
-use std::alloc::Global;
-use venue_config::VenueConfig;
-use venue_text::{
+use input_lines::{
     DayParts, MOST_INPUT, Parts, ProgramFault, SpokenLines, asked_dealer, asked_firm, cut_part,
     day_parts, firm_of, has_divider, one_past, read_side, read_steps, read_time, read_venue,
     same_text, two_days_parts,
 };
+use quote_messages::Side;
+use std::alloc::Global;
+use venue_config::VenueConfig;
 
 /// An input, and texts of one line.
 ///

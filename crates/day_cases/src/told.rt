@@ -1,7 +1,7 @@
 //! Faults by their names.
 use case_lines::{CaseFault, Words};
+use input_lines::{ProgramFault, UnkeptDay, UnwovenDay};
 use venue_config::ConfigFault;
-use venue_text::{ProgramFault, UnkeptDay, UnwovenDay};
 
 /// The fault that the words of a call name: its name, and the number of its line or its kind.
 pub(crate) fn told_fault(words: &mut Words<'_>) -> Result<ProgramFault, CaseFault> {

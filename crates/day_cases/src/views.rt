@@ -1,9 +1,10 @@
 //! What a dealer is sent for a list.
 use crate::answers::{put_count, put_fault, put_text};
 use case_lines::{Call, CaseFault, Place, Words, close_of};
+use input_lines::{DueText, MOST_INPUT, read_due_text};
 use std::alloc::Global;
 use step_replay::{Due, alone};
-use venue_text::{DueText, MOST_INPUT, due_lines, messages_text, read_due_text};
+use venue_text::{due_lines, messages_text};
 
 /// The dealer view of a list, also of one that no due text spells.
 ///

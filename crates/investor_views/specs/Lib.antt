@@ -2,4 +2,3 @@ pub mod Apart
 pub mod Comings
 pub mod InvestorDues
 pub mod InvestorView
-pub mod Silence

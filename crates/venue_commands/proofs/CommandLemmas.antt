@@ -9,8 +9,8 @@ use Rattle.clap.specs.declared.error.kind.ErrorKind.{ErrorKind}
 use Rattle.clap.specs.declared.error.kind.ErrorKind.TheVariants.{OutOfMemory}
 use Rattle.clap.specs.Words.{HasKind, IsAmong, Kinds, Text, kind_of}
 use Rattle.std.specs.Option.{IfSome}
-use Rattle.venue_text.specs.Lines.{lines_of}
-use Rattle.venue_text.specs.declared.faults.ProgramFault.TheVariants.{Memory}
+use Rattle.input_lines.specs.Lines.{lines_of}
+use Rattle.input_lines.specs.declared.faults.ProgramFault.TheVariants.{Memory}
 use Rattle.venue_commands.specs.Arguments.{Command, LineForm, arguments_fault, command_of, is_help, is_mistake}
 use Rattle.venue_commands.specs.Arguments.{line_form, may_be_help, may_be_mistake, meant_form}
 use Rattle.venue_commands.specs.LiveRuns.{EndsInLive, EndsOver}

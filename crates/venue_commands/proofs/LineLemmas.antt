@@ -9,11 +9,11 @@ use Rattle.std.proofs.lemmas.Grind.{flat_map-append, fold-append}
 use Rattle.std.proofs.lemmas.List.Folds.{list_any-append}
 use Rattle.std.proofs.lemmas.List.Sums.{sum_by_push}
 use Rattle.venue_config.specs.Rows.{ConfigValues, Configuration, values_of}
-use Rattle.venue_text.specs.DueText.{Lines}
-use Rattle.venue_text.specs.Lines.{is_skipped, lines_of, spoken_from}
+use Rattle.input_lines.specs.DueText.{Lines}
+use Rattle.input_lines.specs.Lines.{is_skipped, lines_of, spoken_from}
 use Rattle.venue_text.specs.LiveInput.{are_divided, as_part, configuration_in, lines_text, numbered_from, numbered_in, steps_in, taken_in, taken_of, text_in}
 use Rattle.venue_text.specs.LiveLines.{Taken, line_text, nothing_taken, with_any_line, with_line}
-use Rattle.venue_text.specs.VenueParts.{InputPart, is_divided, is_divider, part_before, part_behind, spoken_in, text_of, text_of_lines}
+use Rattle.input_lines.specs.VenueParts.{InputPart, is_divided, is_divider, part_before, part_behind, spoken_in, text_of, text_of_lines}
 use Rattle.venue_text.specs.declared.live_form.LiveForm.{LiveForm}
 use Rattle.venue_commands.specs.LiveRuns.{are_four, behind_one, first_taken, second_configuration, second_day, second_taken}
 use Rattle.venue_commands.specs.LiveStages.{taken_at}

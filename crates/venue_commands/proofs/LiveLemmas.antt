@@ -16,24 +16,24 @@ use Rattle.venue_config.specs.Config.{config_of}
 use Rattle.venue_config.specs.Rows.{ConfigValues, Configuration, values_of}
 use Rattle.venue_config.specs.declared.faults.ConfigFault.{ConfigFault}
 use Rattle.venue_config.specs.declared.faults.ConfigFault.TheVariants.{Toml}
-use Rattle.venue_text.specs.Faults.{told_line}
-use Rattle.venue_text.specs.Lines.{lines_of}
+use Rattle.input_lines.specs.Faults.{told_line}
+use Rattle.input_lines.specs.Lines.{lines_of}
 use Rattle.venue_text.specs.KeptComparison.{IsKeptComparison}
 use Rattle.venue_text.specs.KeptDays as kept_days
 use Rattle.venue_text.specs.KeptDays.{KeepsMore, OpensKept, Wanted, asked_in, asked_venue, dues, kept_text, messages}
 use Rattle.venue_text.specs.LiveAnswers.{Gives, Goes, Opens}
 use Rattle.venue_text.specs.LiveInput.{are_divided, configuration_in, taken_in, text_in}
 use Rattle.venue_text.specs.LiveLines.{Taken, nothing_taken}
-use Rattle.venue_text.specs.ResultSteps.{◌>>=◌}
-use Rattle.venue_text.specs.StepLines.{asked, dealer_named, firm_named}
-use Rattle.venue_text.specs.VenueParts.{is_divider, or_config_fault, venue_of}
-use Rattle.venue_text.specs.declared.faults.ProgramFault.{ProgramFault}
-use Rattle.venue_text.specs.declared.faults.ProgramFault.TheVariants.{Input, Config, Day, Firm, Form, Memory, Parts, Read as NotRead}
-use Rattle.venue_text.specs.declared.faults.ProgramFault.TheVariants.{Stream, UnknownFirm, UnknownRoom, Weave, Write}
+use Rattle.input_lines.specs.ResultSteps.{◌>>=◌}
+use Rattle.input_lines.specs.StepLines.{asked, dealer_named, firm_named}
+use Rattle.input_lines.specs.VenueParts.{is_divider, or_config_fault, venue_of}
+use Rattle.input_lines.specs.declared.faults.ProgramFault.{ProgramFault}
+use Rattle.input_lines.specs.declared.faults.ProgramFault.TheVariants.{Input, Config, Day, Firm, Form, Memory, Parts, Read as NotRead}
+use Rattle.input_lines.specs.declared.faults.ProgramFault.TheVariants.{Stream, UnknownFirm, UnknownRoom, Weave, Write}
 use Rattle.venue_text.specs.declared.kept_days.Asked.{Asked}
 use Rattle.venue_text.specs.declared.kept_days.Asked.TheVariants as asked_for
 use Rattle.venue_text.specs.declared.kept_days.KeptDay.{KeptDay}
-use Rattle.venue_text.specs.declared.lines.TheConstants.{MOST_INPUT}
+use Rattle.input_lines.specs.declared.lines.TheConstants.{MOST_INPUT}
 use Rattle.venue_text.specs.declared.live_form.LiveForm.{LiveForm}
 use Rattle.venue_text.specs.declared.live_lines.LiveDay.{LiveDay}
 use Rattle.venue_commands.specs.Arguments.{LineForm, answered, compared_for, kept_for, meant_form}

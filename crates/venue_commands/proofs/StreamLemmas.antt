@@ -7,14 +7,14 @@ use Rattle.std.specs.Io.KnownBytes.{Appends, Keeps}
 use Rattle.std.proofs.lemmas.List.{append-nil, take-append-drop, take_all, length-drop}
 use Rattle.std.proofs.lemmas.List.{length-append}
 use Rattle.std.proofs.Math.Seq.{take-append_seam}
-use Rattle.venue_text.specs.declared.lines.TheConstants.{MOST_INPUT}
+use Rattle.input_lines.specs.declared.lines.TheConstants.{MOST_INPUT}
 use Rattle.venue_commands.specs.Arguments.{Command, alone, blotter, compare, compared, day, due, kept, live, replay}
 use Rattle.venue_commands.specs.Runs.{FaultLeaves, HasPrinted, HasPrintedPart, IsFaultOf, IsReadOf, IsTextOf}
 use Rattle.venue_commands.specs.Written.{Gains, GainsPart, Written}
-use Rattle.venue_text.specs.declared.faults.ProgramFault.{ProgramFault}
-use Rattle.venue_text.specs.declared.faults.ProgramFault.TheVariants.{Read, Input, Parts, Config, Firm}
-use Rattle.venue_text.specs.declared.faults.ProgramFault.TheVariants.{Form, UnknownFirm, UnknownRoom}
-use Rattle.venue_text.specs.declared.faults.ProgramFault.TheVariants.{Stream, Day, Weave, Memory, Write}
+use Rattle.input_lines.specs.declared.faults.ProgramFault.{ProgramFault}
+use Rattle.input_lines.specs.declared.faults.ProgramFault.TheVariants.{Read, Input, Parts, Config, Firm}
+use Rattle.input_lines.specs.declared.faults.ProgramFault.TheVariants.{Form, UnknownFirm, UnknownRoom}
+use Rattle.input_lines.specs.declared.faults.ProgramFault.TheVariants.{Stream, Day, Weave, Memory, Write}
 use Rattle.std.proofs.lemmas.Bool.{cases_Bool}
 use Rattle.std.proofs.lemmas.Bool.Decides.{nat_tests}
 use Rattle.std.specs.Option.{IfSome}

@@ -5,19 +5,19 @@ use Rattle.std.specs.Prelude.{length, nat_lt, take, Option, Some, None, Result, 
 use Rattle.std.specs.List.{count_by, list_any}
 use Rattle.std.specs.Option.{IfSome}
 use Rattle.venue_config.specs.Rows.{ConfigValues, Configuration, values_of}
-use Rattle.venue_text.specs.Faults.{told_line}
+use Rattle.input_lines.specs.Faults.{told_line}
 use Rattle.venue_text.specs.KeptComparison.{IsKeptComparison}
 use Rattle.venue_text.specs.KeptDays.{asked_in, dues, kept_text}
-use Rattle.venue_text.specs.Lines.{lines_of}
+use Rattle.input_lines.specs.Lines.{lines_of}
 use Rattle.venue_text.specs.LiveInput.{are_divided, as_part, configuration_in, taken_in, taken_of}
 use Rattle.venue_text.specs.LiveInput.{text_in}
 use Rattle.venue_text.specs.LiveLines.{Taken}
-use Rattle.venue_text.specs.VenueParts.{InputPart, is_divided, part_before, part_behind, spoken_in}
-use Rattle.venue_text.specs.VenueParts.{text_of, venue_of}
-use Rattle.venue_text.specs.declared.faults.ProgramFault.{ProgramFault}
-use Rattle.venue_text.specs.declared.faults.ProgramFault.TheVariants.{Read, Input, Parts, Config}
-use Rattle.venue_text.specs.declared.faults.ProgramFault.TheVariants.{Firm, Memory, Write}
-use Rattle.venue_text.specs.declared.lines.TheConstants.{MOST_INPUT}
+use Rattle.input_lines.specs.VenueParts.{InputPart, is_divided, part_before, part_behind, spoken_in}
+use Rattle.input_lines.specs.VenueParts.{text_of, venue_of}
+use Rattle.input_lines.specs.declared.faults.ProgramFault.{ProgramFault}
+use Rattle.input_lines.specs.declared.faults.ProgramFault.TheVariants.{Read, Input, Parts, Config}
+use Rattle.input_lines.specs.declared.faults.ProgramFault.TheVariants.{Firm, Memory, Write}
+use Rattle.input_lines.specs.declared.lines.TheConstants.{MOST_INPUT}
 use Rattle.venue_commands.specs.Arguments.{LineForm, answered, compared_for, kept_for}
 use Rattle.venue_commands.specs.Written.{Streams, Written, Gains, GainsPart, IsUntouched}
 use Rattle.venue_commands.specs.declared.live.TheConstants.{MOST_LINES}

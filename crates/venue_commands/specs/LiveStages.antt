@@ -5,16 +5,16 @@ use Rattle.std.specs.List.{count_by, list_any}
 use Rattle.std.specs.Option.{option_to_list}
 use Rattle.venue_config.specs.Rows.{ConfigValues, Configuration, values_of}
 use Rattle.venue_text.specs.KeptDays.{Keeps, KeepsMore, OpensKept, Wanted, dues}
-use Rattle.venue_text.specs.Lines.{lines_of}
+use Rattle.input_lines.specs.Lines.{lines_of}
 use Rattle.venue_text.specs.LiveAnswers.{Goes, Opens}
 use Rattle.venue_text.specs.LiveInput.{are_divided, configuration_in, taken_in, taken_of, text_in}
 use Rattle.venue_text.specs.LiveLines.{Taken}
-use Rattle.venue_text.specs.VenueParts.{is_divided, is_divider, part_behind, spoken_in, text_of_lines}
-use Rattle.venue_text.specs.VenueParts.{venue_of}
-use Rattle.venue_text.specs.declared.faults.ProgramFault.{ProgramFault}
-use Rattle.venue_text.specs.declared.faults.ProgramFault.TheVariants as program
+use Rattle.input_lines.specs.VenueParts.{is_divided, is_divider, part_behind, spoken_in, text_of_lines}
+use Rattle.input_lines.specs.VenueParts.{venue_of}
+use Rattle.input_lines.specs.declared.faults.ProgramFault.{ProgramFault}
+use Rattle.input_lines.specs.declared.faults.ProgramFault.TheVariants as program
 use Rattle.venue_text.specs.declared.kept_days.KeptDay.{KeptDay}
-use Rattle.venue_text.specs.declared.lines.TheConstants.{MOST_INPUT}
+use Rattle.input_lines.specs.declared.lines.TheConstants.{MOST_INPUT}
 use Rattle.venue_text.specs.declared.live_form.LiveForm.{LiveForm}
 use Rattle.venue_text.specs.declared.live_lines.LiveDay.{LiveDay}
 use Rattle.venue_commands.specs.Arguments.{LineForm, answered, compared_for, kept_for, meant_form}

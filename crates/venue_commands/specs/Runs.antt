@@ -9,13 +9,13 @@ use Rattle.venue_text.specs.AskedDays.{dealer_by, firm_by, firms_by, one_day, tw
 use Rattle.venue_text.specs.BlotterCommand.{IsBlotter}
 use Rattle.venue_text.specs.CompareText.{IsCompared}
 use Rattle.venue_text.specs.DueCommand.{IsDueText}
-use Rattle.venue_text.specs.Faults.{fault_line, told_line}
+use Rattle.input_lines.specs.Faults.{fault_line, told_line}
 use Rattle.venue_text.specs.KeptDays as kept_days
 use Rattle.venue_text.specs.KeptDays.{Wanted, dues, messages}
 use Rattle.venue_text.specs.ReplayText.{IsReplayed}
-use Rattle.venue_text.specs.declared.faults.ProgramFault.{ProgramFault}
-use Rattle.venue_text.specs.declared.faults.ProgramFault.TheVariants.{Read, Memory, Write}
-use Rattle.venue_text.specs.declared.lines.TheConstants.{MOST_INPUT}
+use Rattle.input_lines.specs.declared.faults.ProgramFault.{ProgramFault}
+use Rattle.input_lines.specs.declared.faults.ProgramFault.TheVariants.{Read, Memory, Write}
+use Rattle.input_lines.specs.declared.lines.TheConstants.{MOST_INPUT}
 use Rattle.venue_commands.specs.Arguments.{Command, LineForm, alone, arguments_fault, blotter}
 use Rattle.venue_commands.specs.Arguments.{command_of, compare, compared, day, due, kept, live}
 use Rattle.venue_commands.specs.Arguments.{line_form}

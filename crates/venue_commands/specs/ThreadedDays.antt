@@ -14,11 +14,11 @@ use Rattle.session_worker.specs.declared.faults.DayFault.{DayFault}
 use Rattle.session_worker.specs.declared.faults.DayFault.TheVariants as threaded
 use Rattle.venue_text.specs.ArrivingDays.{arriving_day}
 use Rattle.venue_text.specs.RecordText.{record_text, woven_line}
-use Rattle.venue_text.specs.declared.faults.ProgramFault.{ProgramFault}
-use Rattle.venue_text.specs.declared.faults.ProgramFault.TheVariants as program
-use Rattle.venue_text.specs.declared.faults.UnkeptDay.{UnkeptDay}
-use Rattle.venue_text.specs.declared.faults.UnkeptDay.TheVariants.{Inbox, Told, Sweep as Swept}
-use Rattle.venue_text.specs.declared.faults.UnwovenDay.TheVariants.{Malformed, Cycle, Differs}
+use Rattle.input_lines.specs.declared.faults.ProgramFault.{ProgramFault}
+use Rattle.input_lines.specs.declared.faults.ProgramFault.TheVariants as program
+use Rattle.input_lines.specs.declared.faults.UnkeptDay.{UnkeptDay}
+use Rattle.input_lines.specs.declared.faults.UnkeptDay.TheVariants.{Inbox, Told, Sweep as Swept}
+use Rattle.input_lines.specs.declared.faults.UnwovenDay.TheVariants.{Malformed, Cycle, Differs}
 
 -- A record of the day that an input spells, which keeps what every day on threads keeps: so each
 -- dealer was sent the dealer view of what was due to it, the messages that came from each firm, by

@@ -5,6 +5,7 @@ ghost use Rattle.recorded_days.specs.declared.weaving.WeaveFault.{WeaveFault};
 ghost use Rattle.venue_text.specs.RecordText.{woven_line};
 ghost use Rattle.venue_commands.specs.ThreadedDays as spec;
 
+use input_lines::{ProgramFault, UnkeptDay, UnwovenDay};
 use recorded_days::{DayRecord, WeaveFault, weave};
 use session_worker::{DayFault, Gate, Point, run_day};
 use std::alloc::Global;
@@ -12,7 +13,7 @@ use std::marker::Sync;
 use std::sync::Wait;
 use std::thread::Threads;
 use venue_config::VenueConfig;
-use venue_text::{ProgramFault, UnkeptDay, UnwovenDay, read_arriving_day, record_text, woven_line};
+use venue_text::{read_arriving_day, record_text, woven_line};
 
 /// A watcher that holds nobody.
 struct Unwatched;

@@ -2,9 +2,9 @@
 ghost use Rattle.std.specs.Prelude.{◌≡◌, ◌⊎◌, IfOk, IfErr, IfSome};
 ghost use Rattle.venue_commands.specs.Runs.{IsReadOf};
 
+use input_lines::{MOST_INPUT, ProgramFault};
 use std::alloc::Global;
 use std::io::Read;
-use venue_text::{MOST_INPUT, ProgramFault};
 
 /// How many bytes are read at once.
 const CHUNK: usize = 16_384;

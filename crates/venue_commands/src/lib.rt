@@ -8,8 +8,8 @@
 //! dealer's day, called due text, and prints every message that the venue sends to that dealer.
 //!
 //! Here are a command's arguments, standard input, output and error, and the status; what lines
-//! spell and what is printed is in `venue_text`, what firms are sent in `step_replay`. The program
-//! is `rfq_venue`.
+//! spell is in `input_lines`, what is printed in `venue_text`, what firms are sent in `step_replay`.
+//! The program is `rfq_venue`.
 //!
 //! # What is promised
 //!

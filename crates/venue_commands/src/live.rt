@@ -11,10 +11,11 @@ ghost use Rattle.venue_commands.specs.Written.{GainsPart};
 
 use crate::command::LineForm;
 use crate::program::{print_text, report};
+use input_lines::{MOST_INPUT, ProgramFault, same_text};
 use std::alloc::Global;
 use std::io::{Read, Write};
 use std::mem;
-use venue_text::{KeptDay, LiveDay, MOST_INPUT, ProgramFault, Wanted, compared_text, same_text};
+use venue_text::{KeptDay, LiveDay, Wanted, compared_text};
 
 /// How many lines a day that goes on may have.
 pub const MOST_LINES: usize = 1_000_000_000_000_000;

@@ -5,6 +5,7 @@ ghost use Rattle.venue_commands.specs.Runs as spec;
 
 use crate::output::write_text;
 use crate::program::{report, run_program};
+use input_lines::ProgramFault;
 use std::alloc::Global;
 use std::env;
 use std::io::{ErrorKind, Read, Write};
@@ -13,7 +14,6 @@ use std::process::ExitCode;
 use std::rt::Env;
 use std::sync::Wait;
 use std::thread::Threads;
-use venue_text::ProgramFault;
 
 /// Why the arguments of the process could not be read.
 #[derive(Drop)]

@@ -3,7 +3,7 @@ ghost use Rattle.std.specs.Prelude.{◌≡◌, ◌≢◌, ◌++◌, [], ◌∷�
 ghost use Rattle.std.specs.Prelude.{OnOk, OnErr};
 ghost use Rattle.std.specs.Io.KnownBytes.{Appends};
 ghost use Rattle.clap.specs.Words.{kind_of};
-ghost use Rattle.venue_text.specs.Faults as faults;
+ghost use Rattle.input_lines.specs.Faults as faults;
 ghost use Rattle.venue_commands.specs.Arguments.{line_form, meant};
 ghost use Rattle.venue_commands.specs.Runs as spec;
 ghost use Rattle.venue_commands.specs.Written.{GainsPart};
@@ -14,13 +14,13 @@ use crate::live::run_live;
 use crate::output::write_text;
 use crate::texts::{command_text, command_word};
 use clap::Error;
+use input_lines::{ProgramFault, fault_line};
 use std::alloc::Global;
 use std::convert::AsStr;
 use std::io::{Read, Write};
 use std::marker::Sync;
 use std::sync::Wait;
 use std::thread::Threads;
-use venue_text::{ProgramFault, fault_line};
 
 /// Runs the program: reads what its arguments ask for from `input`, prints it to `out`, and
 /// answers the exit status: 0 is done. A fault is told in one line on `err`, with status 1; wrong

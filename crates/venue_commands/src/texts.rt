@@ -6,13 +6,13 @@ ghost use Rattle.venue_text.specs.KeptDays as kept;
 
 use crate::command::VenueCommand;
 use crate::days::day_text;
+use input_lines::ProgramFault;
 use std::alloc::Global;
 use std::marker::Sync;
 use std::sync::Wait;
 use std::thread::Threads;
 use venue_text::{
-    ProgramFault, Wanted, alone_text, blotter_command_text, compare_text, due_command_text,
-    replay_text,
+    Wanted, alone_text, blotter_command_text, compare_text, due_command_text, replay_text,
 };
 
 /// What a command prints for an input, or the input's first fault; memory may be refused at any

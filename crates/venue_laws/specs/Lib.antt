@@ -2,3 +2,5 @@ pub mod Answers
 pub mod Conditions
 pub mod Notices
 pub mod PriceAlike
+pub mod PricedDays
+pub mod WorkedDays

@@ -1,5 +1,5 @@
-//! What no file of cases can say: days on threads, with the races that a gate forces; memory that is
-//! refused, at each allocation in turn; and worked days that a proof computes from the definitions.
+//! What no file of cases can say: days on threads, with the races that a gate forces, and memory that is
+//! refused, at each allocation in turn.
 //!
 //! All other cases are lines (`crates/all_cases/data`).
 #![tactic(auto)]
@@ -10,8 +10,3 @@ mod boards;
 mod days;
 #[cfg(test)]
 mod memory;
-mod priced_days;
-mod worked_days;
-
-pub use priced_days::definitions_give_the_priced_days;
-pub use worked_days::definitions_give_the_worked_days;

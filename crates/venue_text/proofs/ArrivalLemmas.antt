@@ -9,15 +9,15 @@ use Rattle.step_replay.specs.FirmDays.{FirmDay}
 use Rattle.recorded_days.specs.Records.{FirmLists}
 use Rattle.step_replay.specs.declared.steps.Step.{Step}
 use Rattle.venue_text.specs.ArrivingDays.{arrival_of_line, arrivals_from, inbox_of, inboxes_of, is_of_turns}
-use Rattle.venue_text.specs.DueText.{Lines}
+use Rattle.input_lines.specs.DueText.{Lines}
 use Rattle.venue_text.specs.RecordText.{recorded_day}
-use Rattle.venue_text.specs.ResultSteps.{◌>>=◌}
-use Rattle.venue_text.specs.StepLines.{Heard, Read, names_of_firms, steps_of_line}
-use Rattle.venue_text.specs.StepReading.{counted, read_as, steps_in}
-use Rattle.venue_text.specs.declared.faults.ProgramFault.{ProgramFault}
-use Rattle.venue_text.specs.declared.faults.ProgramFault.TheVariants.{Form}
-use Rattle.venue_text.specs.declared.spelled.Spelled.{Spelled}
-use Rattle.venue_text.proofs.StepLemmas.{behind_steps, behind_steps-more}
+use Rattle.input_lines.specs.ResultSteps.{◌>>=◌}
+use Rattle.input_lines.specs.StepLines.{Heard, Read, names_of_firms, steps_of_line}
+use Rattle.input_lines.specs.StepReading.{counted, read_as, steps_in}
+use Rattle.input_lines.specs.declared.faults.ProgramFault.{ProgramFault}
+use Rattle.input_lines.specs.declared.faults.ProgramFault.TheVariants.{Form}
+use Rattle.input_lines.specs.declared.line_steps.Spelled.{Spelled}
+use Rattle.input_lines.specs.StepLemmas.{behind_steps, behind_steps-more}
 
 module _ (config : ConfigValues) (heard : Heard) (k : ℕ) (text : List ℕ) (rest : Lines) (done : List Step) where
   -- a line that gives no turns

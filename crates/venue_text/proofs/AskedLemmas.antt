@@ -2,11 +2,11 @@
 use Rattle.std.proofs.Common.{◌≡◌, ℕ, List, length, ap, ◌∙◌, false, nat_lt, cond, Result, Ok, Err}
 use Rattle.venue_config.specs.Rows.{ConfigValues}
 use Rattle.venue_text.specs.AskedDays.{SpelledDay, day_for, one_day, two_days}
-use Rattle.venue_text.specs.ResultSteps.{◌>>=◌}
-use Rattle.venue_text.specs.VenueParts.{DayParts, day_parts_of, two_days_parts_of}
-use Rattle.venue_text.specs.declared.faults.ProgramFault.{ProgramFault}
-use Rattle.venue_text.specs.declared.faults.ProgramFault.TheVariants.{Input}
-use Rattle.venue_text.specs.declared.lines.TheConstants.{MOST_INPUT}
+use Rattle.input_lines.specs.ResultSteps.{◌>>=◌}
+use Rattle.input_lines.specs.VenueParts.{DayParts, day_parts_of, two_days_parts_of}
+use Rattle.input_lines.specs.declared.faults.ProgramFault.{ProgramFault}
+use Rattle.input_lines.specs.declared.faults.ProgramFault.TheVariants.{Input}
+use Rattle.input_lines.specs.declared.lines.TheConstants.{MOST_INPUT}
 
 pub one_day_is : {A : Type 0} (names : ConfigValues → Result A ProgramFault) (input : List ℕ) (parts : DayParts) (day : A × SpelledDay)
     → nat_lt MOST_INPUT (length input) ≡ false → day_parts_of input ≡ Ok parts → day_for names parts ≡ Ok day

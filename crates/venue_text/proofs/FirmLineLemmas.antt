@@ -18,22 +18,22 @@ use Rattle.step_replay.specs.LiveDays.{Sent, live_messages, live_trail, messages
 use Rattle.step_replay.specs.StepFaults.{firms_of}
 use Rattle.step_replay.specs.declared.steps.Step.{Step}
 use Rattle.venue_text.specs.AskedDays.{firm_by}
-use Rattle.venue_text.specs.DueText.{Lines}
+use Rattle.input_lines.specs.DueText.{Lines}
 use Rattle.venue_text.specs.FirmLines.{firm_lines, firm_part, line_messages, those_of}
 use Rattle.venue_text.specs.KeptDays.{kept_text, messages, text_if}
 use Rattle.venue_text.specs.LiveInput.{as_part, numbered_in, taken_in, taken_of}
-use Rattle.venue_text.specs.Lines.{is_skipped}
+use Rattle.input_lines.specs.Lines.{is_skipped}
 use Rattle.venue_text.specs.LiveLines.{Taken, live_steps_of, nothing_taken, sent_line, sent_text}
 use Rattle.venue_text.specs.LiveLines.{with_any_line, with_read}
 use Rattle.venue_text.specs.MessageLines.{line_of, messages_text}
 use Rattle.venue_text.specs.ReplayText.{days_text, named_days}
-use Rattle.venue_text.specs.ResultSteps.{◌>>=◌}
-use Rattle.venue_text.specs.StepLines.{Read, asked, firm_named}
-use Rattle.venue_text.specs.VenueParts.{part_behind}
-use Rattle.venue_text.specs.declared.faults.ProgramFault.{ProgramFault}
+use Rattle.input_lines.specs.ResultSteps.{◌>>=◌}
+use Rattle.input_lines.specs.StepLines.{Read, asked, firm_named}
+use Rattle.input_lines.specs.VenueParts.{part_behind}
+use Rattle.input_lines.specs.declared.faults.ProgramFault.{ProgramFault}
 use Rattle.venue_text.specs.declared.kept_days.Asked.TheVariants as by_number
 use Rattle.venue_text.proofs.DayLemmas.{length_names, messages_at}
-use Rattle.venue_text.proofs.FirmLemmas.{firm_is_known, same_firm}
+use Rattle.input_lines.specs.FirmLemmas.{firm_is_known, same_firm}
 use Rattle.venue_text.proofs.LiveGrowth.{messages_grow, no_messages}
 use Rattle.venue_text.proofs.LiveLemmas.{any_lines, any_skipped, any_spoken}
 

@@ -17,16 +17,16 @@ use Rattle.venue_text.specs.KeptDays.{Keeps, KeepsMore, OpensKept, Wanted, asked
 use Rattle.venue_text.specs.KeptDays.{dues, kept_text, text_if, text_of_asked}
 use Rattle.venue_text.specs.LiveAnswers.{Goes, Opens, Tells}
 use Rattle.venue_text.specs.LiveLines.{Taken}
-use Rattle.venue_text.specs.ResultSteps.{◌>>=◌}
-use Rattle.venue_text.specs.StepLines.{asked, dealer_named}
-use Rattle.venue_text.specs.VenueParts.{venue_of}
-use Rattle.venue_text.specs.declared.faults.ProgramFault.{ProgramFault}
+use Rattle.input_lines.specs.ResultSteps.{◌>>=◌}
+use Rattle.input_lines.specs.StepLines.{asked, dealer_named}
+use Rattle.input_lines.specs.VenueParts.{venue_of}
+use Rattle.input_lines.specs.declared.faults.ProgramFault.{ProgramFault}
 use Rattle.venue_text.specs.declared.kept_days.Asked.{Asked}
 use Rattle.venue_text.specs.declared.kept_days.Asked.TheVariants as by_number
 use Rattle.venue_text.specs.declared.kept_days.KeptDay.{KeptDay}
 use Rattle.venue_text.specs.declared.live_form.LiveForm.{LiveForm}
 use Rattle.venue_text.specs.declared.live_lines.LiveDay.{LiveDay}
-use Rattle.venue_text.proofs.FirmLemmas.{found_within}
+use Rattle.input_lines.specs.FirmLemmas.{found_within}
 use Rattle.venue_text.proofs.LiveLemmas.{faults_told}
 
 -- a day goes on in its own form, whichever that is

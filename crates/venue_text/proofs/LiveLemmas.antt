@@ -13,20 +13,20 @@ use Rattle.step_replay.specs.LiveDays.{Sent, live_messages}
 use Rattle.step_replay.specs.LiveStanding.{Answers, AnswersSweeps, IsAt}
 use Rattle.step_replay.specs.declared.live.LiveVenue.{LiveVenue}
 use Rattle.step_replay.specs.declared.steps.Step.{Step}
-use Rattle.venue_text.specs.DueText.{Lines}
-use Rattle.venue_text.specs.Lines.{is_skipped, spoken_from}
+use Rattle.input_lines.specs.DueText.{Lines}
+use Rattle.input_lines.specs.Lines.{is_skipped, spoken_from}
 use Rattle.venue_text.specs.LiveAnswers.{AreTold, Gives, Goes, Tells}
 use Rattle.venue_text.specs.LiveInput.{as_part, lines_text, numbered_from, numbered_in, taken_in, taken_of, text_in}
 use Rattle.venue_text.specs.LiveLines.{Taken, done_mark, fault_in, gained_messages, line_fault, line_text, live_steps_of}
 use Rattle.venue_text.specs.LiveLines.{live_text, nothing_taken, read_text, sent_line, sent_text, told_text}
 use Rattle.venue_text.specs.LiveLines.{with_any_line, with_line, with_read}
-use Rattle.venue_text.specs.StepLines.{Heard, Read, sweeps_at, venue_rooms}
-use Rattle.venue_text.specs.VenueParts.{part_behind}
-use Rattle.venue_text.specs.declared.faults.ProgramFault.{ProgramFault}
+use Rattle.input_lines.specs.StepLines.{Heard, Read, sweeps_at, venue_rooms}
+use Rattle.input_lines.specs.VenueParts.{part_behind}
+use Rattle.input_lines.specs.declared.faults.ProgramFault.{ProgramFault}
 use Rattle.venue_text.specs.declared.live_form.LiveForm.{LiveForm}
 use Rattle.venue_text.specs.declared.live_lines.LiveDay.{LiveDay}
 use Rattle.venue_text.proofs.LiveGrowth.{messages_grow, no_text}
-use Rattle.venue_text.proofs.RoomLemmas.{rooms_are}
+use Rattle.input_lines.specs.RoomLemmas.{rooms_are}
 
 pub told_none : (config : Configuration) (taken : List Step) (venue : LiveVenue)
     → IsAt config taken venue → AreTold config taken [] venue []

@@ -17,12 +17,11 @@ use Rattle.market_terms.specs.declared.closes.Close.TheVariants as close
 use Rattle.quote_messages.specs.Texts.{number_of}
 use Rattle.step_replay.specs.declared.dues.Due.{Due}
 use Rattle.step_replay.specs.declared.dues.Due.TheVariants as due
-use Rattle.venue_text.specs.DueLines.{close_of, closed_of, drop_of}
-use Rattle.venue_text.specs.Lines.{behind_part, first_part, time_of}
-use Rattle.venue_text.specs.MessageLines.{with_bar}
-use Rattle.venue_text.specs.OptionSteps.{◌>>=◌}
+use Rattle.input_lines.specs.DueLines.{close_of, closed_of, drop_of}
+use Rattle.input_lines.specs.Lines.{behind_part, first_part, time_of}
+use Rattle.input_lines.specs.OptionSteps.{◌>>=◌}
 use Rattle.venue_text.specs.ReadBack.{ReadsAs, is_in_line, is_in_part, is_short}
-use Rattle.venue_text.specs.SayLine.{hexed_of, received_of, soh_for_bar}
+use Rattle.input_lines.specs.SayLine.{hexed_of, received_of, soh_for_bar, with_bar}
 use Rattle.venue_text.specs.WrittenDues.{bytes_line, due_line, hex_line}
 use Rattle.venue_text.specs.WrittenDues.{is_unsayable, own_line}
 use Rattle.venue_text.proofs.ReadBackParts.{all_append, all_more, behind_is, decimal_in_part, first_is}

@@ -7,15 +7,15 @@ use Rattle.std.proofs.lemmas.List.{append_assoc}
 use Rattle.step_replay.specs.declared.dues.Due.{Due}
 use Rattle.venue_config.specs.Rows.{DealerValues}
 use Rattle.venue_config.specs.Texts.{same_text}
-use Rattle.venue_text.specs.DueLines.{date_of, row_of}
-use Rattle.venue_text.specs.DueText.{Lines, Spelled, at_line, due_text_of, dues_from, next_line, undivided_lines}
-use Rattle.venue_text.specs.Lines.{lines_of, one_past, spoken_from, spoken_lines}
+use Rattle.input_lines.specs.DueLines.{date_of, row_of}
+use Rattle.input_lines.specs.DueText.{Lines, Spelled, at_line, due_text_of, dues_from, next_line, undivided_lines}
+use Rattle.input_lines.specs.Lines.{lines_of, one_past, spoken_from, spoken_lines}
 use Rattle.venue_text.specs.ReadBack.{AreHeader, AreReadBack, ReadsAs, is_sayable}
-use Rattle.venue_text.specs.ResultSteps.{◌>>=◌}
+use Rattle.input_lines.specs.ResultSteps.{◌>>=◌}
 use Rattle.venue_text.specs.WrittenDues.{due_lines}
-use Rattle.venue_text.specs.declared.faults.ProgramFault.{ProgramFault}
-use Rattle.venue_text.specs.declared.faults.ProgramFault.TheVariants.{Parts}
-use Rattle.venue_text.proofs.CutLemmas.{spoken_stop}
+use Rattle.input_lines.specs.declared.faults.ProgramFault.{ProgramFault}
+use Rattle.input_lines.specs.declared.faults.ProgramFault.TheVariants.{Parts}
+use Rattle.input_lines.specs.FrontLemmas.{spoken_stop}
 use Rattle.venue_text.proofs.ReadBackParts.{line_first}
 
 -- each item that can be said is read back

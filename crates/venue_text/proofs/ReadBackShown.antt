@@ -19,9 +19,9 @@ use Rattle.quote_messages.specs.Texts.{number_of}
 use Rattle.step_replay.specs.declared.dues.Due.{Due}
 use Rattle.step_replay.specs.declared.dues.Due.TheVariants as due
 use Rattle.venue_config.specs.Texts.{is_among, is_bond_id, is_firm_name, is_name, reserved_names, text_if}
-use Rattle.venue_text.specs.DueLines.{asked_quantity, grid_behind, shown_of}
-use Rattle.venue_text.specs.Lines.{behind_part, first_part, side_of, time_of}
-use Rattle.venue_text.specs.OptionSteps.{◌>>=◌}
+use Rattle.input_lines.specs.DueLines.{asked_quantity, grid_behind, shown_of}
+use Rattle.input_lines.specs.Lines.{behind_part, first_part, side_of, time_of}
+use Rattle.input_lines.specs.OptionSteps.{◌>>=◌}
 use Rattle.venue_text.specs.ReadBack.{ReadsAs, is_in_line, is_in_part}
 use Rattle.venue_text.specs.WrittenDues.{end_text, grid_text}
 use Rattle.venue_text.proofs.ReadBackParts.{all_append, all_more, behind_is, bond_in_part, decimal_in_part}

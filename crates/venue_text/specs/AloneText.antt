@@ -5,11 +5,11 @@ use Rattle.venue_config.specs.Rows.{dealer_values}
 use Rattle.venue_config.specs.declared.dealer_rows.DealerRow.{DealerRow}
 use Rattle.step_replay.specs.DealerView.{dealer_view}
 use Rattle.step_replay.specs.declared.dues.Due.{Due}
-use Rattle.venue_text.specs.DueText.{Spelled, due_text_of}
+use Rattle.input_lines.specs.DueText.{Spelled, due_text_of}
 use Rattle.venue_text.specs.MessageLines.{messages_text}
-use Rattle.venue_text.specs.declared.lines.TheConstants.{MOST_INPUT}
-use Rattle.venue_text.specs.declared.faults.ProgramFault.{ProgramFault}
-use Rattle.venue_text.specs.declared.faults.ProgramFault.TheVariants.{Input}
+use Rattle.input_lines.specs.declared.lines.TheConstants.{MOST_INPUT}
+use Rattle.input_lines.specs.declared.faults.ProgramFault.{ProgramFault}
+use Rattle.input_lines.specs.declared.faults.ProgramFault.TheVariants.{Input}
 
 -- the fault of what was read, if it has one
 abbrev pub fault_of_reading : Result Spelled ProgramFault → Option ProgramFault

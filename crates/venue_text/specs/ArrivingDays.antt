@@ -11,13 +11,13 @@ use Rattle.recorded_days.specs.declared.actions.Sweep.{Sweep}
 use Rattle.step_replay.specs.declared.steps.Step.{Step}
 use Rattle.step_replay.specs.declared.steps.Step.TheVariants as step
 use Rattle.venue_text.specs.AskedDays.{sized}
-use Rattle.venue_text.specs.DueText.{Lines}
-use Rattle.venue_text.specs.Lines.{first_part}
-use Rattle.venue_text.specs.ResultSteps.{◌>>=◌}
-use Rattle.venue_text.specs.StepLines.{Heard, Read, names_of_firms, nothing_heard, steps_of_line}
-use Rattle.venue_text.specs.VenueParts.{DayParts, day_parts_of, venue_of}
-use Rattle.venue_text.specs.declared.faults.ProgramFault.{ProgramFault}
-use Rattle.venue_text.specs.declared.faults.ProgramFault.TheVariants.{Form}
+use Rattle.input_lines.specs.DueText.{Lines}
+use Rattle.input_lines.specs.Lines.{first_part}
+use Rattle.input_lines.specs.ResultSteps.{◌>>=◌}
+use Rattle.input_lines.specs.StepLines.{Heard, Read, names_of_firms, nothing_heard, steps_of_line}
+use Rattle.input_lines.specs.VenueParts.{DayParts, day_parts_of, venue_of}
+use Rattle.input_lines.specs.declared.faults.ProgramFault.{ProgramFault}
+use Rattle.input_lines.specs.declared.faults.ProgramFault.TheVariants.{Form}
 
 -- whether a line gives turns
 abbrev pub is_of_turns : List ℕ → Bool

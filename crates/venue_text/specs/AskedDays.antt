@@ -3,12 +3,12 @@ use Rattle.std.specs.Prelude.{ℕ, List, length, nat_lt, Option, Some, None, Res
 use Rattle.std.specs.Prelude.{if◌then◌else◌}
 use Rattle.venue_config.specs.Rows.{ConfigValues}
 use Rattle.step_replay.specs.declared.steps.Step.{Step}
-use Rattle.venue_text.specs.ResultSteps.{◌>>=◌}
-use Rattle.venue_text.specs.StepLines.{asked, dealer_named, firm_named, steps_of}
-use Rattle.venue_text.specs.VenueParts.{DayParts, day_parts_of, two_days_parts_of, venue_of}
-use Rattle.venue_text.specs.declared.faults.ProgramFault.{ProgramFault}
-use Rattle.venue_text.specs.declared.faults.ProgramFault.TheVariants.{Input}
-use Rattle.venue_text.specs.declared.lines.TheConstants.{MOST_INPUT}
+use Rattle.input_lines.specs.ResultSteps.{◌>>=◌}
+use Rattle.input_lines.specs.StepLines.{asked, dealer_named, firm_named, steps_of}
+use Rattle.input_lines.specs.VenueParts.{DayParts, day_parts_of, two_days_parts_of, venue_of}
+use Rattle.input_lines.specs.declared.faults.ProgramFault.{ProgramFault}
+use Rattle.input_lines.specs.declared.faults.ProgramFault.TheVariants.{Input}
+use Rattle.input_lines.specs.declared.lines.TheConstants.{MOST_INPUT}
 
 -- a venue, and the steps of its day
 pub record SpelledDay : Type 0 where

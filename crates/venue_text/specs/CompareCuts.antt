@@ -2,7 +2,7 @@
 use Rattle.std.specs.Prelude.{ℕ, []}
 use Rattle.venue_config.specs.Rows.{Configuration}
 use Rattle.venue_text.specs.CompareText.{Run}
-use Rattle.venue_text.specs.declared.asked_days.AskedDay.{AskedDay}
+use Rattle.venue_text.specs.declared.day_arguments.AskedDay.{AskedDay}
 
 -- the run of a day that was read
 abbrev pub run_of : AskedDay → Run

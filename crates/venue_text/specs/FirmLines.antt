@@ -3,10 +3,10 @@
 use Rattle.std.specs.Prelude.{ℕ, Bool, ◌==◌, List, [], ◌∷◌, ◌++◌, drop, length, filter}
 use Rattle.venue_config.specs.Rows.{Configuration, values_of}
 use Rattle.step_replay.specs.LiveDays.{Sent, live_messages}
-use Rattle.venue_text.specs.DueText.{Lines}
+use Rattle.input_lines.specs.DueText.{Lines}
 use Rattle.venue_text.specs.LiveInput.{as_part, numbered_in}
 use Rattle.venue_text.specs.LiveLines.{Taken, nothing_taken, sent_text, with_any_line}
-use Rattle.venue_text.specs.VenueParts.{part_behind}
+use Rattle.input_lines.specs.VenueParts.{part_behind}
 
 -- the messages of the firm with this number
 abbrev pub those_of : ℕ → List Sent → List Sent

@@ -14,9 +14,9 @@ use Rattle.venue_text.specs.DueCommand.{due_text}
 use Rattle.venue_text.specs.LiveAnswers.{Goes}
 use Rattle.venue_text.specs.LiveLines.{Taken, nothing_taken, with_any_line}
 use Rattle.venue_text.specs.ReplayText.{days_text, named_days}
-use Rattle.venue_text.specs.ResultSteps.{◌>>=◌}
-use Rattle.venue_text.specs.VenueParts.{venue_of}
-use Rattle.venue_text.specs.declared.faults.ProgramFault.{ProgramFault}
+use Rattle.input_lines.specs.ResultSteps.{◌>>=◌}
+use Rattle.input_lines.specs.VenueParts.{venue_of}
+use Rattle.input_lines.specs.declared.faults.ProgramFault.{ProgramFault}
 use Rattle.venue_text.specs.declared.kept_days.Asked.{Asked}
 use Rattle.venue_text.specs.declared.kept_days.Asked.TheVariants as asked
 use Rattle.venue_text.specs.declared.kept_days.KeptDay.{KeptDay}

@@ -7,8 +7,8 @@ use Rattle.step_replay.specs.LiveStanding.{IsAt}
 use Rattle.step_replay.specs.declared.live.LiveVenue.{LiveVenue}
 use Rattle.step_replay.specs.declared.steps.Step.{Step}
 use Rattle.venue_text.specs.LiveLines.{Taken, line_fault, line_text, nothing_taken, with_any_line}
-use Rattle.venue_text.specs.VenueParts.{venue_of}
-use Rattle.venue_text.specs.declared.faults.ProgramFault.{ProgramFault}
+use Rattle.input_lines.specs.VenueParts.{venue_of}
+use Rattle.input_lines.specs.declared.faults.ProgramFault.{ProgramFault}
 use Rattle.venue_text.specs.declared.live_form.LiveForm.{LiveForm}
 use Rattle.venue_text.specs.declared.live_lines.LiveDay.{LiveDay}
 

@@ -4,9 +4,9 @@
 use Rattle.std.specs.Prelude.{ℕ, ◌+◌, Bool, List, [], ◌∷◌, ◌++◌, fold}
 use Rattle.std.specs.List.{list_any}
 use Rattle.venue_config.specs.Rows.{ConfigValues, Configuration, values_of}
-use Rattle.venue_text.specs.DueText.{Lines}
+use Rattle.input_lines.specs.DueText.{Lines}
 use Rattle.venue_text.specs.LiveLines.{Taken, line_text, nothing_taken, with_any_line, with_line}
-use Rattle.venue_text.specs.VenueParts.{InputPart, is_divider, part_before, part_behind, spoken_in, text_of}
+use Rattle.input_lines.specs.VenueParts.{InputPart, is_divider, part_before, part_behind, spoken_in, text_of}
 use Rattle.venue_text.specs.declared.live_form.LiveForm.{LiveForm}
 
 -- what lines bring, one after the other

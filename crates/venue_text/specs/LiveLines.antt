@@ -9,11 +9,11 @@ use Rattle.venue_config.specs.Texts.{same_text}
 use Rattle.step_replay.specs.Deadlines.{next_deadline}
 use Rattle.step_replay.specs.LiveDays.{Sent, live_messages, live_trail}
 use Rattle.step_replay.specs.declared.steps.Step.{Step}
-use Rattle.venue_text.specs.Lines.{first_part, is_skipped}
+use Rattle.input_lines.specs.Lines.{first_part, is_skipped}
 use Rattle.venue_text.specs.MessageLines.{line_of}
-use Rattle.venue_text.specs.StepLines.{Heard, Read, names_of_firms, nothing_heard, steps_of_line}
-use Rattle.venue_text.specs.declared.faults.ProgramFault.{ProgramFault}
-use Rattle.venue_text.specs.declared.faults.ProgramFault.TheVariants.{Form, Stream, UnknownFirm, UnknownRoom}
+use Rattle.input_lines.specs.StepLines.{Heard, Read, names_of_firms, nothing_heard, steps_of_line}
+use Rattle.input_lines.specs.declared.faults.ProgramFault.{ProgramFault}
+use Rattle.input_lines.specs.declared.faults.ProgramFault.TheVariants.{Form, Stream, UnknownFirm, UnknownRoom}
 use Rattle.venue_text.specs.declared.live_form.LiveForm.{LiveForm}
 
 -- what a line spells: as a line of a day, but turns follow of themselves

@@ -1,13 +1,10 @@
 -- Messages as lines.
-use Rattle.std.specs.Prelude.{ℕ, Bool, ◌==◌, List, [], ◌∷◌, ◌++◌, map, take, drop, decimal}
+use Rattle.std.specs.Prelude.{ℕ, Bool, List, [], ◌∷◌, ◌++◌, map, take, drop, decimal}
 use Rattle.std.specs.Prelude.{unwrap_or, if◌then◌else◌}
 use Rattle.std.specs.List.{flat_map}
 use Rattle.fix_fields.specs.Frame.{Field, frame_of}
 use Rattle.quote_messages.specs.SessionLines.{text_at}
-
--- a vertical bar stands for SOH
-abbrev pub with_bar : ℕ → ℕ
-with_bar c = if c == 1 then 124 else c
+use Rattle.input_lines.specs.SayLine.{with_bar}
 
 -- a message as its whole frame: `FIRM FRAME`
 abbrev pub frame_line : List ℕ → List ℕ → List ℕ

@@ -6,9 +6,9 @@ use Rattle.venue_config.specs.Rows.{DealerValues}
 use Rattle.venue_config.specs.Texts.{is_firm_name, same_text}
 use Rattle.step_replay.specs.declared.dues.Due.{Due}
 use Rattle.step_replay.specs.declared.dues.Due.TheVariants as due
-use Rattle.venue_text.specs.DueLines.{date_of, due_of, row_of}
-use Rattle.venue_text.specs.DueText.{due_text_of, dues_from}
-use Rattle.venue_text.specs.Lines.{is_skipped, lines_of, spoken_from}
+use Rattle.input_lines.specs.DueLines.{date_of, due_of, row_of}
+use Rattle.input_lines.specs.DueText.{due_text_of, dues_from}
+use Rattle.input_lines.specs.Lines.{is_skipped, lines_of, spoken_from}
 use Rattle.venue_text.specs.WrittenDues.{due_line, due_lines}
 
 -- a number that due text can say: of at most nine digits

@@ -9,7 +9,7 @@ use Rattle.market_terms.specs.Codes.{close_code, side_code}
 use Rattle.market_terms.specs.declared.asks.Ask.{Ask}
 use Rattle.step_replay.specs.declared.dues.Due.{Due}
 use Rattle.step_replay.specs.declared.dues.Due.TheVariants as due
-use Rattle.venue_text.specs.MessageLines.{with_bar}
+use Rattle.input_lines.specs.SayLine.{with_bar}
 
 -- INVESTOR BOND SIDE QUANTITY
 abbrev pub terms_text : Ask → List ℕ

@@ -8,11 +8,11 @@ ghost use Rattle.venue_text.specs.KeptComparison as spec;
 ghost use Rattle.venue_text.specs.KeptDays.{Keeps, dues};
 ghost use Rattle.venue_text.specs.LiveLines.{Taken};
 
-use crate::kept_days::{Asked, KeptDay};
-use crate::live_lines::LiveDay;
-use crate::printed_comparison::{
+use crate::compare_command::{
     due_difference, has_same_row, message_difference, sent_in, three_lines,
 };
+use crate::kept_days::{Asked, KeptDay};
+use crate::live_lines::LiveDay;
 use fix_fields::Memory;
 use std::alloc::Global;
 

@@ -6,15 +6,14 @@ ghost use Rattle.venue_config.specs.Rows.{Configuration, values_of};
 ghost use Rattle.venue_text.specs.KeptDays as spec;
 ghost use Rattle.venue_text.specs.LiveLines.{Taken};
 
-use crate::asked_days::asked_firms;
-use crate::faults::ProgramFault;
+use crate::blotter_command::lines_text;
+use crate::day_arguments::asked_firms;
+use crate::due_command::written_text;
 use crate::live_form::LiveForm;
 use crate::live_lines::LiveDay;
-use crate::printed_blotter::lines_text;
-use crate::printed_due::written_text;
-use crate::printed_replay::days_text;
-use crate::venue_parts::{asked_dealer, asked_firm};
+use crate::replay_command::days_text;
 use fix_fields::Memory;
+use input_lines::{ProgramFault, asked_dealer, asked_firm};
 use std::alloc::Global;
 use venue_config::VenueConfig;
 

@@ -7,7 +7,7 @@ ghost use Rattle.step_replay.specs.declared.steps.Step.{Step};
 ghost use Rattle.venue_config.specs.Rows.{ConfigValues, Configuration, dealer_numbered, values_of};
 ghost use Rattle.venue_config.specs.declared.dealer_rows.DealerRow.{DealerRow};
 ghost use Rattle.venue_text.specs.AskedDays.{firm_by};
-ghost use Rattle.venue_text.specs.DueText.{Lines};
+ghost use Rattle.input_lines.specs.DueText.{Lines};
 ghost use Rattle.venue_text.specs.FirmLines.{firm_part, line_messages};
 ghost use Rattle.venue_text.specs.KeptDays.{kept_text, messages};
 ghost use Rattle.venue_text.specs.LiveInput as spec;

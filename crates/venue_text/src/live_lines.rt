@@ -7,22 +7,19 @@ ghost use Rattle.venue_config.specs.Rows.{Configuration, values_of};
 ghost use Rattle.venue_text.specs.LiveAnswers as spec;
 ghost use Rattle.venue_text.specs.LiveLines as lines;
 ghost use Rattle.venue_text.specs.LiveLines.{Taken};
-ghost use Rattle.venue_text.specs.StepLines.{sweeps_at, venue_rooms};
-ghost use Rattle.venue_text.specs.StepReading.{steps_in};
-ghost use Rattle.venue_text.specs.VenueParts.{venue_of};
+ghost use Rattle.input_lines.specs.StepLines.{sweeps_at, venue_rooms};
+ghost use Rattle.input_lines.specs.StepReading.{steps_in};
+ghost use Rattle.input_lines.specs.VenueParts.{venue_of};
 
-use crate::faults::ProgramFault;
-use crate::heard::Heard;
-use crate::lines::is_skipped;
 use crate::live_form::LiveForm;
 use crate::live_marks::{fault_mark, push_done_mark};
 use crate::message_lines::push_sent_line;
-use crate::parts::{cut_part, same_text};
-use crate::printed_replay::firm_name;
-use crate::spelled::{Spelled, count_line, push_steps};
-use crate::step_lines::read_line;
-use crate::venue_parts::read_venue;
+use crate::replay_command::firm_name;
 use fix_fields::{Memory, Moment};
+use input_lines::{
+    Heard, ProgramFault, Spelled, count_line, cut_part, is_skipped, push_steps, read_line,
+    read_venue, same_text,
+};
 use std::alloc::{AllocError, Global};
 use step_replay::{LiveVenue, SentTo, Step};
 use venue_config::VenueConfig;

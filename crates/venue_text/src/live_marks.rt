@@ -2,9 +2,9 @@
 ghost use Rattle.std.specs.Prelude.{◌≡◌, ◌++◌, OnOk, IfOk};
 ghost use Rattle.venue_text.specs.LiveLines as spec;
 
-use crate::faults::ProgramFault;
 use crate::live_form::LiveForm;
 use fix_fields::{Memory, Moment, time_text};
+use input_lines::ProgramFault;
 use itoa::Buffer;
 use std::alloc::Global;
 

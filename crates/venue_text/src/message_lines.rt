@@ -5,6 +5,7 @@ ghost use Rattle.venue_text.specs.MessageLines as spec;
 
 use arrayvec::ArrayVec;
 use fix_fields::{Fields, Memory};
+use input_lines::push_barred;
 use itoa::Buffer;
 use quote_messages::SentMessage;
 use std::alloc::Global;
@@ -72,16 +73,6 @@ fn push_frame_line(text: &mut Vec<u8>, firm: &Name, message: &[u8]) -> Result<()
     text.push(b' ')?;
     push_barred(text, message)?;
     text.push(b'\n')?;
-    Ok(())
-}
-
-/// The bytes of a message, with a vertical bar for each SOH.
-pub(crate) fn push_barred(text: &mut Vec<u8>, message: &[u8]) -> Result<(), Memory>
-    ensures { OnOk result (text.new.items ≡ text.old.items ++ map spec.with_bar message.now) }
-{
-    for byte in message {
-        text.push(if *byte == 1 { b'|' } else { *byte })?;
-    }
     Ok(())
 }
 

@@ -1,4 +1,5 @@
 //! Days as texts: a configuration, a line `%%` and the lines of a day, and what each firm is sent.
+use input_lines::{MOST_INPUT, day_parts, read_steps, read_venue};
 use quote_messages::SentMessage;
 use recorded_days::{DayRecord, Inbound, Sweep, weave};
 use session_worker::{DayFault, Gate, Point, run_day};
@@ -8,7 +9,7 @@ use std::test::Fail;
 use std::thread::Threads;
 use step_replay::{Step, alone, run};
 use venue_config::{Name, VenueConfig};
-use venue_text::{MOST_INPUT, day_parts, messages_text, read_steps, read_venue};
+use venue_text::messages_text;
 
 /// The venue: two bonds, the dealers DLR1, DLR2 and DLR3, firms 0 to 2, and the investors INV1 and
 /// INV2, firms 3 and 4; and the line that divides it from the lines of a day.

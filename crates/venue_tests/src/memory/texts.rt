@@ -4,6 +4,7 @@ use blotter::blotter_text;
 use bond_prices::Ticks;
 use case_lines::VENUE;
 use fix_fields::Date;
+use input_lines::{MOST_INPUT, ProgramFault, day_parts, read_steps, read_venue};
 use market_terms::{
     FirmLines, Id, IdBuf, Quantity, QuoteLine, QuoteState, RequestLine, RequestState, Side,
 };
@@ -15,7 +16,6 @@ use std::process::Abort;
 use std::test::Fail;
 use step_replay::Step;
 use venue_config::BondId;
-use venue_text::{MOST_INPUT, ProgramFault, day_parts, read_steps, read_venue};
 
 /// A frame of 166 bytes: DLR1 is told that its quote a1 was hit.
 const NOTICE: &[u8] = b"8=FIXT.1.1\x019=142\x0135=AJ\x0149=VENUE\x0156=DLR1\x0134=3\x01\

@@ -1,6 +1,6 @@
 use Rattle.std.proofs.Common.{List, ℕ, refl, subst}
 use Rattle.std.specs.Io.KnownBytes.{Appends}
-use Rattle.venue_text.specs.declared.faults.ProgramFault.TheVariants.{Memory}
+use Rattle.input_lines.specs.declared.faults.ProgramFault.TheVariants.{Memory}
 use Rattle.venue_commands.specs.Written.{GainsPart}
 use Rattle.venue_commands.proofs.LiveLemmas.{day_answered, day_out_of_memory, day_unprinted, same_fault}
 use Rattle.venue_commands.proofs.StreamLemmas.{keeps_same}

@@ -1,6 +1,6 @@
 use Rattle.std.proofs.Common.{◌≡◌, List, ℕ, refl, rules, subst}
 use Rattle.std.specs.Io.KnownBytes.{Appends}
-use Rattle.venue_text.specs.declared.faults.ProgramFault.TheVariants.{Memory, Parts}
+use Rattle.input_lines.specs.declared.faults.ProgramFault.TheVariants.{Memory, Parts}
 use Rattle.venue_commands.specs.Written.{GainsPart}
 use Rattle.venue_commands.specs.declared.live.Stage.TheVariants as stage
 use Rattle.venue_commands.proofs.LiveLemmas.{closes_in_memory, last_bare, last_between, last_both, last_both_unprinted, last_first, last_unprinted, same_fault}

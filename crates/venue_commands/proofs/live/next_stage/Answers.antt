@@ -1,6 +1,6 @@
 use Rattle.std.proofs.Common.{◌≡◌, ◌≢◌, List, ℕ, rules, subst, true}
-use Rattle.venue_text.specs.VenueParts.{is_divider}
-use Rattle.venue_text.specs.declared.faults.ProgramFault.TheVariants.{Memory}
+use Rattle.input_lines.specs.VenueParts.{is_divider}
+use Rattle.input_lines.specs.declared.faults.ProgramFault.TheVariants.{Memory}
 use Rattle.venue_commands.specs.Arguments.{meant_form}
 use Rattle.venue_commands.specs.LiveStages.{OpensNone}
 use Rattle.venue_commands.proofs.LiveLemmas.{bad_by, same_fault}

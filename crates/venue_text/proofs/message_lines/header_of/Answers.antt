@@ -1,7 +1,7 @@
 use Rattle.std.proofs.Common.{ℕ, Bor, List, [], ◌∷◌, map, ap, ◌∙◌, arith}
 use Rattle.std.proofs.lemmas.List.{map-append}
 use Rattle.fix_fields.specs.Frame.{Field}
-use Rattle.venue_text.proofs.CutLemmas.{taken_more, taken_all}
+use Rattle.venue_text.proofs.FieldLemmas.{taken_more, taken_all}
 use Rattle.venue_text.proofs.message_lines.header_of.Goals as goal
 
 pub returns-in_default-clause-header : goal.returns-in_default-clause-header

@@ -1,5 +1,5 @@
 use Rattle.std.proofs.Common.{◌∙◌, ℕ, ◌+◌, ap, length, refl, sym}
-use Rattle.venue_text.specs.StepLines.{nothing_heard}
+use Rattle.input_lines.specs.StepLines.{nothing_heard}
 use Rattle.venue_text.proofs.ArrivalLemmas.{names_count}
 use Rattle.venue_text.proofs.live_lines.LiveDay.open.Goals as goal
 

@@ -1,0 +1,6 @@
+pub mod CutLemmas
+pub mod PartLemmas
+pub mod SayLemmas
+pub mod SpellLemmas
+pub mod StreamLemmas
+pub mod TagLemmas

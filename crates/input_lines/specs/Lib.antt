@@ -1,0 +1,16 @@
+pub mod DueLines
+pub mod DueText
+pub mod Faults
+pub mod FirmLemmas
+pub mod FrontLemmas
+pub mod Lines
+pub mod OptionSteps
+pub mod PartReading
+pub mod ResultSteps
+pub mod RoomLemmas
+pub mod SayLine
+pub mod StepFaultLemmas
+pub mod StepLemmas
+pub mod StepLines
+pub mod StepReading
+pub mod VenueParts

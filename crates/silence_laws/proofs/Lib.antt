@@ -1,0 +1,10 @@
+mod FilterLemmas
+mod HitMessages
+mod LeftDuties
+mod OthersLeave
+mod Quiet
+mod QuietActions
+mod QuietInvestor
+mod QuietRoom
+mod QuietSteps
+mod SilenceLemmas

@@ -1,0 +1,19 @@
+//! Two worked days that are one but for the price of another dealer.
+ghost use Rattle.std.specs.Prelude.{◌≡◌};
+ghost use Rattle.venue_laws.specs.PriceAlike.{IsPriceAlike};
+ghost use Rattle.venue_laws.specs.PricedDays as days;
+ghost use Rattle.venue_laws.specs.WorkedDays.{venue};
+
+use fix_fields::frame_of_is_the_reading;
+use market_terms::Close;
+
+/// Two days that differ in the price of DLR2 alone are price-alike for DLR1; what is due to it on
+/// each, by the definitions, is what was written down beforehand, and the one is told Cover where
+/// the other is told Done Away. It does nothing: its proof computes each day.
+pub fn definitions_give_the_priced_days()
+    ensures alike { IsPriceAlike venue 0 (days.day_with days.dear) (days.day_with days.cheap) }
+    ensures dear { days.due_with days.dear ≡ days.wanted_with Close.Cover }
+    ensures cheap { days.due_with days.cheap ≡ days.wanted_with Close.DoneAway }
+{
+    frame_of_is_the_reading();
+}

@@ -1,2 +1,0 @@
-pub mod PricedDays
-pub mod WorkedDays

@@ -1,6 +1,0 @@
-use Rattle.std.proofs.Common.{◌≡◌, take, fold}
-use Rattle.venue_text.specs.SayLine.{with_field}
-use Rattle.venue_text.proofs.fitting.with_all.Given as goal
-
-abbrev pub invariant-loop-field : goal.invariant-loop-field
-invariant-loop-field l = l.frame ≡ fold with_field l.initial.frame (take l.field-index l.body)

@@ -1,9 +1,0 @@
-use Rattle.std.proofs.Common.{length}
-use Rattle.venue_text.proofs.PartLemmas.{Reached}
-use Rattle.venue_text.proofs.input_parts.divide.Given as goal
-
-abbrev pub invariant-loop-rest : goal.invariant-loop-rest
-invariant-loop-rest l = Reached l.text l.count l.rest
-
-abbrev pub decreases-loop-rest : goal.decreases-loop-rest
-decreases-loop-rest l = length l.rest

@@ -1,6 +1,0 @@
-use Rattle.std.proofs.Common.{◌≡◌, take, map}
-use Rattle.venue_text.specs.SayLine.{soh_for_bar}
-use Rattle.venue_text.proofs.received.with_soh.Given as goal
-
-abbrev pub invariant-loop-c : goal.invariant-loop-c
-invariant-loop-c l = l.bytes.items ≡ map soh_for_bar (take l.c-index l.frame)

@@ -1,0 +1,112 @@
+//! What `replay` prints.
+ghost use Rattle.std.specs.Prelude.{◌≡◌, ◌≢◌, ◌++◌, slice_get, Err, IfOk, IfErr, OnOk};
+ghost use Rattle.std.specs.List.{flat_map};
+ghost use Rattle.std.specs.Option.{option_copied};
+ghost use Rattle.venue_config.specs.Rows.{firm_names};
+ghost use Rattle.venue_text.specs.AskedDays as asked;
+ghost use Rattle.venue_text.specs.ReplayText as spec;
+
+use crate::day_arguments::{read_open_day, replayed};
+use crate::message_lines::push_messages;
+use fix_fields::Memory;
+use input_lines::{MOST_INPUT, ProgramFault, day_parts};
+use std::alloc::Global;
+use step_replay::World;
+use venue_config::{Name, VenueConfig};
+
+/// The messages of all firms of a venue, dealers and then investors in their order, or of FIRM, a
+/// line each, by the bytes of an input: a configuration, a line `%%`, and the steps of a day. Or
+/// the first fault of these: [`ProgramFault::Input`], [`ProgramFault::Parts`],
+/// [`ProgramFault::Config`], [`ProgramFault::Firm`], or that of the first line at fault. Memory may
+/// be refused at any point.
+pub fn replay_text(
+    alloc: Global,
+    only: Option<&[u8]>,
+    with_frames: bool,
+    input: &[u8],
+) -> Result<Vec<u8>, ProgramFault>
+    ensures ok { IfOk result (λ text.
+        spec.IsReplayed (option_copied only.entry) with_frames input.now text.items) }
+    ensures err { IfErr result (λ fault. fault ≢ ProgramFault.Memory
+        → asked.one_day (asked.firms_by (option_copied only.entry)) input.now ≡ Err fault) }
+    ensures unwritten { IfErr result (λ fault. fault ≢ ProgramFault.Write) }
+{
+    if input.len() > MOST_INPUT {
+        return Err(ProgramFault::Input);
+    }
+    let parts = day_parts(input)?;
+    let day = read_open_day(alloc, parts, only)?;
+    let world = replayed(alloc, &day.venue, day.steps.as_slice())?;
+    let text = days_text(alloc, with_frames, &day.venue, &world, day.only)?;
+    Ok(text)
+}
+
+/// The messages of the firms that are asked for.
+pub(crate) fn days_text(
+    alloc: Global,
+    with_frames: bool,
+    venue: &VenueConfig,
+    world: &World,
+    only: Option<u16>,
+) -> Result<Vec<u8>, Memory>
+    ensures { IfOk result (λ text. text.items
+        ≡ spec.days_text with_frames only (spec.named_days venue.now world.now)) }
+{
+    let mut text = Vec::new(alloc);
+    let Some(firm) = only else {
+        push_firms(&mut text, with_frames, venue, world)?;
+        return Ok(text);
+    };
+    push_firm(&mut text, with_frames, venue, world, firm)?;
+    Ok(text)
+}
+
+/// The messages of all firms.
+fn push_firms(
+    text: &mut Vec<u8>,
+    with_frames: bool,
+    venue: &VenueConfig,
+    world: &World,
+) -> Result<(), Memory>
+    ensures { OnOk result (text.new.items ≡ text.old.items
+        ++ flat_map (spec.firm_text with_frames) (spec.named_days venue.now world.now)) }
+{
+    let firms = (venue.dealers().len() + venue.investors().len()) as u16;
+    for firm in 0..firms {
+        push_firm(text, with_frames, venue, world, firm)?;
+    }
+    Ok(())
+}
+
+/// The messages of the firm with this number.
+#[tactic(auto, using(crate::proofs::DayLemmas::messages_at, crate::proofs::DayLemmas::messages_of_none, crate::proofs::DayLemmas::messages_of_no_day))]
+fn push_firm(
+    text: &mut Vec<u8>,
+    with_frames: bool,
+    venue: &VenueConfig,
+    world: &World,
+    firm: u16,
+) -> Result<(), Memory>
+    ensures { OnOk result (text.new.items ≡ text.old.items ++ flat_map (spec.firm_text with_frames)
+        (spec.one_at firm (spec.named_days venue.now world.now))) }
+{
+    let Some(name) = firm_name(venue, firm) else {
+        return Ok(());
+    };
+    let Some(messages) = world.sent(firm) else {
+        return Ok(());
+    };
+    push_messages(text, with_frames, name, messages)?;
+    Ok(())
+}
+
+/// The name of the firm with this number.
+pub(crate) fn firm_name(venue: &VenueConfig, firm: u16) -> Option<&Name>
+    ensures { option_copied result ≡ slice_get (firm_names venue.now) firm }
+{
+    if let Some(row) = venue.dealer(firm) {
+        return Some(&row.name);
+    }
+    let row = venue.investor(firm)?;
+    Some(&row.name)
+}
