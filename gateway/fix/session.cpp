@@ -42,7 +42,6 @@ std::string text_in(const FIX::FieldMap &fields, int tag) {
 // What the session itself looks at. All other fields are the venue's to judge.
 bool is_of_session(int tag) {
     switch (tag) {
-    case FIX::FIELD::BeginString:
     case FIX::FIELD::MsgType:
     case FIX::FIELD::SenderCompID:
     case FIX::FIELD::TargetCompID:
@@ -53,37 +52,6 @@ bool is_of_session(int tag) {
         return true;
     default:
         return false;
-    }
-}
-
-// The type of a frame, whose third field it is.
-std::string type_of(const std::string &frame) {
-    const std::size_t begin = frame.find("\x01"
-                                         "35=") +
-                              4;
-    return frame.substr(begin, frame.find('\x01', begin) - begin);
-}
-
-// Reads those fields of a message of the application that a session looks at: to keep each of the
-// others as the engine does would take its time in front of every commit. What is a field is as for
-// the engine, and so is where they may stand.
-void read_for_session(const std::string &bytes, FIX::Header &header) {
-    for (auto at = bytes.begin(); at != bytes.end();) {
-        const auto equals = std::find(at, bytes.end(), '=');
-        int tag = 0;
-        if (equals == bytes.end() || !FIX::IntConvertor::convert(at, equals, tag)) {
-            throw FIX::InvalidMessage("a field without a tag");
-        }
-        const auto value = equals + 1;
-        const auto end = std::find(value, bytes.end(), '\x01');
-        if (end == bytes.end()) {
-            throw FIX::InvalidMessage("a field without an end");
-        }
-        if (is_of_session(tag)) {
-            // The first one: another in the body is no matter of the session.
-            header.setField(FIX::StringField(tag, std::string(value, end)), false);
-        }
-        at = end + 1;
     }
 }
 
@@ -196,11 +164,7 @@ bool FirmSession::read(const std::string &bytes, FIX::Message &message) {
         if (!is_frame(bytes)) {
             throw FIX::InvalidMessage("no frame of FIXT.1.1");
         }
-        if (FIX::Message::isAdminMsgType(FIX::MsgType(type_of(bytes)))) {
-            message.setString(bytes, false);
-        } else {
-            read_for_session(bytes, message.getHeader());
-        }
+        message.setString(bytes, false);
         return true;
     } catch (const FIX::InvalidMessage &fault) {
         events_.dropped("no message", firm_ + ": " + fault.what());
@@ -342,8 +306,9 @@ void FirmSession::ask_whether_settled() {
     session_->send(request);
 }
 
-void FirmSession::take_application(FIX::Message &message, const std::string &bytes) {
-    const int number = number_in(message.getHeader(), FIX::FIELD::MsgSeqNum);
+void FirmSession::take_application(const FIX::Message &message, const std::string &bytes) {
+    const FIX::Header &header = message.getHeader();
+    const int number = number_in(header, FIX::FIELD::MsgSeqNum);
     if (number > session_->getExpectedTargetNum()) {
         // The engine keeps it until the gap is filled, and asks for all of the gap: so it comes
         // again.
@@ -353,8 +318,16 @@ void FirmSession::take_application(FIX::Message &message, const std::string &byt
         }
         ahead_.insert(number);
     }
-    message.setField(FIX::StringField(bytes_field, bytes));
-    next(message);
+    FIX::Message light;
+    // The first one: another in the body is no matter of the session.
+    light.getHeader().setField(FIX::BeginString(bytes.substr(2, bytes.find('\x01') - 2)));
+    for (const FIX::FieldBase &field : header) {
+        if (is_of_session(field.getTag())) {
+            light.getHeader().setField(field, false);
+        }
+    }
+    light.setField(FIX::StringField(bytes_field, bytes));
+    next(light);
 }
 
 void FirmSession::tick() {
