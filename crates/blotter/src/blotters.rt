@@ -15,7 +15,7 @@ use fix_fields::{Memory, Moment, time_text};
 use itoa::Buffer;
 use market_terms::{FirmLines, Quantity, QuoteLine, QuoteState, RequestLine, RequestState, Side};
 use std::alloc::Global;
-use venue_config::{BondId, Name};
+use venue_rows::{BondId, Name};
 
 /// A firm's blotter: one line for each of a dealer's accepted quotes, or of an investor's accepted
 /// requests, in their order, each ended by a line feed.

@@ -3,7 +3,7 @@ use crate::faults::CaseFault;
 use crate::words::Words;
 use bond_prices::{Grid, Ticks};
 use market_terms::{Ask, Close, HitRefusal, Quantity, Side};
-use venue_config::{BondId, Name};
+use venue_rows::{BondId, Name};
 
 /// The next word, as a name.
 pub fn name_of(words: &mut Words<'_>) -> Result<Name, CaseFault> {

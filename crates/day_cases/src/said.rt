@@ -4,7 +4,7 @@ use crate::texts::day;
 use case_lines::{Call, CaseFault, bytes_of, push_text};
 use input_lines::{Said, read_fields, read_received};
 use std::alloc::Global;
-use venue_config::Name;
+use venue_rows::Name;
 
 /// The fields of a BODY, a line each.
 pub(crate) fn tell_fields(alloc: Global, text: &str, answer: &mut String) -> Result<(), CaseFault> {

@@ -3,7 +3,7 @@ use case_lines::CaseFault;
 use input_lines::{MOST_INPUT, ProgramFault, SpokenLines, read_steps};
 use std::alloc::Global;
 use step_replay::Step;
-use venue_config::VenueConfig;
+use venue_rows::VenueConfig;
 
 /// Puts the steps that the lines of a day spell behind others, or tells the first fault.
 pub(crate) fn put_spelled(

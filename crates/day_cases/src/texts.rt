@@ -11,7 +11,7 @@ use input_lines::{
 };
 use quote_messages::Side;
 use std::alloc::Global;
-use venue_config::VenueConfig;
+use venue_rows::VenueConfig;
 
 /// An input, and texts of one line.
 ///

@@ -7,7 +7,8 @@ use market_terms::RoomRef;
 use quote_messages::Message;
 use std::alloc::Global;
 use step_replay::Step;
-use venue_config::{Name, VenueConfig, read_config};
+use venue_config::read_config;
+use venue_rows::{Name, VenueConfig};
 
 /// A venue and the steps of a day that is to be.
 #[derive(Drop)]

@@ -12,7 +12,7 @@ use Rattle.std.proofs.lemmas.Bool.Decides.{nat_tests}
 use Rattle.std.proofs.lemmas.List.Sums.{passes_at_first}
 use Rattle.std.proofs.lemmas.List.{length-map}
 use Rattle.std.proofs.lemmas.Slice.Eq.{bytes_eq-Decides}
-use Rattle.venue_config.specs.Texts.{same_text}
+use Rattle.venue_rows.specs.Texts.{same_text}
 use Rattle.quote_messages.specs.Written.{request_name}
 use Rattle.market_terms.specs.declared.lines.QuoteLine.{QuoteLine}
 use Rattle.dealer_desk.specs.DealerFacts.{DealerBook, request_named, request_numbered}

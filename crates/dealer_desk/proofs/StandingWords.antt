@@ -9,7 +9,7 @@ use Rattle.std.proofs.lemmas.Bool.{eqb-true}
 use Rattle.std.proofs.lemmas.Option.{none-some, same_Some, slice_get-get_or}
 use Rattle.std.proofs.lemmas.List.{length-append, length-map, append-nil}
 use Rattle.std.proofs.lemmas.List.Elements.{filter_map-append}
-use Rattle.venue_config.specs.declared.dealer_rows.DealerRow.{DealerRow}
+use Rattle.venue_rows.specs.declared.dealer_rows.DealerRow.{DealerRow}
 use Rattle.market_terms.specs.declared.closes.Close.{Close}
 use Rattle.quote_word.specs.declared.settled.Settled.{Settled}
 use Rattle.quote_word.specs.declared.settled.Settled.TheVariants as settled

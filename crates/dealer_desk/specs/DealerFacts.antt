@@ -6,7 +6,7 @@ use Rattle.std.specs.Prelude.{length, filter, find, count_by, Option, Some, None
 use Rattle.std.specs.Prelude.{if◌then◌else◌}
 use Rattle.std.specs.List.{list_any, sum_by}
 use Rattle.std.specs.Option.{option_map, option_or}
-use Rattle.venue_config.specs.Texts.{same_text}
+use Rattle.venue_rows.specs.Texts.{same_text}
 use Rattle.quote_messages.specs.Written.{request_name}
 use Rattle.market_terms.specs.declared.asks.Ask.{Ask}
 use Rattle.market_terms.specs.declared.closes.Close.{Close}

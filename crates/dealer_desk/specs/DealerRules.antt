@@ -4,8 +4,8 @@ use Rattle.std.specs.Prelude.{List, [], ◌∷◌, Option, Some, None, unwrap_or
 use Rattle.std.specs.Prelude.{Result, Ok, Err, if◌then◌else◌}
 use Rattle.bond_prices.specs.Grid.{on_grid}
 use Rattle.bond_prices.specs.declared.fault.PriceFault.{PriceFault}
-use Rattle.venue_config.specs.Texts.{same_text}
-use Rattle.venue_config.specs.declared.dealer_rows.DealerRow.{DealerRow}
+use Rattle.venue_rows.specs.Texts.{same_text}
+use Rattle.venue_rows.specs.declared.dealer_rows.DealerRow.{DealerRow}
 use Rattle.market_terms.specs.Checks.{first_refusal, is_not_after}
 use Rattle.market_terms.specs.declared.asks.Ask.{Ask}
 use Rattle.market_terms.specs.declared.asks.Side.{Side}

@@ -8,9 +8,9 @@ use Rattle.std.specs.BTreeMap.{BTreeMap, get}
 use Rattle.std.specs.Cmp.Lexicographic.{slice_cmp}
 use Rattle.std.specs.Ordering.{nat_cmp, ordering_then}
 use Rattle.std.specs.declared.cmp.Ordering.{Ordering}
-use Rattle.venue_config.specs.Texts.{same_text}
-use Rattle.venue_config.specs.declared.dealer_rows.TheConstants.DealerRow.{MOST_QUOTES}
-use Rattle.venue_config.specs.declared.dealer_rows.TheConstants.DealerRow.{MOST_EXPOSURE}
+use Rattle.venue_rows.specs.Texts.{same_text}
+use Rattle.venue_rows.specs.declared.dealer_rows.TheConstants.DealerRow.{MOST_QUOTES}
+use Rattle.venue_rows.specs.declared.dealer_rows.TheConstants.DealerRow.{MOST_EXPOSURE}
 use Rattle.market_terms.specs.declared.lines.QuoteLine.{QuoteLine}
 use Rattle.market_terms.specs.declared.rooms.RoomRef.{RoomRef}
 use Rattle.dealer_desk.specs.DealerFacts.{DealerFact, DealerBook, is_live_on, is_lifted_on}

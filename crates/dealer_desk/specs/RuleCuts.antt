@@ -2,8 +2,8 @@
 -- say this.
 use Rattle.std.specs.Prelude.{◌≡◌, ◌≤◌, ℕ, Bool, true, false, ◌||◌, not, nat_lt, nat_le, List, []}
 use Rattle.std.specs.Prelude.{◌∷◌, Option, Some, None, is_none, is_some, fold}
-use Rattle.venue_config.specs.Texts.{same_text}
-use Rattle.venue_config.specs.declared.dealer_rows.DealerRow.{DealerRow}
+use Rattle.venue_rows.specs.Texts.{same_text}
+use Rattle.venue_rows.specs.declared.dealer_rows.DealerRow.{DealerRow}
 use Rattle.market_terms.specs.Checks.{is_not_after}
 use Rattle.market_terms.specs.declared.asks.Ask.{Ask}
 use Rattle.quote_messages.specs.declared.quotes.Quote.{Quote}

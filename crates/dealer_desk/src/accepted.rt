@@ -3,7 +3,7 @@
 use bond_prices::Ticks;
 use fix_fields::Moment;
 use market_terms::{IdBuf, Quantity, Side};
-use venue_config::{BondId, Name};
+use venue_rows::{BondId, Name};
 
 /// A quote that was accepted.
 #[derive(Drop)]

@@ -21,7 +21,7 @@ use quote_messages::{Message, OutMessage, Request, SentMessage};
 use quote_word::Settled;
 use std::alloc::Global;
 use std::marker::Model;
-use venue_config::DealerRow;
+use venue_rows::DealerRow;
 
 /// The desk of one dealer: the events that came to it, and the messages that its dealer was sent.
 ///

@@ -1,8 +1,8 @@
 //! What a desk keeps of its day: the book, found again without a walk. It holds no events.
 ghost use Rattle.std.specs.Prelude.{◌≡◌, ◌+◌, ◌≤◌, ◌<◌, ◌^◌, [], ℕ, List, true, option_map, Some};
 ghost use Rattle.std.specs.Prelude.{None, IfSome, OnOk, OnErr, if◌then◌else◌};
-ghost use Rattle.venue_config.specs.Texts.{same_text};
-ghost use Rattle.venue_config.specs.declared.dealer_rows.TheConstants.DealerRow.{MOST_EXPOSURE};
+ghost use Rattle.venue_rows.specs.Texts.{same_text};
+ghost use Rattle.venue_rows.specs.declared.dealer_rows.TheConstants.DealerRow.{MOST_EXPOSURE};
 ghost use Rattle.quote_messages.specs.Written.{request_name};
 ghost use Rattle.market_terms.specs.declared.rooms.RoomRef.{RoomRef};
 ghost use Rattle.dealer_desk.specs.DealerFacts as facts;

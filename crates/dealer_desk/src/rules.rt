@@ -15,7 +15,7 @@ use market_terms::{Ask, IdBuf, Quantity, Side};
 use quote_messages::{
     Arrival, DealerMessage, OutMessage, Quote, QuoteRejectReason, receive_dealer,
 };
-use venue_config::DealerRow;
+use venue_rows::DealerRow;
 
 /// The verdict on bytes that came at a moment, by the index as it stands.
 #[tactic(auto, unfolding(crate::specs::DealerRules::dealer_verdict))]

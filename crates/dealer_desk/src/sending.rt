@@ -12,7 +12,7 @@ use quote_messages::{
     ClosingNotice, Head, OutMessage, QuotedPrice, Request, SentMessage, write_out,
 };
 use std::alloc::Global;
-use venue_config::DealerRow;
+use venue_rows::DealerRow;
 
 /// The closing notice of a request, where one may be sent.
 #[tactic(auto, unfolding(crate::specs::DealerOutput::closable))]

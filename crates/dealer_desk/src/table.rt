@@ -2,8 +2,8 @@
 ghost use Rattle.std.specs.Prelude.{◌≡◌, ◌+◌, ◌≤◌, ◌<◌, ◌∷◌, [], ◌++◌, ℕ, false, length, map};
 ghost use Rattle.std.specs.Prelude.{slice_get, vec_len, vec_capacity, Some, None, IsOk};
 ghost use Rattle.std.specs.List.{position_or_len};
-ghost use Rattle.venue_config.specs.declared.dealer_rows.TheConstants.DealerRow.{MOST_QUOTES};
-ghost use Rattle.venue_config.specs.declared.dealer_rows.TheConstants.DealerRow.{MOST_EXPOSURE};
+ghost use Rattle.venue_rows.specs.declared.dealer_rows.TheConstants.DealerRow.{MOST_QUOTES};
+ghost use Rattle.venue_rows.specs.declared.dealer_rows.TheConstants.DealerRow.{MOST_EXPOSURE};
 ghost use Rattle.dealer_desk.specs.declared.standing.StandingQuote.{StandingQuote};
 ghost use Rattle.dealer_desk.specs.DealerFacts as facts;
 ghost use Rattle.dealer_desk.specs.BookChanges.{IsLiveNumber, ended_at, late_at, closed_on};

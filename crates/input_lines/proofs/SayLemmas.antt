@@ -1,7 +1,7 @@
 -- A `say` line: what it spells, by what each step of its reading gave.
 use Rattle.std.proofs.Common.{◌≡◌, ℕ, ◌+◌, ◌==◌, Bool, true, false, not, List, [], ◌∷◌, length, map, refl, ap, sym}
 use Rattle.std.proofs.Common.{Some, None, Ok, Err, if◌then◌else◌}
-use Rattle.venue_config.specs.Rows.{ConfigValues}
+use Rattle.venue_rows.specs.Rows.{ConfigValues}
 use Rattle.step_replay.specs.declared.steps.Step.TheVariants as step
 use Rattle.input_lines.specs.Lines.{first_part, behind_part}
 use Rattle.input_lines.specs.SayLine.{Said, has_tag, said_of, said_message, with_bar}

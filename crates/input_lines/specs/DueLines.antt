@@ -3,9 +3,9 @@ use Rattle.std.specs.Prelude.{ℕ, ◌+◌, ◌-◌, ◌==◌, Bool, ◌&&◌, n
 use Rattle.std.specs.Prelude.{slice_index, nat_le, nat_lt, codes, Option, Some, None, if◌then◌else◌}
 use Rattle.bond_prices.specs.Grid.{finest_grid, grid_of}
 use Rattle.fix_fields.specs.UtcTimestamp.{is_date}
-use Rattle.venue_config.specs.Rows.{DealerValues}
-use Rattle.venue_config.specs.Texts.{is_name, is_firm_name, is_bond_id}
-use Rattle.venue_config.specs.Texts.{is_among, same_text, text_if}
+use Rattle.venue_rows.specs.Rows.{DealerValues}
+use Rattle.venue_rows.specs.Texts.{is_name, is_firm_name, is_bond_id}
+use Rattle.venue_rows.specs.Texts.{is_among, same_text, text_if}
 use Rattle.market_terms.specs.Texts.{is_quantity}
 use Rattle.market_terms.specs.declared.asks.Ask.{Ask}
 use Rattle.market_terms.specs.declared.closes.Close.{Close}

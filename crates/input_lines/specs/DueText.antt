@@ -1,7 +1,7 @@
 -- Due text: what its bytes spell, or its first fault.
 use Rattle.std.specs.Prelude.{ℕ, List, [], ◌∷◌, Option, Some, None, Result, Ok, Err}
 use Rattle.std.specs.Prelude.{if◌then◌else◌}
-use Rattle.venue_config.specs.Rows.{DealerValues}
+use Rattle.venue_rows.specs.Rows.{DealerValues}
 use Rattle.step_replay.specs.declared.dues.Due.{Due}
 use Rattle.input_lines.specs.DueLines.{date_of, row_of, due_of}
 use Rattle.input_lines.specs.Lines.{spoken_lines, one_past, has_divider}

@@ -8,12 +8,12 @@ use Rattle.std.proofs.lemmas.Bool.{cases_Bool}
 use Rattle.std.proofs.lemmas.Bool.Decides.{nat_tests}
 use Rattle.std.proofs.lemmas.List.{length-append}
 use Rattle.std.proofs.lemmas.Option.{slice_get-map}
-use Rattle.venue_config.specs.Rows as rows
-use Rattle.venue_config.specs.Rows.{Configuration, DealerValues, InvestorValues, values_of, dealer_values, investor_values}
-use Rattle.venue_config.specs.Rows.{firm_names, firm_number, has_room, may_request}
-use Rattle.venue_config.specs.Texts.{same_text}
-use Rattle.venue_config.specs.declared.dealer_rows.DealerRow.{DealerRow}
-use Rattle.venue_config.specs.declared.investor_rows.InvestorRow.{InvestorRow}
+use Rattle.venue_rows.specs.Rows as rows
+use Rattle.venue_rows.specs.Rows.{Configuration, DealerValues, InvestorValues, values_of, dealer_values, investor_values}
+use Rattle.venue_rows.specs.Rows.{firm_names, firm_number, has_room, may_request}
+use Rattle.venue_rows.specs.Texts.{same_text}
+use Rattle.venue_rows.specs.declared.dealer_rows.DealerRow.{DealerRow}
+use Rattle.venue_rows.specs.declared.investor_rows.InvestorRow.{InvestorRow}
 use Rattle.step_replay.specs.StepFaults.{firms_of}
 use Rattle.input_lines.specs.StepLines as by_values
 use Rattle.input_lines.specs.StepLines.{names_of_firms, firm_named, is_request_of, is_room}

@@ -1,6 +1,6 @@
 -- Lists of steps one behind the other, each of which names what the venue has.
 use Rattle.std.proofs.Common.{◌≡◌, ℕ, ◌+◌, List, [], ◌∷◌, ◌++◌, Option, Some, None, refl}
-use Rattle.venue_config.specs.Rows.{Configuration}
+use Rattle.venue_rows.specs.Rows.{Configuration}
 use Rattle.step_replay.specs.StepFaults.{first_fault_from, fault_of, or_else}
 use Rattle.step_replay.specs.declared.faults.ReplayFault.{ReplayFault}
 use Rattle.step_replay.specs.declared.steps.Step.{Step}

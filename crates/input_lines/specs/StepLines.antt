@@ -5,8 +5,8 @@ use Rattle.std.specs.Prelude.{slice_set, Option, Some, None, Result, Ok, Err, if
 use Rattle.std.specs.Option.{option_and_then, option_map}
 use Rattle.fix_fields.specs.Envelope.{envelopes_of}
 use Rattle.fix_fields.specs.declared.fault.StreamFault.{StreamFault}
-use Rattle.venue_config.specs.Rows.{ConfigValues, DealerValues, InvestorValues}
-use Rattle.venue_config.specs.Texts.{same_text, text_if}
+use Rattle.venue_rows.specs.Rows.{ConfigValues, DealerValues, InvestorValues}
+use Rattle.venue_rows.specs.Texts.{same_text, text_if}
 use Rattle.market_terms.specs.declared.rooms.RoomRef.{RoomRef}
 use Rattle.quote_messages.specs.Texts.{number_of}
 use Rattle.step_replay.specs.VenueRooms.{rooms_from}

@@ -3,7 +3,7 @@ use Rattle.std.specs.Prelude.{ℕ, ◌+◌, true, List, [], ◌∷◌, replicate
 use Rattle.std.specs.Prelude.{Option, Some, None, Result, Ok, Err, if◌then◌else◌}
 use Rattle.fix_fields.specs.Envelope.{Cutting}
 use Rattle.fix_fields.specs.declared.fault.StreamFault.{StreamFault}
-use Rattle.venue_config.specs.Rows.{ConfigValues, Configuration, has_room}
+use Rattle.venue_rows.specs.Rows.{ConfigValues, Configuration, has_room}
 use Rattle.step_replay.specs.StepFaults.{firms_of}
 use Rattle.venue_places.specs.declared.actors.Actor.{Actor}
 use Rattle.venue_places.specs.declared.actors.Actor.TheVariants as actor

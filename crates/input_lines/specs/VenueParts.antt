@@ -4,8 +4,8 @@ use Rattle.std.specs.Prelude.{if◌then◌else◌}
 use Rattle.std.specs.List.{list_any, before_first, after_first, flat_map}
 use Rattle.std.specs.Str.{is_utf8}
 use Rattle.venue_config.specs.Config.{config_of}
-use Rattle.venue_config.specs.Rows.{ConfigValues}
-use Rattle.venue_config.specs.Texts.{same_text}
+use Rattle.venue_rows.specs.Rows.{ConfigValues}
+use Rattle.venue_rows.specs.Texts.{same_text}
 use Rattle.venue_config.specs.declared.faults.ConfigFault.{ConfigFault}
 use Rattle.venue_config.specs.declared.faults.ConfigFault.TheVariants.{Toml}
 use Rattle.input_lines.specs.DueText.{Lines}

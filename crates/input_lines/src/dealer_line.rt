@@ -2,14 +2,14 @@
 //! ..`.
 ghost use Rattle.std.specs.Prelude.{◌≡◌, ◌≤◌, length, IfSome};
 ghost use Rattle.std.specs.Option.{option_map};
-ghost use Rattle.venue_config.specs.Rows.{dealer_values};
+ghost use Rattle.venue_rows.specs.Rows.{dealer_values};
 ghost use Rattle.input_lines.specs.DueLines as spec;
 
 use crate::lines::Parts;
 use crate::parts::{cut_part, same_text};
 use fix_fields::Date;
 use quote_messages::{read_long_number, read_number};
-use venue_config::{DealerRow, Name, Traders};
+use venue_rows::{DealerRow, Name, Traders};
 
 /// The date that a date line gives.
 pub(crate) fn read_date(line: &[u8]) -> Option<Date>

@@ -9,7 +9,7 @@ use fix_fields::{Date, Memory};
 use quote_messages::{Ask, Close, Quantity, read_long_number, read_number};
 use std::alloc::Global;
 use step_replay::Due;
-use venue_config::{BondId, Name};
+use venue_rows::{BondId, Name};
 
 /// What a line other than `say` makes due, by its keyword, or none where it is of no form.
 pub(crate) fn read_by_keyword(

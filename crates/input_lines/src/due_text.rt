@@ -1,6 +1,6 @@
 //! Due text: a date, a dealer, and what is due to the dealer, line by line.
 ghost use Rattle.std.specs.Prelude.{◌≡◌, ◌≢◌, ◌≤◌, ◌+◌, length, Ok, Err, IfOk, IfErr, IfSome};
-ghost use Rattle.venue_config.specs.Rows.{dealer_values};
+ghost use Rattle.venue_rows.specs.Rows.{dealer_values};
 ghost use Rattle.input_lines.specs.DueLines.{due_of, said_due};
 ghost use Rattle.input_lines.specs.DueText as spec;
 ghost use Rattle.input_lines.specs.Lines as lines;
@@ -14,7 +14,7 @@ use crate::say_lines::Said;
 use fix_fields::{Date, Memory};
 use std::alloc::Global;
 use step_replay::Due;
-use venue_config::{DealerRow, Name};
+use venue_rows::{DealerRow, Name};
 
 /// What due text spells.
 #[derive(Drop)]

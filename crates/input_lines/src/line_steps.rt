@@ -1,7 +1,7 @@
 //! What a line of steps spells, before its steps are put behind the others.
 ghost use Rattle.std.specs.Prelude.{◌≡◌, ◌+◌, ◌<◌, ◌++◌, length, replicate, OnOk};
 ghost use Rattle.step_replay.specs.declared.steps.Step.TheVariants as step;
-ghost use Rattle.venue_config.specs.Rows.{values_of};
+ghost use Rattle.venue_rows.specs.Rows.{values_of};
 ghost use Rattle.step_replay.specs.VenueRooms as rooms;
 ghost use Rattle.input_lines.specs.StepLines.{in_steps, sweeps_at, venue_rooms};
 ghost use Rattle.input_lines.specs.StepReading as spec;
@@ -10,7 +10,7 @@ use crate::firm_streams::Heard;
 use fix_fields::{Memory, Messages, Moment};
 use quote_messages::{Message, RoomRef};
 use step_replay::{Actor, Step};
-use venue_config::{InvestorRow, VenueConfig};
+use venue_rows::{InvestorRow, VenueConfig};
 
 /// What a line of steps spells.
 #[derive(Drop)]

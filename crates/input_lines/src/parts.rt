@@ -1,7 +1,7 @@
 //! The parts of a line, and what single parts spell.
 ghost use Rattle.std.specs.Prelude.{◌≡◌, ◌<◌, ◌==◌, length};
 ghost use Rattle.std.specs.List.{before_first, after_first, position};
-ghost use Rattle.venue_config.specs.Texts as texts;
+ghost use Rattle.venue_rows.specs.Texts as texts;
 ghost use Rattle.input_lines.specs.Lines as spec;
 
 use arrayvec::ArrayVec;

@@ -14,7 +14,7 @@ use itoa::Buffer;
 use quote_messages::Message;
 use std::alloc::Global;
 use std::marker::Model;
-use venue_config::Name;
+use venue_rows::Name;
 
 /// What a `say` line says: TRADER, TIME, TYPE, and the fields of BODY.
 #[derive(Drop)]

@@ -1,7 +1,7 @@
 //! The lines of steps: what each spells.
 ghost use Rattle.std.specs.Prelude.{◌≡◌, ◌≢◌, true, Ok, Err, IfOk, IfErr, IfSome, OnOk, OnErr};
 ghost use Rattle.quote_messages.specs.Texts.{number_of};
-ghost use Rattle.venue_config.specs.Rows.{values_of};
+ghost use Rattle.venue_rows.specs.Rows.{values_of};
 ghost use Rattle.input_lines.specs.StepLines as spec;
 ghost use Rattle.input_lines.specs.StepReading.{read_as, is_known, is_actor};
 
@@ -15,7 +15,7 @@ use crate::venue_parts::{firm_of, is_room};
 use quote_messages::{RoomRef, read_number};
 use std::alloc::Global;
 use step_replay::Actor;
-use venue_config::VenueConfig;
+use venue_rows::VenueConfig;
 
 /// How many turns a line asks for at most.
 pub const MOST_TURNS: u64 = 1_000;

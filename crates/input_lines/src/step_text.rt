@@ -1,7 +1,7 @@
 //! The steps of a day, line by line.
 ghost use Rattle.std.specs.Prelude.{◌≡◌, ◌≢◌, None, Ok, Err, IfOk, IfErr};
 ghost use Rattle.step_replay.specs.StepFaults.{first_fault};
-ghost use Rattle.venue_config.specs.Rows.{values_of};
+ghost use Rattle.venue_rows.specs.Rows.{values_of};
 ghost use Rattle.input_lines.specs.StepLines as spec;
 
 use crate::faults::ProgramFault;
@@ -11,7 +11,7 @@ use crate::lines::SpokenLines;
 use crate::step_lines::read_line;
 use std::alloc::Global;
 use step_replay::Step;
-use venue_config::VenueConfig;
+use venue_rows::VenueConfig;
 
 /// Reads the lines of steps, or gives their first fault ([`ProgramFault::Form`],
 /// [`ProgramFault::UnknownFirm`], [`ProgramFault::UnknownRoom`] or [`ProgramFault::Stream`]);

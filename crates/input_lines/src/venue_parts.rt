@@ -2,9 +2,9 @@
 ghost use Rattle.std.specs.Prelude.{◌≡◌, ◌≢◌, ◌≤◌, ◌++◌, true, nat_lt, length, map, position};
 ghost use Rattle.std.specs.Prelude.{Ok, Err, IfOk, IfErr, IfSome};
 ghost use Rattle.step_replay.specs.StepFaults.{firms_of};
-ghost use Rattle.venue_config.specs.Rows as rows;
-ghost use Rattle.venue_config.specs.Rows.{KeepsLimits, has_room, values_of};
-ghost use Rattle.venue_config.specs.Texts.{same_text};
+ghost use Rattle.venue_rows.specs.Rows as rows;
+ghost use Rattle.venue_rows.specs.Rows.{KeepsLimits, has_room, values_of};
+ghost use Rattle.venue_rows.specs.Texts.{same_text};
 ghost use Rattle.input_lines.specs.StepLines as lines;
 ghost use Rattle.input_lines.specs.VenueParts as spec;
 
@@ -12,7 +12,8 @@ use crate::faults::ProgramFault;
 use crate::input_parts::InputPart;
 use crate::lines::{MOST_INPUT, SpokenLines};
 use std::alloc::Global;
-use venue_config::{ConfigFault, DealerRow, InvestorRow, VenueConfig, read_config};
+use venue_config::{ConfigFault, read_config};
+use venue_rows::{DealerRow, InvestorRow, VenueConfig};
 
 /// The parts of an input that are one day of a venue.
 #[derive(Drop)]

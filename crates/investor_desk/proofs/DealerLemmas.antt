@@ -7,7 +7,7 @@ use Rattle.std.proofs.lemmas.Bool.Decides.{nat_tests}
 use Rattle.std.proofs.lemmas.List.{append_assoc}
 use Rattle.std.proofs.lemmas.List.Elements.{All-cons, All-nil}
 use Rattle.std.proofs.lemmas.List.Quantifiers.{position-Some}
-use Rattle.venue_config.specs.Texts.{same_text}
+use Rattle.venue_rows.specs.Texts.{same_text}
 use Rattle.market_terms.specs.Checks.{first_refusal}
 use Rattle.market_terms.specs.Dealers.{are_distinct, are_askable}
 use Rattle.market_terms.specs.declared.rooms.TheConstants.AskedDealers.{MOST}

@@ -15,7 +15,7 @@ use Rattle.std.proofs.lemmas.List.Sums.{sum_by-append, sum_by-cons}
 use Rattle.std.proofs.lemmas.List.Folds.{find-append}
 use Rattle.std.proofs.lemmas.Slice.Eq.{bytes_eq-Decides}
 use Rattle.std.proofs.lemmas.Map.Text.{is_eq-slice_cmp}
-use Rattle.venue_config.specs.Texts.{same_text}
+use Rattle.venue_rows.specs.Texts.{same_text}
 use Rattle.market_terms.specs.declared.lines.RequestLine.{RequestLine}
 use Rattle.investor_desk.specs.InvestorFacts.{StandingRequest, standing_request, is_open}
 use Rattle.investor_desk.specs.RequestLines.{line_of}

@@ -9,7 +9,7 @@ use Rattle.std.proofs.lemmas.Bool.{eqb-true, eq-eqb}
 use Rattle.std.proofs.lemmas.Option.{none-some, same_Some}
 use Rattle.std.proofs.lemmas.List.{length-map}
 use Rattle.std.proofs.lemmas.Slice.Eq.{bytes_eq-Decides}
-use Rattle.venue_config.specs.Texts.{same_text}
+use Rattle.venue_rows.specs.Texts.{same_text}
 use Rattle.quote_messages.specs.Written.{quote_name}
 use Rattle.market_terms.specs.declared.lines.RequestLine.{RequestLine}
 use Rattle.investor_desk.specs.InvestorFacts.{StandingRequest, request_numbered, request_with_id}

@@ -7,7 +7,7 @@ use Rattle.std.specs.List.{count_by}
 use Rattle.std.proofs.lemmas.Option.{none-some}
 use Rattle.std.proofs.lemmas.List.{length-append, length-map}
 use Rattle.std.proofs.lemmas.List.Sums.{sum_by-append, sum_by-cons}
-use Rattle.venue_config.specs.Texts.{same_text}
+use Rattle.venue_rows.specs.Texts.{same_text}
 use Rattle.investor_desk.specs.InvestorFacts.{Asked, Offered, Gone, Closed, InvestorBook}
 use Rattle.investor_desk.specs.InvestorFacts.{StandingRequest, standing_request, is_open}
 use Rattle.investor_desk.specs.InvestorFacts.{request_with_id}

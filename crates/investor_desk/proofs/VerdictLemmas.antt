@@ -5,8 +5,8 @@ use Rattle.std.proofs.Common.{nat_lt, cond, List, [], ◌∷◌, length, Option,
 use Rattle.std.proofs.Common.{IfSome, All, refl, ap, ◌∙◌, arith}
 use Rattle.std.specs.List.{count_by}
 use Rattle.std.proofs.lemmas.Bool.Decides.{nat_tests}
-use Rattle.venue_config.specs.Texts.{same_text}
-use Rattle.venue_config.specs.declared.bond_rows.BondRow.{BondRow}
+use Rattle.venue_rows.specs.Texts.{same_text}
+use Rattle.venue_rows.specs.declared.bond_rows.BondRow.{BondRow}
 use Rattle.market_terms.specs.Checks.{first_refusal}
 use Rattle.market_terms.specs.Dealers.{are_distinct, are_askable}
 use Rattle.quote_messages.specs.Written.{quote_name}

@@ -11,7 +11,7 @@ use Rattle.std.specs.Map.{lookup}
 use Rattle.std.proofs.lemmas.Option.{get_or_from_slice_get, slice_get-map, same_Some}
 use Rattle.std.proofs.lemmas.List.{map-set, map-append, length-map}
 use Rattle.std.proofs.lemmas.List.Sums.{sum_by-set}
-use Rattle.venue_config.specs.Texts.{same_text}
+use Rattle.venue_rows.specs.Texts.{same_text}
 use Rattle.market_terms.specs.declared.lines.RequestLine.{RequestLine}
 use Rattle.investor_desk.specs.InvestorFacts.{InvestorFact, Asked, Offered, Gone, Closed}
 use Rattle.investor_desk.specs.InvestorFacts.{InvestorBook, StandingRequest, standing_request}

@@ -5,7 +5,7 @@ use Rattle.std.specs.Prelude.{ℕ, ◌+◌, Bool, true, false, ◌&&◌, ◌==�
 use Rattle.std.specs.Prelude.{find, count_by, Option, Some, None, is_none, is_some, if◌then◌else◌}
 use Rattle.std.specs.List.{list_any}
 use Rattle.std.specs.Option.{option_or}
-use Rattle.venue_config.specs.Texts.{same_text}
+use Rattle.venue_rows.specs.Texts.{same_text}
 use Rattle.quote_messages.specs.Written.{quote_name}
 use Rattle.investor_desk.specs.declared.standing.AcceptedRequest.{AcceptedRequest}
 use Rattle.investor_desk.specs.declared.standing.RequestClose.{RequestClose}

@@ -5,7 +5,7 @@ use Rattle.std.specs.Option.{option_map}
 use Rattle.std.specs.BTreeMap.{BTreeMap, get}
 use Rattle.std.specs.Cmp.Lexicographic.{slice_cmp}
 use Rattle.std.specs.Ordering.{nat_cmp}
-use Rattle.venue_config.specs.Texts.{same_text}
+use Rattle.venue_rows.specs.Texts.{same_text}
 use Rattle.market_terms.specs.declared.lines.RequestLine.{RequestLine}
 use Rattle.investor_desk.specs.InvestorFacts.{StandingRequest, is_open}
 use Rattle.investor_desk.specs.RequestLines.{line_of}

@@ -14,7 +14,7 @@ use crate::{InvestorVerdict, RequestClose, ShownOffer};
 use fix_fields::{Memory, Moment};
 use market_terms::{Duty, HitRefusal, Id, Offer, Reply, ResponseRef, RoomRef};
 use quote_messages::{OutMessage, PassStatus, ShownQuote};
-use venue_config::Name;
+use venue_rows::Name;
 
 /// What a verdict leaves to be done.
 pub(crate) fn duty_of(market: &Market, moment: Moment, verdict: &InvestorVerdict) -> Option<Duty>

@@ -1,7 +1,7 @@
 //! The desk of one investor.
 ghost use Rattle.std.specs.Prelude.{◌≡◌, ◌++◌, true, is_some, Some, IfOk, OnOk, OnErr};
 ghost use Rattle.std.specs.Option.{option_map, option_to_list};
-ghost use Rattle.venue_config.specs.Rows.{investor_numbered};
+ghost use Rattle.venue_rows.specs.Rows.{investor_numbered};
 ghost use Rattle.investor_desk.specs.InvestorFacts.{knows};
 ghost use Rattle.investor_desk.specs.InvestorOutput as spec;
 ghost use Rattle.investor_desk.specs.InvestorOutput.{investor_output, market_for, no_events};
@@ -26,7 +26,7 @@ use market_terms::{Duty, Offer, Reply, RequestLine, ResponseRef};
 use quote_messages::{Message, SentMessage};
 use std::alloc::Global;
 use std::marker::Model;
-use venue_config::{InvestorRow, Name, VenueConfig};
+use venue_rows::{InvestorRow, Name, VenueConfig};
 
 /// The desk of one investor: the events that came to it, and the messages that the investor was
 /// sent.

@@ -3,7 +3,7 @@
 use fix_fields::Moment;
 use market_terms::{Offer, Reply, ResponseRef};
 use quote_messages::Message;
-use venue_config::Name;
+use venue_rows::Name;
 
 /// What comes to a desk, in the order in which it came. Requests go by their numbers among the
 /// accepted requests of the investor, from 1.

@@ -2,7 +2,7 @@
 ghost use Rattle.std.specs.Prelude.{◌≡◌, ◌+◌, ◌<◌, ◌^◌, ◌≤◌, ◌∷◌, [], ◌++◌, ℕ, List, true};
 ghost use Rattle.std.specs.Prelude.{option_map, vec_len, vec_capacity, IfSome, OnOk, OnErr, Some};
 ghost use Rattle.std.specs.Prelude.{None, IsOk};
-ghost use Rattle.venue_config.specs.Texts.{same_text};
+ghost use Rattle.venue_rows.specs.Texts.{same_text};
 ghost use Rattle.quote_messages.specs.Written.{quote_name};
 ghost use Rattle.investor_desk.specs.InvestorFacts as facts;
 ghost use Rattle.investor_desk.specs.RequestLines as lines;
@@ -19,7 +19,7 @@ use std::alloc::Global;
 use std::collections::BTreeMap;
 use std::marker::Model;
 use std::str;
-use venue_config::Name;
+use venue_rows::Name;
 
 /// An accepted request as it stands.
 #[derive(Drop)]

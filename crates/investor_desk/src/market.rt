@@ -1,14 +1,14 @@
 //! What a desk looks at of the configuration of its venue.
 ghost use Rattle.std.specs.Prelude.{◌≡◌, map, position, IfOk};
-ghost use Rattle.venue_config.specs.Texts.{same_text};
-ghost use Rattle.venue_config.specs.declared.dealer_rows.DealerRow.{DealerRow};
+ghost use Rattle.venue_rows.specs.Texts.{same_text};
+ghost use Rattle.venue_rows.specs.declared.dealer_rows.DealerRow.{DealerRow};
 ghost use Rattle.investor_desk.specs.InvestorRules as spec;
 ghost use Rattle.investor_desk.specs.InvestorOutput.{market_of};
 
 use fix_fields::{Date, Memory};
 use std::alloc::Global;
 use std::marker::Model;
-use venue_config::{BondRow, DealerRow, InvestorRow, Name, VenueConfig};
+use venue_rows::{BondRow, DealerRow, InvestorRow, Name, VenueConfig};
 
 /// The day, the bonds of a venue, the names of its dealers in the order of their numbers, and an
 /// investor's own number and row.
@@ -23,7 +23,7 @@ pub(crate) struct Market {
 
 impl Model for Market {
     ghost use Rattle.std.specs.Prelude.{◌≤◌, length};
-    ghost use Rattle.venue_config.specs.declared.config.TheConstants.VenueConfig.{MOST_DEALERS};
+    ghost use Rattle.venue_rows.specs.declared.config.TheConstants.VenueConfig.{MOST_DEALERS};
     ghost use Rattle.investor_desk.specs.InvestorRules.{InvestorMarket};
 
     ghost Value = { InvestorMarket };

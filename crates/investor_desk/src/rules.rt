@@ -3,7 +3,7 @@ ghost use Rattle.std.specs.Prelude.{◌≡◌, ◌+◌, ◌≤◌, ◌||◌, tru
 ghost use Rattle.std.specs.Prelude.{if◌then◌else◌, Some, None, MatchResult, MatchOption};
 ghost use Rattle.std.specs.List.{list_any};
 ghost use Rattle.market_terms.specs.Checks.{first_refusal};
-ghost use Rattle.venue_config.specs.declared.bond_rows.BondRow.{BondRow};
+ghost use Rattle.venue_rows.specs.declared.bond_rows.BondRow.{BondRow};
 ghost use Rattle.investor_desk.specs.InvestorRules as spec;
 ghost use Rattle.investor_desk.specs.InvestorFacts.{requests_accepted};
 ghost use Rattle.investor_desk.specs.RuleCuts.{terms_checks, dealer_checks, day_checks};
@@ -18,7 +18,7 @@ use quote_messages::{
     Arrival, InvestorMessage, NamedDealers, OutMessage, PassStatus, QuoteHit, QuoteRequest,
     RequestPass, RequestRejectReason, receive_investor,
 };
-use venue_config::BondRow;
+use venue_rows::BondRow;
 
 /// The verdict on bytes that came at a moment, by the index as it stands.
 #[tactic(auto, unfolding(crate::specs::InvestorRules::investor_verdict))]

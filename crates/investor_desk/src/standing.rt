@@ -3,7 +3,7 @@
 use bond_prices::Ticks;
 use fix_fields::Moment;
 use market_terms::{Ask, AskedDealers, IdBuf, Offer};
-use venue_config::Name;
+use venue_rows::Name;
 
 /// A request that was accepted.
 #[derive(Drop)]

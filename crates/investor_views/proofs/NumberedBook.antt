@@ -13,8 +13,8 @@ use Rattle.quote_messages.specs.declared.requests.InvestorMessage.TheVariants as
 use Rattle.quote_messages.specs.declared.reject_reasons.RequestRejectReason.{RequestRejectReason}
 use Rattle.quote_messages.specs.Arrivals.{investor_arrival}
 use Rattle.quote_messages.specs.Written.{quote_name}
-use Rattle.venue_config.specs.Texts.{same_text}
-use Rattle.venue_config.specs.declared.bond_rows.BondRow.{BondRow}
+use Rattle.venue_rows.specs.Texts.{same_text}
+use Rattle.venue_rows.specs.declared.bond_rows.BondRow.{BondRow}
 use Rattle.investor_desk.specs.InvestorFacts.{InvestorFact, InvestorBook, StandingRequest}
 use Rattle.investor_desk.specs.InvestorFacts.{Asked, Offered, used_number}
 use Rattle.investor_desk.specs.InvestorFacts.{closes, says_gone, first_said, stands_on, standing_on}

@@ -11,9 +11,9 @@
 -- those of another. It has none left in a day whose steps come one by one.
 use Rattle.std.specs.Prelude.{◌≡◌, ℕ, ◌&&◌, ◌||◌, not, Bool, true, false, List, filter, Some}
 use Rattle.std.specs.List.{list_any}
-use Rattle.venue_config.specs.Rows.{Configuration, dealer_numbered, investor_numbered}
-use Rattle.venue_config.specs.declared.dealer_rows.DealerRow.{DealerRow}
-use Rattle.venue_config.specs.declared.investor_rows.InvestorRow.{InvestorRow}
+use Rattle.venue_rows.specs.Rows.{Configuration, dealer_numbered, investor_numbered}
+use Rattle.venue_rows.specs.declared.dealer_rows.DealerRow.{DealerRow}
+use Rattle.venue_rows.specs.declared.investor_rows.InvestorRow.{InvestorRow}
 use Rattle.investor_desk.specs.InvestorFacts.{InvestorFact, Asked}
 use Rattle.venue_places.specs.declared.actors.Actor.{Actor}
 use Rattle.venue_places.specs.declared.actors.Actor.TheVariants as actor

@@ -3,7 +3,7 @@
 -- and no other investor stands in it.
 use Rattle.std.specs.Prelude.{ℕ, List, [], ◌∷◌, Option, Some, None, option_and_then}
 use Rattle.market_terms.specs.declared.rooms.Offer.{Offer}
-use Rattle.venue_config.specs.Rows.{Configuration}
+use Rattle.venue_rows.specs.Rows.{Configuration}
 use Rattle.investor_desk.specs.InvestorFacts.{InvestorBook, offer_with_word}
 use Rattle.investor_desk.specs.InvestorFacts.{open_request}
 use Rattle.investor_desk.specs.InvestorOutput.{DeskEvents, book_at, market_for, no_events}

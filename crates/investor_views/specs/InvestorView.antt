@@ -1,10 +1,10 @@
 -- What an investor is sent, as a function of what is due to it and of the market that it sees.
 use Rattle.std.specs.Prelude.{ℕ, ◌+◌, List, fold, map, Option}
 use Rattle.market_terms.specs.declared.rooms.Offer.{Offer}
-use Rattle.venue_config.specs.Rows.{Configuration}
-use Rattle.venue_config.specs.declared.bond_rows.BondRow.{BondRow}
-use Rattle.venue_config.specs.declared.dealer_rows.DealerRow.{DealerRow}
-use Rattle.venue_config.specs.declared.investor_rows.InvestorRow.{InvestorRow}
+use Rattle.venue_rows.specs.Rows.{Configuration}
+use Rattle.venue_rows.specs.declared.bond_rows.BondRow.{BondRow}
+use Rattle.venue_rows.specs.declared.dealer_rows.DealerRow.{DealerRow}
+use Rattle.venue_rows.specs.declared.investor_rows.InvestorRow.{InvestorRow}
 use Rattle.investor_desk.specs.InvestorFacts.{InvestorBook, offers_shown}
 use Rattle.investor_desk.specs.InvestorOutput.{DeskEvents, book_at, investor_output, no_events}
 use Rattle.investor_desk.specs.InvestorRules.{InvestorMarket}

@@ -3,7 +3,7 @@ use bond_prices::Ticks;
 use fix_fields::Moment;
 use market_terms::{Reply, ResponseRef};
 use quote_messages::Message;
-use venue_config::Name;
+use venue_rows::Name;
 
 /// One item of what is due to an investor. Requests and quotes have the investor's own numbers,
 /// from 1: its accepted requests, and the quotes that it was shown (QuoteID 117).

@@ -1,8 +1,8 @@
 //! Laws of what an investor is sent: what is true of every list of steps of every venue.
 ghost use Rattle.std.specs.Prelude.{◌≡◌, ℕ, List, Some, slice_get};
 ghost use Rattle.std.specs.Option.{option_map};
-ghost use Rattle.venue_config.specs.Rows.{Configuration, investor_numbered};
-ghost use Rattle.venue_config.specs.declared.investor_rows.InvestorRow.{InvestorRow};
+ghost use Rattle.venue_rows.specs.Rows.{Configuration, investor_numbered};
+ghost use Rattle.venue_rows.specs.declared.investor_rows.InvestorRow.{InvestorRow};
 ghost use Rattle.step_replay.specs.AuditTrail as venue;
 ghost use Rattle.step_replay.specs.FirmDays.{FirmDay, firm_days};
 ghost use Rattle.step_replay.specs.LiveDays.{live_messages, live_steps, messages_for};

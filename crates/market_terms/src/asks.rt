@@ -4,7 +4,7 @@ ghost use Rattle.std.specs.Prelude.{◌≡◌};
 use crate::Quantity;
 use bond_prices::Grid;
 use fix_fields::Moment;
-use venue_config::{BondId, Name};
+use venue_rows::{BondId, Name};
 
 /// What a request for quote asks for, as each named dealer is shown it.
 #[derive(Drop)]

@@ -3,7 +3,7 @@
 use crate::{Quantity, Side};
 use bond_prices::Ticks;
 use fix_fields::Moment;
-use venue_config::{BondId, Name};
+use venue_rows::{BondId, Name};
 
 /// A line of a dealer's blotter: one of its accepted quotes.
 #[derive(Drop)]

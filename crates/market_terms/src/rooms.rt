@@ -9,7 +9,7 @@ use arrayvec::ArrayVec;
 use bond_prices::Ticks;
 use fix_fields::Moment;
 use std::marker::Model;
-use venue_config::Name;
+use venue_rows::Name;
 
 /// The room of a request: that of the n-th accepted request of an investor.
 #[derive(Clone, Copy, PartialEq, Eq, PartialOrd, Ord)]

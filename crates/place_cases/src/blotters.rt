@@ -4,7 +4,7 @@ use crate::terms::nth_of;
 use case_lines::{CaseFault, Words};
 use fix_fields::Moment;
 use market_terms::{Quantity, Side};
-use venue_config::{BondId, Name};
+use venue_rows::{BondId, Name};
 
 /// A line of a blotter.
 pub(crate) trait BlotterLine {

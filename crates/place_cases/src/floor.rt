@@ -5,7 +5,8 @@ use investor_desk::InvestorDesk;
 use market_terms::RoomRef;
 use request_room::Room;
 use std::alloc::Global;
-use venue_config::{VenueConfig, read_config};
+use venue_config::read_config;
+use venue_rows::VenueConfig;
 
 /// The number of INV1 among the firms.
 pub(crate) const INVESTOR: u16 = 2;

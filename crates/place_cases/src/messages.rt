@@ -5,7 +5,7 @@ use case_lines::{CaseFault, Words, push_bytes};
 use fix_fields::{Date, Fields};
 use itoa::Buffer;
 use quote_messages::SentMessage;
-use venue_config::Traders;
+use venue_rows::Traders;
 
 /// The lines of the messages behind the first `shown` ones. It answers how many there are in all.
 pub(crate) fn push_new(

@@ -7,7 +7,7 @@ use Rattle.std.proofs.lemmas.List.Sums.{take_while-cons, sum_by-cons}
 use Rattle.std.proofs.lemmas.Bool.Decides.{nat_tests}
 use Rattle.fix_fields.specs.Frame.{Field, value_of, times_of}
 use Rattle.quote_messages.specs.declared.session_faults.SessionFault.{SessionFault}
-use Rattle.venue_config.specs.Texts.{same_text}
+use Rattle.venue_rows.specs.Texts.{same_text}
 use Rattle.market_terms.specs.Texts.{is_id}
 use Rattle.quote_messages.specs.declared.session_faults.SessionRejectReason.TheVariants.{TagWithoutValue}
 use Rattle.quote_messages.specs.declared.session_faults.SessionRejectReason.TheVariants.{IncorrectDataFormat}

@@ -9,7 +9,7 @@ use Rattle.std.proofs.lemmas.List.{get_or-set_same, get_or-set_other, get_or-rep
 use Rattle.fix_fields.specs.Frame.{Field, value_of, times_of}
 use Rattle.quote_messages.specs.declared.slots.Slot.{Slot}
 use Rattle.quote_messages.specs.SessionLines.{Occurrence, occurrence_of}
-use Rattle.venue_config.specs.Texts.{text_if}
+use Rattle.venue_rows.specs.Texts.{text_if}
 use Rattle.quote_messages.specs.Texts.{is_sequence_number}
 use Rattle.quote_messages.specs.Arrivals.{sequence_number}
 use Rattle.quote_messages.specs.Slots.{checked_tags, place_of, is_checked, said_by, slot_at, joined}

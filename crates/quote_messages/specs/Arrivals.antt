@@ -5,9 +5,9 @@ use Rattle.std.specs.Prelude.{ℕ, ◌+◌, Bool, true, false, ◌==◌, List, O
 use Rattle.std.specs.Prelude.{Err, if◌then◌else◌, option_and_then}
 use Rattle.std.specs.Str.Parse.{digits_value}
 use Rattle.fix_fields.specs.Frame.{Field, frame_of, times_of, value_of}
-use Rattle.venue_config.specs.Texts.{text_if}
-use Rattle.venue_config.specs.declared.dealer_rows.DealerRow.{DealerRow}
-use Rattle.venue_config.specs.declared.investor_rows.InvestorRow.{InvestorRow}
+use Rattle.venue_rows.specs.Texts.{text_if}
+use Rattle.venue_rows.specs.declared.dealer_rows.DealerRow.{DealerRow}
+use Rattle.venue_rows.specs.declared.investor_rows.InvestorRow.{InvestorRow}
 use Rattle.quote_messages.specs.Texts.{is_msg_type, is_sequence_number}
 use Rattle.quote_messages.specs.SessionLines.{text_at}
 use Rattle.quote_messages.specs.SessionChecks.{dealer_session_verdict, investor_session_verdict}

@@ -4,7 +4,7 @@ use Rattle.std.specs.Prelude.{◌≡◌, ℕ, Bool, true, ◌==◌, ◌&&◌, �
 use Rattle.std.specs.Prelude.{codes, count_by, Option, Some, None, if◌then◌else◌}
 use Rattle.std.specs.List.{list_any, filter, filter_map, after_first, take_while}
 use Rattle.fix_fields.specs.Frame.{Field, value_of, times_of}
-use Rattle.venue_config.specs.Texts.{same_text}
+use Rattle.venue_rows.specs.Texts.{same_text}
 use Rattle.quote_messages.specs.ValueForms.{AnId, AnyText}
 use Rattle.quote_messages.specs.SessionLines.{Line, required, first_fault, or_next, text_at}
 use Rattle.quote_messages.specs.SessionLines.{has_number}

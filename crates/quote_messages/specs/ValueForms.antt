@@ -9,7 +9,7 @@ use Rattle.bond_prices.specs.declared.fault.PriceFault.TheVariants.{Form as Pric
 use Rattle.fix_fields.specs.UtcTimestamp.{moment_of}
 use Rattle.fix_fields.specs.declared.fault.MomentFault.{MomentFault}
 use Rattle.fix_fields.specs.declared.fault.MomentFault.TheVariants.{Form as MomentForm, OtherDay}
-use Rattle.venue_config.specs.Texts.{is_among}
+use Rattle.venue_rows.specs.Texts.{is_among}
 use Rattle.market_terms.specs.Texts.{is_id, is_quantity}
 use Rattle.quote_messages.specs.Texts.{number_of, is_point, has_quantity_form}
 use Rattle.quote_messages.specs.declared.session_faults.SessionRejectReason.{SessionRejectReason}

@@ -1,7 +1,7 @@
 //! What the session makes of bytes that came from a firm.
 ghost use Rattle.std.specs.Prelude.{◌≡◌, ◌+◌, ◌<◌, ◌^◌, option_and_then};
 ghost use Rattle.fix_fields.specs.Frame.{frame_of, value_of};
-ghost use Rattle.venue_config.specs.Texts.{text_if};
+ghost use Rattle.venue_rows.specs.Texts.{text_if};
 ghost use Rattle.quote_messages.specs.Texts.{is_msg_type};
 ghost use Rattle.quote_messages.specs.Arrivals as spec;
 ghost use Rattle.quote_messages.specs.Turns as turns;
@@ -16,7 +16,7 @@ use crate::{
     DealerMessage, InvestorMessage, MsgType, Reject, SeqNum, SessionFault, SessionRejectReason,
 };
 use fix_fields::{Date, read_frame};
-use venue_config::{DealerRow, InvestorRow};
+use venue_rows::{DealerRow, InvestorRow};
 
 /// What becomes of bytes that came from a firm, before the market looks at them.
 #[derive(Drop)]

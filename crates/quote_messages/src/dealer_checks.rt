@@ -17,7 +17,7 @@ use crate::{
     CancelScope, DealerMessage, Decline, Quote, QuoteCancel, SessionFault, SessionRejectReason,
 };
 use fix_fields::{Date, Frame};
-use venue_config::{DealerRow, Name};
+use venue_rows::{DealerRow, Name};
 
 /// What a dealer's message says, or its first session fault: the header in the order SenderCompID
 /// (49), TargetCompID (56), SendingTime (52), SenderSubID (50), MsgType (35), and then the fields

@@ -12,7 +12,7 @@ use arrayvec::ArrayString;
 use bond_prices::{Ticks, price_text};
 use fix_fields::{FrameWriter, Memory};
 use itoa::Buffer;
-use venue_config::{BondId, Name};
+use venue_rows::{BondId, Name};
 
 /// The fields of a Reject.
 #[tactic(auto, using(crate::proofs::WritingLemmas::decimal_len_le))]

@@ -8,7 +8,7 @@ use crate::slots::FieldSlots;
 use crate::tag_reading::{check_text, required_moment, trader};
 use crate::{SessionFault, SessionRejectReason};
 use fix_fields::Date;
-use venue_config::{Name, Traders};
+use venue_rows::{Name, Traders};
 
 /// The trader that sent a message, or the first fault of its header but for MsgType (35):
 /// SenderCompID (49), TargetCompID (56), SendingTime (52), SenderSubID (50).

@@ -21,7 +21,7 @@ use crate::{
     read_number,
 };
 use fix_fields::{Date, Frame};
-use venue_config::{InvestorRow, Name};
+use venue_rows::{InvestorRow, Name};
 
 /// What an investor's message says, or its first session fault: the header in the order
 /// SenderCompID (49), TargetCompID (56), SendingTime (52), SenderSubID (50), MsgType (35), and then

@@ -12,7 +12,7 @@ use crate::field_writing::{
 use crate::{HitRefusal, Id, PassStatus, Quantity, RequestRejectReason, ShownQuote, Side};
 use bond_prices::Ticks;
 use fix_fields::{Date, FrameWriter, Memory, Moment, moment_text};
-use venue_config::Name;
+use venue_rows::Name;
 
 /// QuoteReqID (131) and QuoteStatus (297) of a report on a request.
 pub(crate) fn put_request_status(

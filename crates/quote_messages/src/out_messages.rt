@@ -7,7 +7,7 @@ use crate::{
 };
 use bond_prices::Ticks;
 use fix_fields::{Date, Moment};
-use venue_config::{BondId, Name};
+use venue_rows::{BondId, Name};
 
 /// The header of a written message: SenderCompID (49) is always `VENUE`.
 #[derive(Drop)]

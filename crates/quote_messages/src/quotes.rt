@@ -3,7 +3,7 @@
 use crate::{Id, Quantity};
 use bond_prices::{PriceFault, Ticks};
 use fix_fields::Moment;
-use venue_config::Name;
+use venue_rows::Name;
 
 /// A message of a dealer that met no session fault.
 #[derive(Drop)]

@@ -2,7 +2,7 @@
 ghost use Rattle.std.specs.Prelude.{◌≡◌, ℕ, ◌≤◌, ◌<◌, List, length, IsTrue};
 ghost use Rattle.std.specs.Str.Parse.{digits_value};
 ghost use Rattle.fix_fields.specs.Frame.{IsValue};
-ghost use Rattle.venue_config.specs.Texts.{text_if};
+ghost use Rattle.venue_rows.specs.Texts.{text_if};
 ghost use Rattle.quote_messages.specs.Texts.{is_sequence_number, is_msg_type};
 
 use crate::characters::are_letters_or_digits;

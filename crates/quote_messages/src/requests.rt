@@ -2,7 +2,7 @@
 
 use crate::{Id, NamedDealers, Quantity, Side};
 use fix_fields::Moment;
-use venue_config::Name;
+use venue_rows::Name;
 
 /// A message of an investor that met no session fault.
 #[derive(Drop)]

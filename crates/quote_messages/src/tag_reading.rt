@@ -5,7 +5,7 @@ ghost use Rattle.std.specs.Result.{result_ok};
 ghost use Rattle.bond_prices.specs.Price.{price_of};
 ghost use Rattle.fix_fields.specs.Frame.{Field, value_of};
 ghost use Rattle.fix_fields.specs.UtcTimestamp.{moment_of};
-ghost use Rattle.venue_config.specs.Texts.{is_among};
+ghost use Rattle.venue_rows.specs.Texts.{is_among};
 ghost use Rattle.quote_messages.specs.Slots.{is_checked};
 ghost use Rattle.quote_messages.specs.TagReading.{Reads, StandsOnce, HasFault};
 ghost use Rattle.quote_messages.specs.TagReading.{HasFaultWhereRequired};
@@ -20,7 +20,7 @@ use crate::slots::FieldSlots;
 use crate::{Id, Quantity, SessionFault, SessionRejectReason, read_number};
 use bond_prices::{PriceFault, Ticks, read_price};
 use fix_fields::{Date, Moment, MomentFault, read_moment};
-use venue_config::{Name, Traders};
+use venue_rows::{Name, Traders};
 
 /// A required tag that has to be this text.
 pub(crate) fn check_text(

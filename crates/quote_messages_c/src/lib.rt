@@ -4,7 +4,7 @@
 
 use fix_fields::{Date, Frame, read_frame};
 use quote_messages::read_dealer;
-use venue_config::{DealerRow, Name, Traders};
+use venue_rows::{DealerRow, Name, Traders};
 
 /// How far a message of the dealer DLR1 with the trader T1 on 14 March 2025 gets: 0 where it is not
 /// looked at, 1 where it is a frame and no more is asked, 2 where it meets no session fault, 3

@@ -1,7 +1,7 @@
 -- A dealer's desk event by event, and the dealer view at such a desk.
 use Rattle.std.proofs.Common.{◌≡◌, ℕ, List, [], ◌∷◌, ◌++◌, ap, ◌∙◌}
 use Rattle.std.proofs.lemmas.List.Sums.{fold-append}
-use Rattle.venue_config.specs.declared.dealer_rows.DealerRow.{DealerRow}
+use Rattle.venue_rows.specs.declared.dealer_rows.DealerRow.{DealerRow}
 use Rattle.dealer_desk.specs.DealerFacts.{DealerFact}
 use Rattle.dealer_desk.specs.DealerOutput.{DeskState, after_event, desk_after, no_facts}
 use Rattle.dealer_desk.specs.declared.events.DealerEvent.{DealerEvent}

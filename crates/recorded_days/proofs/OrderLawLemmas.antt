@@ -10,7 +10,7 @@ use Rattle.std.proofs.lemmas.Option.{slice_get_within}
 use Rattle.quote_word.specs.declared.settled.Settled.{Settled}
 use Rattle.step_replay.specs.AuditTrail.{is_same_actor}
 use Rattle.venue_places.specs.declared.actors.Actor.{Actor}
-use Rattle.venue_config.specs.Rows.{Configuration}
+use Rattle.venue_rows.specs.Rows.{Configuration}
 use Rattle.recorded_days.specs.DayForm.{AreNamedOnce, IsWellFormed}
 use Rattle.recorded_days.specs.DayOrder.{ByActor, BySite, ByWord, IsBehind, IsCircle}
 use Rattle.recorded_days.specs.DayOrder.{IsDirectlyBefore, IsFirst, IsNextAtSite, KeepsOrder}

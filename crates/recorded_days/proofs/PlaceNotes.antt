@@ -9,8 +9,8 @@ use Rattle.std.proofs.Common.{Option, Some, None, is_some, arith, refl, sym, ap,
 use Rattle.std.specs.Prelude.{option_and_then, slice_get, List}
 use Rattle.std.specs.Option.{option_map}
 use Rattle.std.proofs.lemmas.Bool.Decides.{nat_tests}
-use Rattle.venue_config.specs.Rows.{Configuration, has_room, investor_numbered, may_request}
-use Rattle.venue_config.specs.declared.investor_rows.InvestorRow.{InvestorRow}
+use Rattle.venue_rows.specs.Rows.{Configuration, has_room, investor_numbered, may_request}
+use Rattle.venue_rows.specs.declared.investor_rows.InvestorRow.{InvestorRow}
 use Rattle.step_replay.specs.StepFaults.{firms_of}
 use Rattle.venue_places.specs.declared.actors.Actor.{Actor}
 use Rattle.venue_places.specs.declared.actors.Actor.TheVariants as actor

@@ -10,7 +10,7 @@ use Rattle.std.proofs.lemmas.List.{take_all, take_more}
 use Rattle.std.proofs.lemmas.List.Folds.{list_any_at}
 use Rattle.std.proofs.lemmas.Option.{get_or_from_slice_get, slice_get_within}
 use Rattle.market_terms.specs.declared.rooms.RoomRef.{RoomRef}
-use Rattle.venue_config.specs.Rows.{Configuration, has_room}
+use Rattle.venue_rows.specs.Rows.{Configuration, has_room}
 use Rattle.step_replay.specs.StepFaults.{fault_of, fault_of_firm, first_fault, first_fault_from}
 use Rattle.step_replay.specs.StepFaults.{firms_of, or_else}
 use Rattle.step_replay.specs.declared.faults.ReplayFault.{ReplayFault}

@@ -9,7 +9,7 @@ use borrow.Author.Count.{below_more}
 use Rattle.step_replay.specs.StepFaults.{firms_of}
 use Rattle.venue_places.specs.declared.actors.Actor.{Actor}
 use Rattle.venue_places.specs.declared.actors.Actor.TheVariants as actor
-use Rattle.venue_config.specs.Rows.{Configuration}
+use Rattle.venue_rows.specs.Rows.{Configuration}
 use Rattle.recorded_days.specs.DayForm.{AreNamedOnce, HasFirmsOf}
 use Rattle.recorded_days.specs.DayOrder.{action_in, grants, is_granted}
 use Rattle.recorded_days.specs.OrderCounts.{Counts, SetsCount, count_in, key_of}

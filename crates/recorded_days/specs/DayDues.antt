@@ -6,8 +6,8 @@ use Rattle.std.specs.Prelude.{All, option_and_then}
 use Rattle.std.specs.Option.{option_map}
 use Rattle.quote_word.specs.declared.settled.Settled.{Settled}
 use Rattle.quote_word.specs.declared.settled.Settled.TheVariants.{Withdrawn, Lifted}
-use Rattle.venue_config.specs.Rows.{Configuration, dealer_numbered}
-use Rattle.venue_config.specs.declared.dealer_rows.DealerRow.{DealerRow}
+use Rattle.venue_rows.specs.Rows.{Configuration, dealer_numbered}
+use Rattle.venue_rows.specs.declared.dealer_rows.DealerRow.{DealerRow}
 use Rattle.dealer_desk.specs.DealerFacts.{number_to_drop}
 use Rattle.dealer_desk.specs.DealerOutput.{DeskEvents, answered_words, book_at, facts_at}
 use Rattle.dealer_desk.specs.DealerOutput.{verdict_at, with_event, with_notice, word_asked}

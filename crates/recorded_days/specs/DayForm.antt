@@ -4,7 +4,7 @@ use Rattle.std.specs.Prelude.{is_some}
 use Rattle.std.specs.List.{list_any}
 use Rattle.std.specs.Option.{option_map_or}
 use Rattle.market_terms.specs.declared.rooms.RoomRef.{RoomRef}
-use Rattle.venue_config.specs.Rows.{Configuration, has_room}
+use Rattle.venue_rows.specs.Rows.{Configuration, has_room}
 use Rattle.recorded_days.specs.DayOrder.{StandsAt, action_in}
 use Rattle.recorded_days.specs.Kinds.{is_in, is_expire}
 use Rattle.recorded_days.specs.Records.{ActionRef, FirmLists, RecordedDay, firm_in, room_in}

@@ -2,7 +2,7 @@
 ghost use Rattle.std.specs.Prelude.{◌≡◌, ℕ, List, [], ◌++◌, IfOk, OnOk, Option};
 ghost use Rattle.std.specs.Option.{option_map};
 ghost use Rattle.quote_word.specs.declared.settled.Settled.{Settled};
-ghost use Rattle.venue_config.specs.declared.dealer_rows.DealerRow.{DealerRow};
+ghost use Rattle.venue_rows.specs.declared.dealer_rows.DealerRow.{DealerRow};
 ghost use Rattle.dealer_desk.specs.DealerOutput.{DeskEvents, dealer_output, with_event};
 ghost use Rattle.dealer_desk.specs.declared.events.DealerEvent.{DealerEvent};
 ghost use Rattle.recorded_days.specs.DayDues as spec;
@@ -18,7 +18,7 @@ use quote_messages::Message;
 use quote_word::Settled;
 use std::alloc::Global;
 use step_replay::Due;
-use venue_config::{DealerRow, VenueConfig};
+use venue_rows::{DealerRow, VenueConfig};
 
 impl DayRecord {
     /// What was due to the dealer with this number on the recorded day: the events at its desk, and

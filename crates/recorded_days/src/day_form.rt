@@ -6,7 +6,7 @@ ghost use Rattle.recorded_days.specs.DayForm as spec;
 ghost use Rattle.recorded_days.specs.OrderPlaces as noted;
 ghost use Rattle.recorded_days.specs.Records.{FirmLists, firm_in};
 ghost use Rattle.venue_places.specs.declared.actors.Actor.{Actor};
-ghost use Rattle.venue_config.specs.Rows.{Configuration};
+ghost use Rattle.venue_rows.specs.Rows.{Configuration};
 
 use crate::actions::{Action, Kind};
 use crate::day_reading::action_in;
@@ -16,7 +16,7 @@ use crate::weave_plan::firms_of;
 use fix_fields::Memory;
 use std::alloc::Global;
 use step_replay::Actor;
-use venue_config::VenueConfig;
+use venue_rows::VenueConfig;
 
 /// Where each action of a record stands, where it is of a day of a venue; none where it is
 /// malformed.

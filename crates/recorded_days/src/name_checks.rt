@@ -18,7 +18,7 @@ use market_terms::RoomRef;
 use std::alloc::Global;
 use std::collections::HashMap;
 use step_replay::Actor;
-use venue_config::VenueConfig;
+use venue_rows::VenueConfig;
 
 /// Where actions stand, by the numbers of their actors and their own.
 pub(crate) type Places = HashMap<(u64, u64), (Site, usize)>;

@@ -1,7 +1,7 @@
 //! Laws of the orders that keep what is directly before what: what is true of every such order of
 //! every recorded day.
 ghost use Rattle.std.specs.Prelude.{◌≡◌, true, List, is_some};
-ghost use Rattle.venue_config.specs.Rows.{Configuration};
+ghost use Rattle.venue_rows.specs.Rows.{Configuration};
 ghost use Rattle.recorded_days.specs.DayForm as form;
 ghost use Rattle.recorded_days.specs.DayOrder as spec;
 ghost use Rattle.recorded_days.specs.OrderLaws as order;

@@ -15,7 +15,7 @@ use quote_messages::SentMessage;
 use request_room::RoomEvent;
 use std::marker::Model;
 use step_replay::Actor;
-use venue_config::VenueConfig;
+use venue_rows::VenueConfig;
 
 /// What is recorded of a dealer's day.
 #[derive(Drop)]

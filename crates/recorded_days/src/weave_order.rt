@@ -13,7 +13,7 @@ use crate::weave_table::table_of;
 use fix_fields::Memory;
 use std::alloc::Global;
 use step_replay::Actor;
-use venue_config::VenueConfig;
+use venue_rows::VenueConfig;
 
 /// What is found where an order of a day is searched.
 #[derive(Drop)]

@@ -4,7 +4,7 @@ ghost use Rattle.step_replay.specs.StepFaults as spec;
 
 use crate::sites::Site;
 use step_replay::Actor;
-use venue_config::VenueConfig;
+use venue_rows::VenueConfig;
 
 /// An action, and where it came to.
 #[derive(Clone, Copy)]

@@ -16,7 +16,7 @@ use fix_fields::Memory;
 use std::alloc::Global;
 use std::collections::HashMap;
 use step_replay::Actor;
-use venue_config::VenueConfig;
+use venue_rows::VenueConfig;
 
 /// The actions of a day, actor by actor.
 #[derive(Drop)]

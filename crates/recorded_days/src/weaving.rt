@@ -17,7 +17,7 @@ use crate::woven_steps::steps_of;
 use fix_fields::Memory;
 use std::alloc::{AllocError, AllocFailed, Global};
 use step_replay::{Actor, ReplayFault, Step, World, run};
-use venue_config::VenueConfig;
+use venue_rows::VenueConfig;
 
 /// Why a recorded day can't be woven into steps.
 #[derive(Drop)]

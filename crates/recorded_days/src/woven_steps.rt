@@ -12,7 +12,7 @@ ghost use Rattle.recorded_days.specs.declared.weave_plan.Slot.{Slot};
 ghost use Rattle.market_terms.specs.declared.rooms.RoomRef.{RoomRef};
 ghost use Rattle.venue_places.specs.declared.actors.Actor.TheVariants as actor;
 ghost use Rattle.step_replay.specs.declared.steps.Step.{Step};
-ghost use Rattle.venue_config.specs.Rows.{Configuration};
+ghost use Rattle.venue_rows.specs.Rows.{Configuration};
 
 use crate::actions::Kind;
 use crate::day_reading::action_in;

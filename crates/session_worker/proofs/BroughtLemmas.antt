@@ -10,7 +10,7 @@ use Rattle.request_room.specs.Book.{room_after}
 use Rattle.request_room.specs.RoomFacts.{hears, is_opening, is_vacant}
 use Rattle.request_room.specs.declared.events.RoomEvent.{RoomEvent}
 use Rattle.request_room.specs.declared.events.RoomEvent.TheVariants as in_room
-use Rattle.venue_config.specs.Rows.{Configuration}
+use Rattle.venue_rows.specs.Rows.{Configuration}
 use Rattle.venue_places.specs.Brought.{dealer_with, investor_with, room_with}
 use Rattle.venue_places.specs.declared.arrivals.ForDealer.{ForDealer}
 use Rattle.venue_places.specs.declared.arrivals.ForDealer.TheVariants as to_dealer

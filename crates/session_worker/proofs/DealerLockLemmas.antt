@@ -21,8 +21,8 @@ use Rattle.quote_word.specs.declared.settled.Settlement.{Settlement}
 use Rattle.step_replay.specs.Actions.{dealer_of, first_word}
 use Rattle.recorded_days.specs.DayDues.{AnswersAre, AreAnswered, IsAnswered, day_due_list}
 use Rattle.step_replay.specs.DealerView.{dealer_view}
-use Rattle.venue_config.specs.Rows.{Configuration, dealer_numbered}
-use Rattle.venue_config.specs.declared.dealer_rows.DealerRow.{DealerRow}
+use Rattle.venue_rows.specs.Rows.{Configuration, dealer_numbered}
+use Rattle.venue_rows.specs.declared.dealer_rows.DealerRow.{DealerRow}
 use Rattle.venue_steps.specs.DealerSteps.{desk_after_drop, desk_after_own, drop_word, own_word}
 use Rattle.venue_steps.specs.Words.{AsksAtMost, SettlesSo, answer_in, has_word, word_of, word_to_ask}
 use Rattle.session_worker.specs.Locks.{KeepsDealer, StandsIn, answers_at, by_word}

@@ -14,8 +14,8 @@ use Rattle.investor_desk.specs.RequestLines.{lines_of as request_lines}
 use Rattle.quote_word.specs.Board.{BoardName, Front}
 use Rattle.quote_word.specs.SettleLog.{IsLegal, SettleLog}
 use Rattle.quote_word.specs.SettleLogLaws.{entry_stays_later}
-use Rattle.venue_config.specs.Rows.{Configuration, dealer_numbered}
-use Rattle.venue_config.specs.declared.dealer_rows.DealerRow.{DealerRow}
+use Rattle.venue_rows.specs.Rows.{Configuration, dealer_numbered}
+use Rattle.venue_rows.specs.declared.dealer_rows.DealerRow.{DealerRow}
 use Rattle.step_replay.specs.Actions.{dealer_of, first_word}
 use Rattle.recorded_days.specs.Records.{ActionRef, DealerLists, FirmLists, InvestorLists}
 use Rattle.recorded_days.specs.Records.{RecordedDay, RoomLists, of_dealer, of_investor}

@@ -9,7 +9,7 @@ use Rattle.quote_word.specs.SettleLog.{entry_of}
 use Rattle.quote_word.specs.declared.settled.Settled.{Settled}
 use Rattle.quote_word.specs.declared.settled.Settled.TheVariants.{Lifted}
 use Rattle.quote_word.specs.declared.settled.Settlement.{Settlement}
-use Rattle.venue_config.specs.Rows.{Configuration}
+use Rattle.venue_rows.specs.Rows.{Configuration}
 use Rattle.venue_steps.specs.Words.{AsksAtMost, SettlesSo, answer_in}
 use Rattle.venue_steps.specs.InvestorSteps.{where_so}
 use Rattle.venue_steps.specs.RoomSteps.{hit_word, where_done, word_asked_by}
@@ -21,8 +21,8 @@ use Rattle.market_terms.specs.declared.rooms.RoomRef.{RoomRef}
 use Rattle.request_room.specs.Book.{hit_refusal, room_after, word_or}
 use Rattle.request_room.specs.declared.events.RoomEvent.{RoomEvent}
 use Rattle.request_room.specs.declared.events.RoomEvent.TheVariants as in_room
-use Rattle.venue_config.specs.Rows.{investor_numbered}
-use Rattle.venue_config.specs.declared.investor_rows.InvestorRow.{InvestorRow}
+use Rattle.venue_rows.specs.Rows.{investor_numbered}
+use Rattle.venue_rows.specs.declared.investor_rows.InvestorRow.{InvestorRow}
 use Rattle.session_worker.specs.Locks.{Answer, KeepsInvestor, KeepsRoom, StandsIn}
 use Rattle.session_worker.specs.Locks.{answered_hit, answers_in}
 

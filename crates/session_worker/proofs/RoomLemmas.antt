@@ -9,8 +9,8 @@ use Rattle.std.proofs.lemmas.List.{append-nil, drop-map, drop_at, drop_more, tak
 use Rattle.std.proofs.lemmas.List.{map-append, map_more, take-map, take_at}
 use Rattle.std.proofs.lemmas.Grind.{common_steps, take_at_read}
 use Rattle.market_terms.specs.declared.rooms.RoomRef.{RoomRef}
-use Rattle.venue_config.specs.Rows.{Configuration, has_room, may_request}
-use Rattle.venue_config.specs.declared.investor_rows.InvestorRow.{InvestorRow}
+use Rattle.venue_rows.specs.Rows.{Configuration, has_room, may_request}
+use Rattle.venue_rows.specs.declared.investor_rows.InvestorRow.{InvestorRow}
 use Rattle.recorded_days.specs.Records.{InvestorLists, RoomLists}
 use Rattle.session_worker.specs.DayChecks.{DayRoom}
 use Rattle.session_worker.specs.KeptDays.{names_by, names_from, names_of, rooms_from, rooms_of}

@@ -15,9 +15,9 @@ use Rattle.quote_word.specs.declared.settled.Settled.TheVariants.{Lifted}
 use Rattle.request_room.specs.Book.{room_after}
 use Rattle.request_room.specs.RoomFacts.{end_of}
 use Rattle.request_room.specs.declared.ends.End.{End}
-use Rattle.venue_config.specs.Rows.{Configuration, dealer_numbered}
-use Rattle.venue_config.specs.declared.dealer_rows.DealerRow.{DealerRow}
-use Rattle.venue_config.specs.declared.investor_rows.InvestorRow.{InvestorRow}
+use Rattle.venue_rows.specs.Rows.{Configuration, dealer_numbered}
+use Rattle.venue_rows.specs.declared.dealer_rows.DealerRow.{DealerRow}
+use Rattle.venue_rows.specs.declared.investor_rows.InvestorRow.{InvestorRow}
 use Rattle.step_replay.specs.Actions.{dealer_of, first_word}
 use Rattle.recorded_days.specs.DayDues.{day_due_list}
 use Rattle.step_replay.specs.DealerView.{dealer_view}

@@ -17,7 +17,7 @@ use Rattle.request_room.specs.declared.events.RoomEvent.TheVariants as in_room
 use Rattle.step_replay.specs.Actions.{dealer_of, first_word}
 use Rattle.recorded_days.specs.DayDues.{AreAnswered}
 use Rattle.recorded_days.specs.Records.{ActionRef}
-use Rattle.venue_config.specs.Rows.{Configuration, dealer_numbered, has_room}
+use Rattle.venue_rows.specs.Rows.{Configuration, dealer_numbered, has_room}
 use Rattle.venue_steps.specs.Words.{word_of}
 
 -- Answers.

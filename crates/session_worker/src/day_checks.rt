@@ -18,7 +18,7 @@ use quote_messages::Message;
 use recorded_days::{DealerDay, Inbound};
 use std::alloc::Global;
 use std::collections::BTreeMap;
-use venue_config::VenueConfig;
+use venue_rows::VenueConfig;
 use venue_steps::close_for;
 
 /// Whether the messages that came from a dealer, by the events at its desk, are this inbox: all of

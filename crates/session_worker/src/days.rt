@@ -21,7 +21,7 @@ use std::alloc::Global;
 use std::marker::Brand;
 use std::sync::Wait;
 use std::thread::Threads;
-use venue_config::VenueConfig;
+use venue_rows::VenueConfig;
 
 /// Runs a day of the venue on threads: one session for each firm, which takes its inbox, and the
 /// clock, which makes the sweeps. It waits for all of them, then looks whether what lies under the

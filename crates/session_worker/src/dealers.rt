@@ -8,7 +8,7 @@ ghost use Rattle.session_worker.specs.Locks.{KeepsDealer, StandsIn, answers_at, 
 ghost use Rattle.session_worker.specs.Watched.{asked_of};
 ghost use Rattle.step_replay.specs.Actions as actions;
 ghost use Rattle.step_replay.specs.Actions.{dealer_of};
-ghost use Rattle.venue_config.specs.Rows.{dealer_numbered};
+ghost use Rattle.venue_rows.specs.Rows.{dealer_numbered};
 ghost use Rattle.venue_places.specs.Brought as spec;
 ghost use Rattle.venue_places.specs.declared.actors.Actor.TheVariants as actor;
 ghost use Rattle.venue_steps.specs.DealerSteps as steps;
@@ -30,8 +30,8 @@ use recorded_days::{
 use std::alloc::Global;
 use std::marker::{Model, PhantomData};
 use step_replay::Actor;
-use venue_config::{DealerRow, VenueConfig};
 use venue_places::{ForDealer, bring_to_dealer};
+use venue_rows::{DealerRow, VenueConfig};
 use venue_steps::{do_drop, own_dealer};
 
 /// A dealer's desk, the token that has seen what its words were answered, and the order of the

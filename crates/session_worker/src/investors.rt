@@ -4,7 +4,7 @@ ghost use Rattle.investor_desk.specs.InvestorOutput.{book_at, investor_output, m
 ghost use Rattle.investor_desk.specs.RequestLines.{lines_of};
 ghost use Rattle.session_worker.specs.KeptDays.{InvestorKeeps};
 ghost use Rattle.session_worker.specs.Locks.{with_action};
-ghost use Rattle.venue_config.specs.Rows.{investor_numbered};
+ghost use Rattle.venue_rows.specs.Rows.{investor_numbered};
 ghost use Rattle.venue_places.specs.Brought as spec;
 ghost use Rattle.venue_places.specs.declared.actors.Actor.TheVariants as actor;
 ghost use Rattle.venue_steps.specs.InvestorSteps as steps;
@@ -20,8 +20,8 @@ use recorded_days::{InvestorDay, RoomDay};
 use std::alloc::Global;
 use std::marker::{Model, PhantomData};
 use step_replay::Actor;
-use venue_config::VenueConfig;
 use venue_places::{ForInvestor, bring_to_investor};
+use venue_rows::VenueConfig;
 use venue_steps::own_investor;
 
 /// An investor's desk, and the order of the actions on it. No action there asks a word, so no token

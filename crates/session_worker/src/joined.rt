@@ -21,7 +21,7 @@ use recorded_days::{Action, DealerDay, Inbound, InvestorDay, RoomDay};
 use std::alloc::Global;
 use std::sync::Mutex;
 use std::vec;
-use venue_config::VenueConfig;
+use venue_rows::VenueConfig;
 
 /// What a session leaves: the messages that came to it, and what the firm did.
 #[derive(Drop)]

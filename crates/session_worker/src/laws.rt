@@ -2,8 +2,8 @@
 //! two of them, and of one beside a replay.
 ghost use Rattle.std.specs.Prelude.{◌≡◌, ℕ, List, Some};
 ghost use Rattle.std.specs.Option.{option_map};
-ghost use Rattle.venue_config.specs.Rows.{Configuration, dealer_numbered};
-ghost use Rattle.venue_config.specs.declared.dealer_rows.DealerRow.{DealerRow};
+ghost use Rattle.venue_rows.specs.Rows.{Configuration, dealer_numbered};
+ghost use Rattle.venue_rows.specs.declared.dealer_rows.DealerRow.{DealerRow};
 ghost use Rattle.step_replay.specs.AuditTrail as venue;
 ghost use Rattle.recorded_days.specs.DayDues.{day_dues_of};
 ghost use Rattle.step_replay.specs.DealerView.{dealer_view};

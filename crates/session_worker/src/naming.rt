@@ -6,7 +6,7 @@ use std::marker::Brand;
 /// board. Each venue picks it.
 pub trait Naming {
     ghost use Rattle.quote_word.specs.Board.{BoardName};
-    ghost use Rattle.venue_config.specs.Rows.{Configuration};
+    ghost use Rattle.venue_rows.specs.Rows.{Configuration};
 
     /// The board.
     ghost board: { BoardName };

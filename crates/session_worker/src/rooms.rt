@@ -5,7 +5,7 @@ ghost use Rattle.request_room.specs.Book.{room_after};
 ghost use Rattle.request_room.specs.declared.events.RoomEvent.TheVariants as event;
 ghost use Rattle.session_worker.specs.Locks.{StandsIn, answers_in, with_action};
 ghost use Rattle.session_worker.specs.Watched.{asked_of};
-ghost use Rattle.venue_config.specs.Rows.{has_room};
+ghost use Rattle.venue_rows.specs.Rows.{has_room};
 ghost use Rattle.venue_places.specs.Brought as spec;
 ghost use Rattle.venue_steps.specs.RoomSteps as steps;
 ghost use Rattle.venue_steps.specs.Words.{answer_in, has_word, word_to_ask};

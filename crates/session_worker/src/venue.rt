@@ -6,7 +6,7 @@ ghost use Rattle.std.specs.Sync.Mutex.{mutex_guard_value};
 ghost use Rattle.session_worker.specs.KeptDays.{requests_of};
 ghost use Rattle.session_worker.specs.Locks.{numbered_from};
 ghost use Rattle.step_replay.specs.Actions.{words_of};
-ghost use Rattle.venue_config.specs.Rows.{has_room};
+ghost use Rattle.venue_rows.specs.Rows.{has_room};
 
 use crate::dealers::LockedDealer;
 use crate::investors::LockedInvestor;
@@ -18,7 +18,7 @@ use quote_word::{Board, BoardSeen};
 use std::alloc::Global;
 use std::marker::Model;
 use std::sync::{Mutex, MutexGuard, Wait};
-use venue_config::VenueConfig;
+use venue_rows::VenueConfig;
 
 /// The place of an investor.
 #[derive(Drop)]

@@ -10,7 +10,7 @@ use Rattle.market_terms.specs.declared.rooms.Offer.{Offer}
 use Rattle.market_terms.specs.declared.rooms.ResponseRef.{ResponseRef}
 use Rattle.market_terms.specs.declared.rooms.RoomRef.{RoomRef}
 use Rattle.quote_word.specs.declared.settled.Settled.{Settled}
-use Rattle.venue_config.specs.Rows.{Configuration}
+use Rattle.venue_rows.specs.Rows.{Configuration}
 use Rattle.dealer_desk.specs.DealerFacts.{quote_to_drop}
 use Rattle.dealer_desk.specs.DealerOutput.{goes_through, is_withdrawn, post_of, room_of}
 use Rattle.dealer_desk.specs.DealerOutput.{verdict_duty, unpost_dropped, further_drop}

@@ -6,7 +6,7 @@ use Rattle.market_terms.specs.declared.duties.Duty.{Duty}
 use Rattle.market_terms.specs.declared.duties.Duty.TheVariants as duty
 use Rattle.market_terms.specs.declared.closes.Reply.{Reply}
 use Rattle.market_terms.specs.declared.closes.Reply.TheVariants as reply
-use Rattle.venue_config.specs.Rows.{Configuration}
+use Rattle.venue_rows.specs.Rows.{Configuration}
 use Rattle.investor_desk.specs.InvestorFacts.{InvestorFact, Offered, Gone}
 use Rattle.request_room.specs.RoomFacts.{RoomFact, Posted, Unposted, Noted}
 use Rattle.step_replay.specs.AuditTrail.{AuditTrail, Caused}

@@ -20,8 +20,8 @@ use Rattle.quote_messages.specs.declared.requests.InvestorMessage.{InvestorMessa
 use Rattle.quote_messages.specs.declared.requests.InvestorMessage.TheVariants as message
 use Rattle.quote_messages.specs.declared.reject_reasons.RequestRejectReason.{RequestRejectReason}
 use Rattle.quote_messages.specs.Arrivals.{investor_arrival}
-use Rattle.venue_config.specs.Texts.{same_text}
-use Rattle.venue_config.specs.declared.bond_rows.BondRow.{BondRow}
+use Rattle.venue_rows.specs.Texts.{same_text}
+use Rattle.venue_rows.specs.declared.bond_rows.BondRow.{BondRow}
 use Rattle.investor_desk.specs.InvestorFacts.{InvestorFact, InvestorBook, StandingRequest}
 use Rattle.investor_desk.specs.InvestorFacts.{Came, Asked, Offered, Gone, Closed, used_number}
 use Rattle.investor_desk.specs.InvestorFacts.{closes, first_said, standing_on}

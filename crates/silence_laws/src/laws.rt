@@ -1,8 +1,8 @@
 //! What other dealers do is not heard before a hit.
 ghost use Rattle.std.specs.Prelude.{◌≡◌, ℕ, false, List, Some};
 ghost use Rattle.std.specs.List.{list_any};
-ghost use Rattle.venue_config.specs.Rows.{Configuration, dealer_numbered};
-ghost use Rattle.venue_config.specs.declared.dealer_rows.DealerRow.{DealerRow};
+ghost use Rattle.venue_rows.specs.Rows.{Configuration, dealer_numbered};
+ghost use Rattle.venue_rows.specs.declared.dealer_rows.DealerRow.{DealerRow};
 ghost use Rattle.step_replay.specs.AuditTrail as venue;
 ghost use Rattle.step_replay.specs.declared.steps.Step.{Step};
 ghost use Rattle.silence_laws.specs.Silence.{AreOneBesides, brings_hit, has_hit};

@@ -15,8 +15,8 @@ use Rattle.quote_word.specs.PlainWordsLaws.{exchange_answers_entry, exchange_kee
 use Rattle.quote_word.specs.PlainWordsLaws.{exchange_keeps_count}
 use Rattle.quote_word.specs.declared.settled.Settled.{Settled}
 use Rattle.quote_word.specs.declared.settled.Settled.TheVariants as settled
-use Rattle.venue_config.specs.Rows.{Configuration, dealer_numbered}
-use Rattle.venue_config.specs.declared.dealer_rows.DealerRow.{DealerRow}
+use Rattle.venue_rows.specs.Rows.{Configuration, dealer_numbered}
+use Rattle.venue_rows.specs.declared.dealer_rows.DealerRow.{DealerRow}
 use Rattle.market_terms.specs.declared.duties.Duty.{Duty}
 use Rattle.dealer_desk.specs.DealerFacts.{DealerFact}
 use Rattle.dealer_desk.specs.DealerOutput.{DeskEvents, event_facts, with_event, is_withdrawn}

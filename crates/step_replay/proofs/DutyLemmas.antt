@@ -3,7 +3,7 @@ use Rattle.std.proofs.Common.{◌≡◌, ◌≤◌, ◌<◌, ℕ, zero, suc, tru
 use Rattle.std.proofs.Common.{Option, Some, None, Result, Ok, Err, IfOk, is_some}
 use Rattle.std.proofs.Common.{refl, sym, ap, ◌∙◌, subst, arith}
 use Rattle.std.specs.Prelude.{slice_get}
-use Rattle.venue_config.specs.Rows.{Configuration}
+use Rattle.venue_rows.specs.Rows.{Configuration}
 use Rattle.market_terms.specs.declared.duties.Duty.{Duty}
 use Rattle.step_replay.specs.VenueFacts.{Fact}
 use Rattle.venue_places.specs.declared.arrivals.Arrival.{Arrival}

@@ -7,8 +7,8 @@ use Rattle.std.specs.Prelude.{slice_get}
 use Rattle.std.proofs.lemmas.Bool.Decides.{nat_tests}
 use Rattle.std.proofs.lemmas.List.{length-append, length-replicate}
 use Rattle.std.proofs.lemmas.Option.{slice_get_read}
-use Rattle.venue_config.specs.Rows.{Configuration, investor_numbered}
-use Rattle.venue_config.specs.declared.investor_rows.InvestorRow.{InvestorRow}
+use Rattle.venue_rows.specs.Rows.{Configuration, investor_numbered}
+use Rattle.venue_rows.specs.declared.investor_rows.InvestorRow.{InvestorRow}
 use Rattle.investor_desk.specs.InvestorOutput.{DeskEvents, desk_after, market_of}
 use Rattle.investor_desk.specs.InvestorOutput.{market_for, no_events}
 use Rattle.investor_desk.specs.declared.events.InvestorEvent.{InvestorEvent}

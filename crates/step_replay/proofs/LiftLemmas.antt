@@ -15,8 +15,8 @@ use Rattle.quote_word.specs.PlainWords.{entry_in, answer_of, Exchanges}
 use Rattle.quote_word.specs.PlainWordsLaws.{exchange_answers_entry, exchange_keeps_others}
 use Rattle.quote_word.specs.declared.settled.Settled.{Settled}
 use Rattle.quote_word.specs.declared.settled.Settled.TheVariants as settled
-use Rattle.venue_config.specs.Rows.{Configuration, dealer_numbered}
-use Rattle.venue_config.specs.declared.dealer_rows.DealerRow.{DealerRow}
+use Rattle.venue_rows.specs.Rows.{Configuration, dealer_numbered}
+use Rattle.venue_rows.specs.declared.dealer_rows.DealerRow.{DealerRow}
 use Rattle.dealer_desk.specs.DealerOutput.{DeskEvents, desk_after, rooms_of}
 use Rattle.dealer_desk.specs.DeskLaws.{withdraws}
 use Rattle.step_replay.specs.DealerTrail.{DealerEntry, Lifted, fact_in, room_in, message_in}

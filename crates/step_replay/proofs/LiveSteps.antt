@@ -3,7 +3,7 @@ use Rattle.std.proofs.Common.{◌≡◌, ℕ, zero, suc, ◌+◌, true, List, []
 use Rattle.std.proofs.Common.{Option, Some, None, refl, sym, ap, ◌∙◌, subst, arith}
 use Rattle.market_terms.specs.declared.duties.Duty.{Duty}
 use Rattle.market_terms.specs.declared.rooms.RoomRef.{RoomRef}
-use Rattle.venue_config.specs.Rows.{Configuration}
+use Rattle.venue_rows.specs.Rows.{Configuration}
 use Rattle.step_replay.specs.Actions.{duty_effect, message_effect}
 use Rattle.step_replay.specs.AuditTrail.{AuditTrail, after_step, after_turn, no_steps, pending}
 use Rattle.step_replay.specs.LiveDays.{Sent, actor_of, live_trail, messages_in}

@@ -9,7 +9,7 @@ use Rattle.dealer_desk.specs.DealerOutput.{is_same_room}
 use Rattle.request_room.specs.RoomFacts.{RoomFact}
 use Rattle.request_room.specs.Book.{room_after}
 use Rattle.request_room.specs.declared.events.RoomEvent.{RoomEvent}
-use Rattle.venue_config.specs.Rows.{Configuration, has_room}
+use Rattle.venue_rows.specs.Rows.{Configuration, has_room}
 use Rattle.step_replay.specs.Deadlines.{deadline_of, earlier, next_deadline}
 use Rattle.step_replay.specs.OpenRooms.{Entry, IsEarliest, IsEmpty, Notes, RoomsStand}
 use Rattle.step_replay.specs.OpenRooms.{any_due, deadline_by, holds, is_deadline}

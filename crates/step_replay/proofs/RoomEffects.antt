@@ -6,7 +6,7 @@ use Rattle.market_terms.specs.declared.rooms.RoomRef.{RoomRef}
 use Rattle.market_terms.specs.declared.closes.HitRefusal.{HitRefusal}
 use Rattle.request_room.specs.RoomFacts.{RoomFact}
 use Rattle.request_room.specs.declared.ends.End.{End}
-use Rattle.venue_config.specs.Rows.{Configuration}
+use Rattle.venue_rows.specs.Rows.{Configuration}
 use Rattle.dealer_desk.specs.DealerOutput.{is_same_room}
 use Rattle.step_replay.specs.ActionKinds.{IsAction, by_dealer, by_hit, by_investor, by_room, idle}
 use Rattle.step_replay.specs.Actions.{Effect, QuoteRef, lifting, quote_with_word}

@@ -8,7 +8,7 @@ use Rattle.std.proofs.lemmas.List.{length-replicate, take_all, take_more}
 use Rattle.std.proofs.lemmas.List.Sums.{fold-append}
 use Rattle.std.proofs.lemmas.Option.{slice_get_read}
 use Rattle.market_terms.specs.declared.duties.Duty.{Duty}
-use Rattle.venue_config.specs.Rows.{Configuration, has_room}
+use Rattle.venue_rows.specs.Rows.{Configuration, has_room}
 use Rattle.step_replay.specs.AuditTrail.{AuditTrail, audit_trail, after_step, no_steps, pending}
 use Rattle.step_replay.specs.AuditTrail.{after_turn, with_effect}
 use Rattle.step_replay.specs.Actions.{message_effect, sweep_effect}

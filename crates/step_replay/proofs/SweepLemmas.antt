@@ -16,7 +16,7 @@ use Rattle.investor_desk.specs.declared.events.InvestorEvent.TheVariants as at_i
 use Rattle.request_room.specs.Book.{event_facts, expired, may_expire, where_so}
 use Rattle.request_room.specs.RoomFacts.{RoomFact, Ended}
 use Rattle.request_room.specs.declared.ends.End.{End}
-use Rattle.venue_config.specs.Rows.{Configuration, has_room}
+use Rattle.venue_rows.specs.Rows.{Configuration, has_room}
 use Rattle.venue_steps.specs.RoomSteps.{close_for, dealers_of, duties_of_expire, told_in}
 use Rattle.request_room.specs.RoomFacts.{request_of}
 use Rattle.step_replay.specs.Actions.{Dealer, Effect, at_dealer, at_market, dealer_at, done_by}

@@ -16,7 +16,7 @@ use Rattle.dealer_desk.specs.DealerOutput.{is_same_room}
 use Rattle.request_room.specs.Book.{is_past_deadline, may_expire}
 use Rattle.request_room.specs.RoomFacts.{is_ended, is_ready, request_of}
 use Rattle.request_room.specs.declared.requests.RoomRequest.{RoomRequest}
-use Rattle.venue_config.specs.Rows.{Configuration, has_room}
+use Rattle.venue_rows.specs.Rows.{Configuration, has_room}
 use Rattle.step_replay.specs.AuditTrail.{AuditTrail, after_step, pending}
 use Rattle.step_replay.specs.Deadlines.{deadline_of}
 use Rattle.step_replay.specs.LiveDays.{Sent, live_messages, live_trail, messages_in}

@@ -4,9 +4,9 @@ use Rattle.std.proofs.Common.{Option, Some, None, option_map, refl, sym, ap, ◌
 use Rattle.std.specs.Prelude.{slice_get}
 use Rattle.std.proofs.lemmas.List.{length-map}
 use Rattle.std.proofs.lemmas.Option.{slice_get-map}
-use Rattle.venue_config.specs.Rows.{Configuration, investor_numbered}
-use Rattle.venue_config.specs.declared.dealer_rows.DealerRow.{DealerRow}
-use Rattle.venue_config.specs.declared.investor_rows.InvestorRow.{InvestorRow}
+use Rattle.venue_rows.specs.Rows.{Configuration, investor_numbered}
+use Rattle.venue_rows.specs.declared.dealer_rows.DealerRow.{DealerRow}
+use Rattle.venue_rows.specs.declared.investor_rows.InvestorRow.{InvestorRow}
 use Rattle.dealer_desk.specs.DealerFacts.{book_of}
 use Rattle.dealer_desk.specs.DealerOutput.{DeskState, desk_after}
 use Rattle.dealer_desk.specs.QuoteLines as quotes

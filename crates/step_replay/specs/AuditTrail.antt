@@ -5,7 +5,7 @@ use Rattle.std.specs.Prelude.{ℕ, ◌==◌, Bool, true, false, List, [], ◌∷
 use Rattle.std.specs.Prelude.{filter_map, drop, count_by, Option, Some, None, is_some}
 use Rattle.std.specs.Prelude.{if◌then◌else◌}
 use Rattle.market_terms.specs.declared.duties.Duty.{Duty}
-use Rattle.venue_config.specs.Rows.{Configuration, dealer_numbered}
+use Rattle.venue_rows.specs.Rows.{Configuration, dealer_numbered}
 use Rattle.step_replay.specs.VenueFacts.{Fact, of_dealer, of_investor}
 use Rattle.step_replay.specs.DealerTrail as dealer_trail
 use Rattle.step_replay.specs.InvestorTrail as investor_trail

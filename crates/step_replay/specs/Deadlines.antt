@@ -3,7 +3,7 @@ use Rattle.std.specs.Prelude.{ℕ, nat_lt, List, map, fold, Option, Some, None, 
 use Rattle.std.specs.Option.{option_map}
 use Rattle.request_room.specs.RoomFacts.{RoomFact, request_of, takes_quotes}
 use Rattle.request_room.specs.declared.requests.RoomRequest.{RoomRequest}
-use Rattle.venue_config.specs.Rows.{Configuration}
+use Rattle.venue_rows.specs.Rows.{Configuration}
 use Rattle.step_replay.specs.VenueFacts.{Fact, of_room}
 use Rattle.step_replay.specs.VenueRooms.{rooms_of}
 

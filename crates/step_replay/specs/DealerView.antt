@@ -6,7 +6,7 @@ use Rattle.std.specs.Option.{option_map}
 use Rattle.quote_word.specs.declared.settled.Settled.{Settled}
 use Rattle.quote_word.specs.declared.settled.Settled.TheVariants.{Withdrawn, Lifted}
 use Rattle.market_terms.specs.declared.rooms.RoomRef.{RoomRef}
-use Rattle.venue_config.specs.declared.dealer_rows.DealerRow.{DealerRow}
+use Rattle.venue_rows.specs.declared.dealer_rows.DealerRow.{DealerRow}
 use Rattle.dealer_desk.specs.DealerFacts.{number_to_drop}
 use Rattle.dealer_desk.specs.DealerOutput.{DeskEvents, dealer_output, facts_at, book_at}
 use Rattle.dealer_desk.specs.DealerOutput.{verdict_at, word_asked, with_event, with_notice}

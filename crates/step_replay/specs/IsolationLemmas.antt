@@ -1,7 +1,7 @@
 -- What a dealer is sent is the dealer view of what was due to it, whatever the steps of the venue.
 use Rattle.std.proofs.Common.{◌≡◌, ℕ, List, Some, is_some, refl, sym, ap, ◌∙◌}
-use Rattle.venue_config.specs.Rows.{Configuration, dealer_numbered}
-use Rattle.venue_config.specs.declared.dealer_rows.DealerRow.{DealerRow}
+use Rattle.venue_rows.specs.Rows.{Configuration, dealer_numbered}
+use Rattle.venue_rows.specs.declared.dealer_rows.DealerRow.{DealerRow}
 use Rattle.dealer_desk.specs.DealerOutput.{DeskState}
 use Rattle.step_replay.specs.AuditTrail.{audit_trail, sent_to, due_to}
 use Rattle.step_replay.specs.DealerView.{DealerView, dealer_view, sent_at}

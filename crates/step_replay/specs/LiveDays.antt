@@ -5,7 +5,7 @@ use Rattle.std.specs.Prelude.{ℕ, Bool, ◌==◌, List, ◌∷◌, replicate, f
 use Rattle.std.specs.Prelude.{is_some, if◌then◌else◌}
 use Rattle.std.specs.List.{flat_map}
 use Rattle.std.specs.Option.{option_map}
-use Rattle.venue_config.specs.Rows.{Configuration, dealer_numbered}
+use Rattle.venue_rows.specs.Rows.{Configuration, dealer_numbered}
 use Rattle.step_replay.specs.AuditTrail.{AuditTrail, audit_trail}
 use Rattle.step_replay.specs.DealerTrail as dealer_trail
 use Rattle.step_replay.specs.InvestorTrail as investor_trail

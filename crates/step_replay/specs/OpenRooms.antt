@@ -7,7 +7,7 @@ use Rattle.std.specs.declared.cmp.Ordering.{Ordering}
 use Rattle.std.specs.BTreeSet.{BTreeSet, IsOrdered, contains}
 use Rattle.market_terms.specs.declared.rooms.RoomRef.{RoomRef}
 use Rattle.dealer_desk.specs.DealerOutput.{is_same_room}
-use Rattle.venue_config.specs.Rows.{Configuration, has_room}
+use Rattle.venue_rows.specs.Rows.{Configuration, has_room}
 use Rattle.step_replay.specs.Deadlines.{deadline_of}
 use Rattle.step_replay.specs.VenueFacts.{Fact, of_room}
 use Rattle.step_replay.specs.declared.open_rooms.OpenRooms.{OpenRooms}

@@ -1,9 +1,9 @@
 -- The places of a venue at the start of a day: words of private functions alone.
 use Rattle.std.specs.Prelude.{◌≡◌, ◌<◌, ℕ, ◌+◌, List, [], ◌∷◌, ◌++◌, length, replicate, slice_get}
 use Rattle.std.specs.Prelude.{Option, Some, None}
-use Rattle.venue_config.specs.Rows.{Configuration, dealer_numbered}
-use Rattle.venue_config.specs.declared.dealer_rows.DealerRow.{DealerRow}
-use Rattle.venue_config.specs.declared.investor_rows.InvestorRow.{InvestorRow}
+use Rattle.venue_rows.specs.Rows.{Configuration, dealer_numbered}
+use Rattle.venue_rows.specs.declared.dealer_rows.DealerRow.{DealerRow}
+use Rattle.venue_rows.specs.declared.investor_rows.InvestorRow.{InvestorRow}
 use Rattle.investor_desk.specs.InvestorOutput.{market_of, no_events}
 use Rattle.step_replay.specs.Actions.{dealer_of, first_word}
 use Rattle.step_replay.specs.declared.floor.DealerPlace.{DealerPlace}

@@ -3,7 +3,7 @@
 use Rattle.std.specs.Prelude.{◌≡◌, ◌≤◌, ℕ, ◌+◌, Bool, true, nat_lt, List, length, filter_map, count_by}
 use Rattle.std.specs.Prelude.{slice_get, Option, Some, None}
 use Rattle.market_terms.specs.declared.duties.Duty.{Duty}
-use Rattle.venue_config.specs.Rows.{Configuration}
+use Rattle.venue_rows.specs.Rows.{Configuration}
 use Rattle.step_replay.specs.AuditTrail.{AuditTrail, is_same_actor, duty_of, pending}
 use Rattle.step_replay.specs.StepFaults.{firms_of}
 use Rattle.venue_places.specs.declared.actors.Actor.{Actor}

@@ -4,12 +4,12 @@ use Rattle.std.specs.Prelude.{Option, Some, None, true, false, ◌&&◌, nat_le}
 use Rattle.market_terms.specs.declared.duties.Duty.{Duty}
 use Rattle.quote_word.specs.PlainWords.{entry_in}
 use Rattle.quote_word.specs.declared.settled.Settled.{Settled}
-use Rattle.venue_config.specs.Rows.{Configuration, dealer_numbered, investor_numbered}
-use Rattle.venue_config.specs.declared.dealer_rows.DealerRow.{DealerRow}
+use Rattle.venue_rows.specs.Rows.{Configuration, dealer_numbered, investor_numbered}
+use Rattle.venue_rows.specs.declared.dealer_rows.DealerRow.{DealerRow}
 use Rattle.dealer_desk.specs.DealerOutput.{desk_after, rooms_of}
 use Rattle.investor_desk.specs.InvestorOutput as investor_output
 use Rattle.investor_desk.specs.InvestorOutput.{market_of}
-use Rattle.venue_config.specs.declared.investor_rows.InvestorRow.{InvestorRow}
+use Rattle.venue_rows.specs.declared.investor_rows.InvestorRow.{InvestorRow}
 use Rattle.request_room.specs.RoomFacts.{RoomFact}
 use Rattle.request_room.specs.declared.events.RoomEvent.{RoomEvent}
 use Rattle.step_replay.specs.RowOfWords.{word_if}

@@ -1,8 +1,8 @@
 -- Which step of a day names a firm or a room that the venue does not have.
 use Rattle.std.specs.Prelude.{◌≡◌, ℕ, ◌+◌, nat_lt, List, [], ◌∷◌, length, Option, Some, None}
 use Rattle.std.specs.Prelude.{if◌then◌else◌}
-use Rattle.venue_config.specs.Rows.{Configuration, dealer_numbered, has_room}
-use Rattle.venue_config.specs.declared.dealer_rows.DealerRow.{DealerRow}
+use Rattle.venue_rows.specs.Rows.{Configuration, dealer_numbered, has_room}
+use Rattle.venue_rows.specs.declared.dealer_rows.DealerRow.{DealerRow}
 use Rattle.step_replay.specs.declared.faults.ReplayFault.{ReplayFault}
 use Rattle.step_replay.specs.declared.faults.ReplayFault.TheVariants as fault
 use Rattle.venue_places.specs.declared.actors.Actor.TheVariants as actor

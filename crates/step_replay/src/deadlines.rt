@@ -1,6 +1,6 @@
 //! The deadlines of the requests that have not ended.
 ghost use Rattle.std.specs.Prelude.{◌≡◌, List};
-ghost use Rattle.venue_config.specs.Rows.{Configuration};
+ghost use Rattle.venue_rows.specs.Rows.{Configuration};
 ghost use Rattle.request_room.specs.Book.{room_after};
 ghost use Rattle.step_replay.specs.Deadlines as spec;
 ghost use Rattle.step_replay.specs.OpenRooms.{deadline_by};

@@ -1,7 +1,7 @@
 //! What a dealer is sent for what is due to it.
 ghost use Rattle.std.specs.Prelude.{◌≡◌, ◌||◌, ℕ, List, length, IfOk, IfSome, OnOk};
 ghost use Rattle.std.specs.Option.{option_map};
-ghost use Rattle.venue_config.specs.declared.dealer_rows.DealerRow.{DealerRow};
+ghost use Rattle.venue_rows.specs.declared.dealer_rows.DealerRow.{DealerRow};
 ghost use Rattle.dealer_desk.specs.DealerFacts.{number_to_drop};
 ghost use Rattle.dealer_desk.specs.DealerOutput.{book_at, verdict_at, with_event, word_asked};
 ghost use Rattle.dealer_desk.specs.declared.events.DealerEvent.{DealerEvent};
@@ -15,7 +15,7 @@ use fix_fields::{Date, Memory, Moment};
 use quote_messages::{RoomRef, SentMessage};
 use quote_word::{PlainWords, Settled, Words};
 use std::alloc::Global;
-use venue_config::DealerRow;
+use venue_rows::DealerRow;
 
 /// Every message that a dealer is sent on a day, for what is due to it and nothing else. It is
 /// total: it fails only for memory. A lifting of a quote that the dealer can't have, or that was

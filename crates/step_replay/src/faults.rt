@@ -5,8 +5,8 @@ ghost use Rattle.step_replay.specs.StepFaults as spec;
 
 use crate::steps::Step;
 use std::alloc::{AllocError, AllocFailed};
-use venue_config::VenueConfig;
 use venue_places::Actor;
+use venue_rows::VenueConfig;
 
 /// Why a day can't be replayed: the first of its steps that names what the venue does not have, or
 /// a refusal of memory. All steps are looked at before the first is done.

@@ -3,7 +3,7 @@ use dealer_desk::DealerDesk;
 use investor_desk::InvestorDesk;
 use quote_word::PlainWords;
 use request_room::Room;
-use venue_config::VenueConfig;
+use venue_rows::VenueConfig;
 
 /// The place of a dealer.
 #[derive(Drop)]

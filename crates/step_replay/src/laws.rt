@@ -3,8 +3,8 @@ ghost use Rattle.std.specs.Prelude.{◌≡◌, ℕ, List, Some, false, ◌&&◌,
 ghost use Rattle.std.specs.Option.{option_map};
 ghost use Rattle.market_terms.specs.declared.duties.Duty.{Duty};
 ghost use Rattle.market_terms.specs.declared.rooms.RoomRef.{RoomRef};
-ghost use Rattle.venue_config.specs.Rows.{Configuration, dealer_numbered};
-ghost use Rattle.venue_config.specs.declared.dealer_rows.DealerRow.{DealerRow};
+ghost use Rattle.venue_rows.specs.Rows.{Configuration, dealer_numbered};
+ghost use Rattle.venue_rows.specs.declared.dealer_rows.DealerRow.{DealerRow};
 ghost use Rattle.venue_places.specs.Placed.{placed, swept};
 ghost use Rattle.venue_places.specs.declared.actors.Actor.{Actor};
 ghost use Rattle.step_replay.specs.Actions.{duty_effect, sweep_effect};

@@ -12,7 +12,7 @@ ghost use Rattle.step_replay.specs.LiveStanding.{Answers, AnswersSweeps, IsAt, T
 ghost use Rattle.step_replay.specs.LiveStanding.{TellsDuties, TellsStep};
 ghost use Rattle.step_replay.specs.StepFaults as faults;
 ghost use Rattle.step_replay.specs.declared.steps.Step.{Step};
-ghost use Rattle.venue_config.specs.Rows.{Configuration, dealer_numbered};
+ghost use Rattle.venue_rows.specs.Rows.{Configuration, dealer_numbered};
 
 use crate::deadlines::deadline_at;
 use crate::due_lists::dues_at;
@@ -28,8 +28,8 @@ use fix_fields::{Memory, Moment};
 use market_terms::{Duty, RoomRef};
 use quote_messages::SentMessage;
 use std::alloc::{AllocError, Global};
-use venue_config::VenueConfig;
 use venue_places::Actor;
+use venue_rows::VenueConfig;
 
 /// A venue that answers each step before the next one comes: behind the step its actor does all
 /// duties that it has, one by one. Once memory was refused nothing is known of it any more.

@@ -1,6 +1,6 @@
 //! The places of a venue at the start of a day.
 ghost use Rattle.std.specs.Prelude.{◌≡◌, ◌++◌, [], length, replicate, IfOk, OnOk};
-ghost use Rattle.venue_config.specs.Rows.{KeepsLimits};
+ghost use Rattle.venue_rows.specs.Rows.{KeepsLimits};
 ghost use Rattle.step_replay.specs.Openings as spec;
 
 use crate::floor::{DealerPlace, Floor, InvestorPlace};
@@ -10,7 +10,7 @@ use investor_desk::InvestorDesk;
 use quote_word::PlainWords;
 use request_room::Room;
 use std::alloc::Global;
-use venue_config::VenueConfig;
+use venue_rows::VenueConfig;
 
 impl Floor {
     /// The places of a venue at the start of a day: every desk without an event, every room

@@ -15,8 +15,8 @@ use fix_fields::{Memory, Moment};
 use market_terms::{Duty, RoomRef};
 use std::alloc::Global;
 use std::collections::VecDeque;
-use venue_config::VenueConfig;
 use venue_places::Actor;
+use venue_rows::VenueConfig;
 
 /// A venue that replays a day.
 #[derive(Drop)]

@@ -2,7 +2,7 @@
 ghost use Rattle.std.specs.Prelude.{◌≡◌, ◌++◌, ◌∷◌, ℕ, List, [], false};
 ghost use Rattle.market_terms.specs.declared.rooms.RoomRef.{RoomRef};
 ghost use Rattle.request_room.specs.Book.{may_expire};
-ghost use Rattle.venue_config.specs.Rows.{Configuration};
+ghost use Rattle.venue_rows.specs.Rows.{Configuration};
 ghost use Rattle.step_replay.specs.AuditTrail.{AuditTrail, after_step};
 ghost use Rattle.step_replay.specs.LiveDays.{live_trail};
 ghost use Rattle.step_replay.specs.LiveStanding.{IsAt};

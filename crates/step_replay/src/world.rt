@@ -18,7 +18,7 @@ use market_terms::FirmLines;
 use quote_messages::SentMessage;
 use std::alloc::Global;
 use std::marker::Model;
-use venue_config::VenueConfig;
+use venue_rows::VenueConfig;
 
 /// A venue after a day. A contract sees what it has of the day of each firm, in the order of their
 /// numbers: the dealers from 0 on, behind them the investors.

@@ -5,7 +5,7 @@ use blotter::blotter_text;
 use case_lines::{Call, CaseFault, Words, bond_of, name_of, price_of, quantity_of, side_of};
 use market_terms::{FirmLines, Quantity, QuoteLine, QuoteState, RequestLine, RequestState, Side};
 use std::alloc::Global;
-use venue_config::BondId;
+use venue_rows::BondId;
 
 /// The place `blotters`: blotters of lines.
 ///

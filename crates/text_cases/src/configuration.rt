@@ -8,7 +8,8 @@ use case_lines::{Call, CaseFault, Words, bytes_of, push_text};
 use std::alloc::Global;
 use std::fmt::Write;
 use std::str;
-use venue_config::{ConfigFault, DealerRow, InvestorRow, Traders, VenueConfig, read_config};
+use venue_config::{ConfigFault, read_config};
+use venue_rows::{DealerRow, InvestorRow, Traders, VenueConfig};
 
 /// The place `configuration`: texts of configurations, and what is read of them.
 ///

@@ -3,7 +3,7 @@
 use crate::printing::{len_of, push_line, push_value_or_none};
 use case_lines::{CaseFault, Words, push_text};
 use std::fmt::Write;
-use venue_config::{BondRow, DealerRow, InvestorRow, Traders};
+use venue_rows::{BondRow, DealerRow, InvestorRow, Traders};
 
 /// A row of a configuration.
 pub(crate) trait Row {

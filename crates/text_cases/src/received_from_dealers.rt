@@ -6,7 +6,7 @@ use bond_prices::{PriceFault, Ticks, price_text};
 use case_lines::CaseFault;
 use fix_fields::Moment;
 use quote_messages::{CancelScope, DealerMessage, Decline, Id, Quantity, Quote, QuoteCancel};
-use venue_config::{DealerRow, Name, Traders};
+use venue_rows::{DealerRow, Name, Traders};
 
 /// The row of DLR1 with the traders T1 and T2, 4 quotes a day and an exposure of 10,000,000.
 pub(crate) fn dealer_row() -> Result<DealerRow, CaseFault> {

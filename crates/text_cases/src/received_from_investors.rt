@@ -4,7 +4,7 @@ use crate::printing::{push_field, push_line, push_number_field, push_time_field}
 use crate::received_from_dealers::{push_id_if, two_traders};
 use case_lines::CaseFault;
 use quote_messages::{InvestorMessage, QuoteHit, QuoteRequest, RequestPass};
-use venue_config::{InvestorRow, Name};
+use venue_rows::{InvestorRow, Name};
 
 /// The row of INV1 with the traders T8 and T9, 3 requests a day, 2 of them open, each of 5,000,000
 /// at most.

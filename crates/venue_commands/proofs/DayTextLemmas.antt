@@ -1,7 +1,7 @@
 -- What `day` prints where it is not asked to weave.
 use Rattle.std.proofs.Common.{◌≡◌, ◌∙◌, ℕ, Bool, true, false, List, [], refl, sym}
 use Rattle.std.proofs.lemmas.List.{append-nil}
-use Rattle.venue_config.specs.Rows.{Configuration}
+use Rattle.venue_rows.specs.Rows.{Configuration}
 use Rattle.recorded_days.specs.Records.{RecordedDay}
 use Rattle.venue_text.specs.RecordText.{record_text}
 use Rattle.venue_commands.specs.ThreadedDays.{IsDay, IsLast, IsRecordOf}

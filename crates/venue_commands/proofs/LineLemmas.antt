@@ -8,7 +8,7 @@ use Rattle.std.proofs.lemmas.List.{length-append, append-nil}
 use Rattle.std.proofs.lemmas.Grind.{flat_map-append, fold-append}
 use Rattle.std.proofs.lemmas.List.Folds.{list_any-append}
 use Rattle.std.proofs.lemmas.List.Sums.{sum_by_push}
-use Rattle.venue_config.specs.Rows.{ConfigValues, Configuration, values_of}
+use Rattle.venue_rows.specs.Rows.{ConfigValues, Configuration, values_of}
 use Rattle.input_lines.specs.DueText.{Lines}
 use Rattle.input_lines.specs.Lines.{is_skipped, lines_of, spoken_from}
 use Rattle.venue_text.specs.LiveInput.{are_divided, as_part, configuration_in, lines_text, numbered_from, numbered_in, steps_in, taken_in, taken_of, text_in}

@@ -13,7 +13,7 @@ use Rattle.std.proofs.Math.Seq.{take-append_seam}
 use Rattle.std.proofs.lemmas.List.{append-nil, length-append, take-append-drop}
 use Rattle.std.proofs.lemmas.List.Folds.{list_any-append}
 use Rattle.venue_config.specs.Config.{config_of}
-use Rattle.venue_config.specs.Rows.{ConfigValues, Configuration, values_of}
+use Rattle.venue_rows.specs.Rows.{ConfigValues, Configuration, values_of}
 use Rattle.venue_config.specs.declared.faults.ConfigFault.{ConfigFault}
 use Rattle.venue_config.specs.declared.faults.ConfigFault.TheVariants.{Toml}
 use Rattle.input_lines.specs.Faults.{told_line}

@@ -4,7 +4,7 @@ use Rattle.std.specs.Prelude.{◌≡◌, ◌<◌, ◌==◌, ◌⊎◌, ℕ, Bool
 use Rattle.std.specs.Prelude.{length, nat_lt, take, Option, Some, None, Result, Ok, Err}
 use Rattle.std.specs.List.{count_by, list_any}
 use Rattle.std.specs.Option.{IfSome}
-use Rattle.venue_config.specs.Rows.{ConfigValues, Configuration, values_of}
+use Rattle.venue_rows.specs.Rows.{ConfigValues, Configuration, values_of}
 use Rattle.input_lines.specs.Faults.{told_line}
 use Rattle.venue_text.specs.KeptComparison.{IsKeptComparison}
 use Rattle.venue_text.specs.KeptDays.{asked_in, dues, kept_text}

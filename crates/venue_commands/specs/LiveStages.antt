@@ -3,7 +3,7 @@ use Rattle.std.specs.Prelude.{◌≡◌, ◌<◌, ◌⊎◌, ℕ, ◌+◌, ◌==
 use Rattle.std.specs.Prelude.{length, Option, Some, None, Ok, Err}
 use Rattle.std.specs.List.{count_by, list_any}
 use Rattle.std.specs.Option.{option_to_list}
-use Rattle.venue_config.specs.Rows.{ConfigValues, Configuration, values_of}
+use Rattle.venue_rows.specs.Rows.{ConfigValues, Configuration, values_of}
 use Rattle.venue_text.specs.KeptDays.{Keeps, KeepsMore, OpensKept, Wanted, dues}
 use Rattle.input_lines.specs.Lines.{lines_of}
 use Rattle.venue_text.specs.LiveAnswers.{Goes, Opens}

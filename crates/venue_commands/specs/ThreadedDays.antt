@@ -1,7 +1,7 @@
 -- What `day` prints.
 use Rattle.std.specs.Prelude.{◌≡◌, ◌⊎◌, ℕ, Bool, true, false, List, [], ◌++◌, length, Ok, Err}
 use Rattle.std.specs.Prelude.{is_ok}
-use Rattle.venue_config.specs.Rows.{Configuration, values_of}
+use Rattle.venue_rows.specs.Rows.{Configuration, values_of}
 use Rattle.recorded_days.specs.Records.{RecordedDay}
 use Rattle.recorded_days.specs.Weaving.{AreWoven, FaultIsTrue, SendAsRecorded}
 use Rattle.recorded_days.specs.declared.actions.Inbound.{Inbound}

@@ -12,7 +12,7 @@ use std::alloc::Global;
 use std::marker::Sync;
 use std::sync::Wait;
 use std::thread::Threads;
-use venue_config::VenueConfig;
+use venue_rows::VenueConfig;
 use venue_text::{read_arriving_day, record_text, woven_line};
 
 /// A watcher that holds nobody.

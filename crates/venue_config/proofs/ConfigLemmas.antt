@@ -10,17 +10,17 @@ use Rattle.toml.specs.Parse.{parse_document}
 use Rattle.toml.specs.View.{view, table_view}
 use Rattle.toml.specs.declared.value.Value.{Value, Table}
 use Rattle.toml.proofs.Views.{view-Table}
-use Rattle.venue_config.specs.declared.config.TheConstants.VenueConfig.{MOST_BONDS, MOST_DEALERS}
-use Rattle.venue_config.specs.declared.config.TheConstants.VenueConfig.{MOST_INVESTORS}
-use Rattle.venue_config.specs.declared.config.TheConstants.VenueConfig.{MOST_QUOTES_IN_ALL}
-use Rattle.venue_config.specs.declared.config.TheConstants.VenueConfig.{MOST_REQUESTS_IN_ALL}
-use Rattle.venue_config.specs.Rows.{Configuration, DealerValues, InvestorValues, dealer_values}
-use Rattle.venue_config.specs.Rows.{investor_values, KeepsLimits, AreTraders}
+use Rattle.venue_rows.specs.declared.config.TheConstants.VenueConfig.{MOST_BONDS, MOST_DEALERS}
+use Rattle.venue_rows.specs.declared.config.TheConstants.VenueConfig.{MOST_INVESTORS}
+use Rattle.venue_rows.specs.declared.config.TheConstants.VenueConfig.{MOST_QUOTES_IN_ALL}
+use Rattle.venue_rows.specs.declared.config.TheConstants.VenueConfig.{MOST_REQUESTS_IN_ALL}
+use Rattle.venue_rows.specs.Rows.{Configuration, DealerValues, InvestorValues, dealer_values}
+use Rattle.venue_rows.specs.Rows.{investor_values, KeepsLimits, AreTraders}
 use Rattle.venue_config.specs.Config.{bonds_in, dealers_in, investors_in, dealer_names}
 use Rattle.venue_config.specs.Config.{investor_names, quotes_in_all, requests_in_all, sums_fit}
 use Rattle.venue_config.specs.Config.{document_of}
-use Rattle.venue_config.specs.declared.dealer_rows.DealerRow.{DealerRow}
-use Rattle.venue_config.specs.declared.investor_rows.InvestorRow.{InvestorRow}
+use Rattle.venue_rows.specs.declared.dealer_rows.DealerRow.{DealerRow}
+use Rattle.venue_rows.specs.declared.investor_rows.InvestorRow.{InvestorRow}
 use Rattle.std.proofs.lemmas.Bool.{and_parts}
 use Rattle.venue_config.proofs.LimitLemmas.{bonds_kept, dealers_kept, investors_kept}
 

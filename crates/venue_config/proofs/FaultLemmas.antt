@@ -5,7 +5,7 @@ use Rattle.std.proofs.Common.{[], ◌∷◌, ◌++◌, Option, Some, None, Resul
 use Rattle.std.proofs.Common.{ap, ◌∙◌}
 use Rattle.std.specs.Option.{option_and_then}
 use Rattle.toml.specs.Data.{Data, Items, no_items, item, get, as_str, as_integer, as_array}
-use Rattle.venue_config.specs.Texts.{is_among, is_name}
+use Rattle.venue_rows.specs.Texts.{is_among, is_name}
 use Rattle.venue_config.specs.Keys.{NumberKey, ChoiceKey, TextKey, ArrayKey, version_key, has_grids}
 use Rattle.venue_config.specs.Keys.{date_key, bonds_key, id_key, grid_key, dealers_key}
 use Rattle.venue_config.specs.Keys.{investors_key, name_key, traders_key, quotes_key, exposure_key}
@@ -13,9 +13,9 @@ use Rattle.venue_config.specs.Keys.{requests_key, open_key, quantity_key}
 use Rattle.venue_config.specs.Values.{◌>>=◌, number_in, number_at, choice_in, choice_at, text_in}
 use Rattle.venue_config.specs.Values.{text_at, unnamed, item_count, elements_in, elements_at}
 use Rattle.venue_config.specs.Values.{rows_in, rows_at, read_all, trader_of, traders_at}
-use Rattle.venue_config.specs.Rows.{DealerValues, InvestorValues, bond_ids}
+use Rattle.venue_rows.specs.Rows.{DealerValues, InvestorValues, bond_ids}
 use Rattle.bond_prices.specs.Grid.{finest_grid}
-use Rattle.venue_config.specs.declared.bond_rows.BondRow.{BondRow}
+use Rattle.venue_rows.specs.declared.bond_rows.BondRow.{BondRow}
 use Rattle.venue_config.specs.Config.{bond_of, bond_id_of, grid_of, firm_name_of, dealer_names}
 use Rattle.venue_config.specs.Config.{investor_names, dealer_of, investor_of, bonds_in, dealers_in}
 use Rattle.venue_config.specs.Config.{investors_in, sums_fit, config_in}

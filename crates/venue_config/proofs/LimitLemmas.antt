@@ -13,15 +13,15 @@ use Rattle.std.proofs.lemmas.List.Folds.{list_any_at}
 use Rattle.std.proofs.lemmas.List.Quantifiers.{all_pairs_push}
 use Rattle.std.specs.Option.{option_and_then}
 use Rattle.toml.specs.Data.{Data, Items, no_items, item, as_array, as_str, as_integer, get}
-use Rattle.venue_config.specs.Texts.{is_among, is_bond_id, is_firm_name, same_text}
+use Rattle.venue_rows.specs.Texts.{is_among, is_bond_id, is_firm_name, same_text}
 use Rattle.venue_config.specs.Keys.{has_grids, id_key, grid_key, name_key, traders_key, bonds_key}
 use Rattle.venue_config.specs.Keys.{dealers_key, investors_key, quotes_key, exposure_key}
 use Rattle.venue_config.specs.Keys.{requests_key, open_key, quantity_key}
 use Rattle.venue_config.specs.Values.{◌>>=◌, choice_in, choice_at, text_in, text_at, unnamed}
 use Rattle.venue_config.specs.Values.{item_count, elements_in, elements_at, rows_at, read_all}
 use Rattle.venue_config.specs.Values.{trader_of, traders_at, number_at}
-use Rattle.venue_config.specs.Rows.{DealerValues, InvestorValues, AreTraders, bond_ids}
-use Rattle.venue_config.specs.declared.bond_rows.BondRow.{BondRow}
+use Rattle.venue_rows.specs.Rows.{DealerValues, InvestorValues, AreTraders, bond_ids}
+use Rattle.venue_rows.specs.declared.bond_rows.BondRow.{BondRow}
 use Rattle.venue_config.specs.Config.{bond_of, bond_id_of, grid_of, bonds_in, dealer_names}
 use Rattle.venue_config.specs.Config.{investor_names, firm_name_of, dealer_of, investor_of}
 use Rattle.venue_config.specs.Config.{dealers_in, investors_in}

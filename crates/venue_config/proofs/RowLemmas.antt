@@ -3,16 +3,16 @@ use Rattle.std.proofs.Common.{◌≡◌, ℕ, Bool, true, false, Ok, Err, ◌||�
 use Rattle.std.proofs.Common.{refl, ap, sym, ◌∙◌}
 use Rattle.std.specs.List.{list_any}
 use Rattle.std.proofs.lemmas.List.Folds.{list_any-append}
-use Rattle.venue_config.specs.Texts.{is_among, same_text}
-use Rattle.venue_config.specs.Rows.{bond_ids, dealer_values, investor_values}
+use Rattle.venue_rows.specs.Texts.{is_among, same_text}
+use Rattle.venue_rows.specs.Rows.{bond_ids, dealer_values, investor_values}
 use Rattle.toml.specs.Data.{Data}
 use Rattle.venue_config.specs.Keys.{id_key, name_key}
 use Rattle.venue_config.specs.Values.{text_at}
 use Rattle.venue_config.specs.declared.faults.ConfigFault.TheVariants.{Twice}
 use Rattle.venue_config.specs.Config.{bond_id_of, dealer_names, investor_names, firm_name_of}
-use Rattle.venue_config.specs.declared.bond_rows.BondRow.{BondRow}
-use Rattle.venue_config.specs.declared.dealer_rows.DealerRow.{DealerRow}
-use Rattle.venue_config.specs.declared.investor_rows.InvestorRow.{InvestorRow}
+use Rattle.venue_rows.specs.declared.bond_rows.BondRow.{BondRow}
+use Rattle.venue_rows.specs.declared.dealer_rows.DealerRow.{DealerRow}
+use Rattle.venue_rows.specs.declared.investor_rows.InvestorRow.{InvestorRow}
 
 -- an identifier is among those of bonds where a bond has it
 pub is_among_bonds : (rows : List BondRow) (id : List ℕ) → list_any (λ (row : BondRow). same_text row.id id) rows ≡ is_among (bond_ids rows) id

@@ -9,12 +9,12 @@ use Rattle.venue_config.specs.Keys.{dealers_key, investors_key}
 use Rattle.venue_config.specs.Keys.{name_key, quotes_key, exposure_key, requests_key, open_key}
 use Rattle.venue_config.specs.Keys.{quantity_key}
 use Rattle.bond_prices.specs.Grid.{finest_grid}
-use Rattle.venue_config.specs.declared.config.TheConstants.VenueConfig.{MOST_QUOTES_IN_ALL}
-use Rattle.venue_config.specs.declared.config.TheConstants.VenueConfig.{MOST_REQUESTS_IN_ALL}
-use Rattle.venue_config.specs.declared.bond_rows.BondRow.{BondRow}
+use Rattle.venue_rows.specs.declared.config.TheConstants.VenueConfig.{MOST_QUOTES_IN_ALL}
+use Rattle.venue_rows.specs.declared.config.TheConstants.VenueConfig.{MOST_REQUESTS_IN_ALL}
+use Rattle.venue_rows.specs.declared.bond_rows.BondRow.{BondRow}
 use Rattle.venue_config.specs.Values.{◌>>=◌, number_at, choice_at, text_at, unnamed, rows_at}
 use Rattle.venue_config.specs.Values.{read_all, traders_at}
-use Rattle.venue_config.specs.Rows.{DealerValues, InvestorValues, ConfigValues, bond_ids}
+use Rattle.venue_rows.specs.Rows.{DealerValues, InvestorValues, ConfigValues, bond_ids}
 use Rattle.venue_config.specs.declared.faults.ConfigFault.{ConfigFault}
 use Rattle.venue_config.specs.declared.faults.ConfigFault.TheVariants.{Toml, Limit}
 

@@ -3,16 +3,16 @@
 use Rattle.std.specs.Prelude.{ℕ, Bool, List, codes, nat_le}
 use Rattle.fix_fields.specs.UtcTimestamp.{is_date}
 use Rattle.bond_prices.specs.Grid.{is_grid}
-use Rattle.venue_config.specs.Texts.{is_firm_name, is_bond_id}
-use Rattle.venue_config.specs.declared.config.TheConstants.VenueConfig.{LAST_VERSION, GRIDS_SINCE}
-use Rattle.venue_config.specs.declared.config.TheConstants.VenueConfig.{MOST_BONDS, MOST_DEALERS}
-use Rattle.venue_config.specs.declared.config.TheConstants.VenueConfig.{MOST_INVESTORS}
-use Rattle.venue_config.specs.declared.traders.TheConstants.Traders.{MOST}
-use Rattle.venue_config.specs.declared.dealer_rows.TheConstants.DealerRow.{MOST_QUOTES}
-use Rattle.venue_config.specs.declared.dealer_rows.TheConstants.DealerRow.{MOST_EXPOSURE}
-use Rattle.venue_config.specs.declared.investor_rows.TheConstants.InvestorRow.{MOST_REQUESTS}
-use Rattle.venue_config.specs.declared.investor_rows.TheConstants.InvestorRow.{MOST_OPEN}
-use Rattle.venue_config.specs.declared.investor_rows.TheConstants.InvestorRow.{MOST_QUANTITY}
+use Rattle.venue_rows.specs.Texts.{is_firm_name, is_bond_id}
+use Rattle.venue_rows.specs.declared.config.TheConstants.VenueConfig.{LAST_VERSION, GRIDS_SINCE}
+use Rattle.venue_rows.specs.declared.config.TheConstants.VenueConfig.{MOST_BONDS, MOST_DEALERS}
+use Rattle.venue_rows.specs.declared.config.TheConstants.VenueConfig.{MOST_INVESTORS}
+use Rattle.venue_rows.specs.declared.traders.TheConstants.Traders.{MOST}
+use Rattle.venue_rows.specs.declared.dealer_rows.TheConstants.DealerRow.{MOST_QUOTES}
+use Rattle.venue_rows.specs.declared.dealer_rows.TheConstants.DealerRow.{MOST_EXPOSURE}
+use Rattle.venue_rows.specs.declared.investor_rows.TheConstants.InvestorRow.{MOST_REQUESTS}
+use Rattle.venue_rows.specs.declared.investor_rows.TheConstants.InvestorRow.{MOST_OPEN}
+use Rattle.venue_rows.specs.declared.investor_rows.TheConstants.InvestorRow.{MOST_QUANTITY}
 
 -- a key whose value is an integer, from 1 to a greatest
 pub record NumberKey : Type 0 where

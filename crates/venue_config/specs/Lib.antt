@@ -1,6 +1,4 @@
 pub mod Config
 pub mod Faults
 pub mod Keys
-pub mod Rows
-pub mod Texts
 pub mod Values

@@ -3,7 +3,7 @@ use Rattle.std.specs.Prelude.{ℕ, ℤ, Bool, pos, negsuc, ◌+◌, ◌&&◌, Li
 use Rattle.std.specs.Prelude.{Option, Some, None, Result, Ok, Err, if◌then◌else◌}
 use Rattle.std.specs.Option.{option_and_then}
 use Rattle.toml.specs.Data.{Data, Items, no_items, item, get, as_str, as_integer, as_array}
-use Rattle.venue_config.specs.Texts.{is_among, is_name}
+use Rattle.venue_rows.specs.Texts.{is_among, is_name}
 use Rattle.venue_config.specs.Keys.{NumberKey, ChoiceKey, TextKey, ArrayKey, traders_key}
 use Rattle.venue_config.specs.declared.faults.ConfigFault.{ConfigFault}
 use Rattle.venue_config.specs.declared.faults.ConfigFault.TheVariants.{Missing, Name, Twice, Limit}

@@ -3,19 +3,19 @@ ghost use Rattle.std.specs.Prelude.{◌≡◌, ◌≢◌, ◌≤◌, ◌++◌, O
 ghost use Rattle.std.specs.List.{list_any};
 ghost use Rattle.std.specs.Result.{result_map_both};
 ghost use Rattle.toml.specs.View.{view};
-ghost use Rattle.venue_config.specs.Texts.{is_among, same_text};
+ghost use Rattle.venue_rows.specs.Texts.{is_among, same_text};
 ghost use Rattle.venue_config.specs.Keys.{name_key};
 ghost use Rattle.venue_config.specs.Values.{text_at};
-ghost use Rattle.venue_config.specs.Rows.{bond_ids, dealer_values, investor_values};
+ghost use Rattle.venue_rows.specs.Rows.{bond_ids, dealer_values, investor_values};
 ghost use Rattle.venue_config.specs.Config.{bond_of, bond_id_of, firm_name_of, dealer_of};
 ghost use Rattle.venue_config.specs.Config.{investor_of, bonds_in, dealers_in, investors_in};
 ghost use Rattle.venue_config.specs.Config.{dealer_names, investor_names};
 
 use crate::faults::ConfigFault;
 use crate::values::{number_at, read_grid, read_id, read_traders, rows_at, text_at};
-use crate::{BondId, BondRow, DealerRow, InvestorRow, Name, VenueConfig};
 use std::alloc::Global;
 use toml::Value;
+use venue_rows::{BondId, BondRow, DealerRow, InvestorRow, Name, VenueConfig};
 
 /// The bonds of a configuration.
 #[tactic(auto, using(crate::proofs::ValueLemmas::read_all_ok, crate::proofs::ValueLemmas::read_all_err, crate::proofs::ValueLemmas::read_all_end), unfolding(crate::specs::Config::bonds_in))]

@@ -10,10 +10,10 @@ ghost use Rattle.venue_config.specs.Config.{grid_of};
 ghost use Rattle.venue_config.specs.Values as spec;
 
 use crate::faults::ConfigFault;
-use crate::{BondId, Name, Traders, VenueConfig};
 use bond_prices::Grid;
 use fix_fields::Date;
 use toml::Value;
+use venue_rows::{BondId, Name, Traders, VenueConfig};
 
 /// The integer at a key, from 1 to `most`.
 #[tactic(auto, unfolding(crate::specs::Values::number_at))]

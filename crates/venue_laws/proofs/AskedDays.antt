@@ -16,11 +16,11 @@ use Rattle.quote_messages.specs.declared.requests.RequestPass.{RequestPass}
 use Rattle.quote_messages.specs.declared.requests.InvestorMessage.{InvestorMessage}
 use Rattle.quote_messages.specs.declared.requests.InvestorMessage.TheVariants as message
 use Rattle.quote_messages.specs.declared.reject_reasons.RequestRejectReason.{RequestRejectReason}
-use Rattle.venue_config.specs.Rows.{Configuration, bond_with_id, dealer_numbered}
-use Rattle.venue_config.specs.Rows.{investor_numbered}
-use Rattle.venue_config.specs.Texts.{same_text}
-use Rattle.venue_config.specs.declared.bond_rows.BondRow.{BondRow}
-use Rattle.venue_config.specs.declared.investor_rows.InvestorRow.{InvestorRow}
+use Rattle.venue_rows.specs.Rows.{Configuration, bond_with_id, dealer_numbered}
+use Rattle.venue_rows.specs.Rows.{investor_numbered}
+use Rattle.venue_rows.specs.Texts.{same_text}
+use Rattle.venue_rows.specs.declared.bond_rows.BondRow.{BondRow}
+use Rattle.venue_rows.specs.declared.investor_rows.InvestorRow.{InvestorRow}
 use Rattle.dealer_desk.specs.declared.events.DealerEvent.TheVariants as at_desk
 use Rattle.investor_desk.specs.InvestorFacts.{InvestorBook, StandingRequest, expected_number}
 use Rattle.investor_desk.specs.InvestorFacts.{offer_named, request_with_id}

@@ -12,9 +12,9 @@ use Rattle.market_terms.specs.declared.duties.Duty.{Duty}
 use Rattle.market_terms.specs.declared.duties.Duty.TheVariants as duty
 use Rattle.quote_word.specs.declared.settled.Settled.{Settled}
 use Rattle.quote_word.specs.declared.settled.Settled.TheVariants as settled
-use Rattle.venue_config.specs.Rows.{Configuration, bond_with_id}
-use Rattle.venue_config.specs.declared.bond_rows.BondRow.{BondRow}
-use Rattle.venue_config.specs.declared.dealer_rows.DealerRow.{DealerRow}
+use Rattle.venue_rows.specs.Rows.{Configuration, bond_with_id}
+use Rattle.venue_rows.specs.declared.bond_rows.BondRow.{BondRow}
+use Rattle.venue_rows.specs.declared.dealer_rows.DealerRow.{DealerRow}
 use Rattle.dealer_desk.specs.DealerFacts.{DealerFact, DealerBook, Quoted, Shown, Told}
 use Rattle.dealer_desk.specs.DealerFacts.{requests_from}
 use Rattle.dealer_desk.specs.DealerFacts.{number_to_drop}

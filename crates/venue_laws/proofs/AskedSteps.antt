@@ -12,7 +12,7 @@ use Rattle.market_terms.specs.declared.duties.Duty.TheVariants as duty
 use Rattle.market_terms.specs.declared.rooms.ResponseRef.{ResponseRef}
 use Rattle.market_terms.specs.declared.rooms.RoomRef.{RoomRef}
 use Rattle.quote_word.specs.declared.settled.Settled.{Settled}
-use Rattle.venue_config.specs.Rows.{Configuration}
+use Rattle.venue_rows.specs.Rows.{Configuration}
 use Rattle.dealer_desk.specs.DealerFacts.{DealerBook, quote_to_drop}
 use Rattle.dealer_desk.specs.DealerOutput.{closable, number_in, room_of, goes_through, is_withdrawn}
 use Rattle.dealer_desk.specs.DealerOutput.{post_of, unpost_dropped, further_drop}

@@ -8,10 +8,10 @@ use Rattle.std.proofs.lemmas.List.{append-nil}
 use Rattle.std.proofs.lemmas.List.Elements.{filter_map-append}
 use Rattle.market_terms.specs.declared.duties.Duty.{Duty}
 use Rattle.market_terms.specs.declared.rooms.RoomRef.{RoomRef}
-use Rattle.venue_config.specs.Rows.{Configuration, dealer_numbered, has_room, investor_numbered}
-use Rattle.venue_config.specs.Rows.{may_request}
-use Rattle.venue_config.specs.declared.dealer_rows.DealerRow.{DealerRow}
-use Rattle.venue_config.specs.declared.investor_rows.InvestorRow.{InvestorRow}
+use Rattle.venue_rows.specs.Rows.{Configuration, dealer_numbered, has_room, investor_numbered}
+use Rattle.venue_rows.specs.Rows.{may_request}
+use Rattle.venue_rows.specs.declared.dealer_rows.DealerRow.{DealerRow}
+use Rattle.venue_rows.specs.declared.investor_rows.InvestorRow.{InvestorRow}
 use Rattle.dealer_desk.specs.DealerFacts.{DealerFact}
 use Rattle.dealer_desk.specs.DealerOutput.{shown_room}
 use Rattle.dealer_desk.specs.DealerOutput as dealer_output

@@ -10,7 +10,7 @@ use Rattle.market_terms.specs.declared.duties.Duty.TheVariants as duty
 use Rattle.market_terms.specs.declared.rooms.ResponseRef.{ResponseRef}
 use Rattle.market_terms.specs.declared.rooms.RoomRef.{RoomRef}
 use Rattle.quote_word.specs.declared.settled.Settled.{Settled}
-use Rattle.venue_config.specs.Rows.{Configuration}
+use Rattle.venue_rows.specs.Rows.{Configuration}
 use Rattle.request_room.specs.Book.{award_of, end_by, event_facts, expired, hit_checks, hit_outcome}
 use Rattle.request_room.specs.Book.{hit_refusal, hit_settled, is_lift, is_past_deadline, may_expire}
 use Rattle.request_room.specs.Book.{passed, reply_of, where_so}

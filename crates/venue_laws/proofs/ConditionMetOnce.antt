@@ -9,8 +9,8 @@ use Rattle.market_terms.specs.declared.closes.Close.{Close}
 use Rattle.market_terms.specs.declared.duties.Duty.{Duty}
 use Rattle.market_terms.specs.declared.duties.Duty.TheVariants as duty
 use Rattle.market_terms.specs.declared.rooms.RoomRef.{RoomRef}
-use Rattle.venue_config.specs.Rows.{Configuration, dealer_numbered}
-use Rattle.venue_config.specs.declared.dealer_rows.DealerRow.{DealerRow}
+use Rattle.venue_rows.specs.Rows.{Configuration, dealer_numbered}
+use Rattle.venue_rows.specs.declared.dealer_rows.DealerRow.{DealerRow}
 use Rattle.dealer_desk.specs.DealerOutput.{closable}
 use Rattle.request_room.specs.RoomFacts.{RoomFact, end_of, is_ended, is_named, is_opening}
 use Rattle.request_room.specs.RoomFacts.{is_ready, is_vacant, request_of}

@@ -9,10 +9,10 @@ use Rattle.std.proofs.lemmas.List.Sums.{fold-append}
 use Rattle.market_terms.specs.declared.closes.Close.{Close}
 use Rattle.market_terms.specs.declared.duties.Duty.{Duty}
 use Rattle.market_terms.specs.declared.duties.Duty.TheVariants as duty
-use Rattle.venue_config.specs.Rows.{Configuration, dealer_numbered, has_room, investor_numbered}
-use Rattle.venue_config.specs.Rows.{may_request}
-use Rattle.venue_config.specs.declared.dealer_rows.DealerRow.{DealerRow}
-use Rattle.venue_config.specs.declared.investor_rows.InvestorRow.{InvestorRow}
+use Rattle.venue_rows.specs.Rows.{Configuration, dealer_numbered, has_room, investor_numbered}
+use Rattle.venue_rows.specs.Rows.{may_request}
+use Rattle.venue_rows.specs.declared.dealer_rows.DealerRow.{DealerRow}
+use Rattle.venue_rows.specs.declared.investor_rows.InvestorRow.{InvestorRow}
 use Rattle.dealer_desk.specs.DealerOutput.{number_in}
 use Rattle.dealer_desk.specs.declared.events.DealerEvent.TheVariants as event
 use Rattle.investor_desk.specs.InvestorFacts.{InvestorFact, book_of, knows}

@@ -8,7 +8,7 @@ use Rattle.market_terms.specs.declared.asks.Ask.{Ask}
 use Rattle.market_terms.specs.declared.closes.Close.{Close}
 use Rattle.market_terms.specs.declared.duties.Duty.{Duty}
 use Rattle.market_terms.specs.declared.rooms.RoomRef.{RoomRef}
-use Rattle.venue_config.specs.Rows.{Configuration, has_room}
+use Rattle.venue_rows.specs.Rows.{Configuration, has_room}
 use Rattle.dealer_desk.specs.DealerFacts.{DealerBook}
 use Rattle.dealer_desk.specs.DealerOutput.{number_in, closable, is_same_room}
 use Rattle.dealer_desk.specs.declared.events.DealerEvent.{DealerEvent}

@@ -14,8 +14,8 @@ use Rattle.quote_messages.specs.declared.quotes.CancelScope.TheVariants as cance
 use Rattle.quote_messages.specs.declared.quotes.DealerMessage.{DealerMessage}
 use Rattle.quote_messages.specs.declared.quotes.DealerMessage.TheVariants as message
 use Rattle.quote_messages.specs.declared.reject_reasons.QuoteRejectReason.{QuoteRejectReason}
-use Rattle.venue_config.specs.Texts.{same_text}
-use Rattle.venue_config.specs.declared.dealer_rows.DealerRow.{DealerRow}
+use Rattle.venue_rows.specs.Texts.{same_text}
+use Rattle.venue_rows.specs.declared.dealer_rows.DealerRow.{DealerRow}
 use Rattle.dealer_desk.specs.DealerFacts.{DealerFact, DealerBook, Came, Shown, Quoted, Withdrawn}
 use Rattle.dealer_desk.specs.DealerFacts.{Late, Declined, Told, used_number, is_notice}
 use Rattle.dealer_desk.specs.DealerFacts.{tells, declines, finds_lifted, ends}

@@ -12,7 +12,7 @@ use Rattle.market_terms.specs.declared.duties.Duty.TheVariants as duty
 use Rattle.market_terms.specs.declared.rooms.ResponseRef.{ResponseRef}
 use Rattle.market_terms.specs.declared.rooms.RoomRef.{RoomRef}
 use Rattle.quote_word.specs.declared.settled.Settled.{Settled}
-use Rattle.venue_config.specs.Rows.{Configuration, has_room}
+use Rattle.venue_rows.specs.Rows.{Configuration, has_room}
 use Rattle.dealer_desk.specs.DealerFacts.{DealerFact, DealerBook, Came, Quoted, Told}
 use Rattle.dealer_desk.specs.DealerFacts.{number_to_drop, quote_to_drop}
 use Rattle.dealer_desk.specs.DealerOutput.{unpost_dropped, further_drop}

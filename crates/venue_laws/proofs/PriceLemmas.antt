@@ -8,8 +8,8 @@ use Rattle.market_terms.specs.declared.closes.Close.{Close}
 use Rattle.market_terms.specs.declared.closes.Close.TheVariants as closes
 use Rattle.market_terms.specs.declared.duties.Duty.{Duty}
 use Rattle.fix_fields.specs.Frame.{Field, IsFrame, frame_of}
-use Rattle.venue_config.specs.Rows.{Configuration, dealer_numbered}
-use Rattle.venue_config.specs.declared.dealer_rows.DealerRow.{DealerRow}
+use Rattle.venue_rows.specs.Rows.{Configuration, dealer_numbered}
+use Rattle.venue_rows.specs.declared.dealer_rows.DealerRow.{DealerRow}
 use Rattle.dealer_desk.specs.DealerFacts.{Came, Shown, Told, Dropped}
 use Rattle.investor_desk.specs.InvestorOutput.{market_for}
 use Rattle.step_replay.specs.DealerTrail.{DealerEntry, AtDesk, Lifted, book_by}

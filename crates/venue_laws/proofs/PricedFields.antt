@@ -7,7 +7,7 @@ use Rattle.std.specs.List.{AllZip, AllByRecursion}
 use Rattle.std.proofs.lemmas.Bool.Decides.{nat_tests}
 use Rattle.bond_prices.specs.Price.{price_of}
 use Rattle.fix_fields.specs.Frame.{Field, value_of, times_of}
-use Rattle.venue_config.specs.declared.bond_rows.BondRow.{BondRow}
+use Rattle.venue_rows.specs.declared.bond_rows.BondRow.{BondRow}
 use Rattle.quote_messages.specs.ValueForms.{ValueRule, APrice}
 use Rattle.quote_messages.specs.ValueForms.{value_fault}
 use Rattle.quote_messages.specs.SessionLines.{Line, occurrence_fault, at_tag}

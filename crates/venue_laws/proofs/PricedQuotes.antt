@@ -13,10 +13,10 @@ use Rattle.market_terms.specs.declared.asks.Side.TheVariants as side
 use Rattle.quote_messages.specs.declared.quotes.Quote.{Quote}
 use Rattle.quote_messages.specs.declared.reject_reasons.QuoteRejectReason.{QuoteRejectReason}
 use Rattle.quote_messages.specs.Written.{request_name}
-use Rattle.venue_config.specs.Rows.{Configuration, bond_with_id}
-use Rattle.venue_config.specs.Texts.{same_text}
-use Rattle.venue_config.specs.declared.bond_rows.BondRow.{BondRow}
-use Rattle.venue_config.specs.declared.dealer_rows.DealerRow.{DealerRow}
+use Rattle.venue_rows.specs.Rows.{Configuration, bond_with_id}
+use Rattle.venue_rows.specs.Texts.{same_text}
+use Rattle.venue_rows.specs.declared.bond_rows.BondRow.{BondRow}
+use Rattle.venue_rows.specs.declared.dealer_rows.DealerRow.{DealerRow}
 use Rattle.dealer_desk.specs.DealerFacts.{DealerBook, request_named}
 use Rattle.dealer_desk.specs.DealerRules.{asked_price, other_price, lone_price, if_on_grid}
 use Rattle.dealer_desk.specs.DealerRules.{price_for}

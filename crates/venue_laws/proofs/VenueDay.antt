@@ -17,11 +17,11 @@ use Rattle.quote_messages.specs.declared.requests.QuoteHit.{QuoteHit}
 use Rattle.quote_messages.specs.declared.requests.QuoteRequest.{QuoteRequest}
 use Rattle.quote_messages.specs.declared.requests.RequestPass.{RequestPass}
 use Rattle.quote_messages.specs.declared.reject_reasons.RequestRejectReason.{RequestRejectReason}
-use Rattle.venue_config.specs.Texts.{same_text}
-use Rattle.venue_config.specs.Rows.{Configuration, dealer_numbered, investor_numbered}
-use Rattle.venue_config.specs.declared.bond_rows.BondRow.{BondRow}
-use Rattle.venue_config.specs.declared.dealer_rows.DealerRow.{DealerRow}
-use Rattle.venue_config.specs.declared.investor_rows.InvestorRow.{InvestorRow}
+use Rattle.venue_rows.specs.Texts.{same_text}
+use Rattle.venue_rows.specs.Rows.{Configuration, dealer_numbered, investor_numbered}
+use Rattle.venue_rows.specs.declared.bond_rows.BondRow.{BondRow}
+use Rattle.venue_rows.specs.declared.dealer_rows.DealerRow.{DealerRow}
+use Rattle.venue_rows.specs.declared.investor_rows.InvestorRow.{InvestorRow}
 use Rattle.investor_desk.specs.InvestorFacts.{InvestorBook, expected_number, request_with_id}
 use Rattle.investor_desk.specs.InvestorFacts.{StandingRequest, offer_named}
 use Rattle.investor_desk.specs.InvestorRules.{InvestorMarket, arrival_verdict}

@@ -19,8 +19,8 @@ use Rattle.quote_messages.specs.declared.quotes.DealerMessage.TheVariants as mes
 use Rattle.quote_messages.specs.declared.quotes.Quote.{Quote}
 use Rattle.quote_messages.specs.declared.reject_reasons.QuoteRejectReason.{QuoteRejectReason}
 use Rattle.quote_word.specs.declared.settled.Settled.{Settled}
-use Rattle.venue_config.specs.Rows.{Configuration, dealer_numbered}
-use Rattle.venue_config.specs.declared.dealer_rows.DealerRow.{DealerRow}
+use Rattle.venue_rows.specs.Rows.{Configuration, dealer_numbered}
+use Rattle.venue_rows.specs.declared.dealer_rows.DealerRow.{DealerRow}
 use Rattle.dealer_desk.specs.DealerFacts.{Came, DealerBook, DealerFact, Dropped, Quoted, Shown}
 use Rattle.dealer_desk.specs.DealerFacts.{book_of, standing_request}
 use Rattle.dealer_desk.specs.DealerFacts.{requests_from, request_named, quotes_accepted}

@@ -13,7 +13,7 @@ use Rattle.market_terms.specs.declared.duties.Duty.TheVariants as duty
 use Rattle.market_terms.specs.declared.rooms.ResponseRef.{ResponseRef}
 use Rattle.market_terms.specs.declared.rooms.RoomRef.{RoomRef}
 use Rattle.quote_word.specs.declared.settled.Settled.{Settled}
-use Rattle.venue_config.specs.Rows.{Configuration}
+use Rattle.venue_rows.specs.Rows.{Configuration}
 use Rattle.request_room.specs.RoomFacts.{RoomFact, Ended, Posted, ended_as, end_of, is_ended}
 use Rattle.request_room.specs.RoomFacts.{is_named, is_open, is_ready, names, request_of}
 use Rattle.request_room.specs.Book.{award_of, book_of, end_by, event_facts, expired}

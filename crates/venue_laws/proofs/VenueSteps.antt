@@ -11,8 +11,8 @@ use Rattle.market_terms.specs.declared.duties.Duty.{Duty}
 use Rattle.market_terms.specs.declared.duties.Duty.TheVariants as duty
 use Rattle.market_terms.specs.declared.closes.Close.TheVariants as closes
 use Rattle.dealer_desk.specs.DealerFacts.{Told}
-use Rattle.venue_config.specs.Rows.{Configuration, dealer_numbered}
-use Rattle.venue_config.specs.declared.dealer_rows.DealerRow.{DealerRow}
+use Rattle.venue_rows.specs.Rows.{Configuration, dealer_numbered}
+use Rattle.venue_rows.specs.declared.dealer_rows.DealerRow.{DealerRow}
 use Rattle.step_replay.specs.Actions.{Effect}
 use Rattle.step_replay.specs.AuditTrail.{AuditTrail, Caused, duty_of, is_same_actor, with_effect}
 use Rattle.step_replay.specs.AuditTrail.{pending}

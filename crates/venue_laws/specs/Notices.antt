@@ -8,7 +8,7 @@ use Rattle.market_terms.specs.declared.rooms.RoomRef.{RoomRef}
 use Rattle.quote_messages.specs.declared.out_messages.OutMessage.{OutMessage}
 use Rattle.quote_messages.specs.declared.out_messages.OutMessage.TheVariants as out
 use Rattle.quote_messages.specs.declared.out_messages.QuotedPrice.{QuotedPrice}
-use Rattle.venue_config.specs.declared.dealer_rows.DealerRow.{DealerRow}
+use Rattle.venue_rows.specs.declared.dealer_rows.DealerRow.{DealerRow}
 use Rattle.dealer_desk.specs.DealerFacts.{DealerFact, Told, request_numbered, live_quote_on, tells}
 use Rattle.dealer_desk.specs.DealerOutput.{event_message, next_message, number_in, quoted_price}
 use Rattle.dealer_desk.specs.declared.events.DealerEvent.TheVariants as event

@@ -7,9 +7,9 @@ use Rattle.bond_prices.specs.Grid.{on_grid}
 use Rattle.bond_prices.specs.Price.{price_of}
 use Rattle.fix_fields.specs.Frame.{Field, IsFrame, value_of}
 use Rattle.market_terms.specs.declared.closes.Close.TheVariants.{Cover, DoneAway}
-use Rattle.venue_config.specs.Rows.{Configuration, dealer_numbered, bond_with_id}
-use Rattle.venue_config.specs.declared.bond_rows.BondRow.{BondRow}
-use Rattle.venue_config.specs.declared.dealer_rows.DealerRow.{DealerRow}
+use Rattle.venue_rows.specs.Rows.{Configuration, dealer_numbered, bond_with_id}
+use Rattle.venue_rows.specs.declared.bond_rows.BondRow.{BondRow}
+use Rattle.venue_rows.specs.declared.dealer_rows.DealerRow.{DealerRow}
 use Rattle.step_replay.specs.declared.dues.Due.{Due}
 use Rattle.step_replay.specs.declared.dues.Due.TheVariants as due
 use Rattle.step_replay.specs.declared.steps.Step.{Step}

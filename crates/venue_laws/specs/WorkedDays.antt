@@ -9,10 +9,10 @@ use Rattle.fix_fields.specs.Frame.{fields_of, frame_text}
 use Rattle.market_terms.specs.declared.asks.Ask.{Ask}
 use Rattle.market_terms.specs.declared.asks.Side.TheVariants.{Buy}
 use Rattle.market_terms.specs.declared.closes.Close.TheVariants.{Hit}
-use Rattle.venue_config.specs.Rows.{Configuration, firm_number}
-use Rattle.venue_config.specs.declared.bond_rows.BondRow.{BondRow}
-use Rattle.venue_config.specs.declared.dealer_rows.DealerRow.{DealerRow}
-use Rattle.venue_config.specs.declared.investor_rows.InvestorRow.{InvestorRow}
+use Rattle.venue_rows.specs.Rows.{Configuration, firm_number}
+use Rattle.venue_rows.specs.declared.bond_rows.BondRow.{BondRow}
+use Rattle.venue_rows.specs.declared.dealer_rows.DealerRow.{DealerRow}
+use Rattle.venue_rows.specs.declared.investor_rows.InvestorRow.{InvestorRow}
 use Rattle.step_replay.specs.AuditTrail.{audit_trail, sent_to, due_to}
 use Rattle.step_replay.specs.declared.dues.Due.{Due}
 use Rattle.step_replay.specs.declared.dues.Due.TheVariants as due

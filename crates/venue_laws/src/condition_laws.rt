@@ -1,8 +1,8 @@
 //! A law of what duties find: the tests that their actions make before anything happens never fail.
 ghost use Rattle.std.specs.Prelude.{◌≡◌, ℕ, true, List, ◌∷◌, Some};
 ghost use Rattle.market_terms.specs.declared.duties.Duty.{Duty};
-ghost use Rattle.venue_config.specs.Rows.{Configuration, dealer_numbered};
-ghost use Rattle.venue_config.specs.declared.dealer_rows.DealerRow.{DealerRow};
+ghost use Rattle.venue_rows.specs.Rows.{Configuration, dealer_numbered};
+ghost use Rattle.venue_rows.specs.declared.dealer_rows.DealerRow.{DealerRow};
 ghost use Rattle.step_replay.specs.Actions.{dealer_of};
 ghost use Rattle.step_replay.specs.AuditTrail as venue;
 ghost use Rattle.venue_laws.specs.Conditions.{has_word_asked, is_met};

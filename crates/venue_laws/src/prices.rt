@@ -1,6 +1,6 @@
 //! What another dealer's price can change for a dealer: who is told that its quote was the cover.
 ghost use Rattle.std.specs.Prelude.{◌≡◌, ℕ, List};
-ghost use Rattle.venue_config.specs.Rows.{Configuration};
+ghost use Rattle.venue_rows.specs.Rows.{Configuration};
 ghost use Rattle.step_replay.specs.AuditTrail as venue;
 ghost use Rattle.venue_laws.specs.PriceAlike.{IsPriceAlike, IsOneButForCover};
 ghost use Rattle.step_replay.specs.declared.steps.Step.{Step};

@@ -7,7 +7,7 @@ use Rattle.market_terms.specs.declared.duties.Duty.{Duty}
 use Rattle.market_terms.specs.declared.duties.Duty.TheVariants as duty
 use Rattle.market_terms.specs.declared.rooms.ResponseRef.{ResponseRef}
 use Rattle.market_terms.specs.declared.rooms.RoomRef.{RoomRef}
-use Rattle.venue_config.specs.Rows.{Configuration, dealer_numbered, has_room, investor_numbered}
+use Rattle.venue_rows.specs.Rows.{Configuration, dealer_numbered, has_room, investor_numbered}
 use Rattle.venue_places.specs.Dealers.{Dealer, acting_dealer, has_word_for, offer_of, word_for}
 use Rattle.venue_places.specs.Dealers.{words_of}
 use Rattle.venue_places.specs.declared.actors.Actor.{Actor}

@@ -1,7 +1,7 @@
 //! What comes to a place.
 use fix_fields::Moment;
 use market_terms::{Ask, AskedDealers, Close, Offer, Reply, ResponseRef, RoomRef};
-use venue_config::Name;
+use venue_rows::Name;
 
 /// What comes to a place of the venue, with the place. A drop and a hit ask a word there, where one
 /// is to be asked; nothing else does.

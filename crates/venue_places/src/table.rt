@@ -9,7 +9,7 @@ use crate::words::word_of;
 use bond_prices::Ticks;
 use fix_fields::Moment;
 use market_terms::{Duty, Offer, ResponseRef, RoomRef};
-use venue_config::VenueConfig;
+use venue_rows::VenueConfig;
 
 /// Where a duty of an actor is done, and what comes to that place. It takes no memory.
 pub fn placed(config: &VenueConfig, by: Actor, duty: Duty) -> Option<Arrival>

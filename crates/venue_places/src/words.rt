@@ -4,7 +4,7 @@ ghost use Rattle.venue_places.specs.Dealers as dealers;
 ghost use Rattle.venue_places.specs.Placed as spec;
 ghost use Rattle.venue_steps.specs.Words as words;
 
-use venue_config::VenueConfig;
+use venue_rows::VenueConfig;
 
 /// How many words a venue has.
 fn words_of(config: &VenueConfig) -> u32

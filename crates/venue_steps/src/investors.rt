@@ -9,7 +9,7 @@ use crate::dealers::with_duty;
 use fix_fields::{Memory, Moment};
 use investor_desk::InvestorDesk;
 use market_terms::{HitRefusal, Offer, Reply, ResponseRef};
-use venue_config::Name;
+use venue_rows::Name;
 
 /// A message comes to the desk of its investor. What follows is the opening of an accepted
 /// request's room, a hit, a pass, or nothing. It fails for memory alone, and then the desk is as

@@ -3,7 +3,7 @@ use Rattle.std.proofs.Common.{◌≡◌, ℕ, zero, suc, ◌+◌, add-one, Bool,
 use Rattle.std.proofs.Common.{Result, Ok, Err, length}
 use Rattle.std.specs.Prelude.{slice_get}
 use Rattle.std.specs.Option.{option_map}
-use Rattle.venue_config.specs.Rows.{ConfigValues, Configuration, values_of}
+use Rattle.venue_rows.specs.Rows.{ConfigValues, Configuration, values_of}
 use Rattle.std.proofs.lemmas.List.{length-append, length-map}
 use Rattle.step_replay.specs.FirmDays.{FirmDay}
 use Rattle.recorded_days.specs.Records.{FirmLists}

@@ -1,6 +1,6 @@
 -- What an input spells, where its parts spell it.
 use Rattle.std.proofs.Common.{◌≡◌, ℕ, List, length, ap, ◌∙◌, false, nat_lt, cond, Result, Ok, Err}
-use Rattle.venue_config.specs.Rows.{ConfigValues}
+use Rattle.venue_rows.specs.Rows.{ConfigValues}
 use Rattle.venue_text.specs.AskedDays.{SpelledDay, day_for, one_day, two_days}
 use Rattle.input_lines.specs.ResultSteps.{◌>>=◌}
 use Rattle.input_lines.specs.VenueParts.{DayParts, day_parts_of, two_days_parts_of}

@@ -3,8 +3,8 @@ use Rattle.std.proofs.Common.{◌≡◌, ◌≢◌, ℕ, ◌+◌, ◌≤◌, Lis
 use Rattle.std.proofs.Common.{zero, suc, sym, ap, ◌∙◌, refl, arith, Bool, Option, Some, None}
 use Rattle.std.specs.Prelude.{slice_get, IsTrue, ◌↔◌}
 use Rattle.std.proofs.Common.{false}
-use Rattle.venue_config.specs.Rows.{dealer_numbered}
-use Rattle.venue_config.specs.declared.dealer_rows.DealerRow.{DealerRow}
+use Rattle.venue_rows.specs.Rows.{dealer_numbered}
+use Rattle.venue_rows.specs.declared.dealer_rows.DealerRow.{DealerRow}
 use Rattle.venue_text.specs.CompareText.{Run, HaveSameRow}
 use Rattle.venue_text.specs.ReplayText.{one_at}
 use Rattle.venue_text.proofs.DayLemmas.{take_more, one_at_some, one_at_none}

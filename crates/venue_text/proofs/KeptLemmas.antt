@@ -6,9 +6,9 @@ use Rattle.std.specs.Prelude.{slice_get}
 use Rattle.std.specs.Option.{option_to_list}
 use Rattle.std.proofs.lemmas.Iterator.Adapters.{position_from-zero}
 use Rattle.std.proofs.lemmas.List.{length-map}
-use Rattle.venue_config.specs.Rows.{ConfigValues, Configuration, DealerValues, dealer_numbered}
-use Rattle.venue_config.specs.Rows.{dealer_values, values_of}
-use Rattle.venue_config.specs.Texts.{same_text}
+use Rattle.venue_rows.specs.Rows.{ConfigValues, Configuration, DealerValues, dealer_numbered}
+use Rattle.venue_rows.specs.Rows.{dealer_values, values_of}
+use Rattle.venue_rows.specs.Texts.{same_text}
 use Rattle.step_replay.specs.LiveDays.{Sent}
 use Rattle.step_replay.specs.LiveStanding.{IsAt}
 use Rattle.step_replay.specs.declared.steps.Step.{Step}

@@ -1,7 +1,7 @@
 -- Lines that come part by part.
 use Rattle.std.proofs.Common.{◌≡◌, ◌∙◌, sym, refl, List, [], ◌∷◌, fold}
 use Rattle.std.proofs.lemmas.List.Sums.{fold-append}
-use Rattle.venue_config.specs.Rows.{ConfigValues}
+use Rattle.venue_rows.specs.Rows.{ConfigValues}
 use Rattle.input_lines.specs.DueText.{Lines}
 use Rattle.venue_text.specs.LiveInput.{lines_in, taken_by}
 use Rattle.venue_text.specs.LiveLines.{Taken, with_line}

@@ -8,7 +8,7 @@ use Rattle.std.specs.Prelude.{IfOk}
 use Rattle.std.proofs.lemmas.List.{append-nil, append_assoc, take_more}
 use Rattle.std.proofs.lemmas.List.Concat.{flat_map-append}
 use Rattle.market_terms.specs.declared.rooms.RoomRef.{RoomRef}
-use Rattle.venue_config.specs.Rows.{ConfigValues, Configuration, values_of}
+use Rattle.venue_rows.specs.Rows.{ConfigValues, Configuration, values_of}
 use Rattle.step_replay.specs.LiveDays.{Sent, live_messages}
 use Rattle.step_replay.specs.LiveStanding.{Answers, AnswersSweeps, IsAt}
 use Rattle.step_replay.specs.declared.live.LiveVenue.{LiveVenue}

@@ -5,8 +5,8 @@ use Rattle.std.specs.List.{list_all, list_any}
 use Rattle.std.proofs.lemmas.Bool.{and_parts}
 use Rattle.std.proofs.lemmas.List.{append_assoc}
 use Rattle.step_replay.specs.declared.dues.Due.{Due}
-use Rattle.venue_config.specs.Rows.{DealerValues}
-use Rattle.venue_config.specs.Texts.{same_text}
+use Rattle.venue_rows.specs.Rows.{DealerValues}
+use Rattle.venue_rows.specs.Texts.{same_text}
 use Rattle.input_lines.specs.DueLines.{date_of, row_of}
 use Rattle.input_lines.specs.DueText.{Lines, Spelled, at_line, due_text_of, dues_from, next_line, undivided_lines}
 use Rattle.input_lines.specs.Lines.{lines_of, one_past, spoken_from, spoken_lines}

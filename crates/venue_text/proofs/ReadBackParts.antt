@@ -15,7 +15,7 @@ use Rattle.fix_fields.specs.Frame.{three_digits}
 use Rattle.fix_fields.specs.TimeOfDay.{time_text}
 use Rattle.fix_fields.specs.UtcTimestamp.{clock_text, moment_of, timestamp_text, two_digits}
 use Rattle.quote_messages.specs.Texts.{number_up_to}
-use Rattle.venue_config.specs.Texts.{is_bond_id, is_capital_or_digit, is_name}
+use Rattle.venue_rows.specs.Texts.{is_bond_id, is_capital_or_digit, is_name}
 use Rattle.input_lines.specs.Lines.{behind_part, first_part, has_part_behind, parts_of, time_of}
 use Rattle.venue_text.specs.ReadBack.{is_in_line, is_in_part}
 use Rattle.input_lines.specs.FrontLemmas.{after_skip, before_skip}

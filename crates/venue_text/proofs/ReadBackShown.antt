@@ -18,7 +18,7 @@ use Rattle.market_terms.specs.declared.quantities.TheConstants.Quantity.{MOST}
 use Rattle.quote_messages.specs.Texts.{number_of}
 use Rattle.step_replay.specs.declared.dues.Due.{Due}
 use Rattle.step_replay.specs.declared.dues.Due.TheVariants as due
-use Rattle.venue_config.specs.Texts.{is_among, is_bond_id, is_firm_name, is_name, reserved_names, text_if}
+use Rattle.venue_rows.specs.Texts.{is_among, is_bond_id, is_firm_name, is_name, reserved_names, text_if}
 use Rattle.input_lines.specs.DueLines.{asked_quantity, grid_behind, shown_of}
 use Rattle.input_lines.specs.Lines.{behind_part, first_part, side_of, time_of}
 use Rattle.input_lines.specs.OptionSteps.{◌>>=◌}

@@ -1,8 +1,8 @@
 -- What `alone` prints.
 use Rattle.std.specs.Prelude.{◌≡◌, ◌≤◌, ℕ, Bool, List, length, nat_lt, Option, Some, None}
 use Rattle.std.specs.Prelude.{Result, Ok, Err, if◌then◌else◌}
-use Rattle.venue_config.specs.Rows.{dealer_values}
-use Rattle.venue_config.specs.declared.dealer_rows.DealerRow.{DealerRow}
+use Rattle.venue_rows.specs.Rows.{dealer_values}
+use Rattle.venue_rows.specs.declared.dealer_rows.DealerRow.{DealerRow}
 use Rattle.step_replay.specs.DealerView.{dealer_view}
 use Rattle.step_replay.specs.declared.dues.Due.{Due}
 use Rattle.input_lines.specs.DueText.{Spelled, due_text_of}

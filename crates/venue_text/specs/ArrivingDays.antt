@@ -4,8 +4,8 @@
 use Rattle.std.specs.Prelude.{ℕ, Bool, ◌==◌, zero, suc, List, [], ◌∷◌, ◌++◌, length, codes}
 use Rattle.std.specs.Prelude.{Option, Some, None, Result, Ok, Err, if◌then◌else◌}
 use Rattle.std.specs.List.{filter_map}
-use Rattle.venue_config.specs.Rows.{ConfigValues}
-use Rattle.venue_config.specs.Texts.{same_text}
+use Rattle.venue_rows.specs.Rows.{ConfigValues}
+use Rattle.venue_rows.specs.Texts.{same_text}
 use Rattle.recorded_days.specs.declared.actions.Inbound.{Inbound}
 use Rattle.recorded_days.specs.declared.actions.Sweep.{Sweep}
 use Rattle.step_replay.specs.declared.steps.Step.{Step}

@@ -1,7 +1,7 @@
 -- What a command on a venue's day reads: the venue, what its argument names there, and the steps.
 use Rattle.std.specs.Prelude.{ℕ, List, length, nat_lt, Option, Some, None, Result, Ok, Err}
 use Rattle.std.specs.Prelude.{if◌then◌else◌}
-use Rattle.venue_config.specs.Rows.{ConfigValues}
+use Rattle.venue_rows.specs.Rows.{ConfigValues}
 use Rattle.step_replay.specs.declared.steps.Step.{Step}
 use Rattle.input_lines.specs.ResultSteps.{◌>>=◌}
 use Rattle.input_lines.specs.StepLines.{asked, dealer_named, firm_named, steps_of}

@@ -1,7 +1,7 @@
 -- What `blotter` prints.
 use Rattle.std.specs.Prelude.{◌≡◌, ℕ, List, [], slice_get, Option, Some, None, Ok}
 use Rattle.blotter.specs.BlotterText.{blotter_text}
-use Rattle.venue_config.specs.Rows.{Configuration, values_of}
+use Rattle.venue_rows.specs.Rows.{Configuration, values_of}
 use Rattle.step_replay.specs.AuditTrail.{audit_trail}
 use Rattle.step_replay.specs.FirmDays.{FirmDay, firm_days}
 use Rattle.step_replay.specs.declared.steps.Step.{Step}

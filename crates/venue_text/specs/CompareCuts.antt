@@ -1,6 +1,6 @@
 -- The run of a day that was read, and what is asked of its row: private.
 use Rattle.std.specs.Prelude.{ℕ, []}
-use Rattle.venue_config.specs.Rows.{Configuration}
+use Rattle.venue_rows.specs.Rows.{Configuration}
 use Rattle.venue_text.specs.CompareText.{Run}
 use Rattle.venue_text.specs.declared.day_arguments.AskedDay.{AskedDay}
 

@@ -1,7 +1,7 @@
 -- What `compare` prints.
 use Rattle.std.specs.Prelude.{◌≡◌, ◌≢◌, ◌↔◌, ◌≤◌, ℕ, ◌-◌, Bool, IsTrue, List, [], ◌∷◌, ◌++◌, take}
 use Rattle.std.specs.Prelude.{slice_get, codes, decimal, Option, Some, None, Ok, if◌then◌else◌}
-use Rattle.venue_config.specs.Rows.{Configuration, dealer_numbered, values_of}
+use Rattle.venue_rows.specs.Rows.{Configuration, dealer_numbered, values_of}
 use Rattle.step_replay.specs.AuditTrail.{audit_trail, due_to}
 use Rattle.step_replay.specs.FirmDays.{FirmDay, firm_days}
 use Rattle.step_replay.specs.declared.dues.Due.{Due}

@@ -1,8 +1,8 @@
 -- What `due` prints: due text, which `alone` reads.
 use Rattle.std.specs.Prelude.{◌≡◌, ℕ, List, [], ◌∷◌, ◌++◌, codes, decimal, Some, Ok}
 use Rattle.std.specs.List.{join_with_byte}
-use Rattle.venue_config.specs.Rows.{Configuration, dealer_numbered, values_of}
-use Rattle.venue_config.specs.declared.dealer_rows.DealerRow.{DealerRow}
+use Rattle.venue_rows.specs.Rows.{Configuration, dealer_numbered, values_of}
+use Rattle.venue_rows.specs.declared.dealer_rows.DealerRow.{DealerRow}
 use Rattle.step_replay.specs.AuditTrail.{audit_trail, due_to}
 use Rattle.step_replay.specs.declared.dues.Due.{Due}
 use Rattle.step_replay.specs.declared.steps.Step.{Step}

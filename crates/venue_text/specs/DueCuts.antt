@@ -1,7 +1,7 @@
 -- Parts of a dealer's line as the code cuts it: private.
 use Rattle.std.specs.Prelude.{ℕ, List, ◌∷◌, ◌++◌, codes, decimal}
 use Rattle.std.specs.List.{flat_map}
-use Rattle.venue_config.specs.declared.dealer_rows.DealerRow.{DealerRow}
+use Rattle.venue_rows.specs.declared.dealer_rows.DealerRow.{DealerRow}
 
 -- words, each behind a space
 abbrev pub words_behind : List (List ℕ) → List ℕ

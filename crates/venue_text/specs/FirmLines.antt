@@ -1,7 +1,7 @@
 -- What `live` prints of one firm: among all messages those of the firm, a line each, in the order in
 -- which they are printed.
 use Rattle.std.specs.Prelude.{ℕ, Bool, ◌==◌, List, [], ◌∷◌, ◌++◌, drop, length, filter}
-use Rattle.venue_config.specs.Rows.{Configuration, values_of}
+use Rattle.venue_rows.specs.Rows.{Configuration, values_of}
 use Rattle.step_replay.specs.LiveDays.{Sent, live_messages}
 use Rattle.input_lines.specs.DueText.{Lines}
 use Rattle.venue_text.specs.LiveInput.{as_part, numbered_in}

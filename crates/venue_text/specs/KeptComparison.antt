@@ -1,6 +1,6 @@
 -- What `compare --live` prints: how two days that come line by line differ for one dealer.
 use Rattle.std.specs.Prelude.{◌≡◌, ◌↔◌, ℕ, Bool, IsTrue, List, slice_get, Option, Ok}
-use Rattle.venue_config.specs.Rows.{Configuration, values_of}
+use Rattle.venue_rows.specs.Rows.{Configuration, values_of}
 use Rattle.step_replay.specs.AuditTrail.{due_to}
 use Rattle.step_replay.specs.FirmDays.{firm_days}
 use Rattle.step_replay.specs.LiveDays.{live_trail}

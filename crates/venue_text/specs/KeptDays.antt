@@ -2,8 +2,8 @@
 -- `blotter` with `--live`.
 use Rattle.std.specs.Prelude.{◌≡◌, ℕ, Bool, List, [], ◌++◌, slice_get, Option, Some, None, Result, Ok}
 use Rattle.std.specs.Option.{option_map, option_to_list}
-use Rattle.venue_config.specs.Rows.{ConfigValues, Configuration, dealer_numbered, values_of}
-use Rattle.venue_config.specs.declared.dealer_rows.DealerRow.{DealerRow}
+use Rattle.venue_rows.specs.Rows.{ConfigValues, Configuration, dealer_numbered, values_of}
+use Rattle.venue_rows.specs.declared.dealer_rows.DealerRow.{DealerRow}
 use Rattle.step_replay.specs.AuditTrail.{due_to}
 use Rattle.step_replay.specs.FirmDays.{firm_days}
 use Rattle.step_replay.specs.LiveDays.{live_trail}

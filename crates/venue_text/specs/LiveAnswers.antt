@@ -1,7 +1,7 @@
 -- Where a day that goes on stands, and what a line gives.
 use Rattle.std.specs.Prelude.{◌≡◌, ℕ, List, ◌++◌, Option, Ok}
 use Rattle.std.specs.Option.{option_to_list}
-use Rattle.venue_config.specs.Rows.{Configuration, values_of}
+use Rattle.venue_rows.specs.Rows.{Configuration, values_of}
 use Rattle.step_replay.specs.LiveDays.{Sent, live_messages}
 use Rattle.step_replay.specs.LiveStanding.{IsAt}
 use Rattle.step_replay.specs.declared.live.LiveVenue.{LiveVenue}

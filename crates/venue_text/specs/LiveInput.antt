@@ -3,7 +3,7 @@
 -- and nothing else.
 use Rattle.std.specs.Prelude.{ℕ, ◌+◌, Bool, List, [], ◌∷◌, ◌++◌, fold}
 use Rattle.std.specs.List.{list_any}
-use Rattle.venue_config.specs.Rows.{ConfigValues, Configuration, values_of}
+use Rattle.venue_rows.specs.Rows.{ConfigValues, Configuration, values_of}
 use Rattle.input_lines.specs.DueText.{Lines}
 use Rattle.venue_text.specs.LiveLines.{Taken, line_text, nothing_taken, with_any_line, with_line}
 use Rattle.input_lines.specs.VenueParts.{InputPart, is_divider, part_before, part_behind, spoken_in, text_of}

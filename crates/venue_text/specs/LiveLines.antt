@@ -4,8 +4,8 @@ use Rattle.std.specs.Prelude.{slice_get, Option, Some, None, Ok, Err, ifâ—Œthenâ
 use Rattle.std.specs.List.{flat_map}
 use Rattle.std.specs.Option.{option_to_list}
 use Rattle.fix_fields.specs.TimeOfDay.{time_text}
-use Rattle.venue_config.specs.Rows.{ConfigValues, Configuration, firm_names, values_of}
-use Rattle.venue_config.specs.Texts.{same_text}
+use Rattle.venue_rows.specs.Rows.{ConfigValues, Configuration, firm_names, values_of}
+use Rattle.venue_rows.specs.Texts.{same_text}
 use Rattle.step_replay.specs.Deadlines.{next_deadline}
 use Rattle.step_replay.specs.LiveDays.{Sent, live_messages, live_trail}
 use Rattle.step_replay.specs.declared.steps.Step.{Step}

@@ -2,8 +2,8 @@
 use Rattle.std.specs.Prelude.{◌≡◌, ℕ, Bool, true, false, ◌==◌, ◌&&◌, not, List, [], ◌∷◌, ◌++◌, length}
 use Rattle.std.specs.Prelude.{codes, nat_lt, Some, Ok}
 use Rattle.std.specs.List.{list_all}
-use Rattle.venue_config.specs.Rows.{DealerValues}
-use Rattle.venue_config.specs.Texts.{is_firm_name, same_text}
+use Rattle.venue_rows.specs.Rows.{DealerValues}
+use Rattle.venue_rows.specs.Texts.{is_firm_name, same_text}
 use Rattle.step_replay.specs.declared.dues.Due.{Due}
 use Rattle.step_replay.specs.declared.dues.Due.TheVariants as due
 use Rattle.input_lines.specs.DueLines.{date_of, due_of, row_of}

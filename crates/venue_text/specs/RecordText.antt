@@ -1,6 +1,6 @@
 -- The messages of a recorded day as text, and the line that says into how many steps it was woven.
 use Rattle.std.specs.Prelude.{ℕ, Bool, List, [], ◌∷◌, ◌++◌, None, map, codes, decimal}
-use Rattle.venue_config.specs.Rows.{Configuration}
+use Rattle.venue_rows.specs.Rows.{Configuration}
 use Rattle.step_replay.specs.FirmDays.{FirmDay}
 use Rattle.recorded_days.specs.Records.{FirmLists, RecordedDay, firms_in}
 use Rattle.venue_text.specs.ReplayText.{days_text, named_days}

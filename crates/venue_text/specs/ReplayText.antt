@@ -1,7 +1,7 @@
 -- What `replay` prints.
 use Rattle.std.specs.Prelude.{◌≡◌, ℕ, Bool, List, take, drop, Option, Some, None, Ok}
 use Rattle.std.specs.List.{flat_map, zip}
-use Rattle.venue_config.specs.Rows.{Configuration, firm_names, values_of}
+use Rattle.venue_rows.specs.Rows.{Configuration, firm_names, values_of}
 use Rattle.step_replay.specs.AuditTrail.{audit_trail}
 use Rattle.step_replay.specs.FirmDays.{FirmDay, firm_days}
 use Rattle.step_replay.specs.declared.steps.Step.{Step}

@@ -2,7 +2,7 @@
 ghost use Rattle.std.specs.Prelude.{◌≡◌, ◌≢◌, ◌↔◌, ◌++◌, slice_get, None, Err, IfOk, IfErr};
 ghost use Rattle.std.specs.Prelude.{IsSome, IsTrue, OnOk};
 ghost use Rattle.step_replay.specs.StepFaults.{first_fault};
-ghost use Rattle.venue_config.specs.Rows.{dealer_numbered};
+ghost use Rattle.venue_rows.specs.Rows.{dealer_numbered};
 ghost use Rattle.venue_text.specs.AskedDays as asked;
 ghost use Rattle.venue_text.specs.CompareCuts as cuts;
 ghost use Rattle.venue_text.specs.CompareText as spec;
@@ -15,7 +15,7 @@ use itoa::Buffer;
 use quote_messages::SentMessage;
 use std::alloc::Global;
 use step_replay::{Due, World};
-use venue_config::VenueConfig;
+use venue_rows::VenueConfig;
 
 /// Whether two venues agree on a dealer, in three lines: its row and the date (`row equal` or `row
 /// differs`), what was due to it (`due equal` or `due differs at K`) and the messages that it was

@@ -4,13 +4,13 @@ ghost use Rattle.std.specs.Option.{option_copied};
 ghost use Rattle.step_replay.specs.AuditTrail.{audit_trail, due_to};
 ghost use Rattle.step_replay.specs.FirmDays.{firm_days};
 ghost use Rattle.step_replay.specs.StepFaults.{first_fault};
-ghost use Rattle.venue_config.specs.Rows.{dealer_numbered, values_of};
+ghost use Rattle.venue_rows.specs.Rows.{dealer_numbered, values_of};
 ghost use Rattle.venue_text.specs.AskedDays as spec;
 
 use input_lines::{DayParts, ProgramFault, asked_dealer, asked_firm, read_steps, read_venue};
 use std::alloc::Global;
 use step_replay::{Due, ReplayFault, Step, World, due, run};
-use venue_config::{DealerRow, VenueConfig};
+use venue_rows::{DealerRow, VenueConfig};
 
 /// A venue, the number of the firm that an argument names in it, and the steps of a day.
 #[derive(Drop)]

@@ -13,7 +13,7 @@ use input_lines::{MOST_INPUT, ProgramFault, day_parts};
 use itoa::Buffer;
 use std::alloc::Global;
 use step_replay::Due;
-use venue_config::{DealerRow, Traders};
+use venue_rows::{DealerRow, Traders};
 
 /// What was due to DEALER, as due text, by the bytes of an input: a configuration, a line `%%`, and
 /// the steps of a day. [`alone_text`](crate::alone_text) reads it. Or the first fault of these, as

@@ -2,7 +2,7 @@
 //! clock.
 ghost use Rattle.std.specs.Prelude.{◌≡◌, ◌≢◌, length, map, None, Ok, Err, IfOk, IfErr};
 ghost use Rattle.step_replay.specs.StepFaults.{first_fault};
-ghost use Rattle.venue_config.specs.Rows.{KeepsLimits, values_of};
+ghost use Rattle.venue_rows.specs.Rows.{KeepsLimits, values_of};
 ghost use Rattle.venue_text.specs.ArrivingDays as spec;
 ghost use Rattle.input_lines.specs.StepLines.{names_of_firms};
 
@@ -15,7 +15,7 @@ use quote_messages::Message;
 use recorded_days::{Inbound, Sweep};
 use std::alloc::Global;
 use step_replay::Step;
-use venue_config::VenueConfig;
+use venue_rows::VenueConfig;
 
 /// What comes to a venue on one day: it is for `run_day` of `session_worker`.
 #[derive(Drop)]

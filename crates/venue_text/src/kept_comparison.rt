@@ -2,7 +2,7 @@
 ghost use Rattle.std.specs.Prelude.{◌≡◌, ℕ, [], List, IfOk, IsSome};
 ghost use Rattle.step_replay.specs.LiveStanding.{IsAt};
 ghost use Rattle.step_replay.specs.declared.steps.Step.{Step};
-ghost use Rattle.venue_config.specs.Rows.{Configuration, dealer_numbered};
+ghost use Rattle.venue_rows.specs.Rows.{Configuration, dealer_numbered};
 ghost use Rattle.venue_text.specs.CompareText.{IsFirstDifference};
 ghost use Rattle.venue_text.specs.KeptComparison as spec;
 ghost use Rattle.venue_text.specs.KeptDays.{Keeps, dues};

@@ -2,7 +2,7 @@
 ghost use Rattle.std.specs.Prelude.{◌≡◌, ◌≢◌, List, Err, IfOk, IfErr};
 ghost use Rattle.step_replay.specs.LiveStanding.{IsAt};
 ghost use Rattle.step_replay.specs.declared.steps.Step.{Step};
-ghost use Rattle.venue_config.specs.Rows.{Configuration, values_of};
+ghost use Rattle.venue_rows.specs.Rows.{Configuration, values_of};
 ghost use Rattle.venue_text.specs.KeptDays as spec;
 ghost use Rattle.venue_text.specs.LiveLines.{Taken};
 
@@ -15,7 +15,7 @@ use crate::replay_command::days_text;
 use fix_fields::Memory;
 use input_lines::{ProgramFault, asked_dealer, asked_firm};
 use std::alloc::Global;
-use venue_config::VenueConfig;
+use venue_rows::VenueConfig;
 
 /// What is asked for at the end of a day.
 #[derive(Clone, Copy)]

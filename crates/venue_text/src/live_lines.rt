@@ -3,7 +3,7 @@ ghost use Rattle.std.specs.Prelude.{◌≡◌, ◌≢◌, ◌++◌, [], List};
 ghost use Rattle.std.specs.Prelude.{Ok, Err, Some, None, IfOk, IfErr, OnOk};
 ghost use Rattle.step_replay.specs.LiveStanding.{IsAt};
 ghost use Rattle.step_replay.specs.declared.steps.Step.{Step};
-ghost use Rattle.venue_config.specs.Rows.{Configuration, values_of};
+ghost use Rattle.venue_rows.specs.Rows.{Configuration, values_of};
 ghost use Rattle.venue_text.specs.LiveAnswers as spec;
 ghost use Rattle.venue_text.specs.LiveLines as lines;
 ghost use Rattle.venue_text.specs.LiveLines.{Taken};
@@ -22,7 +22,7 @@ use input_lines::{
 };
 use std::alloc::{AllocError, Global};
 use step_replay::{LiveVenue, SentTo, Step};
-use venue_config::VenueConfig;
+use venue_rows::VenueConfig;
 
 /// What a line brings.
 #[derive(Drop)]

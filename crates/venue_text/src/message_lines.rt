@@ -10,7 +10,7 @@ use itoa::Buffer;
 use quote_messages::SentMessage;
 use std::alloc::Global;
 use step_replay::SentTo;
-use venue_config::Name;
+use venue_rows::Name;
 
 /// How many fields stand in front of those that a message line shows as BODY: MsgType (35),
 /// SenderCompID (49), TargetCompID (56), MsgSeqNum (34) and SendingTime (52).

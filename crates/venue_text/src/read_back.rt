@@ -2,7 +2,7 @@
 ghost use Rattle.std.specs.Prelude.{◌≡◌, Some, IsTrue, true, not, ◌==◌, length};
 ghost use Rattle.std.specs.List.{list_all};
 ghost use Rattle.fix_fields.specs.TimeOfDay.{time_text};
-ghost use Rattle.venue_config.specs.Texts.{is_firm_name};
+ghost use Rattle.venue_rows.specs.Texts.{is_firm_name};
 ghost use Rattle.input_lines.specs.Lines.{time_of};
 ghost use Rattle.venue_text.specs.ReadBack as spec;
 

@@ -11,7 +11,7 @@ use fix_fields::Memory;
 use itoa::Buffer;
 use recorded_days::DayRecord;
 use std::alloc::Global;
-use venue_config::VenueConfig;
+use venue_rows::VenueConfig;
 
 /// The messages that all firms of a venue were sent on a recorded day, dealers and then investors in
 /// their order, a line each, or as whole frames. It fails for memory alone.

@@ -2,7 +2,7 @@
 ghost use Rattle.std.specs.Prelude.{◌≡◌, ◌≢◌, ◌++◌, slice_get, Err, IfOk, IfErr, OnOk};
 ghost use Rattle.std.specs.List.{flat_map};
 ghost use Rattle.std.specs.Option.{option_copied};
-ghost use Rattle.venue_config.specs.Rows.{firm_names};
+ghost use Rattle.venue_rows.specs.Rows.{firm_names};
 ghost use Rattle.venue_text.specs.AskedDays as asked;
 ghost use Rattle.venue_text.specs.ReplayText as spec;
 
@@ -12,7 +12,7 @@ use fix_fields::Memory;
 use input_lines::{MOST_INPUT, ProgramFault, day_parts};
 use std::alloc::Global;
 use step_replay::World;
-use venue_config::{Name, VenueConfig};
+use venue_rows::{Name, VenueConfig};
 
 /// The messages of all firms of a venue, dealers and then investors in their order, or of FIRM, a
 /// line each, by the bytes of an input: a configuration, a line `%%`, and the steps of a day. Or

@@ -8,7 +8,7 @@ use crate::terms::quote_word;
 use case_lines::CaseFault;
 use market_terms::QuoteLine;
 use std::alloc::Global;
-use venue_config::DealerRow;
+use venue_rows::DealerRow;
 
 impl BlotterLine for QuoteLine {
     /// `N TIME TRADER REQUEST SIDE BOND QUANTITY PRICE STATE`: the price in 256ths.

@@ -6,7 +6,7 @@ use fix_fields::Moment;
 use market_terms::Duty;
 use quote_word::Settled;
 use std::alloc::Global;
-use venue_config::{DealerRow, Name, Traders};
+use venue_rows::{DealerRow, Name, Traders};
 
 /// A desk that is open.
 #[derive(Drop)]

@@ -8,7 +8,7 @@ use case_lines::{CaseFault, Words, push_bytes};
 use fix_fields::Moment;
 use investor_desk::InvestorEvent;
 use market_terms::{RequestLine, RequestState};
-use venue_config::InvestorRow;
+use venue_rows::InvestorRow;
 
 impl BlotterLine for RequestLine {
     /// `N TIME TRADER SIDE BOND QUANTITY STATE`.

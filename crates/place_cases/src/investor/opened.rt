@@ -4,7 +4,7 @@ use crate::said::Speaker;
 use case_lines::{CaseFault, Words};
 use investor_desk::InvestorDesk;
 use std::alloc::Global;
-use venue_config::{Name, VenueConfig};
+use venue_rows::{Name, VenueConfig};
 
 /// A desk that is open.
 #[derive(Drop)]

@@ -1,7 +1,8 @@
 //! A configuration, row by row.
 use case_lines::{Call, CaseFault};
 use std::alloc::Global;
-use venue_config::{VenueConfig, read_config};
+use venue_config::read_config;
+use venue_rows::VenueConfig;
 
 /// The text of a configuration, as far as it is written.
 #[derive(Drop)]

@@ -11,7 +11,7 @@ use std::marker::Brand;
 use std::process::Abort;
 use std::sync::Wait;
 use std::test::Fail;
-use venue_config::VenueConfig;
+use venue_rows::VenueConfig;
 
 // INV1 asks DLR2, which quotes and cancels; then the clock sweeps the room twice.
 const LINES: &str =

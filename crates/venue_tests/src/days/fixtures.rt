@@ -8,7 +8,7 @@ use std::sync::Wait;
 use std::test::Fail;
 use std::thread::Threads;
 use step_replay::{Step, alone, run};
-use venue_config::{Name, VenueConfig};
+use venue_rows::{Name, VenueConfig};
 use venue_text::messages_text;
 
 /// The venue: two bonds, the dealers DLR1, DLR2 and DLR3, firms 0 to 2, and the investors INV1 and

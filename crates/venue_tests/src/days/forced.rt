@@ -15,7 +15,7 @@ use std::sync::Wait;
 use std::test::Fail;
 use std::thread::Threads;
 use step_replay::Actor;
-use venue_config::{Name, VenueConfig};
+use venue_rows::{Name, VenueConfig};
 
 /// These lines as a text.
 fn text_of<T: AllocGlobal>(rt: &T, lines: &[&str]) -> Result<String, Fail> {

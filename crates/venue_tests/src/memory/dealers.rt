@@ -7,7 +7,7 @@ use quote_word::Settled;
 use std::alloc::Global;
 use std::process::Abort;
 use std::test::Fail;
-use venue_config::{DealerRow, Name, Traders};
+use venue_rows::{DealerRow, Name, Traders};
 
 /// The rooms of two requests of one investor.
 const FIRST_ROOM: RoomRef = RoomRef { investor: 7, n: 1 };

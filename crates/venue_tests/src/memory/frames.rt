@@ -3,7 +3,8 @@ use case_lines::VENUE;
 use fix_fields::{FrameWriter, Memory};
 use std::alloc::{AllocError, Global};
 use std::test::Fail;
-use venue_config::{ConfigFault, VenueConfig, read_config};
+use venue_config::{ConfigFault, read_config};
+use venue_rows::VenueConfig;
 
 /// A configuration; where memory was refused, the same call made again.
 fn read_at_last(alloc: Global) -> Result<VenueConfig, ConfigFault> {

@@ -11,7 +11,8 @@ use request_room::Room;
 use std::alloc::Global;
 use std::process::Abort;
 use std::test::Fail;
-use venue_config::{VenueConfig, read_config};
+use venue_config::read_config;
+use venue_rows::VenueConfig;
 use venue_steps::{
     Duties, do_answer, do_close, do_decline, do_declined, do_drop, do_expire, do_gone, do_hit,
     do_open, do_pass, do_post, do_ready, do_relay, do_show, do_tell, do_unpost, own_dealer,

@@ -15,7 +15,7 @@ use std::alloc::Global;
 use std::process::Abort;
 use std::test::Fail;
 use step_replay::Step;
-use venue_config::BondId;
+use venue_rows::BondId;
 
 /// A frame of 166 bytes: DLR1 is told that its quote a1 was hit.
 const NOTICE: &[u8] = b"8=FIXT.1.1\x019=142\x0135=AJ\x0149=VENUE\x0156=DLR1\x0134=3\x01\

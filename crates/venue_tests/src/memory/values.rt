@@ -3,7 +3,7 @@ use bond_prices::{Grid, Ticks};
 use fix_fields::Moment;
 use market_terms::{Ask, Id, IdBuf, Offer, Quantity, ResponseRef, Side};
 use std::process::Abort;
-use venue_config::{BondId, Name};
+use venue_rows::{BondId, Name};
 
 /// The deadline of all requests, 09:05.
 pub(crate) const DEADLINE: u32 = 32_700_000;

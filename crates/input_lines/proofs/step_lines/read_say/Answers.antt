@@ -1,5 +1,5 @@
 use Rattle.std.proofs.Common.{rules}
-use Rattle.venue_config.specs.Rows.{values_of}
+use Rattle.venue_rows.specs.Rows.{values_of}
 use Rattle.input_lines.proofs.SayLemmas.{say_ok, say_long, say_unknown}
 use Rattle.input_lines.proofs.step_lines.read_say.Goals as goal
 

@@ -1,5 +1,5 @@
 use Rattle.std.proofs.Common.{◌≡◌, ◌∷◌, ap, ◌∙◌, rules}
-use Rattle.venue_config.specs.Rows.{values_of}
+use Rattle.venue_rows.specs.Rows.{values_of}
 use Rattle.input_lines.specs.StepLines.{steps_from}
 use Rattle.input_lines.specs.StepLemmas.{behind_steps, steps_more, known_more}
 use Rattle.input_lines.proofs.step_text.read_steps.Goals as goal

@@ -1,6 +1,6 @@
 use Rattle.std.proofs.Common.{◌≡◌, None}
 use Rattle.step_replay.specs.StepFaults.{first_fault}
-use Rattle.venue_config.specs.Rows.{values_of}
+use Rattle.venue_rows.specs.Rows.{values_of}
 use Rattle.input_lines.specs.StepLines.{steps_of, steps_from}
 use Rattle.input_lines.specs.StepLemmas.{behind_steps}
 use Rattle.input_lines.proofs.step_text.read_steps.Given as goal

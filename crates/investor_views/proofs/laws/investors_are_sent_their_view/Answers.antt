@@ -3,7 +3,7 @@ use Rattle.investor_desk.specs.InvestorOutput.{market_of}
 use Rattle.investor_views.specs.Comings.{comings}
 use Rattle.investor_views.specs.InvestorDues.{dues_where}
 use Rattle.investor_views.specs.InvestorView.{investor_view, seen_by}
-use Rattle.venue_config.specs.declared.investor_rows.InvestorRow.{InvestorRow}
+use Rattle.venue_rows.specs.declared.investor_rows.InvestorRow.{InvestorRow}
 use Rattle.investor_views.proofs.DayLemmas.{is_sent_by_its_desk}
 use Rattle.investor_views.proofs.ViewLemmas.{sends_its_view}
 use Rattle.investor_views.proofs.laws.investors_are_sent_their_view.Goals as goal

@@ -1,5 +1,5 @@
 use Rattle.std.proofs.Common.{◌≡◌, ◌∙◌, ap, sym, codes, true, false, ◌∷◌}
-use Rattle.venue_config.specs.Texts.{same_text}
+use Rattle.venue_rows.specs.Texts.{same_text}
 use Rattle.quote_messages.specs.PartyGroup.{before_entry}
 use Rattle.quote_messages.proofs.GroupLemmas.{no_dealer, dealer_if, not_false, not_true}
 use Rattle.quote_messages.proofs.party_group.names_dealer.Goals as goal

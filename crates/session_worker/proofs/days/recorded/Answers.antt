@@ -1,8 +1,8 @@
 use Rattle.std.proofs.Common.{rules, ◌≡◌, ◌∙◌, ◌-◌, sym, ap, subst, length, map}
 use Rattle.std.proofs.Common.{◌++◌, List, None, arith, length-drop}
 use Rattle.std.proofs.lemmas.List.{length-map, length-take-le}
-use Rattle.venue_config.specs.Rows.{Configuration}
-use Rattle.venue_config.specs.declared.investor_rows.InvestorRow.{InvestorRow}
+use Rattle.venue_rows.specs.Rows.{Configuration}
+use Rattle.venue_rows.specs.declared.investor_rows.InvestorRow.{InvestorRow}
 use Rattle.recorded_days.specs.Records.{DealerLists, InvestorLists}
 use Rattle.recorded_days.specs.declared.actions.Action.{Action}
 use Rattle.session_worker.specs.DayActions.{EventsAreOfActions}

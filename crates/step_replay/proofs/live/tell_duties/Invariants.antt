@@ -1,6 +1,6 @@
 -- As many turns as were counted are done, and what was sent with them is told.
 use Rattle.std.proofs.Common.{◌≡◌, ◌≤◌, ◌++◌, List, true}
-use Rattle.venue_config.specs.Rows.{Configuration}
+use Rattle.venue_rows.specs.Rows.{Configuration}
 use Rattle.step_replay.specs.AuditTrail.{AuditTrail}
 use Rattle.step_replay.specs.LiveDays.{Sent, messages_in}
 use Rattle.step_replay.specs.LiveStanding.{VenueStands, VenueTells, after_turns}

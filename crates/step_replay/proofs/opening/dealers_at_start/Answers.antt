@@ -1,5 +1,5 @@
 use Rattle.std.proofs.Common.{◌≡◌, ◌<◌, ℕ, List, ap, sym, subst, ◌∙◌, ◌+◌, [], length, get_or}
-use Rattle.venue_config.specs.declared.dealer_rows.DealerRow.{DealerRow}
+use Rattle.venue_rows.specs.declared.dealer_rows.DealerRow.{DealerRow}
 use Rattle.dealer_desk.specs.DealerOutput.{DeskEvents}
 use Rattle.step_replay.specs.Openings.{DealersOpen}
 use Rattle.step_replay.proofs.OpeningLemmas.{dealers_grow, words_grow}

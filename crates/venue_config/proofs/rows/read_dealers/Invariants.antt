@@ -1,7 +1,7 @@
 use Rattle.std.proofs.Common.{◌≡◌, [], drop, map, length}
 use Rattle.toml.specs.View.{items_view}
 use Rattle.venue_config.specs.Values.{read_all}
-use Rattle.venue_config.specs.Rows.{dealer_values}
+use Rattle.venue_rows.specs.Rows.{dealer_values}
 use Rattle.venue_config.specs.Config.{dealer_of}
 use Rattle.venue_config.proofs.rows.read_dealers.Given as goal
 

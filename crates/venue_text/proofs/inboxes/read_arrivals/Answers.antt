@@ -1,5 +1,5 @@
 use Rattle.std.proofs.Common.{◌≡◌, ◌∷◌, false, true, ap, ◌∙◌, rules}
-use Rattle.venue_config.specs.Rows.{values_of}
+use Rattle.venue_rows.specs.Rows.{values_of}
 use Rattle.venue_text.specs.ArrivingDays.{arrivals_from, is_of_turns}
 use Rattle.venue_text.proofs.ArrivalLemmas.{arrivals_more, turns_end}
 use Rattle.input_lines.specs.StepLemmas.{behind_steps, known_more}

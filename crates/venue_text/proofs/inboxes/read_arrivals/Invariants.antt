@@ -1,6 +1,6 @@
 use Rattle.std.proofs.Common.{◌≡◌, None}
 use Rattle.step_replay.specs.StepFaults.{first_fault}
-use Rattle.venue_config.specs.Rows.{values_of}
+use Rattle.venue_rows.specs.Rows.{values_of}
 use Rattle.venue_text.specs.ArrivingDays.{arrivals_of, arrivals_from}
 use Rattle.input_lines.specs.StepLemmas.{behind_steps}
 use Rattle.venue_text.proofs.inboxes.read_arrivals.Given as goal

@@ -3,7 +3,7 @@ use Rattle.std.specs.Prelude.{slice_get}
 use Rattle.std.specs.Option.{option_map}
 use Rattle.std.proofs.lemmas.List.{append-nil}
 use Rattle.recorded_days.specs.Records.{FirmLists, firms_in}
-use Rattle.venue_config.specs.Rows.{firm_names}
+use Rattle.venue_rows.specs.Rows.{firm_names}
 use Rattle.venue_text.specs.RecordText.{days_in_record}
 use Rattle.venue_text.proofs.ArrivalLemmas.{recorded_sent}
 use Rattle.venue_text.proofs.DayLemmas.{messages_at, messages_of_none, messages_of_no_day}

@@ -1,6 +1,6 @@
 use Rattle.std.proofs.Common.{◌++◌, sym, ap, ◌∙◌}
 use Rattle.std.proofs.lemmas.List.{append-nil}
-use Rattle.venue_config.specs.Rows.{firm_names}
+use Rattle.venue_rows.specs.Rows.{firm_names}
 use Rattle.venue_text.proofs.DayLemmas.{messages_of_none, messages_of_no_day}
 use Rattle.venue_text.proofs.replay_command.push_firm.Goals as goal
 

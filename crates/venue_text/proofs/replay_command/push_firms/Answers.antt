@@ -1,6 +1,6 @@
 use Rattle.std.proofs.Common.{◌≡◌, ◌++◌, length, ap, ◌∙◌, arith, take}
 use Rattle.std.specs.List.{flat_map}
-use Rattle.venue_config.specs.Rows.{firm_names}
+use Rattle.venue_rows.specs.Rows.{firm_names}
 use Rattle.venue_text.specs.ReplayText.{firm_text, named_days}
 use Rattle.venue_text.proofs.DayLemmas.{flat_more, length_names, take_zip}
 use Rattle.venue_text.proofs.replay_command.push_firms.Goals as goal

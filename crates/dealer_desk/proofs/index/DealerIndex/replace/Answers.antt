@@ -1,6 +1,6 @@
 use Rattle.std.proofs.Common.{◌≡◌, List, [], ◌∷◌, ◌++◌, length, map, find, Some, None, sym, ap}
 use Rattle.std.proofs.Common.{subst, ◌∙◌}
-use Rattle.venue_config.specs.Texts.{same_text}
+use Rattle.venue_rows.specs.Texts.{same_text}
 use Rattle.dealer_desk.specs.DealerFacts.{Quoted, Withdrawn, standing_quote}
 use Rattle.dealer_desk.specs.BookChanges.{FitsBook, IsLiveNumber, ended_at}
 use Rattle.dealer_desk.specs.DealerTable.{key_of, IndexView, live_number_among, with_fact}

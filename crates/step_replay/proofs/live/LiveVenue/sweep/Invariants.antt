@@ -1,7 +1,7 @@
 -- The rooms so far are swept, one behind the other.
 use Rattle.std.proofs.Common.{List, map}
 use Rattle.std.specs.Map.Iter.{deref}
-use Rattle.venue_config.specs.Rows.{Configuration}
+use Rattle.venue_rows.specs.Rows.{Configuration}
 use Rattle.step_replay.specs.LiveStanding.{IsAt}
 use Rattle.step_replay.specs.declared.steps.Step.{Step}
 use Rattle.step_replay.proofs.SweptLemmas.{SweptSo}

@@ -1,5 +1,5 @@
 use Rattle.std.proofs.Common.{◌≡◌, ◌≢◌, [], Some, refl, sym}
-use Rattle.venue_config.specs.Rows.{values_of}
+use Rattle.venue_rows.specs.Rows.{values_of}
 use Rattle.input_lines.specs.StepReading.{steps_in}
 use Rattle.input_lines.specs.declared.faults.ProgramFault.TheVariants.{Memory}
 use Rattle.venue_text.proofs.LiveLemmas.{all_ok, tells_done, tells_nothing, tells_refused}

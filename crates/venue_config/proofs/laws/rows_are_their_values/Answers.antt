@@ -1,5 +1,0 @@
-use Rattle.venue_config.proofs.SameRows.{same_rows}
-use Rattle.venue_config.proofs.laws.rows_are_their_values.Goals as goal
-
-pub returns : goal.returns
-returns c = same_rows

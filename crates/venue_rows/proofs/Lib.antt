@@ -1,0 +1,3 @@
+pub mod FirmLemmas
+pub mod TextLemmas
+pub mod SameRows
