@@ -2,6 +2,7 @@ pub mod Arrivals
 pub mod Codes
 pub mod GroupReading
 pub mod PartyGroup
+pub mod Room
 pub mod SessionChecks
 pub mod SessionLines
 pub mod Slots

@@ -5,6 +5,7 @@ ghost use Rattle.quote_messages.specs.Written as spec;
 ghost use Rattle.quote_messages.specs.Written.{answer_status, request_fields, received_id};
 ghost use Rattle.quote_messages.specs.Written.{cancel_status, closing_fields, hit_quote, hit_id};
 ghost use Rattle.quote_messages.specs.Written.{hit_price};
+ghost use Rattle.quote_messages.specs.Room.{room_for_fields, room_behind_a_text, room_behind_texts};
 
 use crate::field_writing::{
     notice_name, price_tag, price_value, put_answer, put_bond, put_party, request_name,
@@ -18,7 +19,7 @@ pub(crate) fn put_request(
     date: &Date,
     request: &Request,
 ) -> Result<(), Memory>
-    requires { 3900 ≤ left_of writer.old }
+    requires { room_for_fields ≤ left_of writer.old }
     ensures { OnOk result (writer.new ≡ writer.old ++ request_fields date.now request.now) }
 {
     let ask = &request.ask;
@@ -40,7 +41,7 @@ pub(crate) fn put_quote_answer(
     id: &Id,
     refusal: Option<QuoteRejectReason>,
 ) -> Result<(), Memory>
-    requires { 3900 ≤ left_of writer.old }
+    requires { room_for_fields ≤ left_of writer.old }
     ensures { OnOk result (writer.new ≡ writer.old
         ++ ((131, request.now) ∷ (117, id.now) ∷ [] ++ answer_status (codes "0") refusal)) }
 {
@@ -56,7 +57,7 @@ pub(crate) fn put_cancel_answer(
     id: &Option<Id>,
     status: CancelStatus,
 ) -> Result<(), Memory>
-    requires { 3900 ≤ left_of writer.old }
+    requires { room_for_fields ≤ left_of writer.old }
     ensures { OnOk result (writer.new ≡ writer.old
         ++ (received_id id.now ++ cancel_status status)) }
 {
@@ -67,7 +68,7 @@ pub(crate) fn put_cancel_answer(
 
 /// QuoteID (117) as received, where it stood.
 fn put_received_id(writer: &mut FrameWriter, id: &Option<Id>) -> Result<(), Memory>
-    requires { 3900 ≤ left_of writer.old }
+    requires { room_for_fields ≤ left_of writer.old }
     ensures fields { OnOk result (writer.new ≡ writer.old ++ received_id id.now) }
     ensures left { OnOk result (left_of writer.old ≤ left_of writer.new + 50) }
 {
@@ -80,7 +81,7 @@ fn put_received_id(writer: &mut FrameWriter, id: &Option<Id>) -> Result<(), Memo
 
 /// QuoteStatus (297) of an answer to a cancel.
 fn put_cancel_status(writer: &mut FrameWriter, status: CancelStatus) -> Result<(), Memory>
-    requires { 3800 ≤ left_of writer.old }
+    requires { room_behind_a_text ≤ left_of writer.old }
     ensures { OnOk result (writer.new ≡ writer.old ++ cancel_status status) }
 {
     match status {
@@ -96,7 +97,7 @@ pub(crate) fn put_decline_answer(
     request: &Id,
     refusal: Option<QuoteRejectReason>,
 ) -> Result<(), Memory>
-    requires { 3900 ≤ left_of writer.old }
+    requires { room_for_fields ≤ left_of writer.old }
     ensures { OnOk result (writer.new ≡ writer.old
         ++ ((131, request.now) ∷ [] ++ answer_status (codes "11") refusal)) }
 {
@@ -110,7 +111,7 @@ pub(crate) fn put_closing_notice(
     writer: &mut FrameWriter,
     notice: &ClosingNotice,
 ) -> Result<(), Memory>
-    requires { 3900 ≤ left_of writer.old }
+    requires { room_for_fields ≤ left_of writer.old }
     ensures { OnOk result (writer.new ≡ writer.old ++ closing_fields notice.now) }
 {
     let ask = &notice.request.ask;
@@ -127,7 +128,7 @@ pub(crate) fn put_closing_notice(
 
 /// QuoteID (117) of the quote that was hit, where there is one.
 fn put_hit_id(writer: &mut FrameWriter, notice: &ClosingNotice) -> Result<(), Memory>
-    requires { 3800 ≤ left_of writer.old }
+    requires { room_behind_a_text ≤ left_of writer.old }
     ensures fields { OnOk result (writer.new ≡ writer.old
         ++ hit_id (hit_quote notice.now.close notice.now.quote)) }
     ensures left { OnOk result (left_of writer.old ≤ left_of writer.new + 50) }
@@ -144,7 +145,7 @@ fn put_hit_id(writer: &mut FrameWriter, notice: &ClosingNotice) -> Result<(), Me
 
 /// The price of the quote that was hit, where there is one: OfferPx (133) or BidPx (132).
 fn put_hit_price(writer: &mut FrameWriter, notice: &ClosingNotice) -> Result<(), Memory>
-    requires { 3600 ≤ left_of writer.old }
+    requires { room_behind_texts ≤ left_of writer.old }
     ensures { OnOk result (writer.new ≡ writer.old
         ++ hit_price notice.now.request.ask.side (hit_quote notice.now.close notice.now.quote)) }
 {

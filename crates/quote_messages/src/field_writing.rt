@@ -5,6 +5,7 @@ ghost use Rattle.bond_prices.specs.Price.{price_digits};
 ghost use Rattle.quote_messages.specs.Written as spec;
 ghost use Rattle.quote_messages.specs.Written.{reject_fields, ref_msg_type, bond_fields};
 ghost use Rattle.quote_messages.specs.Written.{party_fields, answer_status, room_refusal};
+ghost use Rattle.quote_messages.specs.Room.{room_for_fields, room_behind_a_text, room_behind_texts, room_behind_all};
 
 use crate::received::MsgType;
 use crate::{HitRefusal, Id, QuoteRejectReason, Reject, Side};
@@ -17,7 +18,7 @@ use venue_rows::{BondId, Name};
 /// The fields of a Reject.
 #[tactic(auto, using(crate::proofs::WritingLemmas::decimal_len_le))]
 pub(crate) fn put_reject(writer: &mut FrameWriter, reject: &Reject) -> Result<(), Memory>
-    requires { 3900 ≤ left_of writer.old }
+    requires { room_for_fields ≤ left_of writer.old }
     ensures { OnOk result (writer.new ≡ writer.old ++ reject_fields reject.now) }
 {
     writer.text(45, reject.number.as_bytes())?;
@@ -29,7 +30,7 @@ pub(crate) fn put_reject(writer: &mut FrameWriter, reject: &Reject) -> Result<()
 
 /// RefMsgType (372), where there is one.
 fn put_ref_msg_type(writer: &mut FrameWriter, msg_type: &Option<MsgType>) -> Result<(), Memory>
-    requires { 3800 ≤ left_of writer.old }
+    requires { room_behind_a_text ≤ left_of writer.old }
     ensures fields { OnOk result (writer.new ≡ writer.old ++ ref_msg_type msg_type.now) }
     ensures left { OnOk result (left_of writer.old ≤ left_of writer.new + 20) }
 {
@@ -42,7 +43,7 @@ fn put_ref_msg_type(writer: &mut FrameWriter, msg_type: &Option<MsgType>) -> Res
 
 /// Symbol (55), SecurityID (48) of a bond of the venue, and SecurityIDSource (22).
 pub(crate) fn put_bond(writer: &mut FrameWriter, bond: BondId) -> Result<(), Memory>
-    requires { 3600 ≤ left_of writer.old }
+    requires { room_behind_texts ≤ left_of writer.old }
     ensures fields { OnOk result (writer.new ≡ writer.old ++ bond_fields bond) }
     ensures left { OnOk result (left_of writer.old ≤ left_of writer.new + 40) }
 {
@@ -54,7 +55,7 @@ pub(crate) fn put_bond(writer: &mut FrameWriter, bond: BondId) -> Result<(), Mem
 
 /// The party group (453) of one firm in a role (PartyRole 452).
 pub(crate) fn put_party(writer: &mut FrameWriter, firm: &Name, role: &[u8]) -> Result<(), Memory>
-    requires room { 3000 ≤ left_of writer.old }
+    requires room { room_behind_all ≤ left_of writer.old }
     requires short { length role.now ≤ 2 }
     requires digits { IsValue role.now }
     ensures { OnOk result (writer.new ≡ writer.old ++ party_fields firm.now role.now) }
@@ -72,7 +73,7 @@ pub(crate) fn put_answer(
     accepted: &[u8],
     refusal: Option<QuoteRejectReason>,
 ) -> Result<(), Memory>
-    requires room { 3600 ≤ left_of writer.old }
+    requires room { room_behind_texts ≤ left_of writer.old }
     requires short { length accepted.now ≤ 2 }
     requires digits { IsValue accepted.now }
     ensures { OnOk result (writer.new ≡ writer.old ++ answer_status accepted.now refusal) }
@@ -88,7 +89,7 @@ pub(crate) fn put_answer(
 
 /// QuoteStatus (297) of a refusal by the room, and its name in Text (58).
 pub(crate) fn put_room_refusal(writer: &mut FrameWriter, refusal: HitRefusal) -> Result<(), Memory>
-    requires { 3600 ≤ left_of writer.old }
+    requires { room_behind_texts ≤ left_of writer.old }
     ensures { OnOk result (writer.new ≡ writer.old ++ room_refusal refusal) }
 {
     writer.text(297, b"5")?;

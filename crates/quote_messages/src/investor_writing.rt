@@ -5,6 +5,7 @@ ghost use Rattle.quote_messages.specs.Written as spec;
 ghost use Rattle.quote_messages.specs.Written.{refused_request_fields, bond_fields, shown_terms};
 ghost use Rattle.quote_messages.specs.Written.{valid_until_field, shown_quote_fields, party_fields};
 ghost use Rattle.quote_messages.specs.Written.{hit_status, pass_status};
+ghost use Rattle.quote_messages.specs.Room.{room_for_fields, room_behind_texts};
 
 use crate::field_writing::{
     price_tag, price_value, put_answer, put_bond, put_party, put_room_refusal, quote_name, size_tag,
@@ -20,7 +21,7 @@ pub(crate) fn put_request_status(
     request: &Id,
     status: &[u8],
 ) -> Result<(), Memory>
-    requires room { 3900 ≤ left_of writer.old }
+    requires room { room_for_fields ≤ left_of writer.old }
     requires short { length status.now ≤ 2 }
     requires digits { IsValue status.now }
     ensures fields { OnOk result (writer.new ≡ writer.old ++ (131, request.now) ∷ (297, status.now)
@@ -39,7 +40,7 @@ pub(crate) fn put_refused_request(
     bond: &Id,
     reason: RequestRejectReason,
 ) -> Result<(), Memory>
-    requires { 3900 ≤ left_of writer.old }
+    requires { room_for_fields ≤ left_of writer.old }
     ensures { OnOk result (writer.new ≡ writer.old
         ++ refused_request_fields request.now bond.now reason) }
 {
@@ -58,7 +59,7 @@ pub(crate) fn put_shown_quote(
     date: &Date,
     quote: &ShownQuote,
 ) -> Result<(), Memory>
-    requires { 3900 ≤ left_of writer.old }
+    requires { room_for_fields ≤ left_of writer.old }
     ensures { OnOk result (writer.new ≡ writer.old ++ shown_quote_fields date.now quote.now) }
 {
     writer.text(131, quote.request.as_bytes())?;
@@ -78,7 +79,7 @@ fn put_shown_terms(
     price: Ticks,
     quantity: Quantity,
 ) -> Result<(), Memory>
-    requires { 3600 ≤ left_of writer.old }
+    requires { room_behind_texts ≤ left_of writer.old }
     ensures fields { OnOk result (writer.new ≡ writer.old ++ shown_terms side price quantity) }
     ensures left { OnOk result (left_of writer.old ≤ left_of writer.new + 150) }
 {
@@ -112,7 +113,7 @@ pub(crate) fn put_quote_gone(
     request: &Id,
     quote: u64,
 ) -> Result<(), Memory>
-    requires { 3900 ≤ left_of writer.old }
+    requires { room_for_fields ≤ left_of writer.old }
     ensures { OnOk result (writer.new ≡ writer.old ++ (131, request.now)
         ∷ (117, spec.quote_name quote) ∷ (297, codes "17") ∷ []) }
 {
@@ -128,7 +129,7 @@ pub(crate) fn put_dealer_declined(
     request: &Id,
     dealer: &Name,
 ) -> Result<(), Memory>
-    requires { 3900 ≤ left_of writer.old }
+    requires { room_for_fields ≤ left_of writer.old }
     ensures { OnOk result (writer.new ≡ writer.old
         ++ ((131, request.now) ∷ (297, codes "11") ∷ [] ++ party_fields dealer.now (codes "35"))) }
 {
@@ -145,7 +146,7 @@ pub(crate) fn put_hit_answer(
     quote: u64,
     refusal: Option<HitRefusal>,
 ) -> Result<(), Memory>
-    requires { 3900 ≤ left_of writer.old }
+    requires { room_for_fields ≤ left_of writer.old }
     ensures { OnOk result (writer.new ≡ writer.old
         ++ ((693, id.now) ∷ (131, request.now) ∷ (117, spec.quote_name quote) ∷ []
         ++ hit_status refusal)) }
@@ -159,7 +160,7 @@ pub(crate) fn put_hit_answer(
 
 /// QuoteStatus (297) of an answer to a hit.
 fn put_hit_status(writer: &mut FrameWriter, refusal: Option<HitRefusal>) -> Result<(), Memory>
-    requires { 3600 ≤ left_of writer.old }
+    requires { room_behind_texts ≤ left_of writer.old }
     ensures { OnOk result (writer.new ≡ writer.old ++ hit_status refusal) }
 {
     match refusal {
@@ -170,7 +171,7 @@ fn put_hit_status(writer: &mut FrameWriter, refusal: Option<HitRefusal>) -> Resu
 
 /// The fields of the answer to a hit of no quote that was shown.
 pub(crate) fn put_unknown_hit(writer: &mut FrameWriter, id: &Id, quote: &Id) -> Result<(), Memory>
-    requires { 3900 ≤ left_of writer.old }
+    requires { room_for_fields ≤ left_of writer.old }
     ensures { OnOk result (writer.new ≡ writer.old ++ (693, id.now) ∷ (117, quote.now)
         ∷ (297, codes "9") ∷ []) }
 {
@@ -187,7 +188,7 @@ pub(crate) fn put_pass_answer(
     request: &Id,
     status: PassStatus,
 ) -> Result<(), Memory>
-    requires { 3900 ≤ left_of writer.old }
+    requires { room_for_fields ≤ left_of writer.old }
     ensures { OnOk result (writer.new ≡ writer.old
         ++ ((693, id.now) ∷ (131, request.now) ∷ [] ++ pass_status status)) }
 {
@@ -199,7 +200,7 @@ pub(crate) fn put_pass_answer(
 
 /// QuoteStatus (297) of an answer to a pass.
 fn put_pass_status(writer: &mut FrameWriter, status: PassStatus) -> Result<(), Memory>
-    requires { 3600 ≤ left_of writer.old }
+    requires { room_behind_texts ≤ left_of writer.old }
     ensures { OnOk result (writer.new ≡ writer.old ++ pass_status status) }
 {
     match status {

@@ -2,6 +2,7 @@
 ghost use Rattle.std.specs.Prelude.{◌≡◌, ◌≤◌, ◌++◌, length, IfOk, OnOk, Some};
 ghost use Rattle.fix_fields.specs.Frame.{frame_of, left_of, IsValue};
 ghost use Rattle.quote_messages.specs.Written.{written, written_fields, header_fields, body_fields};
+ghost use Rattle.quote_messages.specs.Room.{room_for_fields};
 
 use crate::dealer_writing::{
     put_cancel_answer, put_closing_notice, put_decline_answer, put_quote_answer, put_request,
@@ -29,7 +30,7 @@ pub fn write_out(alloc: Global, head: &Head, message: &OutMessage) -> Result<Sen
 
 /// The fields behind SendingTime (52).
 fn put_body(writer: &mut FrameWriter, date: &Date, message: &OutMessage) -> Result<(), Memory>
-    requires { 3900 ≤ left_of writer.old }
+    requires { room_for_fields ≤ left_of writer.old }
     ensures { OnOk result (writer.new ≡ writer.old ++ body_fields date.now message.now) }
 {
     match message {
@@ -78,7 +79,7 @@ fn header(alloc: Global, msg_type: &[u8], head: &Head) -> Result<FrameWriter, Me
     requires short { length msg_type.now ≤ 4 }
     requires value { IsValue msg_type.now }
     ensures fields { IfOk result (λ writer. writer ≡ header_fields msg_type.now head.now) }
-    ensures left { IfOk result (λ writer. 3900 ≤ left_of writer) }
+    ensures left { IfOk result (λ writer. room_for_fields ≤ left_of writer) }
 {
     let mut writer = FrameWriter::new(alloc, msg_type)?;
     writer.text(49, b"VENUE")?;
