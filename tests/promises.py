@@ -28,6 +28,7 @@ tables stands one caller of the crate, as it is proved.
 CALLERS = {
     "fix_fields": ("quote_messages/src/arrivals.rt", "turn_of"),
     "bond_prices": ("dealer_desk/src/rules.rt", "if_on_grid"),
+    "venue_rows": ("input_lines/src/line_steps.rt", "push_sweeps"),
     "venue_config": ("input_lines/src/venue_parts.rt", "read_venue"),
     "market_terms": ("investor_desk/src/rules.rt", "asked_dealers"),
     "quote_messages": ("dealer_desk/src/rules.rt", "dealer_verdict"),
