@@ -13,12 +13,16 @@
 # run, and counts neither as passed nor as failed.
 #
 # SEED is the seed of all (1), JOBS how many processors they take (all). GATEWAY has a gateway that is
-# built already.
+# built already. MINUTES is the time for everything (no limit): a form that can't be done in what is left
+# of it is told as not run.
 set -u
 root=$(cd "$(dirname "$0")/.." && pwd)
 cd "$root" || exit 2
 seed=${SEED:-1}
 jobs=${JOBS:-$(nproc)}
+start=$(date +%s)
+most=$((${MINUTES:-1440} * 60))
+least=300 # seconds: no form is begun with less
 program=$root/crates/rfq_venue/out/rfq_venue
 gateway=${GATEWAY:-}
 work=$(mktemp -d) || exit 2
@@ -53,20 +57,36 @@ in_time() {
     return "$status"
 }
 
+# what_is_left: the seconds of MINUTES that are left.
+what_is_left() {
+    echo $((most - ($(date +%s) - start)))
+}
+
 # form NAME SECONDS PACKAGES COUNT COMMAND ..: COUNT is a sed script that prints how many were tried.
 form() {
     name=$1 limit=$2 packages=$3 tried=$4
     shift 4
+    left=$(what_is_left)
     # shellcheck disable=SC2086 # a word for each package
-    if ! tests/packages.sh $packages 2>"$work/packages"; then
+    if [ "$left" -ge "$least" ] && ! timeout "$left" tests/packages.sh $packages 2>"$work/packages"; then
         echo "$name: not run: can't be installed: $(sed -n 's/ is not installed.*//p' "$work/packages" | paste -sd ' ')"
         return
     fi
-    echo "$name: begins, $limit s at most" >&2
     began=$(date +%s)
+    left=$(what_is_left)
+    if [ "$left" -lt "$least" ]; then
+        echo "$name: not run: $left s are left"
+        return
+    fi
+    [ "$limit" -lt "$left" ] || limit=$left
+    echo "$name: begins, $limit s at most" >&2
     good=
     ! in_time "$limit" "$@" || good=$(sed -n "$tried" "$work/told" | tail -n 1)
     took=$(($(date +%s) - began))
+    if [ "$status" = 124 ] && [ "$limit" = "$left" ]; then
+        echo "$name: not run to its end: $left s were left"
+        return
+    fi
     if [ -n "$good" ]; then
         echo "$name: $good passed, seed $seed, $took s"
         count "$good" 0
@@ -115,7 +135,7 @@ beside() {
         count 0 1
         return
     fi
-    start=$(date +%s)
+    began_beside=$(date +%s)
     form pages 1800 python3 's/^\([0-9]*\) passed, 0 failed$/\1/p' \
         python3 tests/pages.py --venue "$program"
     form page_checks 1800 python3 's/^Ran \([0-9]*\) tests in .*/\1/p' \
@@ -137,7 +157,7 @@ beside() {
         's/^Ran \([0-9]*\) tests* in .*/\1/p' \
         env VENUE="$program" GATEWAY="$gateway" SEED="$seed" tests/audit/run.sh short
     try_replicas
-    echo "beside the gate: $(($(date +%s) - start)) s"
+    echo "beside the gate: $(($(date +%s) - began_beside)) s"
 }
 
 case "${1:-}" in
