@@ -128,11 +128,10 @@ class Prover:
 
     def begin_ready(self) -> None:
         ready = [name for name in self.waiting if self.proved.issuperset(self.crates[name])]
-        chosen = ready[: self.jobs - len(self.running)]
-        for name in chosen:
+        for name in ready[: self.jobs - len(self.running)]:
             self.waiting.remove(name)
-            share = self.jobs // (len(self.running) + len(chosen))
-            self.running.append(begin(name, max(1, share)))
+            # A crate seldom fills all processors, and two nearly always do: more take one each.
+            self.running.append(begin(name, self.jobs if len(self.running) < 2 else 1))
 
     def take_ended(self) -> None:
         for proof in [each for each in self.running if each.process.poll() is not None]:
