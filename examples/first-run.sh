@@ -21,7 +21,16 @@ case "${1:-}" in
     ;;
 esac
 command -v rt >/dev/null || { echo "the command rt is not on the PATH" >&2; exit 2; }
-trap 'status=$?; [ "$status" = 0 ] || echo "first-run.sh: not done, status $status: see above" >&2' EXIT
+work=$(mktemp -d)
+building=
+end() {
+    status=$?
+    [ -z "$building" ] || kill -- "-$building" 2>/dev/null || true
+    rm -rf "$work"
+    [ "$status" = 0 ] || echo "first-run.sh: not done, status $status: see above" >&2
+}
+trap end EXIT
+trap 'exit 143' HUP INT TERM
 
 start=$(date +%s)
 say() { printf '\n== %s (%d s from the start)\n' "$*" "$(($(date +%s) - start))"; }
@@ -29,6 +38,13 @@ say() { printf '\n== %s (%d s from the start)\n' "$*" "$(($(date +%s) - start))"
 say "Packages of Debian: minutes, where many are missing"
 # shellcheck disable=SC2046 # a word for each package
 "$root/tests/packages.sh" $("$root/gateway/packages.sh")
+
+say "The gateway is built meanwhile"
+# A session of its own, so that its compilers end with it.
+# shellcheck disable=SC2016 # of the inner shell
+setsid nice -n 10 sh -c 'cmake -S "$1" -B "$1/out" && exec cmake --build "$1/out" -j "$(nproc)"' \
+    build "$root/gateway" >"$work/built" 2>&1 &
+building=$!
 
 if [ -n "$unproved" ]; then
     say "The venue, unproved: what each firm is sent in examples/auction.venue"
@@ -40,9 +56,11 @@ else
     venue=$root/crates/rfq_venue/out/rfq_venue
 fi
 
-say "The gateway: some minutes, the first time"
-cmake -S "$root/gateway" -B "$root/gateway/out" >/dev/null
-cmake --build "$root/gateway/out" -j "$(nproc)"
+say "The gateway: where it is not built yet, some minutes"
+status=0
+wait "$building" || status=$?
+building=
+[ "$status" = 0 ] || { tail -n 40 "$work/built" >&2; exit "$status"; }
 
 say "An auction over TCP: a minute, since its initiators are compiled"
 VENUE=$venue "$root/examples/gateway/run.sh"

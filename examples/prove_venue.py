@@ -23,6 +23,7 @@ from typing import IO
 ROOT = Path(__file__).resolve().parent.parent
 MEMORY_OF_A_CRATE = 3 << 30  # bytes
 MINUTES_OF_ONE = 160  # for all, on one processor
+BEHIND = 10  # how nice a proof is for which less waits than for another
 LOOK, TELL = 1.0, 30.0  # seconds
 
 
@@ -44,13 +45,19 @@ def below(crates: dict[str, list[str]], top: str) -> list[str]:
     return found
 
 
-def depths(crates: dict[str, list[str]], names: list[str]) -> dict[str, int]:
-    """How many crates stand above each, on the longest way up: those with most are begun first."""
-    depth = dict.fromkeys(names, 0)
+def lines_of(name: str) -> int:
+    """The lines of a crate, its proofs among them."""
+    files = [each for kind in ("*.rt", "*.antt") for each in (ROOT / "crates" / name).rglob(kind)]
+    return sum(each.read_bytes().count(b"\n") for each in files)
+
+
+def ways_up(crates: dict[str, list[str]], names: list[str]) -> dict[str, int]:
+    """How many lines each crate has with those on the longest way up: what has to wait for it."""
+    ways: dict[str, int] = {}
     for name in reversed(names):
-        for each in crates[name]:
-            depth[each] = max(depth[each], depth[name] + 1)
-    return depth
+        above = [ways[each] for each in ways if name in crates[each]]
+        ways[name] = lines_of(name) + max(above, default=0)
+    return ways
 
 
 def is_newer(program: Path, names: list[str]) -> bool:
@@ -98,9 +105,9 @@ class Proof:
         self.output.close()
 
 
-def begin(name: str, jobs: int) -> Proof:
+def begin(name: str, jobs: int, niceness: int) -> Proof:
     output = tempfile.TemporaryFile()
-    words = ["rt", "lib", "--jobs", str(jobs)]
+    words = ["nice", "-n", str(niceness), "rt", "lib", "--jobs", str(jobs)]
     process = subprocess.Popen(
         words,
         cwd=ROOT / "crates" / name,
@@ -115,8 +122,9 @@ def begin(name: str, jobs: int) -> Proof:
 class Prover:
     def __init__(self, crates: dict[str, list[str]], names: list[str], jobs: int) -> None:
         self.crates, self.jobs, self.count = crates, jobs, len(names)
-        depth = depths(crates, names)
-        self.waiting = sorted(names, key=lambda name: -depth[name])
+        ways = ways_up(crates, names)
+        self.left = sorted(names, key=lambda name: -ways[name])
+        self.waiting = list(self.left)
         self.running: list[Proof] = []
         self.proved: set[str] = set()
         self.began = self.told = time.monotonic()
@@ -131,7 +139,8 @@ class Prover:
         for name in ready[: self.jobs - len(self.running)]:
             self.waiting.remove(name)
             # A crate seldom fills all processors, and two nearly always do: more take one each.
-            self.running.append(begin(name, self.jobs if len(self.running) < 2 else 1))
+            jobs = self.jobs if len(self.running) < 2 else 1
+            self.running.append(begin(name, jobs, 0 if name == self.left[0] else BEHIND))
 
     def take_ended(self) -> None:
         for proof in [each for each in self.running if each.process.poll() is not None]:
@@ -139,6 +148,7 @@ class Prover:
                 last = "\n".join(proof.text().splitlines()[-20:])
                 sys.exit("%s was not proved:\n%s" % (proof.name, last))
             self.running.remove(proof)
+            self.left.remove(proof.name)
             self.proved.add(proof.name)
             self.tell("%s in %s" % (proof.name, clock(time.monotonic() - proof.began)))
             proof.end()
