@@ -62,6 +62,12 @@ const OF_DEALER: WordLine = WordLine {
     help: DEALER,
 };
 
+const OF_ANY_DEALER: WordLine = WordLine {
+    shown: "DEALER",
+    required: false,
+    help: DEALER,
+};
+
 const OF_FIRM: WordLine = WordLine {
     shown: "FIRM",
     required: true,
@@ -102,7 +108,7 @@ pub(crate) const COMMANDS: [CommandLine; 7] = [
         about: DUE,
         input: DAY,
         flags: &[WITH_LIVE],
-        word: Some(OF_DEALER),
+        word: Some(OF_ANY_DEALER),
     },
     CommandLine {
         name: "compare",
