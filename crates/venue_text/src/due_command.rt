@@ -66,11 +66,7 @@ fn texts_of_dues(
 }
 
 /// The due texts of all dealers on such a day.
-fn push_dealers(
-    text: &mut Vec<u8>,
-    venue: &VenueConfig,
-    steps: &[Step],
-) -> Result<(), ProgramFault>
+fn push_dealers(text: &mut Vec<u8>, venue: &VenueConfig, steps: &[Step]) -> Result<(), ProgramFault>
     requires { first_fault venue.now steps.now ≡ None }
     ensures ok { OnOk result (text.new.items ≡ text.old.items
         ++ flat_map (spec.dealer_text venue.now (audit_trail venue.now steps.now))

@@ -18,7 +18,7 @@ loop-dealer-preserved c =
 pub returns-clause-ok : goal.returns-clause-ok
 returns-clause-ok c =
     let config = c.args.venue.now in
-    let count = c.dealer_count.ensures.value in
+    let count = c.dealer_count-dealer-end.ensures.value in
     let many = length_dealers config in
     let all : length (numbered_dealers config) ≤ c.loop-dealer.dealer = omega (arith, count, many, c.loop-dealer-test.false) in
     c.loop-dealer.invariant
