@@ -1,6 +1,6 @@
 -- A day that comes line by line, and of which something is printed at its end: `replay`, `due` and
 -- `blotter` with `--live`.
-use Rattle.std.specs.Prelude.{◌≡◌, ℕ, Bool, List, [], ◌++◌, slice_get, Option, Some, None, Result, Ok}
+use Rattle.std.specs.Prelude.{◌≡◌, ℕ, Bool, List, [], ◌++◌, slice_get, Option, Result, Ok}
 use Rattle.std.specs.Option.{option_map, option_to_list}
 use Rattle.venue_rows.specs.Rows.{ConfigValues, Configuration, values_of}
 use Rattle.step_replay.specs.FirmDays.{firm_days}
