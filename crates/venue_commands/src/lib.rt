@@ -3,7 +3,7 @@
 //!
 //! `replay` reads a day of the venue, a configuration and the steps of the day, and prints every
 //! message that the venue sends; `day` runs one on threads, and `live` answers one line by line as
-//! it comes; `due` and `blotter` print what was due to each dealer, or to one, and a firm's blotter;
+//! it comes; `due` and `blotter` print what was due to each dealer or to one, and a firm's blotter;
 //! `compare` reads two days and says where they differ for one dealer. `alone` reads one
 //! dealer's day, called due text, and prints every message that the venue sends to that dealer.
 //!

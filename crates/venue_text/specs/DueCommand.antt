@@ -40,8 +40,8 @@ abbrev pub due_texts : Option ℕ → Configuration → AuditTrail → List ℕ
 due_texts only config trail =
     flat_map (dealer_text config trail) (those_asked only (numbered_dealers config))
 
--- What `due` prints for an input: what was due to the dealer that is named, or to each, by the audit
--- trail of the day that the input spells.
+-- What `due` prints for an input: what was due to the dealer that is named, or to each, by the
+-- audit trail of the day that the input spells.
 pub record IsDueText (name : Option (List ℕ)) (input text : List ℕ) : Type 0 where
   pub config : Configuration
   pub dealer : Option ℕ

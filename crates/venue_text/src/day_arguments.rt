@@ -20,7 +20,7 @@ pub(crate) struct AskedDay {
     pub(crate) steps: Vec<Step>,
 }
 
-/// A venue, the number of a firm or of a dealer where an argument names one, and the steps of a day.
+/// A venue, the number of a firm or a dealer where an argument names one, and the steps of a day.
 #[derive(Drop)]
 pub(crate) struct OpenDay {
     pub(crate) venue: VenueConfig,

@@ -19,9 +19,9 @@ use step_replay::{Due, Step};
 use venue_rows::{DealerRow, Traders, VenueConfig};
 
 /// What was due to each dealer, or to DEALER, as due text, by the bytes of an input: a
-/// configuration, a line `%%`, and the steps of a day. The texts of all dealers stand one behind the
-/// other in their order, and [`alone_text`](crate::alone_text) reads each. Or the first fault of
-/// these, as [`replay_text`](crate::replay_text) has them; [`ProgramFault::Firm`] is that DEALER
+/// configuration, a line `%%`, and the steps of a day. The texts of all dealers stand one behind
+/// the other in their order, and [`alone_text`](crate::alone_text) reads each. Or the first fault
+/// of these, as [`replay_text`](crate::replay_text) has them; [`ProgramFault::Firm`] is that DEALER
 /// names no dealer. Memory may be refused at any point.
 pub fn due_command_text(
     alloc: Global,
