@@ -1,0 +1,11 @@
+mod FactSides
+mod KeptItems
+mod LeftThere
+mod SameEffects
+mod SamePlaces
+mod SoundEffects
+mod SoundMessages
+mod SoundPlaces
+mod There
+mod ThereFacts
+mod Verdicts
