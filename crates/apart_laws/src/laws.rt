@@ -2,8 +2,9 @@
 ghost use Rattle.std.specs.Prelude.{◌≡◌, ℕ, Bool, true, List};
 ghost use Rattle.venue_rows.specs.Rows.{Configuration};
 ghost use Rattle.step_replay.specs.AuditTrail as venue;
-ghost use Rattle.step_replay.specs.LiveDays.{live_trail};
+ghost use Rattle.step_replay.specs.LiveDays.{live_steps, live_trail};
 ghost use Rattle.step_replay.specs.declared.steps.Step.{Step};
+ghost use Rattle.investor_views.specs.InvestorDues.{due_to_investor};
 ghost use Rattle.apart_laws.specs.Apart.{AreOneThere};
 
 /// A law: in every venue, where two days whose steps come one by one have the same steps on one
@@ -12,6 +13,10 @@ ghost use Rattle.apart_laws.specs.Apart.{AreOneThere};
 /// byte for byte. On the other side the days may differ in all messages, whatever they are and
 /// however many, in turns and in sweeps. It does nothing.
 pub fn investors_are_apart()
+    ensures investors { (config : Configuration) (side : ℕ → Bool) (steps others : List Step)
+        (investor : ℕ) → side investor ≡ true → AreOneThere config side steps others
+        → due_to_investor config investor (live_steps steps)
+        ≡ due_to_investor config investor (live_steps others) }
     ensures dealers { (config : Configuration) (side : ℕ → Bool) (steps others : List Step)
         (dealer : ℕ) → side dealer ≡ true → AreOneThere config side steps others
         → venue.due_to dealer (live_trail config steps)

@@ -1,4 +1,3 @@
-pub mod Apart
 pub mod Comings
 pub mod InvestorDues
 pub mod InvestorView
