@@ -49,19 +49,19 @@ module _ (side : ℕ → Bool) (config : Configuration) where
   -- The steps behind one, where nobody asks across in all of them.
   module _ (trail : AuditTrail) (s : Step) (steps : List Step) where
     -- the day after it
-    abbrev then : AuditTrail
-    then = after config trail (with_turns s)
+    abbrev next_day : AuditTrail
+    next_day = after config trail (with_turns s)
 
-    split : after config trail (live_steps (s ∷ steps)) ≡ after config then (live_steps steps)
+    split : after config trail (live_steps (s ∷ steps)) ≡ after config next_day (live_steps steps)
     split = fold-append (after_step config) trail (with_turns s) (live_steps steps)
 
     none_behind : has_ask_across side (after config trail (live_steps (s ∷ steps))) ≡ false
-        → has_ask_across side (after config then (live_steps steps)) ≡ false
+        → has_ask_across side (after config next_day (live_steps steps)) ≡ false
     none_behind none = ap (has_ask_across side) (sym split) ∙ none
 
     none_by_it : has_ask_across side (after config trail (live_steps (s ∷ steps))) ≡ false
-        → has_ask_across side then ≡ false
-    none_by_it none = steps_grow side config (live_steps steps) then (none_behind none)
+        → has_ask_across side next_day ≡ false
+    none_by_it none = steps_grow side config (live_steps steps) next_day (none_behind none)
 
   day_there : (steps : List Step) (trail : AuditTrail) → Stands side config trail
       → has_ask_across side (after config trail (live_steps steps)) ≡ false
@@ -70,13 +70,13 @@ module _ (side : ℕ → Bool) (config : Configuration) where
   day_there [] trail stands none = refl
   day_there (s ∷ steps) trail stands none =
       ap (there side) (split trail s steps)
-      ∙ day_there steps (then trail s steps)
+      ∙ day_there steps (next_day trail s steps)
       (unit_stands side config trail stands s (none_by_it trail s steps none))
       (none_behind trail s steps none)
       ∙ by_test (is_there side s) refl
     where
       by_test : (b : Bool) → is_there side s ≡ b
-          → fold one_more (there side (then trail s steps)) (steps_there side steps)
+          → fold one_more (there side (next_day trail s steps)) (steps_there side steps)
           ≡ fold one_more (there side trail)
           (cond b (s ∷ steps_there side steps) (steps_there side steps))
       by_test true is =
@@ -115,14 +115,14 @@ module _ (side : ℕ → Bool) (config : Configuration) where
     day_comings (s ∷ steps) trail stands none =
         comings_append (with_turns s) (live_steps steps) trail
         ∙ ap (λ (l : List Coming). comings_from config number trail (with_turns s) ++ l)
-        (day_comings steps (then trail s steps)
+        (day_comings steps (next_day trail s steps)
         (unit_stands side config trail stands s (none_by_it trail s steps none))
         (none_behind trail s steps none))
         ∙ by_test (is_there side s) refl
       where
         by_test : (b : Bool) → is_there side s ≡ b
             → comings_from config number trail (with_turns s)
-            ++ come (there side (then trail s steps)) (steps_there side steps)
+            ++ come (there side (next_day trail s steps)) (steps_there side steps)
             ≡ come (there side trail)
             (cond b (s ∷ steps_there side steps) (steps_there side steps))
         by_test true is =
