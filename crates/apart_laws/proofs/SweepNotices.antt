@@ -68,7 +68,10 @@ sweep_notices config facts room moment =
 
 -- as many turns stand behind a step as any sweep leaves notices
 enough : suc MOST ≤ MOST_TURNS_BEHIND
-enough = omega arith
+enough =
+    let named : MOST ≡ 8 = refl in
+    let behind : MOST_TURNS_BEHIND ≡ 18446744073709551615 = refl in
+    omega arith
 
 few_then : (first : Duty) (later : List Duty) (count : ℕ) → length later ≡ count → count ≤ MOST
     → length (first ∷ later) ≤ MOST_TURNS_BEHIND
