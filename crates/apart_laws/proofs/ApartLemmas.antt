@@ -42,6 +42,12 @@ every_replicate : {X : Type 0} (P : X → Type 0) (n : ℕ) (x : X) → P x → 
 every_replicate P zero x is = tt
 every_replicate P (suc n) x is = (is, every_replicate P n x is)
 
+-- the turns behind a turn of the clock are the clock's
+clock_turns : with_turns (step.Turn actor.Clock)
+    ≡ step.Turn actor.Clock ∷ turns MOST_TURNS_BEHIND
+unfolding with_turns
+clock_turns = refl
+
 module _ (side : ℕ → Bool) (config : Configuration) where
   there_twice : (trail : AuditTrail) → there side (there side trail) ≡ there side trail
   there_twice trail =
@@ -137,11 +143,14 @@ module _ (side : ℕ → Bool) (config : Configuration) where
       unit_comings (step.Expire room moment) none here =
           sweep_comings side config trail stands room moment number here
 
+      idle_brings : (count : ℕ)
+          → comings_from config number trail (step.Turn actor.Clock ∷ turns count) ≡ []
+      idle_brings count =
+          turns_bring config number (suc count) [] trail stands.clock_idle tt (omega arith)
+
       clock_brings_none : comings_from config number trail (with_turns (step.Turn actor.Clock)) ≡ []
-      unfolding with_turns
       clock_brings_none =
-          turns_bring config number (suc MOST_TURNS_BEHIND) [] trail stands.clock_idle tt
-          (omega arith)
+          ap (comings_from config number trail) clock_turns ∙ idle_brings MOST_TURNS_BEHIND
 
       pub unit_brings_none : side number ≡ true → (s : Step)
           → has_ask_across side (after config trail (with_turns s)) ≡ false

@@ -120,18 +120,18 @@ module _ (side : ℕ → Bool) (number : ℕ) (here : side number ≡ true) wher
 
 -- Steps of one firm.
 
-module _ (side : ℕ → Bool) (config : Configuration) where
-  -- the day after these steps
-  abbrev pub after : AuditTrail → List Step → AuditTrail
-  after trail steps = fold (after_step config) trail steps
+-- the day after these steps
+abbrev pub after : Configuration → AuditTrail → List Step → AuditTrail
+after config trail steps = fold (after_step config) trail steps
 
+module _ (side : ℕ → Bool) (config : Configuration) where
   -- each step is of firms of one side
   abbrev pub FirmsOn : Bool → List Step → Type 0
   FirmsOn own steps = Every (λ (s : Step). ActsOn side own (actor_of s)) steps
 
   pub stands_after : (own : Bool) (steps : List Step) (trail : AuditTrail) → FirmsOn own steps
-      → Stands side config trail → has_ask_across side (after trail steps) ≡ false
-      → Stands side config (after trail steps)
+      → Stands side config trail → has_ask_across side (after config trail steps) ≡ false
+      → Stands side config (after config trail steps)
   stands_after own [] trail on stands none = stands
   stands_after own (s ∷ steps) trail on stands none =
       stands_after own steps (after_step config trail s) on.1
@@ -139,18 +139,18 @@ module _ (side : ℕ → Bool) (config : Configuration) where
       (steps_grow side config steps (after_step config trail s) none)) none
 
   pub firm_there : (steps : List Step) (trail : AuditTrail) → FirmsOn true steps
-      → Stands side config trail → has_ask_across side (after trail steps) ≡ false
-      → there side (after trail steps) ≡ after (there side trail) steps
+      → Stands side config trail → has_ask_across side (after config trail steps) ≡ false
+      → there side (after config trail steps) ≡ after config (there side trail) steps
   firm_there [] trail on stands none = refl
   firm_there (s ∷ steps) trail on stands none =
       firm_there steps (after_step config trail s) on.1
       (step_stands side config trail stands true s on.0
       (steps_grow side config steps (after_step config trail s) none)) none
-      ∙ ap (λ (t : AuditTrail). after t steps) (step_there side config trail stands s on.0)
+      ∙ ap (λ (t : AuditTrail). after config t steps) (step_there side config trail stands s on.0)
 
   pub firm_leaves : (steps : List Step) (trail : AuditTrail) → FirmsOn false steps
-      → Stands side config trail → has_ask_across side (after trail steps) ≡ false
-      → there side (after trail steps) ≡ there side trail
+      → Stands side config trail → has_ask_across side (after config trail steps) ≡ false
+      → there side (after config trail steps) ≡ there side trail
   firm_leaves [] trail on stands none = refl
   firm_leaves (s ∷ steps) trail on stands none =
       firm_leaves steps (after_step config trail s) on.1
@@ -170,7 +170,7 @@ module _ (side : ℕ → Bool) (config : Configuration) where
     comes_same trail (step.Expire room moment) here = refl
 
     pub comings_there : (steps : List Step) (trail : AuditTrail) → FirmsOn true steps
-        → Stands side config trail → has_ask_across side (after trail steps) ≡ false
+        → Stands side config trail → has_ask_across side (after config trail steps) ≡ false
         → comings_from config number trail steps
         ≡ comings_from config number (there side trail) steps
     comings_there [] trail on stands none = refl
@@ -207,7 +207,7 @@ module _ (side : ℕ → Bool) (config : Configuration) where
       brings_none trail stands (step.Expire room moment) isnt = refl
 
       pub comings_none : (steps : List Step) (trail : AuditTrail) → FirmsOn false steps
-          → Stands side config trail → has_ask_across side (after trail steps) ≡ false
+          → Stands side config trail → has_ask_across side (after config trail steps) ≡ false
           → comings_from config number trail steps ≡ []
       comings_none [] trail on stands none = refl
       comings_none (s ∷ steps) trail on stands none =

@@ -42,22 +42,25 @@ use Rattle.apart_laws.proofs.There.{CausedOn, FactOn, FactsOn, IsOn, QueuedOn, c
 use Rattle.apart_laws.proofs.There.{there}
 use Rattle.apart_laws.proofs.ThereFacts.{asked_on, room_on}
 
+-- what a sweep does, where there is such a room and it may expire, or where not
+abbrev sweep_where : List Fact → RoomRef → ℕ → Bool → Bool → Effect
+sweep_where facts room moment b c =
+    if b
+    then record {
+      facts = map (InRoom room) (event_facts (of_room room facts) (at_room.Expire moment));
+      duties = if c
+          then duty.Close room moment ∷ told_in (of_room room facts) room expired moment
+          else [];
+    }
+    else nothing
+
 pub sweep_notices : (config : Configuration) (facts : List Fact) (room : RoomRef) (moment : ℕ)
     → Every IsNotice (sweep_effect config facts room moment).duties
 unfolding sweep_effect
 sweep_notices config facts room moment =
     by_test (has_room config room.investor room.n && true) (may_expire (of_room room facts) moment)
   where
-    happened : List Fact
-    happened = map (InRoom room) (event_facts (of_room room facts) (at_room.Expire moment))
-
-    by_test : (b c : Bool) → Every IsNotice (if b then record {
-      facts = happened;
-      duties = if c
-          then duty.Close room moment ∷ told_in (of_room room facts) room expired moment
-          else [];
-    }
-    else nothing).duties
+    by_test : (b c : Bool) → Every IsNotice (sweep_where facts room moment b c).duties
     by_test true true = (
       refl,
       every_map IsNotice (λ dealer. duty.Tell dealer room (close_for expired dealer) moment)
@@ -87,16 +90,8 @@ module _ (side : ℕ → Bool) (config : Configuration) where
       by_test (has_room config room.investor room.n && true)
       (may_expire (of_room room facts) moment)
     where
-      happened : List Fact
-      happened = map (InRoom room) (event_facts (of_room room facts) (at_room.Expire moment))
-
-      by_test : (b c : Bool) → length (if b then record {
-        facts = happened;
-        duties = if c
-            then duty.Close room moment ∷ told_in (of_room room facts) room expired moment
-            else [];
-      }
-      else nothing).duties ≤ MOST_TURNS_BEHIND
+      by_test : (b c : Bool)
+          → length (sweep_where facts room moment b c).duties ≤ MOST_TURNS_BEHIND
       by_test true true =
           few_then (duty.Close room moment) (told_in (of_room room facts) room expired moment)
           (length (dealers_of (request_of (of_room room facts))))

@@ -50,6 +50,13 @@ pub record Rests (side : ℕ → Bool) (config : Configuration) (trail : AuditTr
   pub clock_idle : pending actor.Clock trail ≡ []
   pub clock_within : ClockWithin trail
 
+-- the turns behind a sweep are the clock's
+turns_behind : (room : RoomRef) (moment : ℕ)
+    → with_turns (step.Expire room moment)
+    ≡ step.Expire room moment ∷ turns MOST_TURNS_BEHIND
+unfolding with_turns
+turns_behind room moment = refl
+
 -- The day of one side has nothing of the clock.
 
 no_clock : (side : ℕ → Bool) (by : Actor) → acts_there side by ≡ true
@@ -141,13 +148,21 @@ module _ (side : ℕ → Bool) (config : Configuration) where
         ∙ append-nil (filter (caused_stays side) trail.caused))
         does_notices.done_are
 
+    -- what comes by the sweep, which is nothing, and by as many turns as it leaves notices, or more
+    turns_then : (number count : ℕ) → length swept.duties ≤ count
+        → comings_from config number trail (step.Expire room moment ∷ turns count)
+        ≡ brought config number swept.duties
+    unfolding after_step comes_by
+    turns_then number count few =
+        turns_bring config number count swept.duties with_it left_it
+        (sweep_notices config trail.facts room moment) few
+
     pub sweep_brings : (number : ℕ)
         → comings_from config number trail (with_turns (step.Expire room moment))
         ≡ brought config number swept.duties
-    unfolding with_turns after_step comes_by
     sweep_brings number =
-        turns_bring config number MOST_TURNS_BEHIND swept.duties with_it left_it
-        (sweep_notices config trail.facts room moment)
+        ap (comings_from config number trail) (turns_behind room moment)
+        ∙ turns_then number MOST_TURNS_BEHIND
         (sweep_few side config trail.facts it.facts_on room moment)
 
     -- the facts with the sweep are on their sides, and so are the notices
