@@ -1,6 +1,6 @@
 -- All steps of a day, and two days that have the same steps on one side.
 use Rattle.std.proofs.Common.{◌≡◌, ◌≤◌, ℕ, Bool, true, false, cond, List, [], ◌∷◌, ◌++◌}
-use Rattle.std.proofs.Common.{filter_map, count_by, length, fold, Option, is_some}
+use Rattle.std.proofs.Common.{filter_map, count_by, length, fold, is_some}
 use Rattle.std.proofs.Common.{refl, sym, ap, ◌∙◌, arith, if◌then◌else◌}
 use Rattle.std.specs.Option.{option_to_list}
 use Rattle.std.proofs.lemmas.List.{append_assoc}

@@ -1,42 +1,28 @@
 -- Two days whose steps come one by one and that have the same steps on one side are one day of that
 -- side: each step there, with the turns behind it, makes of the day of this side what it makes of
 -- the day, and every other one leaves it as it was.
-use Rattle.std.proofs.Common.{◌≡◌, ◌≤◌, ℕ, zero, suc, Bool, true, false, cond, List, [], ◌∷◌, ◌++◌}
-use Rattle.std.proofs.Common.{filter, filter_map, count_by, length, fold, replicate, Option, Some}
-use Rattle.std.proofs.Common.{None, is_some, refl, sym, ap, ◌∙◌, subst, arith, if◌then◌else◌}
-use Rattle.std.specs.Option.{option_to_list}
-use Rattle.std.proofs.lemmas.List.{append_assoc}
-use Rattle.std.proofs.lemmas.List.Sums.{fold-append}
-use Rattle.venue_rows.specs.Rows.{Configuration, dealer_numbered}
-use Rattle.investor_desk.specs.InvestorOutput.{market_for}
-use Rattle.venue_places.specs.declared.actors.Actor.{Actor}
+use Rattle.std.proofs.Common.{◌≡◌, ℕ, zero, suc, Bool, true, false, [], ◌∷◌}
+use Rattle.std.proofs.Common.{replicate}
+use Rattle.std.proofs.Common.{refl, sym, ap, ◌∙◌, subst, arith}
+use Rattle.venue_rows.specs.Rows.{Configuration}
 use Rattle.venue_places.specs.declared.actors.Actor.TheVariants as actor
-use Rattle.step_replay.specs.AuditTrail.{AuditTrail, after_step, audit_trail, due_to, no_steps}
-use Rattle.step_replay.specs.AuditTrail.{duty_of, is_same_actor, pending, sent_to}
-use Rattle.step_replay.specs.DealerTrail as dealer_trail
-use Rattle.step_replay.specs.DealerTrail.{DealerEntry}
-use Rattle.step_replay.specs.DueList.{due_list}
+use Rattle.step_replay.specs.AuditTrail.{AuditTrail}
 use Rattle.step_replay.specs.EachLemmas.{Every}
-use Rattle.step_replay.specs.InvestorTrail as investor_trail
-use Rattle.step_replay.specs.InvestorTrail.{InvestorEntry}
-use Rattle.step_replay.specs.LiveDays.{actor_of, live_steps, live_trail, with_turns}
-use Rattle.step_replay.specs.VenueFacts.{of_dealer, of_investor}
+use Rattle.step_replay.specs.LiveDays.{actor_of, with_turns}
 use Rattle.step_replay.specs.declared.steps.Step.{Step}
 use Rattle.step_replay.specs.declared.steps.Step.TheVariants as step
 use Rattle.step_replay.specs.declared.steps.TheConstants.{MOST_TURNS_BEHIND}
-use Rattle.investor_views.specs.Comings.{Coming, comes_by, comes_by_turn, comings, comings_from}
-use Rattle.investor_views.specs.InvestorDues.{due_to_investor, dues_where}
-use Rattle.apart_laws.specs.Apart.{AreOneThere, acts_there, has_ask_across, is_there, steps_there}
+use Rattle.investor_views.specs.Comings.{comings_from}
+use Rattle.apart_laws.specs.Apart.{acts_there, has_ask_across, is_there}
 use Rattle.apart_laws.proofs.ClockTurns.{idle_turn, idle_turns, turns, turns_bring}
 use Rattle.apart_laws.proofs.FirmDays.{FirmsOn, after, comings_none, comings_there, firm_leaves}
 use Rattle.apart_laws.proofs.FirmDays.{firm_there, stands_after}
-use Rattle.apart_laws.proofs.FirmSteps.{ClockWithin, Stands, day_same}
+use Rattle.apart_laws.proofs.FirmSteps.{Stands, day_same}
 use Rattle.apart_laws.proofs.KeptItems.{filter_twice}
-use Rattle.apart_laws.proofs.Queues.{ActsOn, steps_grow}
+use Rattle.apart_laws.proofs.Queues.{ActsOn}
 use Rattle.apart_laws.proofs.SweepUnits.{sweep_comings, sweep_comings_none, sweep_leaves}
 use Rattle.apart_laws.proofs.SweepUnits.{sweep_stands, sweep_there}
 use Rattle.apart_laws.proofs.There.{caused_stays, stays, there}
-use Rattle.apart_laws.proofs.ThereFacts.{dealer_same, investor_same}
 
 every_replicate : {X : Type 0} (P : X → Type 0) (n : ℕ) (x : X) → P x → Every P (replicate n x)
 every_replicate P zero x is = tt

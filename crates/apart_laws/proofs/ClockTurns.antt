@@ -1,8 +1,8 @@
 -- The clock's turns behind a sweep: each does one notice, none of which leaves more, so that the
 -- clock has none left.
 use Rattle.std.proofs.Common.{◌≡◌, ◌≤◌, ℕ, zero, suc, Bool, true, false, List, [], ◌∷◌, ◌++◌, map}
-use Rattle.std.proofs.Common.{filter, filter_map, length, fold, replicate, Option, Some, None}
-use Rattle.std.proofs.Common.{option_map, refl, sym, ap, ◌∙◌, subst, arith, if◌then◌else◌}
+use Rattle.std.proofs.Common.{filter, filter_map, length, replicate, Option, Some, None}
+use Rattle.std.proofs.Common.{refl, sym, ap, ◌∙◌, subst, arith, if◌then◌else◌}
 use Rattle.std.specs.List.{cons_option}
 use Rattle.std.specs.Option.{option_to_list}
 use Rattle.std.proofs.lemmas.List.{append-nil}
@@ -14,14 +14,14 @@ use Rattle.venue_rows.specs.Rows.{Configuration}
 use Rattle.investor_desk.specs.InvestorRules.{InvestorMarket}
 use Rattle.investor_desk.specs.InvestorOutput.{market_for}
 use Rattle.investor_desk.specs.declared.events.InvestorEvent.TheVariants as at_investor
-use Rattle.dealer_desk.specs.DealerOutput.{closable, number_in}
+use Rattle.dealer_desk.specs.DealerOutput.{number_in}
 use Rattle.dealer_desk.specs.declared.events.DealerEvent.TheVariants as at_desk
 use Rattle.venue_places.specs.Placed.{placed}
 use Rattle.venue_places.specs.declared.actors.Actor.{Actor}
 use Rattle.venue_places.specs.declared.actors.Actor.TheVariants as actor
 use Rattle.step_replay.specs.Actions.{Dealer, Effect, at_dealer, at_market, dealer_at, done_by}
 use Rattle.step_replay.specs.Actions.{done_for, duty_effect, nothing, told_of, told_to, where_known}
-use Rattle.step_replay.specs.AuditTrail.{AuditTrail, Caused, after_step, after_turn, pending}
+use Rattle.step_replay.specs.AuditTrail.{AuditTrail, after_step, after_turn, pending}
 use Rattle.step_replay.specs.DealerTrail.{rooms_by}
 use Rattle.step_replay.specs.EachLemmas.{Every, every_both}
 use Rattle.step_replay.specs.QueueLemmas.{own_turned, own_within, turned}

@@ -1,8 +1,7 @@
 -- A step of a firm: one of this side does in the day of this side what it does in the day, and one
 -- of the other side leaves the day of this side as it was.
 use Rattle.std.proofs.Common.{◌≡◌, ◌≤◌, ℕ, Bool, true, false, List, [], ◌∷◌, ◌++◌, map, filter}
-use Rattle.std.proofs.Common.{filter_map, count_by, length, fold, refl, sym, ap, ◌∙◌, subst}
-use Rattle.std.specs.List.{list_any}
+use Rattle.std.proofs.Common.{filter_map, count_by, length, refl, sym, ap, ◌∙◌, subst}
 use Rattle.std.proofs.lemmas.List.{append-nil}
 use Rattle.std.proofs.lemmas.List.Elements.{filter-append}
 use Rattle.market_terms.specs.declared.duties.Duty.{Duty}
@@ -19,11 +18,11 @@ use Rattle.step_replay.specs.declared.steps.Step.{Step}
 use Rattle.step_replay.specs.declared.steps.Step.TheVariants as step
 use Rattle.venue_places.specs.declared.actors.Actor.{Actor}
 use Rattle.venue_places.specs.declared.actors.Actor.TheVariants as actor
-use Rattle.apart_laws.specs.Apart.{acts_there, asks_across, has_ask_across}
+use Rattle.apart_laws.specs.Apart.{acts_there, has_ask_across}
 use Rattle.apart_laws.proofs.FactSides.{AddsOn, duty_adds, message_adds}
 use Rattle.apart_laws.proofs.KeptItems.{all_kept, every_map, none_kept}
 use Rattle.apart_laws.proofs.Queues.{ActsOn, caused_by, left_on, none_asks, pending_on}
-use Rattle.apart_laws.proofs.Queues.{pending_same, steps_grow}
+use Rattle.apart_laws.proofs.Queues.{pending_same}
 use Rattle.apart_laws.proofs.SameEffects.{duty_same, message_same}
 use Rattle.apart_laws.proofs.SoundEffects.{duty_sound}
 use Rattle.apart_laws.proofs.SoundMessages.{message_sound}

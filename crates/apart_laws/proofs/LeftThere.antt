@@ -1,6 +1,6 @@
 -- What is left to be done behind the events of one side is on that side.
-use Rattle.std.proofs.Common.{◌≡◌, ◌≤◌, ℕ, ◌-◌, Bool, true, false, ◌||◌, List, [], ◌∷◌, ◌++◌, map}
-use Rattle.std.proofs.Common.{Option, Some, None, option_map, is_some, refl, sym, ap, ◌∙◌, subst}
+use Rattle.std.proofs.Common.{◌≡◌, ℕ, ◌-◌, Bool, true, false, ◌||◌, List, [], ◌∷◌, map}
+use Rattle.std.proofs.Common.{Option, Some, None, option_map, is_some, refl, subst}
 use Rattle.std.proofs.Common.{if◌then◌else◌, Result, Ok, Err}
 use Rattle.std.specs.List.{list_any}
 use Rattle.std.specs.Option.{option_to_list}
@@ -23,10 +23,10 @@ use Rattle.investor_desk.specs.InvestorOutput as investor_output
 use Rattle.investor_desk.specs.declared.verdicts.InvestorVerdict.{InvestorVerdict}
 use Rattle.investor_desk.specs.declared.verdicts.InvestorVerdict.TheVariants as on_investor
 use Rattle.request_room.specs.RoomFacts.{RoomFact, is_open, is_vacant, request_of}
-use Rattle.request_room.specs.Book.{expired, may_expire, passed, reply_of}
+use Rattle.request_room.specs.Book.{expired, may_expire, passed}
 use Rattle.request_room.specs.declared.ends.End.{End}
 use Rattle.venue_steps.specs.RoomSteps.{close_for, dealers_of, duties_of_expire, duties_of_open}
-use Rattle.venue_steps.specs.RoomSteps.{duties_of_pass, hit_duties, reply_to_pass}
+use Rattle.venue_steps.specs.RoomSteps.{duties_of_pass, hit_duties}
 use Rattle.venue_steps.specs.RoomSteps.{shown_then_ready, told_in, told_of_hit, told_to_each}
 use Rattle.venue_steps.specs.RoomSteps.{where_follows}
 use Rattle.step_replay.specs.EachLemmas.{Every, every_both}

@@ -1,5 +1,5 @@
 -- What happens at one place of this side is the same where only the facts of this side stand.
-use Rattle.std.proofs.Common.{◌≡◌, ℕ, Bool, true, false, ◌&&◌, List, [], ◌++◌, map}
+use Rattle.std.proofs.Common.{◌≡◌, ℕ, Bool, true, ◌&&◌, List, [], ◌++◌, map}
 use Rattle.std.proofs.Common.{Option, Some, None, option_map, is_some, refl, sym, ap, ◌∙◌}
 use Rattle.std.proofs.Common.{subst, if◌then◌else◌}
 use Rattle.std.specs.Option.{option_to_list}
@@ -8,7 +8,6 @@ use Rattle.market_terms.specs.declared.closes.Close.{Close}
 use Rattle.market_terms.specs.declared.closes.HitRefusal.{HitRefusal}
 use Rattle.market_terms.specs.declared.closes.Reply.{Reply}
 use Rattle.market_terms.specs.declared.duties.Duty.{Duty}
-use Rattle.market_terms.specs.declared.duties.Duty.TheVariants as duty
 use Rattle.market_terms.specs.declared.rooms.ResponseRef.{ResponseRef}
 use Rattle.market_terms.specs.declared.rooms.RoomRef.{RoomRef}
 use Rattle.quote_word.specs.declared.settled.Settled.{Settled}
@@ -31,9 +30,9 @@ use Rattle.request_room.specs.Book.{event_facts, hit_outcome, hit_refusal, word_
 use Rattle.request_room.specs.declared.events.RoomEvent.{RoomEvent}
 use Rattle.request_room.specs.declared.events.RoomEvent.TheVariants as at_room
 use Rattle.venue_steps.specs.InvestorSteps.{answers}
-use Rattle.venue_steps.specs.RoomSteps.{duties_of_open, duties_of_post, duties_of_unpost}
-use Rattle.venue_steps.specs.RoomSteps.{duties_of_decline, duties_of_hit, duties_of_pass}
-use Rattle.venue_steps.specs.RoomSteps.{duties_of_expire, hit_word, word_asked_by}
+use Rattle.venue_steps.specs.RoomSteps.{duties_of_post, duties_of_unpost}
+use Rattle.venue_steps.specs.RoomSteps.{duties_of_decline, duties_of_hit}
+use Rattle.venue_steps.specs.RoomSteps.{hit_word, word_asked_by}
 use Rattle.venue_steps.specs.Words.{has_word}
 use Rattle.step_replay.specs.DealerTrail.{DealerEntry, book_by, rooms_by, entries_of}
 use Rattle.step_replay.specs.DealerTrail.{answer_to_investor}
@@ -42,15 +41,13 @@ use Rattle.step_replay.specs.InvestorTrail as investor_trail
 use Rattle.step_replay.specs.InvestorTrail.{InvestorEntry}
 use Rattle.step_replay.specs.VenueFacts.{Fact, AtDealer, AtInvestor, InRoom, of_dealer, of_room}
 use Rattle.step_replay.specs.Actions.{Effect, Dealer, QuoteRef, nothing, dealer_at, dealer_of}
-use Rattle.step_replay.specs.Actions.{acting_dealer, done_by, done_for, shown_to, told_of, told_to}
+use Rattle.step_replay.specs.Actions.{done_by, done_for, shown_to, told_of, told_to}
 use Rattle.step_replay.specs.Actions.{dropped_by, where_known, words_of, word_for, has_word_for}
 use Rattle.step_replay.specs.Actions.{offer_of, answer_of, left_by, said_by_dealer, answer_to_drop}
 use Rattle.step_replay.specs.Actions.{drop_at, posted_by, unposted_by, declined_by, answered_by}
 use Rattle.step_replay.specs.Actions.{said_by_investor, answer_to_hit, quote_asked, quote_with_word}
-use Rattle.step_replay.specs.Actions.{lifting, hit_in, duty_effect, sweep_effect, message_effect}
-use Rattle.venue_places.specs.declared.actors.Actor.{Actor}
-use Rattle.venue_places.specs.declared.actors.Actor.TheVariants as actor
-use Rattle.apart_laws.proofs.There.{OwnerOn, IsOn, HappenedOn, FactsOn}
+use Rattle.step_replay.specs.Actions.{lifting, hit_in}
+use Rattle.apart_laws.proofs.There.{OwnerOn, HappenedOn, FactsOn}
 use Rattle.apart_laws.proofs.ThereFacts.{known, dealer_same, room_same, investor_same, room_on}
 use Rattle.apart_laws.proofs.ThereFacts.{word_on}
 

@@ -1,8 +1,6 @@
 -- Every duty of one side and every sweep of a room there is sound: one line a duty.
-use Rattle.std.proofs.Common.{◌≡◌, ℕ, Bool, true, false, ◌&&◌, List, [], ◌∷◌, ◌++◌, map}
-use Rattle.std.proofs.Common.{Option, Some, None, option_map, is_some, refl, sym, ap, ◌∙◌, subst}
-use Rattle.std.proofs.Common.{if◌then◌else◌}
-use Rattle.std.specs.List.{list_any}
+use Rattle.std.proofs.Common.{◌≡◌, ℕ, Bool, true, ◌&&◌, List, [], ◌++◌, map}
+use Rattle.std.proofs.Common.{Option, Some, None, option_map, is_some, sym, ◌∙◌, subst}
 use Rattle.std.specs.Option.{option_to_list}
 use Rattle.market_terms.specs.declared.closes.Close.{Close}
 use Rattle.market_terms.specs.declared.duties.Duty.{Duty}
@@ -10,49 +8,40 @@ use Rattle.market_terms.specs.declared.duties.Duty.TheVariants as duty
 use Rattle.market_terms.specs.declared.rooms.ResponseRef.{ResponseRef}
 use Rattle.market_terms.specs.declared.rooms.RoomRef.{RoomRef}
 use Rattle.quote_word.specs.declared.settled.Settled.{Settled}
-use Rattle.venue_rows.specs.Rows.{Configuration, dealer_numbered, has_room, investor_numbered}
+use Rattle.venue_rows.specs.Rows.{Configuration, has_room}
 use Rattle.venue_rows.specs.declared.dealer_rows.DealerRow.{DealerRow}
-use Rattle.venue_rows.specs.declared.investor_rows.InvestorRow.{InvestorRow}
-use Rattle.dealer_desk.specs.DealerFacts.{number_to_drop, quote_to_drop}
-use Rattle.dealer_desk.specs.DealerRules.{dealer_verdict}
+use Rattle.dealer_desk.specs.DealerFacts.{quote_to_drop}
 use Rattle.dealer_desk.specs.DealerOutput.{closable, further_drop, number_in, unpost_dropped}
-use Rattle.dealer_desk.specs.DealerOutput.{word_asked}
 use Rattle.dealer_desk.specs.declared.events.DealerEvent.TheVariants as at_desk
-use Rattle.dealer_desk.specs.declared.verdicts.DealerVerdict.{DealerVerdict}
-use Rattle.dealer_desk.specs.declared.verdicts.DealerVerdict.TheVariants as verdict
-use Rattle.investor_desk.specs.InvestorRules.{InvestorMarket, investor_verdict}
-use Rattle.investor_desk.specs.InvestorOutput.{market_for, market_of}
+use Rattle.investor_desk.specs.InvestorOutput.{market_of}
 use Rattle.investor_desk.specs.declared.events.InvestorEvent.TheVariants as at_investor
-use Rattle.request_room.specs.RoomFacts.{RoomFact, hears, is_open, takes_quotes}
+use Rattle.request_room.specs.RoomFacts.{hears, takes_quotes}
 use Rattle.request_room.specs.Book.{event_facts, hit_outcome, may_unpost}
 use Rattle.request_room.specs.declared.events.RoomEvent.TheVariants as at_room
 use Rattle.venue_steps.specs.InvestorSteps.{answers}
 use Rattle.venue_steps.specs.RoomSteps.{duties_of_decline, duties_of_expire, duties_of_open}
 use Rattle.venue_steps.specs.RoomSteps.{duties_of_pass, duties_of_post, duties_of_unpost, hit_word}
 use Rattle.venue_steps.specs.Words.{has_word}
-use Rattle.step_replay.specs.Actions.{Dealer, acting_dealer, answer_of, answer_to_drop}
-use Rattle.step_replay.specs.Actions.{answer_to_hit, at_dealer, at_market, dealer_at, dealer_of}
-use Rattle.step_replay.specs.Actions.{done_by, done_for, drop_at, duty_effect, has_word_for, hit_in}
-use Rattle.step_replay.specs.Actions.{hit_with, left_by, left_by_drop, left_by_investor, lifting}
-use Rattle.step_replay.specs.Actions.{message_effect, offer_of, posted_by, quote_asked}
-use Rattle.step_replay.specs.Actions.{quote_with_word, said_by_dealer, said_by_investor, shown_to}
-use Rattle.step_replay.specs.Actions.{sweep_effect, told_of, told_to, verdict_on, where_known}
+use Rattle.step_replay.specs.Actions.{Dealer, acting_dealer, answer_to_drop}
+use Rattle.step_replay.specs.Actions.{answer_to_hit, at_dealer, dealer_of}
+use Rattle.step_replay.specs.Actions.{drop_at, duty_effect, has_word_for, hit_in}
+use Rattle.step_replay.specs.Actions.{hit_with, left_by_drop, lifting}
+use Rattle.step_replay.specs.Actions.{offer_of, posted_by, quote_asked}
+use Rattle.step_replay.specs.Actions.{quote_with_word, shown_to}
+use Rattle.step_replay.specs.Actions.{sweep_effect, told_of, told_to, where_known}
 use Rattle.step_replay.specs.Actions.{word_for, words_of, answered_by, unposted_by, declined_by}
 use Rattle.step_replay.specs.DealerTrail.{book_by, entries_of, rooms_by}
 use Rattle.step_replay.specs.EachLemmas.{Every, every_both, every_weaker}
-use Rattle.step_replay.specs.InvestorTrail as investor_trail
-use Rattle.step_replay.specs.VenueFacts.{Fact, InRoom, of_dealer, of_investor, of_room}
+use Rattle.step_replay.specs.VenueFacts.{Fact, InRoom, of_dealer, of_room}
 use Rattle.venue_places.specs.declared.actors.Actor.{Actor}
 use Rattle.venue_places.specs.declared.actors.Actor.TheVariants as actor
-use Rattle.apart_laws.specs.Apart.{asks_across}
 use Rattle.apart_laws.proofs.LeftThere as left
-use Rattle.apart_laws.proofs.SoundPlaces.{AreOn, IsSound, Sound, asker_sound, by_sound, comes_sound}
+use Rattle.apart_laws.proofs.SoundPlaces.{AreOn, IsSound, by_sound, comes_sound}
 use Rattle.apart_laws.proofs.SoundPlaces.{desk_sound, if_sound, in_room_on, known_sound}
 use Rattle.apart_laws.proofs.SoundPlaces.{lifting_on, market_sound, nothing_sound, numbered_sound}
 use Rattle.apart_laws.proofs.SoundPlaces.{room_sound, unless_sound}
 use Rattle.apart_laws.proofs.There.{AskedOn, FactOn, FactsOn, HappenedOn, IsOn, OwnerOn}
 use Rattle.apart_laws.proofs.ThereFacts.{RoomWith, room_on, rooms_on}
-use Rattle.apart_laws.proofs.Verdicts.{AcceptsOfDay, owner_is, verdict_few, verdict_of_day}
 
 module _ (side : ℕ → Bool) (config : Configuration) (facts : List Fact)
     (on : FactsOn side config facts) where

@@ -1,45 +1,24 @@
 -- A sweep leaves few notices, and nothing else.
-use Rattle.std.proofs.Common.{◌≡◌, ◌≤◌, ℕ, zero, suc, Bool, true, false, ◌&&◌, List, [], ◌∷◌, ◌++◌}
-use Rattle.std.proofs.Common.{map, filter, filter_map, length, drop, count_by, Option, Some, None}
-use Rattle.std.proofs.Common.{refl, sym, ap, ◌∙◌, subst, arith, if◌then◌else◌}
-use Rattle.std.proofs.lemmas.List.{append-nil, length-map}
-use Rattle.std.proofs.lemmas.List.Elements.{filter-append}
+use Rattle.std.proofs.Common.{◌≡◌, ◌≤◌, ℕ, suc, Bool, true, false, ◌&&◌, List, [], ◌∷◌}
+use Rattle.std.proofs.Common.{map, length}
+use Rattle.std.proofs.Common.{refl, arith, if◌then◌else◌}
+use Rattle.std.proofs.lemmas.List.{length-map}
 use Rattle.market_terms.specs.declared.duties.Duty.{Duty}
 use Rattle.market_terms.specs.declared.duties.Duty.TheVariants as duty
 use Rattle.market_terms.specs.declared.rooms.RoomRef.{RoomRef}
 use Rattle.market_terms.specs.declared.rooms.TheConstants.AskedDealers.{MOST}
 use Rattle.venue_rows.specs.Rows.{Configuration, has_room}
-use Rattle.request_room.specs.RoomFacts.{RoomFact, request_of}
+use Rattle.request_room.specs.RoomFacts.{request_of}
 use Rattle.request_room.specs.Book.{event_facts, expired, may_expire}
 use Rattle.request_room.specs.declared.events.RoomEvent.TheVariants as at_room
-use Rattle.venue_steps.specs.RoomSteps.{close_for, dealers_of, duties_of_expire, told_in}
-use Rattle.venue_places.specs.declared.actors.Actor.{Actor}
-use Rattle.venue_places.specs.declared.actors.Actor.TheVariants as actor
+use Rattle.venue_steps.specs.RoomSteps.{close_for, dealers_of, told_in}
 use Rattle.step_replay.specs.Actions.{Effect, nothing, sweep_effect}
-use Rattle.step_replay.specs.AuditTrail.{AuditTrail, Caused, after_step, duty_of, is_same_actor}
-use Rattle.step_replay.specs.AuditTrail.{pending, with_effect}
-use Rattle.step_replay.specs.EachLemmas.{Every, every_both}
-use Rattle.step_replay.specs.LiveDays.{with_turns}
-use Rattle.step_replay.specs.QueueLemmas.{grown_within, own_pending}
+use Rattle.step_replay.specs.EachLemmas.{Every}
 use Rattle.step_replay.specs.VenueFacts.{Fact, InRoom, of_room}
-use Rattle.step_replay.specs.declared.steps.Step.{Step}
-use Rattle.step_replay.specs.declared.steps.Step.TheVariants as step
 use Rattle.step_replay.specs.declared.steps.TheConstants.{MOST_TURNS_BEHIND}
-use Rattle.investor_views.specs.Comings.{Coming, comes_by, comings_from}
-use Rattle.apart_laws.specs.Apart.{acts_there}
-use Rattle.apart_laws.proofs.ClockTurns.{IsNotice, Noticed, brought, brought_none, noticed}
-use Rattle.apart_laws.proofs.ClockTurns.{noticed_leaves, noticed_on, noticed_there, turns}
-use Rattle.apart_laws.proofs.ClockTurns.{turns_bring, turns_notice}
-use Rattle.apart_laws.proofs.FactSides.{sweep_adds}
-use Rattle.apart_laws.proofs.FirmDays.{after}
-use Rattle.apart_laws.proofs.FirmSteps.{ClockWithin, Stands, day_of, day_same}
-use Rattle.apart_laws.proofs.KeptItems.{count_none, every_kept, every_map, filter_behind}
-use Rattle.apart_laws.proofs.KeptItems.{filter_twice, found_none, none_kept}
-use Rattle.apart_laws.proofs.Queues.{caused_by, left_on}
-use Rattle.apart_laws.proofs.SameEffects.{sweep_same}
-use Rattle.apart_laws.proofs.SoundEffects.{sweep_sound}
-use Rattle.apart_laws.proofs.There.{CausedOn, FactOn, FactsOn, IsOn, QueuedOn, caused_stays, stays}
-use Rattle.apart_laws.proofs.There.{there}
+use Rattle.apart_laws.proofs.ClockTurns.{IsNotice}
+use Rattle.apart_laws.proofs.KeptItems.{every_map}
+use Rattle.apart_laws.proofs.There.{FactsOn}
 use Rattle.apart_laws.proofs.ThereFacts.{asked_on, room_on}
 
 -- what a sweep does, where there is such a room and it may expire, or where not

@@ -1,34 +1,27 @@
 -- A sweep and the clock's notices behind it: of a room of this side they do in the day of this side
 -- what they do in the day, and of one of the other side they leave the day of this side as it was.
-use Rattle.std.proofs.Common.{◌≡◌, ◌≤◌, ℕ, zero, suc, Bool, true, false, ◌&&◌, List, [], ◌∷◌, ◌++◌}
-use Rattle.std.proofs.Common.{map, filter, filter_map, length, drop, count_by, Option, Some, None}
+use Rattle.std.proofs.Common.{◌≡◌, ◌≤◌, ℕ, zero, suc, Bool, true, false, List, [], ◌∷◌, ◌++◌}
+use Rattle.std.proofs.Common.{map, filter, filter_map, length, drop, count_by, Some, None}
 use Rattle.std.proofs.Common.{refl, sym, ap, ◌∙◌, subst, arith, if◌then◌else◌}
-use Rattle.std.proofs.lemmas.List.{append-nil, length-map}
+use Rattle.std.proofs.lemmas.List.{append-nil}
 use Rattle.std.proofs.lemmas.List.Elements.{filter-append}
 use Rattle.market_terms.specs.declared.duties.Duty.{Duty}
-use Rattle.market_terms.specs.declared.duties.Duty.TheVariants as duty
 use Rattle.market_terms.specs.declared.rooms.RoomRef.{RoomRef}
-use Rattle.market_terms.specs.declared.rooms.TheConstants.AskedDealers.{MOST}
-use Rattle.venue_rows.specs.Rows.{Configuration, has_room}
-use Rattle.request_room.specs.RoomFacts.{RoomFact, request_of}
-use Rattle.request_room.specs.Book.{event_facts, expired, may_expire}
-use Rattle.request_room.specs.declared.events.RoomEvent.TheVariants as at_room
-use Rattle.venue_steps.specs.RoomSteps.{close_for, dealers_of, duties_of_expire, told_in}
+use Rattle.venue_rows.specs.Rows.{Configuration}
 use Rattle.venue_places.specs.declared.actors.Actor.{Actor}
 use Rattle.venue_places.specs.declared.actors.Actor.TheVariants as actor
-use Rattle.step_replay.specs.Actions.{Effect, nothing, sweep_effect}
+use Rattle.step_replay.specs.Actions.{Effect, sweep_effect}
 use Rattle.step_replay.specs.AuditTrail.{AuditTrail, Caused, after_step, duty_of, is_same_actor}
 use Rattle.step_replay.specs.AuditTrail.{pending, with_effect}
 use Rattle.step_replay.specs.EachLemmas.{Every, every_both}
 use Rattle.step_replay.specs.LiveDays.{with_turns}
 use Rattle.step_replay.specs.QueueLemmas.{grown_within, own_pending}
-use Rattle.step_replay.specs.VenueFacts.{Fact, InRoom, of_room}
-use Rattle.step_replay.specs.declared.steps.Step.{Step}
+use Rattle.step_replay.specs.VenueFacts.{Fact}
 use Rattle.step_replay.specs.declared.steps.Step.TheVariants as step
 use Rattle.step_replay.specs.declared.steps.TheConstants.{MOST_TURNS_BEHIND}
-use Rattle.investor_views.specs.Comings.{Coming, comes_by, comings_from}
+use Rattle.investor_views.specs.Comings.{comes_by, comings_from}
 use Rattle.apart_laws.specs.Apart.{acts_there}
-use Rattle.apart_laws.proofs.ClockTurns.{IsNotice, Noticed, brought, brought_none, noticed}
+use Rattle.apart_laws.proofs.ClockTurns.{Noticed, brought, brought_none, noticed}
 use Rattle.apart_laws.proofs.ClockTurns.{noticed_leaves, noticed_on, noticed_there, turns}
 use Rattle.apart_laws.proofs.ClockTurns.{turns_bring, turns_notice}
 use Rattle.apart_laws.proofs.FactSides.{sweep_adds}
@@ -41,7 +34,6 @@ use Rattle.apart_laws.proofs.SameEffects.{sweep_same}
 use Rattle.apart_laws.proofs.SoundEffects.{sweep_sound}
 use Rattle.apart_laws.proofs.There.{CausedOn, FactOn, FactsOn, IsOn, QueuedOn, caused_stays, stays}
 use Rattle.apart_laws.proofs.There.{there}
-use Rattle.apart_laws.proofs.ThereFacts.{asked_on, room_on}
 use Rattle.apart_laws.proofs.SweepNotices.{sweep_few, sweep_notices}
 
 -- What a sweep needs of a day: its facts are on their sides, and the clock has no duty left.
@@ -181,91 +173,91 @@ module _ (side : ℕ → Bool) (config : Configuration) where
 
   module _ (trail : AuditTrail) (stands : Stands side config trail) (room : RoomRef) (moment : ℕ)
     where
-    -- what the sweep does
-    abbrev sweep : Effect
-    sweep = sweep_effect config trail.facts room moment
+      -- what the sweep does
+      abbrev sweep : Effect
+      sweep = sweep_effect config trail.facts room moment
 
-    -- and where only this side stands
-    abbrev sweep_too : Effect
-    sweep_too = sweep_effect config (filter (stays side) trail.facts) room moment
+      -- and where only this side stands
+      abbrev sweep_too : Effect
+      sweep_too = sweep_effect config (filter (stays side) trail.facts) room moment
 
-    -- the facts of this side behind a sweep and its notices
-    abbrev behind : Effect → List Fact
-    behind effect =
-        noticed config (filter (stays side) (filter (stays side) trail.facts ++ effect.facts))
-        effect.duties
+      -- the facts of this side behind a sweep and its notices
+      abbrev behind : Effect → List Fact
+      behind effect =
+          noticed config (filter (stays side) (filter (stays side) trail.facts ++ effect.facts))
+          effect.duties
 
-    pub sweep_there : side room.investor ≡ true
-        → there side (after config trail (with_turns (step.Expire room moment)))
-        ≡ there side (after config (there side trail) (with_turns (step.Expire room moment)))
-    sweep_there here =
-        let now = rests trail stands in
-        let too = there_rests trail stands.facts_on in
-        sweep_day trail now room moment
-        ∙ day_same _ _ _ _ _ _
-        (noticed_there side config sweep.duties (trail.facts ++ sweep.facts)
-        (with_it_on trail now room moment) (notices_on trail now room moment true here)
-        ∙ ap (λ (l : List Fact). noticed config l sweep.duties)
-        (sym (filter_behind (stays side) trail.facts sweep.facts))
-        ∙ ap (λ (e : Effect). behind e) (sweep_same side config trail.facts room moment here)
-        ∙ sym (noticed_there side config sweep_too.duties
-        (filter (stays side) trail.facts ++ sweep_too.facts)
-        (with_it_on (there side trail) too room moment)
-        (notices_on (there side trail) too room moment true here)))
-        (sym (filter_twice (caused_stays side) trail.caused))
-        (sym (filter_twice (acts_there side) trail.done))
-        ∙ sym (sweep_day (there side trail) too room moment)
+      pub sweep_there : side room.investor ≡ true
+          → there side (after config trail (with_turns (step.Expire room moment)))
+          ≡ there side (after config (there side trail) (with_turns (step.Expire room moment)))
+      sweep_there here =
+          let now = rests trail stands in
+          let too = there_rests trail stands.facts_on in
+          sweep_day trail now room moment
+          ∙ day_same _ _ _ _ _ _
+          (noticed_there side config sweep.duties (trail.facts ++ sweep.facts)
+          (with_it_on trail now room moment) (notices_on trail now room moment true here)
+          ∙ ap (λ (l : List Fact). noticed config l sweep.duties)
+          (sym (filter_behind (stays side) trail.facts sweep.facts))
+          ∙ ap (λ (e : Effect). behind e) (sweep_same side config trail.facts room moment here)
+          ∙ sym (noticed_there side config sweep_too.duties
+          (filter (stays side) trail.facts ++ sweep_too.facts)
+          (with_it_on (there side trail) too room moment)
+          (notices_on (there side trail) too room moment true here)))
+          (sym (filter_twice (caused_stays side) trail.caused))
+          (sym (filter_twice (acts_there side) trail.done))
+          ∙ sym (sweep_day (there side trail) too room moment)
 
-    pub sweep_leaves : side room.investor ≡ false
-        → there side (after config trail (with_turns (step.Expire room moment)))
-        ≡ there side trail
-    sweep_leaves isnt =
-        let now = rests trail stands in
-        sweep_day trail now room moment
-        ∙ day_same _ _ _ _ _ _
-        (noticed_leaves side config sweep.duties (trail.facts ++ sweep.facts)
-        (with_it_on trail now room moment) (notices_on trail now room moment false isnt)
-        ∙ filter-append (stays side) trail.facts sweep.facts
-        ∙ ap (λ (l : List Fact). filter (stays side) trail.facts ++ l)
-        (none_kept (stays side) sweep.facts
-        (sweep_adds side config false trail.facts stands.facts_on room moment isnt))
-        ∙ append-nil (filter (stays side) trail.facts)) refl refl
+      pub sweep_leaves : side room.investor ≡ false
+          → there side (after config trail (with_turns (step.Expire room moment)))
+          ≡ there side trail
+      sweep_leaves isnt =
+          let now = rests trail stands in
+          sweep_day trail now room moment
+          ∙ day_same _ _ _ _ _ _
+          (noticed_leaves side config sweep.duties (trail.facts ++ sweep.facts)
+          (with_it_on trail now room moment) (notices_on trail now room moment false isnt)
+          ∙ filter-append (stays side) trail.facts sweep.facts
+          ∙ ap (λ (l : List Fact). filter (stays side) trail.facts ++ l)
+          (none_kept (stays side) sweep.facts
+          (sweep_adds side config false trail.facts stands.facts_on room moment isnt))
+          ∙ append-nil (filter (stays side) trail.facts)) refl refl
 
-    pub sweep_stands : Stands side config
-        (after config trail (with_turns (step.Expire room moment)))
-    sweep_stands =
-        let now = rests trail stands in
-        let does = does_notices trail now room moment in
-        record {
-          facts_on = subst (FactsOn side config) (sym does.facts_are)
-              (noticed_on side config (side room.investor) sweep.duties
-              (trail.facts ++ sweep.facts) (with_it_on trail now room moment)
-              (notices_on trail now room moment (side room.investor) refl));
-          caused_on = subst (Every (CausedOn side config)) (sym does.caused_are)
-              (left_on side config actor.Clock trail.caused sweep.duties stands.caused_on
-              (every_free sweep.duties));
-          clock_idle = does.clock_idle;
-          clock_within = does.clock_within;
-        }
-      where
-        every_free : (duties : List Duty) → Every (QueuedOn side config actor.Clock) duties
-        every_free [] = tt
-        every_free (d ∷ later) = (tt, every_free later)
+      pub sweep_stands : Stands side config
+          (after config trail (with_turns (step.Expire room moment)))
+      sweep_stands =
+          let now = rests trail stands in
+          let does = does_notices trail now room moment in
+          record {
+            facts_on = subst (FactsOn side config) (sym does.facts_are)
+                (noticed_on side config (side room.investor) sweep.duties
+                (trail.facts ++ sweep.facts) (with_it_on trail now room moment)
+                (notices_on trail now room moment (side room.investor) refl));
+            caused_on = subst (Every (CausedOn side config)) (sym does.caused_are)
+                (left_on side config actor.Clock trail.caused sweep.duties stands.caused_on
+                (every_free sweep.duties));
+            clock_idle = does.clock_idle;
+            clock_within = does.clock_within;
+          }
+        where
+          every_free : (duties : List Duty) → Every (QueuedOn side config actor.Clock) duties
+          every_free [] = tt
+          every_free (d ∷ later) = (tt, every_free later)
 
-    module _ (number : ℕ) where
-      pub sweep_comings : side room.investor ≡ true
-          → comings_from config number trail (with_turns (step.Expire room moment))
-          ≡ comings_from config number (there side trail) (with_turns (step.Expire room moment))
-      sweep_comings here =
-          sweep_brings trail (rests trail stands) room moment number
-          ∙ ap (λ (e : Effect). brought config number e.duties)
-          (sweep_same side config trail.facts room moment here)
-          ∙ sym (sweep_brings (there side trail) (there_rests trail stands.facts_on) room moment
-          number)
+      module _ (number : ℕ) where
+        pub sweep_comings : side room.investor ≡ true
+            → comings_from config number trail (with_turns (step.Expire room moment))
+            ≡ comings_from config number (there side trail) (with_turns (step.Expire room moment))
+        sweep_comings here =
+            sweep_brings trail (rests trail stands) room moment number
+            ∙ ap (λ (e : Effect). brought config number e.duties)
+            (sweep_same side config trail.facts room moment here)
+            ∙ sym (sweep_brings (there side trail) (there_rests trail stands.facts_on) room moment
+            number)
 
-      pub sweep_comings_none : side number ≡ true → side room.investor ≡ false
-          → comings_from config number trail (with_turns (step.Expire room moment)) ≡ []
-      sweep_comings_none is isnt =
-          sweep_brings trail (rests trail stands) room moment number
-          ∙ brought_none config number side is sweep.duties
-          (notices_on trail (rests trail stands) room moment false isnt)
+        pub sweep_comings_none : side number ≡ true → side room.investor ≡ false
+            → comings_from config number trail (with_turns (step.Expire room moment)) ≡ []
+        sweep_comings_none is isnt =
+            sweep_brings trail (rests trail stands) room moment number
+            ∙ brought_none config number side is sweep.duties
+            (notices_on trail (rests trail stands) room moment false isnt)

@@ -1,6 +1,6 @@
 -- A day without what stands on the other side, and what keeps its sides: all that a firm of this
 -- side can depend on, as long as nobody asks across.
-use Rattle.std.proofs.Common.{◌≡◌, ◌≤◌, ℕ, Bool, true, List, filter, length, take}
+use Rattle.std.proofs.Common.{◌≡◌, ◌≤◌, ℕ, Bool, List, filter, length, take}
 use Rattle.std.proofs.Common.{Option, Some, None}
 use Rattle.market_terms.specs.declared.duties.Duty.{Duty}
 use Rattle.market_terms.specs.declared.duties.Duty.TheVariants as duty

@@ -1,8 +1,8 @@
 -- What a verdict accepts: a quote is one of its dealer's day, so its word is the dealer's; and a
 -- request names few dealers.
-use Rattle.std.proofs.Common.{◌≡◌, ◌≤◌, ◌<◌, ℕ, ◌+◌, ◌-◌, Bool, true, false, ◌&&◌, nat_le, nat_lt}
-use Rattle.std.proofs.Common.{List, length, take, Option, Some, None, is_none, refl, sym, ap, ◌∙◌}
-use Rattle.std.proofs.Common.{subst, arith, if◌then◌else◌}
+use Rattle.std.proofs.Common.{◌≡◌, ◌≤◌, ℕ, ◌+◌, Bool, true, false, ◌&&◌, nat_le, nat_lt}
+use Rattle.std.proofs.Common.{List, length, take, Option, Some, None, is_none, refl, ap, ◌∙◌}
+use Rattle.std.proofs.Common.{arith, if◌then◌else◌}
 use Rattle.std.proofs.lemmas.Bool.Decides.{nat_tests}
 use Rattle.market_terms.specs.Checks.{first_refusal}
 use Rattle.market_terms.specs.declared.rooms.TheConstants.AskedDealers.{MOST}
@@ -27,7 +27,7 @@ use Rattle.quote_messages.specs.declared.reject_reasons.RequestRejectReason.{Req
 use Rattle.dealer_desk.specs.DealerFacts.{DealerBook, expected_number, request_named}
 use Rattle.dealer_desk.specs.DealerFacts.{quote_with_id, quote_to_drop, quotes_accepted}
 use Rattle.dealer_desk.specs.DealerRules.{quote_checks, quote_refusal, quote_answer, quote_verdict}
-use Rattle.dealer_desk.specs.DealerRules.{cancel_checks, cancel_answer, cancel_of, cancel_all}
+use Rattle.dealer_desk.specs.DealerRules.{cancel_checks, cancel_answer, cancel_of}
 use Rattle.dealer_desk.specs.DealerRules.{cancel_verdict, decline_checks, decline_answer}
 use Rattle.dealer_desk.specs.DealerRules.{decline_verdict, message_verdict, arrival_verdict}
 use Rattle.dealer_desk.specs.DealerRules.{dealer_verdict}
@@ -48,7 +48,7 @@ use Rattle.investor_desk.specs.declared.standing.ShownOffer.{ShownOffer}
 use Rattle.investor_desk.specs.declared.verdicts.InvestorVerdict.{InvestorVerdict}
 use Rattle.investor_desk.specs.declared.verdicts.InvestorVerdict.TheVariants as on_investor
 use Rattle.venue_steps.specs.Words.{word_of}
-use Rattle.step_replay.specs.Actions.{QuoteRef, quote_with_word, quotes_of}
+use Rattle.step_replay.specs.Actions.{quote_with_word, quotes_of}
 use Rattle.step_replay.specs.OwnerLemmas.{owner_among, quote_at}
 use Rattle.apart_laws.proofs.KeptItems.{length_found}
 use Rattle.apart_laws.proofs.ThereFacts.{none_holds}
