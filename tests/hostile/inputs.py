@@ -85,8 +85,6 @@ def lawful(program, draw):
         return [what] + frames, (configuration + "\n%%\n" + without_turns(steps) + "\n").encode()
     if what == "replay":
         return ["replay"] + draw.choice([[], ["DLR1"], ["INV1"]]) + frames, text.encode()
-    if what == "due":
-        return ["due"] + draw.choice([[], ["DLR1"], ["INV1"]]), text.encode()
     return [what, draw.choice(["DLR1", "DLR2", "INV1"])], text.encode()
 
 

@@ -107,12 +107,10 @@ def do_replay(streams: Streams, frames: bool, live: bool, word: bytes | None = N
     return [message_line(desk.row.name, fields, frames) for desk in desks for fields in desk.sent]
 
 
-def do_due(streams: Streams, live: bool, word: bytes | None = None) -> Iterable[bytes]:
-    venue, only = a_day(streams, live, word, dealer=True)
+def do_due(streams: Streams, live: bool, word: bytes) -> Iterable[bytes]:
+    venue, dealer = a_day(streams, live, word, dealer=True)
     configuration = venue.configuration
-    for dealer, row in enumerate(configuration.dealers):
-        if only is None or dealer == only:
-            yield from due_text(configuration.date, row, venue.due[dealer])
+    return due_text(configuration.date, configuration.firms[dealer], venue.due[dealer])
 
 
 def do_blotter(streams: Streams, live: bool, word: bytes) -> Iterable[bytes]:

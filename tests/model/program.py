@@ -1,7 +1,7 @@
 #!/usr/bin/env python3
 """A second implementation of the venue's program, written from its rules alone.
 
-usage: program.py [alone [--frames]] | replay [FIRM] [--frames] [--live] | due [DEALER] [--live]
+usage: program.py [alone [--frames]] | replay [FIRM] [--frames] [--live] | due DEALER [--live]
                   | compare DEALER [--live] | blotter FIRM [--live] | live [--frames] [--marks]
 """
 
@@ -33,7 +33,7 @@ class Command:
 COMMANDS = {
     "alone": Command(do_alone, ("--frames",), 0, 0),
     "replay": Command(do_replay, ("--frames", "--live"), 0, 1),
-    "due": Command(do_due, ("--live",), 0, 1),
+    "due": Command(do_due, ("--live",), 1, 1),
     "compare": Command(do_compare, ("--live",), 1, 1),
     "blotter": Command(do_blotter, ("--live",), 1, 1),
     "live": Command(None, ("--frames", "--marks"), 0, 0),

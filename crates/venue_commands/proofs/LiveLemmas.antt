@@ -373,7 +373,7 @@ first_more : (dealer : List ℕ) (number : ℕ) (line : List ℕ) (before after 
     → FirstGoes dealer lines before (out_old start out) (err_old start err)
     → FirstGoes dealer (lines ++ line ∷ []) after (out_new start out) (err_new start err)
 first_more dealer number line before after out err other takes lines start at had = record {
-  goes = takes (dues (Some dealer)) lines start at had.goes;
+  goes = takes (dues dealer) lines start at had.goes;
   alone = alone_still lines line had.goes.answers.divided had.alone other;
 }
 
@@ -412,7 +412,7 @@ awaiting_more dealer lines line text after day out err other is had = record {
 
 -- its end
 second_opens : (dealer : List ℕ) (lines : List (List ℕ)) (line text : List ℕ) (one other : KeptDay) (out err : Written) → is_divider line ≡ true
-    → OpensKept (dues (Some dealer)) text other → AwaitsSecond dealer lines one text out err → BothGo dealer (lines ++ line ∷ []) one other out err
+    → OpensKept (dues dealer) text other → AwaitsSecond dealer lines one text out err → BothGo dealer (lines ++ line ∷ []) one other out err
 second_opens dealer lines line text one other out err here opens had =
     let nothing = nothing_at opens.config (length had.first + 2) had.behind line had.undivided here in
     record {
@@ -426,7 +426,7 @@ second_opens dealer lines line text one other out err here opens had =
         config = opens.config;
         divided = now_divided had.behind line had.undivided here;
         spelled = ap venue_of (configuration_is had.behind line had.undivided here ∙ sym had.text_is) ∙ opens.spelled;
-        keeps = subst (λ (t : Taken). kept_days.Keeps (dues (Some dealer)) opens.config t other) (sym nothing) opens.keeps;
+        keeps = subst (λ (t : Taken). kept_days.Keeps (dues dealer) opens.config t other) (sym nothing) opens.keeps;
         told = subst (λ (t : Taken). GainsFaults t.faults (record { before = err.after; after = err.after })) (sym nothing) (keeps_same err.after);
       };
     }
@@ -443,8 +443,8 @@ both_more dealer number line fault one before after keeps o e e' tells lines sta
     let count = ap (λ (l : List (List ℕ)). length l) had.two.split ∙ length-append had.first (had.divider ∷ had.behind) in
     let place : number ≡ k + length had.behind = omega (arith, at, count) in
     let same = taken_any_at second.config k had.behind line second.divided in
-    let more = subst (λ (n : ℕ). KeepsMore (dues (Some dealer)) second.config (taken_at second.config k had.behind) n line after fault) place
-    (keeps second.config (dues (Some dealer)) (taken_at second.config k had.behind) second.keeps) in
+    let more = subst (λ (n : ℕ). KeepsMore (dues dealer) second.config (taken_at second.config k had.behind) n line after fault) place
+    (keeps second.config (dues dealer) (taken_at second.config k had.behind) second.keeps) in
     let faults : (taken_at second.config k (had.behind ++ line ∷ [])).faults
     ≡ (taken_at second.config k had.behind).faults ++ option_to_list fault =
     ap (λ (t : Taken). t.faults) same ∙ more.told in
@@ -459,7 +459,7 @@ both_more dealer number line fault one before after keeps o e e' tells lines sta
         config = second.config;
         divided = (parts_stay is_divider had.behind (line ∷ []) second.divided).any;
         spelled = ap venue_of (configuration_stays had.behind (line ∷ []) second.divided) ∙ second.spelled;
-        keeps = subst (λ (t : Taken). kept_days.Keeps (dues (Some dealer)) second.config t after) (sym same) more.keeps;
+        keeps = subst (λ (t : Taken). kept_days.Keeps (dues dealer) second.config t after) (sym same) more.keeps;
         told = subst (λ (f : List ProgramFault). GainsFaults f (record { before = had.mid; after = e' })) (sym faults)
             (faults_more (taken_at second.config k had.behind).faults (option_to_list fault) had.mid e e' second.told tells);
       };
@@ -524,7 +524,7 @@ module _ (lines : List (List ℕ)) (line text : List ℕ) (out err : Written) (h
   stage_opened (answered form) (stage.Day day) opens = config_opens form day opens
   stage_opened (kept_for wanted) (stage.Kept day) opens = config_keeps wanted day opens
   stage_opened (compared_for dealer) (stage.First day) opens =
-      record { goes = config_keeps (dues (Some dealer)) day opens; alone = none_behind lines line had.nothing.undivided here }
+      record { goes = config_keeps (dues dealer) day opens; alone = none_behind lines line had.nothing.undivided here }
   stage_opened (answered form) (stage.Configuration t) opens = absurd opens
   stage_opened (answered form) (stage.Kept day) opens = absurd opens
   stage_opened (answered form) (stage.First day) opens = absurd opens
@@ -556,11 +556,6 @@ only_firm : {A : Type 0} (found : Option ℕ) (next : ℕ → A) (fault : Progra
 only_firm None next fault e = cc
 only_firm (Some n) next fault e = cc
 
-only_dealer : (found : Option ℕ) (fault : ProgramFault)
-    → fault_if ((asked found >>= (λ n. Ok (Some n))) >>= (λ only. Ok (asked_for.Due only))) ≡ Some fault → fault ≡ Firm
-only_dealer None fault e = cc
-only_dealer (Some n) fault e = cc
-
 firm_alone : (form : LineForm) (config : ConfigValues) (fault : ProgramFault) → name_fault form config ≡ Some fault → fault ≡ Firm
 firm_alone (answered form) config fault e = cc
 firm_alone (kept_for (messages None frames)) config fault e = cc
@@ -569,9 +564,8 @@ firm_alone (kept_for (messages (Some name) frames)) config fault e = go (firm_na
     go : (found : Option ℕ) → fault_if ((asked found >>= (λ n. Ok (Some n))) >>= (λ only. Ok (asked_for.Messages only frames))) ≡ Some fault → fault ≡ Firm
     go None e = cc
     go (Some n) e = cc
-firm_alone (compared_for name) config fault e = only_dealer (dealer_named config name) fault e
-firm_alone (kept_for (dues None)) config fault e = cc
-firm_alone (kept_for (dues (Some name))) config fault e = only_dealer (dealer_named config name) fault e
+firm_alone (compared_for name) config fault e = only_firm (dealer_named config name) (λ n. asked_for.Due n) fault e
+firm_alone (kept_for (dues name)) config fault e = only_firm (dealer_named config name) (λ n. asked_for.Due n) fault e
 firm_alone (kept_for (kept_days.blotter name)) config fault e = only_firm (firm_named config name) (λ n. asked_for.Blotter n) fault e
 
 -- why a configuration opens no day
@@ -1299,7 +1293,7 @@ closes_between day t fault o none (compared_for dealer) lines start err is =
 -- what differs between the two days
 abbrev pub ComparesAnywhere : KeptDay → KeptDay → List ℕ → Type 0
 ComparesAnywhere one other text = (name : List ℕ) (config other_config : Configuration) (taken other_taken : Taken)
-    → kept_days.Keeps (dues (Some name)) config taken one → kept_days.Keeps (dues (Some name)) other_config other_taken other
+    → kept_days.Keeps (dues name) config taken one → kept_days.Keeps (dues name) other_config other_taken other
     → IsKeptComparison name config taken.steps other_config other_taken.steps text
 
 has_compared : (dealer : List ℕ) (lines : List (List ℕ)) (one other : KeptDay) (text : List ℕ) (out err : Written) → ComparesAnywhere one other text

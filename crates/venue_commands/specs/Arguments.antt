@@ -39,8 +39,8 @@ pub data Command : Type 0 where
   day : Bool → Bool → Command
   -- a day that goes on, line by line, printed in this form
   live : LiveForm → Command
-  -- the due text of each dealer, or of the dealer with this name
-  due : Option Text → Command
+  -- the due text of the dealer with this name
+  due : Text → Command
   -- what differs for the dealer with this name between two days
   compare : Text → Command
   -- the same of two days that come line by line, as `live` takes them
@@ -158,7 +158,7 @@ abbrev pub replay_by : Option Text → Flags → Command
 replay_by word flags =
     if flags.live then kept (messages word flags.frames) else replay word flags.frames
 
-abbrev pub due_by : Option Text → Flags → Command
+abbrev pub due_by : Text → Flags → Command
 due_by dealer flags = if flags.live then kept (dues dealer) else due dealer
 
 abbrev pub compare_by : Text → Flags → Command
@@ -180,7 +180,7 @@ commands =
     ∷ line (codes "replay") (frames_flag ∷ live_flag ∷ []) one_or_none replay_by
     ∷ line (codes "day") (frames_flag ∷ woven_flag ∷ []) no_word
     (λ word flags. day flags.frames flags.woven)
-    ∷ line (codes "due") (live_flag ∷ []) one_or_none due_by
+    ∷ line (codes "due") (live_flag ∷ []) one_word (λ word flags. due_by (unwrap_or word []) flags)
     ∷ line (codes "compare") (live_flag ∷ []) one_word
     (λ word flags. compare_by (unwrap_or word []) flags)
     ∷ line (codes "blotter") (live_flag ∷ []) one_word
@@ -212,7 +212,7 @@ named_command name firm flags =
     else (if bytes_eq name (codes "replay") then replay_by firm flags
     else (if bytes_eq name (codes "day") then day flags.frames flags.woven
     else (if bytes_eq name (codes "live") then live (form_by flags)
-    else (if bytes_eq name (codes "due") then due_by firm flags
+    else (if bytes_eq name (codes "due") then due_by (unwrap_or firm []) flags
     else (if bytes_eq name (codes "compare") then compare_by (unwrap_or firm []) flags
     else blotter_by (unwrap_or firm []) flags)))))
 
@@ -223,7 +223,7 @@ meant (rust.Replay firm frames) = replay (option_map (λ word. word.now) firm) f
 meant (rust.Kept wanted) = kept (kept_days.meant wanted)
 meant (rust.Day frames woven) = day frames woven
 meant (rust.Live form) = live form
-meant (rust.Due dealer) = due (option_map (λ word. word.now) dealer)
+meant (rust.Due dealer) = due dealer.now
 meant (rust.Compare dealer) = compare dealer.now
 meant (rust.Compared dealer) = compared dealer.now
 meant (rust.Blotter firm) = blotter firm.now

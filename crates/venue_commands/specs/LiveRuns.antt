@@ -41,7 +41,7 @@ fault_if (Err fault) = Some fault
 abbrev pub name_fault : LineForm → ConfigValues → Option ProgramFault
 name_fault (answered form) config = None
 name_fault (kept_for wanted) config = fault_if (asked_in wanted config)
-name_fault (compared_for dealer) config = fault_if (asked_in (dues (Some dealer)) config)
+name_fault (compared_for dealer) config = fault_if (asked_in (dues dealer) config)
 
 -- the lines of faults, one behind the other; of each a part from its front where it was refused
 abbrev pub GainsFaults : List ProgramFault → Written → Type 0

@@ -49,7 +49,7 @@ pub record KeptGoes (wanted : Wanted) (lines : List (List ℕ)) (day : KeptDay)
 -- the first of them goes on
 pub record FirstGoes (dealer : List ℕ) (lines : List (List ℕ)) (day : KeptDay)
     (out err : Written) : Type 0 where
-  pub goes : KeptGoes (dues (Some dealer)) lines day out err
+  pub goes : KeptGoes (dues dealer) lines day out err
   pub alone : is_divided (behind_one lines) ≡ false
 
 -- lines of which one divides the two days
@@ -80,7 +80,7 @@ pub record SecondGoes (dealer : List ℕ) (k : ℕ) (lines : List (List ℕ)) (d
   pub config : Configuration
   pub divided : are_divided lines ≡ true
   pub spelled : venue_of (configuration_in lines) ≡ Ok (values_of config)
-  pub keeps : Keeps (dues (Some dealer)) config (taken_at config k lines) day
+  pub keeps : Keeps (dues dealer) config (taken_at config k lines) day
   pub told : GainsFaults (taken_at config k lines).faults err
 
 pub record BothGo (dealer : List ℕ) (lines : List (List ℕ)) (one other : KeptDay)
@@ -233,7 +233,7 @@ EndFails before fault out err = (form : LineForm) (read : List ℕ) (start : Sta
 abbrev pub OpensStage : LineForm → List ℕ → Stage → Type 0
 OpensStage (answered form) text (stage.Day day) = Opens form text day
 OpensStage (kept_for wanted) text (stage.Kept day) = OpensKept wanted text day
-OpensStage (compared_for dealer) text (stage.First day) = OpensKept (dues (Some dealer)) text day
+OpensStage (compared_for dealer) text (stage.First day) = OpensKept (dues dealer) text day
 OpensStage form text _ = ⊥
 
 -- why a configuration opens none: its own fault, or that of a name
@@ -277,7 +277,7 @@ abbrev pub Turns : LineForm → Stage → Stage → Type 0
 Turns (compared_for dealer) (stage.First day) (stage.Between same text) =
     (same ≡ day) × (text.items ≡ [])
 Turns (compared_for dealer) (stage.Between day text) (stage.Both same other) =
-    (same ≡ day) × OpensKept (dues (Some dealer)) text.items other
+    (same ≡ day) × OpensKept (dues dealer) text.items other
 Turns (compared_for dealer) (stage.First day) _ = ⊥
 Turns (compared_for dealer) (stage.Between day text) _ = ⊥
 Turns form before after = Unit {0}

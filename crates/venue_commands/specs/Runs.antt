@@ -5,7 +5,7 @@ use Rattle.std.specs.Option.{IfSome}
 use Rattle.clap.specs.Kinds.{Kinds}
 use Rattle.clap.specs.Walk.{Text}
 use Rattle.venue_text.specs.AloneText.{IsPrinted, first_fault}
-use Rattle.venue_text.specs.AskedDays.{dealer_by, dealers_by, firm_by, firms_by, one_day, two_days}
+use Rattle.venue_text.specs.AskedDays.{dealer_by, firm_by, firms_by, one_day, two_days}
 use Rattle.venue_text.specs.BlotterCommand.{IsBlotter}
 use Rattle.venue_text.specs.CompareText.{IsCompared}
 use Rattle.venue_text.specs.DueCommand.{IsDueText}
@@ -45,7 +45,7 @@ IsFaultOf (replay firm with_frames) input fault = one_day (firms_by firm) input 
 IsFaultOf (day with_frames woven) input fault = IsDayFault woven input fault
 IsFaultOf (live form) input fault = ⊥  -- it tells line by line
 IsFaultOf (kept wanted) input fault = ⊥  -- the same
-IsFaultOf (due dealer) input fault = one_day (dealers_by dealer) input ≡ Err fault
+IsFaultOf (due dealer) input fault = one_day (dealer_by dealer) input ≡ Err fault
 IsFaultOf (compared dealer) input fault = ⊥  -- line by line, too
 IsFaultOf (compare dealer) input fault = two_days (dealer_by dealer) input ≡ Err fault
 IsFaultOf (blotter firm) input fault = one_day (firm_by firm) input ≡ Err fault
@@ -53,7 +53,7 @@ IsFaultOf (blotter firm) input fault = one_day (firm_by firm) input ≡ Err faul
 -- the word in what is asked for at the end of a day
 abbrev pub word_in : Wanted → List ℕ
 word_in (messages name frames) = unwrap_or name []
-word_in (dues dealer) = unwrap_or dealer []
+word_in (dues dealer) = dealer
 word_in (kept_days.blotter firm) = firm
 
 -- the word of a command that names a firm; it is told where no firm has that name
@@ -64,8 +64,7 @@ word_of (replay (Some firm) with_frames) = firm
 word_of (day with_frames woven) = []
 word_of (live form) = []
 word_of (kept wanted) = word_in wanted
-word_of (due None) = []
-word_of (due (Some dealer)) = dealer
+word_of (due dealer) = dealer
 word_of (compare dealer) = dealer
 word_of (compared dealer) = dealer
 word_of (blotter firm) = firm

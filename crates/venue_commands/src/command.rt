@@ -44,10 +44,10 @@ pub(crate) enum VenueCommand<'a> {
         /// How it is printed.
         form: LiveForm,
     },
-    /// The due text of each dealer.
+    /// The due text of a dealer.
     Due {
-        /// That of the dealer with this name alone.
-        dealer: Option<&'a str>,
+        /// Its name.
+        dealer: &'a str,
     },
     /// What differs for a dealer between two days.
     Compare {
@@ -154,10 +154,10 @@ fn command_named<'a>(name: &str, firm: Option<&'a str>, flags: Flags) -> VenueCo
             form: form_by(flags),
         };
     }
-    if name == "due" {
-        return due_by(firm, flags);
-    }
     let word = firm.unwrap_or("");
+    if name == "due" {
+        return due_by(word, flags);
+    }
     if name == "compare" {
         return compare_by(word, flags);
     }
@@ -165,11 +165,11 @@ fn command_named<'a>(name: &str, firm: Option<&'a str>, flags: Flags) -> VenueCo
 }
 
 /// A due text, by the flags that are given.
-fn due_by<'a>(dealer: Option<&'a str>, flags: Flags) -> VenueCommand<'a>
-    ensures { spec.meant result ≡ spec.due_by (option_map (λ word. word.now) dealer.entry) flags }
+fn due_by<'a>(dealer: &'a str, flags: Flags) -> VenueCommand<'a>
+    ensures { spec.meant result ≡ spec.due_by dealer.now flags }
 {
     if flags.live {
-        return VenueCommand::Kept(Wanted::Due(word_bytes(dealer)));
+        return VenueCommand::Kept(Wanted::Due(dealer.as_bytes()));
     }
     VenueCommand::Due { dealer }
 }
@@ -372,9 +372,8 @@ pub fn arguments_have_these_faults()
         ≡ ErrorKind.UnknownArgument ∷ [] }
     ensures one_argument_more { spec.arguments_fault (codes "alone" ∷ codes "x" ∷ [])
         ≡ ErrorKind.UnknownArgument ∷ [] }
-    ensures one_argument_less { spec.arguments_fault (codes "compare" ∷ [])
+    ensures one_argument_less { spec.arguments_fault (codes "due" ∷ [])
         ≡ ErrorKind.MissingRequiredArgument ∷ [] }
-    ensures all_dealers { spec.arguments_fault (codes "due" ∷ []) ≡ [] }
     ensures no_command { spec.arguments_fault (codes "days" ∷ [])
         ≡ ErrorKind.UnknownArgument ∷ ErrorKind.InvalidSubcommand ∷ [] }
 {}

@@ -15,8 +15,7 @@ pub(crate) const THREADED: &str =
 
 pub(crate) const LIVE: &str = "Answers each line of a day of the venue as it comes";
 
-pub(crate) const DUE: &str =
-    "Prints the due text of each dealer, or of DEALER, on a day of the venue";
+pub(crate) const DUE: &str = "Prints the due text of DEALER on a day of the venue";
 
 pub(crate) const COMPARE: &str = "Says where two days of the venue differ for DEALER";
 

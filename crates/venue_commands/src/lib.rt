@@ -3,8 +3,8 @@
 //!
 //! `replay` reads a day of the venue, a configuration and the steps of the day, and prints every
 //! message that the venue sends; `day` runs one on threads, and `live` answers one line by line as
-//! it comes; `due` and `blotter` print what was due to each dealer or to one, and a firm's blotter;
-//! `compare` reads two days and says where they differ for one dealer. `alone` reads one
+//! it comes; `due` and `blotter` print what was due to one dealer, and a firm's blotter; `compare`
+//! reads two days and says where they differ for one dealer. `alone` reads one
 //! dealer's day, called due text, and prints every message that the venue sends to that dealer.
 //!
 //! Here are a command's arguments, standard input, output and error, and the status; what lines

@@ -344,7 +344,7 @@ fn turned(alloc: Global, form: LineForm<'_>, before: Stage) -> Result<Stage, Pro
     match before {
         Stage::First(day) => Ok(Stage::Between(day, Vec::new(alloc))),
         Stage::Between(one, text) => {
-            let other = KeptDay::open(alloc, Wanted::Due(Some(dealer)), text.as_slice())?;
+            let other = KeptDay::open(alloc, Wanted::Due(dealer), text.as_slice())?;
             Ok(Stage::Both(one, other))
         }
         other => Ok(other),
@@ -386,7 +386,7 @@ fn open_stage(alloc: Global, form: LineForm<'_>, text: &[u8]) -> Result<Stage, P
             Ok(Stage::Kept(day))
         }
         LineForm::Compared(dealer) => {
-            let day = KeptDay::open(alloc, Wanted::Due(Some(dealer)), text)?;
+            let day = KeptDay::open(alloc, Wanted::Due(dealer), text)?;
             Ok(Stage::First(day))
         }
     }

@@ -62,12 +62,6 @@ const OF_DEALER: WordLine = WordLine {
     help: DEALER,
 };
 
-const OF_ANY_DEALER: WordLine = WordLine {
-    shown: "DEALER",
-    required: false,
-    help: DEALER,
-};
-
 const OF_FIRM: WordLine = WordLine {
     shown: "FIRM",
     required: true,
@@ -108,7 +102,7 @@ pub(crate) const COMMANDS: [CommandLine; 7] = [
         about: DUE,
         input: DAY,
         flags: &[WITH_LIVE],
-        word: Some(OF_ANY_DEALER),
+        word: Some(OF_DEALER),
     },
     CommandLine {
         name: "compare",

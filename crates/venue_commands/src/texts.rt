@@ -39,10 +39,7 @@ pub(crate) fn command_text<H: Threads + Wait + Sync>(
         VenueCommand::Live { .. } => unreachable!(),
         VenueCommand::Kept(_) => unreachable!(),
         VenueCommand::Compared { .. } => unreachable!(),
-        VenueCommand::Due { dealer } => {
-            let only = word_bytes(*dealer);
-            due_command_text(alloc, only, input)
-        }
+        VenueCommand::Due { dealer } => due_command_text(alloc, dealer.as_bytes(), input),
         VenueCommand::Compare { dealer } => compare_text(alloc, dealer.as_bytes(), input),
         VenueCommand::Blotter { firm } => blotter_command_text(alloc, firm.as_bytes(), input),
     }
@@ -64,7 +61,7 @@ fn wanted_word<'a>(wanted: Wanted<'a>) -> &'a [u8]
 {
     match wanted {
         Wanted::Messages(firm, _) => firm.unwrap_or(b""),
-        Wanted::Due(dealer) => dealer.unwrap_or(b""),
+        Wanted::Due(dealer) => dealer,
         Wanted::Blotter(firm) => firm,
     }
 }
@@ -79,7 +76,7 @@ pub(crate) fn command_word<'a>(command: &VenueCommand<'a>) -> &'a [u8]
         VenueCommand::Day { .. } => b"",
         VenueCommand::Live { .. } => b"",
         VenueCommand::Kept(wanted) => wanted_word(*wanted),
-        VenueCommand::Due { dealer } => dealer.unwrap_or("").as_bytes(),
+        VenueCommand::Due { dealer } => dealer.as_bytes(),
         VenueCommand::Compare { dealer } => dealer.as_bytes(),
         VenueCommand::Compared { dealer } => dealer.as_bytes(),
         VenueCommand::Blotter { firm } => firm.as_bytes(),

@@ -23,6 +23,5 @@ returns c = record {
   marks_of_replay = refl;
   one_argument_more = refl;
   one_argument_less = refl;
-  all_dealers = refl;
   no_command = refl;
 }
