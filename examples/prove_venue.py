@@ -22,7 +22,7 @@ from typing import IO
 
 ROOT = Path(__file__).resolve().parent.parent
 MEMORY_OF_A_CRATE = 3 << 30  # bytes
-MINUTES_OF_ONE = 160  # for all, on one processor
+MINUTES_OF_ONE = 200  # for all, on one processor
 BEHIND = 10  # how nice a proof is for which less waits than for another
 LOOK, TELL = 1.0, 30.0  # seconds
 
