@@ -1,12 +1,3 @@
 mod DayDueLemmas
-mod DayFormLemmas
 mod DayViewLemmas
 mod DeskLemmas
-mod MessageLemmas
-mod OrderLawLemmas
-mod PlaceNotes
-mod SearchLemmas
-mod StepLemmas
-mod TableLemmas
-mod WaitLemmas
-mod WayLemmas

@@ -1,10 +1,3 @@
 pub mod DayDues
-pub mod DayForm
-pub mod DayOrder
 pub mod Kinds
-pub mod OrderCounts
-pub mod OrderLaws
-pub mod OrderPlaces
-pub mod OrderSearch
 pub mod Records
-pub mod Weaving

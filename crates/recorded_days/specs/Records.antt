@@ -110,3 +110,12 @@ abbrev pub actions_of : RecordedDay → Actor → Option (List Action)
 actions_of day (actor.Firm firm) =
     option_map (λ (recorded : FirmLists). recorded.actions) (firm_in day firm)
 actions_of day actor.Clock = Some day.clock
+
+-- the action with this number of an actor
+abbrev pub action_numbered : ℕ → List Action → Option Action
+action_numbered number actions =
+    if nat_lt 0 number then slice_get actions (number - 1) else None
+
+-- an action, where the day has it
+abbrev pub action_in : RecordedDay → ActionRef → Option Action
+action_in day action = option_and_then (action_numbered action.1) (actions_of day action.0)

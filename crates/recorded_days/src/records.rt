@@ -1,9 +1,8 @@
 //! The record of a day: what each firm was sent, the events at every desk and in every room with
 //! the order in which they came, and what each actor did.
-ghost use Rattle.std.specs.Prelude.{◌≡◌, ◌<◌, ◌≤◌, true, false, length, Some, slice_get};
+ghost use Rattle.std.specs.Prelude.{◌≡◌};
 ghost use Rattle.std.specs.Option.{option_copied, option_map};
 ghost use Rattle.market_terms.specs.DayLines.{lines_in};
-ghost use Rattle.recorded_days.specs.DayForm as form;
 ghost use Rattle.recorded_days.specs.Records as spec;
 ghost use Rattle.recorded_days.specs.Records.{DealerLists, FirmLists, InvestorLists, RoomLists};
 
@@ -15,7 +14,6 @@ use quote_messages::SentMessage;
 use request_room::RoomEvent;
 use std::marker::Model;
 use step_replay::Actor;
-use venue_rows::VenueConfig;
 
 /// What is recorded of a dealer's day.
 #[derive(Drop)]
@@ -143,6 +141,20 @@ impl DayRecord {
         }
     }
 
+    /// What is recorded of the dealers, in the order of their numbers.
+    pub fn dealers(&self) -> &[DealerDay]
+        ensures { result.now ≡ self.now.dealers }
+    {
+        self.dealers.as_slice()
+    }
+
+    /// What is recorded of the investors, in the order of their numbers.
+    pub fn investors(&self) -> &[InvestorDay]
+        ensures { result.now ≡ self.now.investors }
+    {
+        self.investors.as_slice()
+    }
+
     /// The messages that the firm with this number was sent, the first one first, or none where the
     /// record has no such firm.
     pub fn sent(&self, firm: u16) -> Option<&[SentMessage]>
@@ -254,42 +266,6 @@ impl DayRecord {
     {
         let day = self.room(room)?;
         Some(day.order.as_slice())
-    }
-
-    /// Whether the record has the firms of a venue, as many dealers and as many investors, and of no
-    /// investor more rooms than it may make requests.
-    pub(crate) fn has_firms_of(&self, config: &VenueConfig) -> bool
-        ensures yes { result ≡ true → form.HasFirmsOf config.now self.now }
-        ensures no { result ≡ false → form.IsMalformed config.now self.now }
-    {
-        if self.dealers.len() != config.dealers().len() {
-            return false;
-        }
-        if self.investors.len() != config.investors().len() {
-            return false;
-        }
-        for (at, row) in config.investors().iter().enumerate() {
-            if self.has_more_rooms(at, row.requests) {
-                return false;
-            }
-        }
-        true
-    }
-
-    /// Whether the record has more rooms than so many of the investor at this place among the
-    /// investors.
-    fn has_more_rooms(&self, at: usize, requests: u32) -> bool
-        ensures yes { result ≡ true → (investor : InvestorLists)
-            × (slice_get self.now.investors at ≡ Some investor)
-            × (requests < length investor.rooms) }
-        ensures no { result ≡ false → (investor : InvestorLists)
-            → slice_get self.now.investors at ≡ Some investor
-            → length investor.rooms ≤ requests }
-    {
-        let Some(day) = self.investors.get(at) else {
-            return false;
-        };
-        day.rooms.len() > requests as usize
     }
 
     /// What is recorded of a room.

@@ -13,9 +13,8 @@ use Rattle.request_room.specs.declared.events.RoomEvent.TheVariants as in_room
 use Rattle.step_replay.specs.AuditTrail.{is_same_actor}
 use Rattle.venue_places.specs.declared.actors.Actor.{Actor}
 use Rattle.venue_places.specs.declared.actors.Actor.TheVariants as actor
-use Rattle.recorded_days.specs.DayOrder.{action_in}
 use Rattle.recorded_days.specs.Records.{ActionRef, DealerLists, InvestorLists, RecordedDay}
-use Rattle.recorded_days.specs.Records.{RoomLists}
+use Rattle.recorded_days.specs.Records.{RoomLists, action_in}
 use Rattle.recorded_days.specs.declared.actions.Action.{Action}
 use Rattle.recorded_days.specs.declared.actions.Kind.{Kind}
 use Rattle.recorded_days.specs.declared.actions.Kind.TheVariants as kind

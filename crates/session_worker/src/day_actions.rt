@@ -2,8 +2,7 @@
 ghost use Rattle.std.specs.Prelude.{◌≡◌, true, None};
 ghost use Rattle.std.specs.List.{list_all};
 ghost use Rattle.std.specs.Option.{option_copied};
-ghost use Rattle.recorded_days.specs.DayOrder.{action_in};
-ghost use Rattle.recorded_days.specs.Records.{actions_of};
+ghost use Rattle.recorded_days.specs.Records.{action_in, actions_of};
 ghost use Rattle.session_worker.specs.DayActions as spec;
 
 use crate::joined::firm_number;

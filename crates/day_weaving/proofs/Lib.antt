@@ -1,0 +1,9 @@
+mod DayFormLemmas
+mod MessageLemmas
+mod OrderLawLemmas
+mod PlaceNotes
+mod SearchLemmas
+mod StepLemmas
+mod TableLemmas
+mod WaitLemmas
+mod WayLemmas

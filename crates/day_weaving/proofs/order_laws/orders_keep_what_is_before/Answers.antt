@@ -1,0 +1,13 @@
+use Rattle.day_weaving.proofs.OrderLawLemmas.{comes_before, no_circle, stands_once}
+use Rattle.day_weaving.proofs.order_laws.orders_keep_what_is_before.Goals as goal
+
+pub returns-clause-once : goal.returns-clause-once
+returns-clause-once c day slots keeps action is = stands_once day slots keeps action is
+
+pub returns-clause-before : goal.returns-clause-before
+returns-clause-before c day slots named keeps one other before =
+    comes_before day slots named keeps one other before
+
+pub returns-clause-circle : goal.returns-clause-circle
+returns-clause-circle c day slots actions named circle keeps =
+    no_circle day slots named keeps actions circle

@@ -1,0 +1,35 @@
+//! A recorded day woven: the same day as a list of steps.
+//!
+//! ```ignore
+//! let steps = weave(alloc, &config, &record)?; // the day as steps of `step_replay`
+//! ```
+//!
+//! # What is promised
+//!
+//! [`weave`] makes a list of steps of a record, which sends every firm what the record says: so
+//! what is promised of days that are replayed holds of that day. The order of these steps keeps
+//! what came before what ([`orders_keep_what_is_before`]), and a record that is of no day is
+//! refused as malformed, exactly then ([`well_formed_days_are_not_malformed`]). A day that has
+//! such an order is never told as a cycle ([`days_with_an_order_are_no_cycle`]), and memory is
+//! told where it was refused and nowhere else.
+#![tactic(auto)]
+
+mod day_form;
+mod day_reading;
+mod name_checks;
+mod order_counts;
+mod order_laws;
+mod sent_checks;
+mod sites;
+mod weave_order;
+mod weave_plan;
+mod weave_search;
+mod weave_table;
+mod weave_waits;
+mod weaving;
+mod woven_steps;
+
+pub use order_laws::{
+    days_with_an_order_are_no_cycle, orders_keep_what_is_before, well_formed_days_are_not_malformed,
+};
+pub use weaving::{WeaveFault, weave};

@@ -1,0 +1,43 @@
+//! Laws of the orders that keep what is directly before what: what is true of every such order of
+//! every recorded day.
+ghost use Rattle.std.specs.Prelude.{◌≡◌, true, List, is_some};
+ghost use Rattle.venue_rows.specs.Rows.{Configuration};
+ghost use Rattle.day_weaving.specs.DayForm as form;
+ghost use Rattle.day_weaving.specs.DayOrder as spec;
+ghost use Rattle.day_weaving.specs.OrderLaws as order;
+ghost use Rattle.recorded_days.specs.Records as recorded;
+ghost use Rattle.recorded_days.specs.Records.{ActionRef, RecordedDay};
+ghost use Rattle.day_weaving.specs.Weaving as weaving;
+ghost use Rattle.day_weaving.specs.declared.weave_plan.Slot.{Slot};
+ghost use Rattle.day_weaving.specs.declared.weaving.WeaveFault.{WeaveFault};
+
+/// A law: an order of a recorded day that is kept names each action of the day exactly once; and
+/// where the orders of the desks and rooms name each action exactly once too, as they do on each
+/// day that is woven, no action stands in it before one that is directly before it. So where of
+/// some actions each has one of them directly before it, no order is kept. It does nothing.
+pub fn orders_keep_what_is_before()
+    ensures once { (day : RecordedDay) (slots : List Slot) → spec.KeepsOrder day slots
+        → (action : ActionRef) → is_some (recorded.action_in day action) ≡ true
+        → order.StandsOnce slots action }
+    ensures before { (day : RecordedDay) (slots : List Slot) → form.AreNamedOnce day
+        → spec.KeepsOrder day slots → (one other : ActionRef)
+        → spec.IsDirectlyBefore day one other → order.ComesBefore slots one other }
+    ensures circle { (day : RecordedDay) (slots : List Slot) (actions : List ActionRef)
+        → form.AreNamedOnce day → spec.IsCircle day actions → spec.KeepsOrder day slots → ⊥ }
+{}
+
+/// A law: a record that is of a day of a venue is not malformed. So no malformed record is woven.
+/// It does nothing.
+pub fn well_formed_days_are_not_malformed()
+    ensures { (config : Configuration) (day : RecordedDay) → form.IsWellFormed config day
+        → form.IsMalformed config day → ⊥ }
+{}
+
+/// A law: where a day of a venue has an order that is kept, what is true of a fault of its weaving
+/// is that a firm differs, or that memory was refused. So such a day is woven, or one of these is
+/// told; it is never told as malformed or as a cycle. It does nothing.
+pub fn days_with_an_order_are_no_cycle()
+    ensures { (config : Configuration) (day : RecordedDay) (slots : List Slot) (fault : WeaveFault)
+        → form.IsWellFormed config day → spec.KeepsOrder day slots
+        → weaving.FaultIsTrue config day fault → weaving.IsDifferentOrMemory fault }
+{}

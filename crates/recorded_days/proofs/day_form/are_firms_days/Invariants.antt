@@ -1,8 +1,0 @@
-use Rattle.std.proofs.Common.{◌≡◌, ◌<◌, ℕ, Some}
-use Rattle.recorded_days.specs.DayForm.{IsFirmsDay}
-use Rattle.recorded_days.specs.Records.{FirmLists, firm_in}
-use Rattle.recorded_days.proofs.day_form.are_firms_days.Given as goal
-
-abbrev pub invariant-loop-firm : goal.invariant-loop-firm
-invariant-loop-firm l = (firm : ℕ) → firm < l.firm → (lists : FirmLists)
-    → firm_in l.day firm ≡ Some lists → IsFirmsDay l.day lists

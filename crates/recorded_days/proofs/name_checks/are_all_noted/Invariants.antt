@@ -1,8 +1,0 @@
-use Rattle.std.proofs.Common.{◌<◌, ℕ}
-use Rattle.venue_places.specs.declared.actors.Actor.TheVariants as actor
-use Rattle.recorded_days.specs.OrderPlaces.{AreNotedBy}
-use Rattle.recorded_days.proofs.name_checks.are_all_noted.Given as goal
-
-abbrev pub invariant-loop-firm : goal.invariant-loop-firm
-invariant-loop-firm l =
-    (firm : ℕ) → firm < l.firm → AreNotedBy l.day l.places (actor.Firm firm)

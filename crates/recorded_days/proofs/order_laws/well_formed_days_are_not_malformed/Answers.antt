@@ -1,5 +1,0 @@
-use Rattle.recorded_days.proofs.DayFormLemmas.{never_both}
-use Rattle.recorded_days.proofs.order_laws.well_formed_days_are_not_malformed.Goals as goal
-
-pub returns : goal.returns
-returns c config day well malformed = never_both config day well malformed
