@@ -40,9 +40,11 @@ say "Packages of Debian: minutes, where many are missing"
 "$root/tests/packages.sh" $("$root/gateway/packages.sh")
 
 say "The gateway is built meanwhile"
-# A session of its own, so that its compilers end with it.
+# A session of its own, so that its compilers end with it; where Linux shares processors out by session,
+# it is the session that has to be nice.
 # shellcheck disable=SC2016 # of the inner shell
-setsid nice -n 10 sh -c 'cmake -S "$1" -B "$1/out" && exec cmake --build "$1/out" -j "$(nproc)"' \
+setsid nice -n 10 sh -c '{ echo 10 >/proc/self/autogroup; } 2>/dev/null
+    cmake -S "$1" -B "$1/out" && exec cmake --build "$1/out" -j "$(nproc)"' \
     build "$root/gateway" >"$work/built" 2>&1 &
 building=$!
 

@@ -4,13 +4,15 @@
 usage: prove_venue.py [--jobs N] [--program CRATE]
 
 The crates below the program are proved side by side, each as soon as those below it are; `rt run`
-alone proves them one behind the other. What an earlier run proved is taken, and so is a program
-that is newer than all its sources.
+alone proves them one behind the other. Since an rt keeps others out of every crate that it reads,
+each is proved in a copy of the repository, and what it made is moved here. What an earlier run
+proved is taken, and so is a program that is newer than all its sources.
 """
 
 import argparse
 import os
 import re
+import shutil
 import signal
 import subprocess
 import sys
@@ -81,14 +83,50 @@ def clock(seconds: float) -> str:
     return "%d:%02d" % divmod(int(seconds), 60)
 
 
+class Copy:
+    """A copy of the repository, in which one crate is proved."""
+
+    def __init__(self, name: str, below: list[str], place: Path) -> None:
+        self.name = name
+        self.root = Path(tempfile.mkdtemp(prefix=f"{name}-", dir=place))
+        for file in ("crates.txt", "HANDLES"):
+            shutil.copy2(ROOT / file, self.root)
+        without_made = shutil.ignore_patterns("out")
+        shutil.copytree(ROOT / "crates", self.root / "crates", ignore=without_made)
+        for each in [*below, name]:
+            library = self.made(ROOT, each) / "rlib"
+            if library.is_dir():  # no file of a library is written to where it stands
+                shutil.copytree(library, self.made(self.root, each) / "rlib", copy_function=os.link)
+
+    @staticmethod
+    def made(root: Path, name: str) -> Path:
+        return root / "crates" / name / "out"
+
+    def folder(self) -> Path:
+        return self.root / "crates" / self.name
+
+    def move_made(self) -> None:
+        """What was made of the crate stands in the repository, in the place of what stood there."""
+        for made in self.made(self.root, self.name).iterdir():
+            there = self.made(ROOT, self.name) / made.name
+            if there.is_dir():
+                shutil.rmtree(there)
+            there.parent.mkdir(exist_ok=True)
+            made.rename(there)
+
+
 @dataclass
 class Proof:
     """A crate that is being proved."""
 
-    name: str
+    copy: Copy
     process: subprocess.Popen
     output: IO[bytes]
     began: float = field(default_factory=time.monotonic)
+
+    @property
+    def name(self) -> str:
+        return self.copy.name
 
     def text(self) -> str:
         self.output.seek(0)
@@ -103,25 +141,28 @@ class Proof:
             os.killpg(self.process.pid, signal.SIGTERM)
         self.process.wait()
         self.output.close()
+        shutil.rmtree(self.copy.root, ignore_errors=True)
 
 
-def begin(name: str, jobs: int, niceness: int) -> Proof:
+def begin(copy: Copy, jobs: int, niceness: int) -> Proof:
     output = tempfile.TemporaryFile()
     words = ["nice", "-n", str(niceness), "rt", "lib", "--jobs", str(jobs)]
     process = subprocess.Popen(
         words,
-        cwd=ROOT / "crates" / name,
+        cwd=copy.folder(),
         stdin=subprocess.DEVNULL,
         stdout=output,
         stderr=subprocess.STDOUT,
-        start_new_session=True,
+        process_group=0,  # and no session: between two of these niceness counts nothing
     )
-    return Proof(name, process, output)
+    return Proof(copy, process, output)
 
 
 class Prover:
-    def __init__(self, crates: dict[str, list[str]], names: list[str], jobs: int) -> None:
-        self.crates, self.jobs, self.count = crates, jobs, len(names)
+    def __init__(
+        self, crates: dict[str, list[str]], names: list[str], jobs: int, place: Path
+    ) -> None:
+        self.crates, self.jobs, self.count, self.place = crates, jobs, len(names), place
         ways = ways_up(crates, names)
         self.left = sorted(names, key=lambda name: -ways[name])
         self.waiting = list(self.left)
@@ -138,15 +179,19 @@ class Prover:
         ready = [name for name in self.waiting if self.proved.issuperset(self.crates[name])]
         for name in ready[: self.jobs - len(self.running)]:
             self.waiting.remove(name)
-            # A crate seldom fills all processors, and two nearly always do: more take one each.
-            jobs = self.jobs if len(self.running) < 2 else 1
-            self.running.append(begin(name, jobs, 0 if name == self.left[0] else BEHIND))
+            # A crate seldom fills all processors, and two nearly always do: more take one each, but
+            # for the one for which most waits.
+            is_first = name == self.left[0]
+            jobs = self.jobs if is_first or len(self.running) < 2 else 1
+            copy = Copy(name, below(self.crates, name), self.place)
+            self.running.append(begin(copy, jobs, 0 if is_first else BEHIND))
 
     def take_ended(self) -> None:
         for proof in [each for each in self.running if each.process.poll() is not None]:
             if proof.process.returncode != 0:
                 last = "\n".join(proof.text().splitlines()[-20:])
                 sys.exit("%s was not proved:\n%s" % (proof.name, last))
+            proof.copy.move_made()
             self.running.remove(proof)
             self.left.remove(proof.name)
             self.proved.add(proof.name)
@@ -182,8 +227,10 @@ def main() -> None:
     print("Proving %d crates, %d at a time:" % (len(names), given.jobs), flush=True)
     minutes = MINUTES_OF_ONE // given.jobs
     print("about %d minutes the first time, where nothing else runs." % minutes, flush=True)
-    Prover(crates, names, given.jobs).run()
     folder = ROOT / "crates" / given.program
+    (folder / "out").mkdir(exist_ok=True)
+    with tempfile.TemporaryDirectory(prefix="copies-", dir=folder / "out") as place:
+        Prover(crates, names, given.jobs, Path(place)).run()
     words = ["rt", "run", "--", "--version"]
     if subprocess.run(words, cwd=folder, stdin=subprocess.DEVNULL).returncode != 0:
         sys.exit("the program was not proved")
