@@ -9,7 +9,7 @@ from dataclasses import dataclass, field
 
 from .chain import Chained, Numbers, read_chain, write_day
 from .findings import Finding
-from .jobs import AloneJob, Audited, ChainJob, DayJob, Files, GivenJob, LiveJob, SentJob
+from .jobs import AloneJob, Audited, ChainJob, DayJob, DueJob, Files, GivenJob, LiveJob, SentJob
 from .log import Source
 from .progress import Progress
 from .records import Day, Firm
@@ -84,12 +84,13 @@ class Checker:
         """All jobs of a check, those on which others wait and those that take longest in front."""
         audited = Audited(self.source, self.venue, self.files, verdict.day)
         written = plan.add(DayJob(audited))
+        due = plan.add(DueJob(audited), [written])
         live = plan.add(LiveJob(audited), [written])
         plan.add(ChainJob(self.source))
         sent = {firm.name: plan.add(SentJob(audited, firm.name)) for firm in verdict.day.firms}
         plan.add(GivenJob(audited), behind=sent.values(), beside=[live])
         for dealer in verdict.day.dealers:
-            plan.add(AloneJob(audited, dealer.name), [written, sent[dealer.name]])
+            plan.add(AloneJob(audited, dealer.name), [due, sent[dealer.name]])
 
     def rows_of(self, verdict: Verdict) -> int:
         """How many rows the jobs that tell their steps go over: entries and messages, twice."""

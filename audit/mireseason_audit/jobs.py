@@ -12,6 +12,7 @@ from dataclasses import dataclass
 from pathlib import Path
 
 from .chain import Chained, lines_before, places_of, read_chain, write_day
+from .faults import Unreadable
 from .findings import Finding
 from .lines import decoded
 from .log import Log, Source
@@ -220,15 +221,28 @@ class GivenReader:
         return texts, places
 
 
+class DueJob(FindingsJob):
+    """`dues --live` over the day, the list of each dealer left in a file of its own."""
+
+    def _findings(self, log: Log, step: Step) -> Iterator[Finding]:
+        venue, files, dealers = self.audited.venue, self.audited.files, self.audited.day.dealers
+        with venue.run(["dues", "--live"], files.day) as run:
+            for dealer, text in itertools.zip_longest(dealers, due_texts(run.lines())):
+                if dealer is None or text is None:
+                    raise Unreadable("`%s dues --live` gives not one list for each dealer" % venue)
+                with files.due(dealer.name).open("wb") as file:
+                    file.writelines(line + b"\n" for line in text)
+        return iter(())
+
+
 @dataclass(frozen=True)
 class AloneJob(FindingsJob):
-    """`due --live` of a dealer, and `alone` of that, against what it was sent."""
+    """`alone` of what was due to a dealer, against what it was sent."""
 
     dealer: str
 
     def _findings(self, log: Log, step: Step) -> Iterator[Finding]:
         venue, files, dealer = self.audited.venue, self.audited.files, self.dealer
-        venue.to_file(["due", dealer, "--live"], files.day, files.due(dealer))
         venue.to_file(["alone", "--frames"], files.due(dealer), files.alone(dealer))
         if not is_same(files.alone(dealer), files.sent(dealer)):
             yield from held(dealer, log.sent(dealer), lines_of(files.alone(dealer)), ALONE)
@@ -254,6 +268,19 @@ def kept(log: Log, firm: str, files: Files, step: Step) -> Iterator[Messages]:
             yield block
     if not is_plain:
         files.sent(firm).unlink()
+
+
+def due_texts(lines: Iterable[bytes]) -> Iterator[Iterator[bytes]]:
+    """The lines of each due text of some that stand one behind the other."""
+    count = 0
+
+    def number(line: bytes) -> int:
+        nonlocal count
+        count += line.startswith(b"date ")  # the first line of a text, and no other
+        return count
+
+    for _, text in itertools.groupby(lines, number):
+        yield text
 
 
 def misplaced(

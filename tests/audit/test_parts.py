@@ -14,7 +14,7 @@ from mireseason_audit.chain import ChainReader, hash_of
 from mireseason_audit.dictionary import read_dictionary
 from mireseason_audit.faults import Unreadable, Wrong
 from mireseason_audit.frame import barred, fault_of, fields_of, framed, sum_of
-from mireseason_audit.jobs import held
+from mireseason_audit.jobs import due_texts, held
 from mireseason_audit.lines import came_of, firm_and_time
 from mireseason_audit.pair import Compared, Differences, difference_words, differences
 from mireseason_audit.plain_wire import carries
@@ -286,6 +286,18 @@ class Holding(unittest.TestCase):
         self.assertEqual(self.found([a], [one, two]), [("log", 2)])
         self.assertEqual(self.found([b, a], [one, two]), [("log", 1)])
         self.assertEqual(self.found([ACCEPTED.encode()], [one]), [("log", 1)])  # bars are no SOH
+
+
+class Lists(unittest.TestCase):
+    """Lists of what was due, one behind the other."""
+
+    def test_where_each_begins(self) -> None:
+        head = b"date 20250314"
+        one = [head, b"dealer DLR1 4 10000000 T1", b"own 09:00:10.000 date |", b"lifted 1"]
+        two = [head, b"dealer DLR2 4 10000000 T2"]
+        for texts in ([], [one], [two, one], [two, two, one]):
+            lines = [line for text in texts for line in text]
+            self.assertEqual([list(text) for text in due_texts(lines)], texts)
 
 
 class Seals(unittest.TestCase):

@@ -72,7 +72,7 @@ def without_turns(steps):
 
 def lawful(program, draw):
     """A lawful input and the words of a command that reads it."""
-    what = draw.choice(["alone", "replay", "due", "compare", "blotter", "day", "live"])
+    what = draw.choice(["alone", "replay", "due", "dues", "compare", "blotter", "day", "live"])
     frames = draw.choice([[], ["--frames"]])
     configuration, steps = days(draw)
     text = configuration + "\n%%\n" + steps + "\n"
@@ -85,6 +85,8 @@ def lawful(program, draw):
         return [what] + frames, (configuration + "\n%%\n" + without_turns(steps) + "\n").encode()
     if what == "replay":
         return ["replay"] + draw.choice([[], ["DLR1"], ["INV1"]]) + frames, text.encode()
+    if what == "dues":
+        return [what], text.encode()
     return [what, draw.choice(["DLR1", "DLR2", "INV1"])], text.encode()
 
 

@@ -113,6 +113,13 @@ def do_due(streams: Streams, live: bool, word: bytes) -> Iterable[bytes]:
     return due_text(configuration.date, configuration.firms[dealer], venue.due[dealer])
 
 
+def do_dues(streams: Streams, live: bool) -> Iterable[bytes]:
+    venue, _ = a_day(streams, live, None)
+    configuration = venue.configuration
+    for dealer, row in enumerate(configuration.dealers):
+        yield from due_text(configuration.date, row, venue.due[dealer])
+
+
 def do_blotter(streams: Streams, live: bool, word: bytes) -> Iterable[bytes]:
     venue, firm = a_day(streams, live, word)
     dealer = venue.configuration.is_dealer(firm)

@@ -57,8 +57,8 @@ def firm_word(draw, day, dealer=False):
 
 def commands(draw, day):
     """Some commands that read a day."""
-    all_of_them = [["replay"], ["replay", firm_word(draw, day)], ["replay", "--frames"], ["due", firm_word(draw, day, True)],
-                   ["blotter", firm_word(draw, day)]]
+    all_of_them = [["replay"], ["replay", firm_word(draw, day)], ["replay", "--frames"], ["dues"],
+                   ["due", firm_word(draw, day, True)], ["blotter", firm_word(draw, day)]]
     return draw.sample(all_of_them, draw.of(2, 3, 5))
 
 
@@ -80,7 +80,7 @@ def live_words(draw):
 def audits(draw, day):
     """Commands that read a day of `live`."""
     found = [["replay", "--live"], ["replay", firm_word(draw, day), "--live"], ["replay", "--live", "--frames"],
-             ["due", firm_word(draw, day, True), "--live"], ["blotter", "--live", firm_word(draw, day)]]
+             ["dues", "--live"], ["due", firm_word(draw, day, True), "--live"], ["blotter", "--live", firm_word(draw, day)]]
     return draw.sample(found, draw.of(1, 2, 3))
 
 

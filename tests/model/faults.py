@@ -265,9 +265,9 @@ def exact_frames(draw, day):
     return head + b"x" * (4096 - 13 - 5 - 7 - 5 - len(b"49=%s|56=VENUE|34=1|52=20250314-09:00:00.000|50=T1|58=|" % name) + draw.randint(-2, 2))
 
 
-WRONG_ARGUMENTS = [["--frames"], ["x"], [""], ["alone", "x"], ["due"], ["due", "A", "B"], ["compare"], ["blotter"], ["replay", "A", "B"], ["replay", "--x"],
+WRONG_ARGUMENTS = [["--frames"], ["x"], [""], ["alone", "x"], ["due"], ["dues", "--frames"], ["dues", "A"], ["due", "A", "B"], ["compare"], ["blotter"], ["replay", "A", "B"], ["replay", "--x"],
                    ["due", "DLR1", "--frames"], ["replay", "--frames", "--frames"], ["compare", "DLR1", "--frames"], ["blotter", "INV1", "--frames"],
                    ["alone", "--woven"], ["replay", "--woven"], ["Replay"], ["alone", "--Frames"], ["replay", "-f"], ["live", "x"], ["--", "alone"],
                    ["replay", b"\xff"], [b"\xff"], ["due", b"\xff"], ["alone", "--frames=1"], ["--frames", "alone"],
                    ["live", "--live"], ["replay", "--marks"], ["live", "--marks", "--marks"], ["replay", "--live", "--live"], ["alone", "--live"],
-                   ["--live", "replay"], ["due", "--live"], ["compare", "--live"], ["live", "--marks", "x"], ["day", "--live"], ["live", "--mark"]]
+                   ["--live", "replay"], ["due", "--live"], ["dues", "--live", "--live"], ["compare", "--live"], ["live", "--marks", "x"], ["day", "--live"], ["live", "--mark"]]

@@ -4,8 +4,9 @@
 usage: laws.py DAYS [PROGRAM]
 
 For every day of `live` and every firm: `replay --live FIRM` prints what `live` printed of that firm;
-`due --live` and then `alone` print it too; each `clock` line is its `expire` lines; what `due` writes is
-read back as the same list; and behind each line there is one mark.
+`due --live FIRM` and then `alone` print it too; `dues --live` prints the former of each dealer; each
+`clock` line is its `expire` lines; what `due` writes is read back as the same list; and behind each line
+there is one mark.
 """
 
 import re
@@ -61,6 +62,7 @@ def broken(day: Day, ask: Ask) -> Iterator[str]:
     if ask(["replay", "--frames"], joined(head(day), with_expire_lines(day, day.text()))) != ask(["replay", "--frames"], joined(head(day), day.text())):
         yield "clock is its expire lines"
     unswept = joined(head(day), with_expire_lines(day, steps))
+    texts = []
     for row in day.configuration.firms:
         wanted, name = b"".join(line + b"\n" for line in of_firm(lines, row.name)), row.name.decode()
         if ask(["replay", "--live", name, "--frames"], data) != (0, wanted, told):
@@ -69,8 +71,11 @@ def broken(day: Day, ask: Ask) -> Iterator[str]:
             yield "clock is its expire lines to %s" % name
         if row in day.configuration.dealers:
             due = ask(["due", "--live", name], data)
+            texts.append(due[1])
             if due[::2] != (0, told) or ask(["alone", "--frames"], due[1]) != (0, wanted, b""):
                 yield "due --live %s, and then alone" % name
+    if ask(["dues", "--live"], data) != (0, b"".join(texts), told):
+        yield "dues --live is that of each dealer"
 
 
 def unread(day: Day) -> Iterator[str]:

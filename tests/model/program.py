@@ -1,7 +1,7 @@
 #!/usr/bin/env python3
 """A second implementation of the venue's program, written from its rules alone.
 
-usage: program.py [alone [--frames]] | replay [FIRM] [--frames] [--live] | due DEALER [--live]
+usage: program.py [alone [--frames]] | replay [FIRM] [--frames] [--live] | due DEALER [--live] | dues [--live]
                   | compare DEALER [--live] | blotter FIRM [--live] | live [--frames] [--marks]
 """
 
@@ -11,7 +11,7 @@ from collections.abc import Callable
 from dataclasses import dataclass
 from typing import BinaryIO
 
-from commands import Streams, do_alone, do_blotter, do_compare, do_due, do_replay
+from commands import Streams, do_alone, do_blotter, do_compare, do_due, do_dues, do_replay
 from inputs import Fault
 from live import live
 
@@ -34,6 +34,7 @@ COMMANDS = {
     "alone": Command(do_alone, ("--frames",), 0, 0),
     "replay": Command(do_replay, ("--frames", "--live"), 0, 1),
     "due": Command(do_due, ("--live",), 1, 1),
+    "dues": Command(do_dues, ("--live",), 0, 0),
     "compare": Command(do_compare, ("--live",), 1, 1),
     "blotter": Command(do_blotter, ("--live",), 1, 1),
     "live": Command(None, ("--frames", "--marks"), 0, 0),

@@ -1,11 +1,3 @@
-pub mod AppLemmas
 pub mod CommandLemmas
 pub mod DayTextLemmas
-pub mod LawfulArguments
-pub mod LineLemmas
-pub mod LiveLemmas
-pub mod StreamLemmas
-pub mod TableEnds
-pub mod TableRows
-pub mod TableTurns
-pub mod WordLemmas
+pub mod PrintLemmas

@@ -1,11 +1,11 @@
 -- How a run of the program ends.
-use Rattle.std.specs.Prelude.{◌≡◌, ◌<◌, ◌≤◌, ◌⊎◌, ℕ, true, List, [], ◌++◌, length}
+use Rattle.std.specs.Prelude.{◌≡◌, ◌<◌, ◌⊎◌, ℕ, true, List, [], length}
 use Rattle.std.specs.Prelude.{Option, Some, None, Result, Ok, Err, unwrap_or}
 use Rattle.std.specs.Option.{IfSome}
 use Rattle.clap.specs.Kinds.{Kinds}
 use Rattle.clap.specs.Walk.{Text}
 use Rattle.venue_text.specs.AloneText.{IsPrinted, first_fault}
-use Rattle.venue_text.specs.AskedDays.{dealer_by, firm_by, firms_by, one_day, two_days}
+use Rattle.venue_text.specs.AskedDays.{dealer_by, dealers_by, firm_by, firms_by, one_day, two_days}
 use Rattle.venue_text.specs.BlotterCommand.{IsBlotter}
 use Rattle.venue_text.specs.CompareText.{IsCompared}
 use Rattle.venue_text.specs.DueCommand.{IsDueText}
@@ -15,16 +15,27 @@ use Rattle.venue_text.specs.KeptDays.{Wanted, dues, messages}
 use Rattle.venue_text.specs.ReplayText.{IsReplayed}
 use Rattle.input_lines.specs.declared.faults.ProgramFault.{ProgramFault}
 use Rattle.input_lines.specs.declared.faults.ProgramFault.TheVariants.{Read, Memory, Write}
-use Rattle.input_lines.specs.declared.lines.TheConstants.{MOST_INPUT}
-use Rattle.venue_commands.specs.Arguments.{Command, LineForm, alone, arguments_fault, blotter}
-use Rattle.venue_commands.specs.Arguments.{command_of, compare, compared, day, due, kept, live}
-use Rattle.venue_commands.specs.Arguments.{line_form}
-use Rattle.venue_commands.specs.Arguments.{may_be_help, may_be_mistake, replay}
-use Rattle.venue_commands.specs.LiveRuns.{EndsInLive}
+use Rattle.live_runs.specs.LineForms.{LineForm, answered, compared_for, kept_for}
+use Rattle.command_arguments.specs.Arguments.{Command, alone, arguments_fault, blotter}
+use Rattle.command_arguments.specs.Arguments.{command_of, compare, compared, day, due, kept, live}
+use Rattle.command_arguments.specs.Arguments.{may_be_help, may_be_mistake, replay}
+use Rattle.live_runs.specs.LiveRuns.{EndsInLive}
 use Rattle.venue_commands.specs.ThreadedDays.{IsDay, IsDayFault}
-use Rattle.venue_commands.specs.Written.{Streams, Written, Gains, GainsPart, IsUntouched}
+use Rattle.live_runs.specs.Written.{Streams, Written, Gains, GainsPart, IsUntouched}
 use Rattle.venue_commands.specs.declared.process.ArgumentFault.{ArgumentFault}
 use Rattle.venue_commands.specs.declared.process.ArgumentFault.TheVariants as argument
+
+-- whether a command takes a day line by line, and what it prints then
+abbrev pub line_form : Command → Option LineForm
+line_form (alone with_frames) = None
+line_form (replay firm with_frames) = None
+line_form (day with_frames woven) = None
+line_form (live form) = Some (answered form)
+line_form (kept wanted) = Some (kept_for wanted)
+line_form (due dealer) = None
+line_form (compare dealer) = None
+line_form (compared dealer) = Some (compared_for dealer)
+line_form (blotter firm) = None
 
 -- What a command prints for an input.
 abbrev pub IsTextOf : Command → List ℕ → List ℕ → Type 0
@@ -45,7 +56,7 @@ IsFaultOf (replay firm with_frames) input fault = one_day (firms_by firm) input 
 IsFaultOf (day with_frames woven) input fault = IsDayFault woven input fault
 IsFaultOf (live form) input fault = ⊥  -- it tells line by line
 IsFaultOf (kept wanted) input fault = ⊥  -- the same
-IsFaultOf (due dealer) input fault = one_day (dealer_by dealer) input ≡ Err fault
+IsFaultOf (due dealer) input fault = one_day (dealers_by dealer) input ≡ Err fault
 IsFaultOf (compared dealer) input fault = ⊥  -- line by line, too
 IsFaultOf (compare dealer) input fault = two_days (dealer_by dealer) input ≡ Err fault
 IsFaultOf (blotter firm) input fault = one_day (firm_by firm) input ≡ Err fault
@@ -53,7 +64,7 @@ IsFaultOf (blotter firm) input fault = one_day (firm_by firm) input ≡ Err faul
 -- the word in what is asked for at the end of a day
 abbrev pub word_in : Wanted → List ℕ
 word_in (messages name frames) = unwrap_or name []
-word_in (dues dealer) = dealer
+word_in (dues dealer) = unwrap_or dealer []
 word_in (kept_days.blotter firm) = firm
 
 -- the word of a command that names a firm; it is told where no firm has that name
@@ -64,16 +75,11 @@ word_of (replay (Some firm) with_frames) = firm
 word_of (day with_frames woven) = []
 word_of (live form) = []
 word_of (kept wanted) = word_in wanted
-word_of (due dealer) = dealer
+word_of (due None) = []
+word_of (due (Some dealer)) = dealer
 word_of (compare dealer) = dealer
 word_of (compared dealer) = dealer
 word_of (blotter firm) = firm
-
--- What was read of all bytes: their front, and all of them unless there are more than an input has.
-pub record IsReadOf (all bytes : List ℕ) : Type 0 where
-  pub rest : List ℕ
-  pub split : all ≡ bytes ++ rest
-  pub whole : length bytes ≤ MOST_INPUT → rest ≡ []
 
 -- what a command prints for an input was written, and nothing else
 pub record HasPrinted (command : Command) (input : List ℕ) (out : Written) : Type 0 where

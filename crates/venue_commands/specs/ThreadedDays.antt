@@ -3,12 +3,12 @@ use Rattle.std.specs.Prelude.{◌≡◌, ◌⊎◌, ℕ, Bool, true, false, List
 use Rattle.std.specs.Prelude.{is_ok}
 use Rattle.venue_rows.specs.Rows.{Configuration, values_of}
 use Rattle.recorded_days.specs.Records.{RecordedDay}
-use Rattle.recorded_days.specs.Weaving.{AreWoven, FaultIsTrue, SendAsRecorded}
+use Rattle.day_weaving.specs.Weaving.{AreWoven, FaultIsTrue, SendAsRecorded}
 use Rattle.recorded_days.specs.declared.actions.Inbound.{Inbound}
 use Rattle.recorded_days.specs.declared.actions.Sweep.{Sweep}
 use Rattle.step_replay.specs.declared.steps.Step.{Step}
-use Rattle.recorded_days.specs.declared.weaving.WeaveFault.{WeaveFault}
-use Rattle.recorded_days.specs.declared.weaving.WeaveFault.TheVariants as weaving
+use Rattle.day_weaving.specs.declared.weaving.WeaveFault.{WeaveFault}
+use Rattle.day_weaving.specs.declared.weaving.WeaveFault.TheVariants as weaving
 use Rattle.session_worker.specs.KeptDays.{KeepsDay}
 use Rattle.session_worker.specs.declared.faults.DayFault.{DayFault}
 use Rattle.session_worker.specs.declared.faults.DayFault.TheVariants as threaded

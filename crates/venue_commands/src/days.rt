@@ -1,12 +1,13 @@
 //! A day of the venue on threads.
 ghost use Rattle.std.specs.Prelude.{◌≡◌, ◌≢◌, IfOk, IfErr};
-ghost use Rattle.recorded_days.specs.Weaving.{FaultIsTrue};
-ghost use Rattle.recorded_days.specs.declared.weaving.WeaveFault.{WeaveFault};
+ghost use Rattle.day_weaving.specs.Weaving.{FaultIsTrue};
+ghost use Rattle.day_weaving.specs.declared.weaving.WeaveFault.{WeaveFault};
 ghost use Rattle.venue_text.specs.RecordText.{woven_line};
 ghost use Rattle.venue_commands.specs.ThreadedDays as spec;
 
+use day_weaving::{WeaveFault, weave};
 use input_lines::{ProgramFault, UnkeptDay, UnwovenDay};
-use recorded_days::{DayRecord, WeaveFault, weave};
+use recorded_days::DayRecord;
 use session_worker::{DayFault, Gate, Point, run_day};
 use std::alloc::Global;
 use std::marker::Sync;

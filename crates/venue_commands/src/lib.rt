@@ -3,13 +3,14 @@
 //!
 //! `replay` reads a day of the venue, a configuration and the steps of the day, and prints every
 //! message that the venue sends; `day` runs one on threads, and `live` answers one line by line as
-//! it comes; `due` and `blotter` print what was due to one dealer, and a firm's blotter; `compare`
-//! reads two days and says where they differ for one dealer. `alone` reads one
+//! it comes; `due`, `dues` and `blotter` print what was due to a dealer, to each of them, and a firm's
+//! blotter; `compare` reads two days and says where they differ for one dealer. `alone` reads one
 //! dealer's day, called due text, and prints every message that the venue sends to that dealer.
 //!
-//! Here are a command's arguments, standard input, output and error, and the status; what lines
-//! spell is in `input_lines`, what is printed in `venue_text`, what firms are sent in `step_replay`.
-//! The program is `rfq_venue`.
+//! Here is which run the arguments bring about, and how it ends; the arguments themselves are in
+//! `command_arguments`, `live` and the streams in `live_runs`, what lines spell in `input_lines`,
+//! what is printed in `venue_text`, what firms are sent in `step_replay`. The program is
+//! `rfq_venue`.
 //!
 //! # What is promised
 //!
@@ -21,18 +22,12 @@
 //!   UTF-8 is a wrong one.
 #![tactic(auto)]
 
-mod command;
 mod days;
-mod help;
-mod input;
-mod live;
-mod output;
 mod process;
 mod program;
-mod table;
 mod texts;
 
-pub use command::{arguments_have_these_faults, these_arguments_are_commands};
-pub use live::MOST_LINES;
+pub use command_arguments::{arguments_have_these_faults, these_arguments_are_commands};
+pub use live_runs::MOST_LINES;
 pub use process::{ArgumentFault, process_arguments, run_process};
 pub use program::run_program;

@@ -3,9 +3,9 @@ ghost use Rattle.std.specs.Prelude.{map, string_bytes};
 ghost use Rattle.std.specs.Process.{exit_status};
 ghost use Rattle.venue_commands.specs.Runs as spec;
 
-use crate::output::write_text;
-use crate::program::{report, run_program};
+use crate::program::run_program;
 use input_lines::ProgramFault;
+use live_runs::{report, write_text};
 use std::alloc::Global;
 use std::env;
 use std::io::{ErrorKind, Read, Write};

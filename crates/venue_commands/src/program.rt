@@ -1,20 +1,15 @@
 //! A run of the program.
-ghost use Rattle.std.specs.Prelude.{◌≡◌, ◌≢◌, ◌++◌, [], ◌∷◌, None, map, IfOk, IfErr, IfSome};
-ghost use Rattle.std.specs.Prelude.{OnOk, OnErr};
-ghost use Rattle.std.specs.Io.KnownBytes.{Appends};
+ghost use Rattle.std.specs.Prelude.{◌≡◌, [], ◌∷◌, None, map, IfErr, IfSome, OnOk};
 ghost use Rattle.clap.specs.Words.{kind_of};
-ghost use Rattle.input_lines.specs.Faults as faults;
-ghost use Rattle.venue_commands.specs.Arguments.{line_form, meant};
+ghost use Rattle.venue_commands.specs.Runs.{line_form};
+ghost use Rattle.command_arguments.specs.Arguments.{meant};
 ghost use Rattle.venue_commands.specs.Runs as spec;
-ghost use Rattle.venue_commands.specs.Written.{GainsPart};
 
-use crate::command::{Told, VenueCommand, line_form, read_command, told_by};
-use crate::input::read_input;
-use crate::live::run_live;
-use crate::output::write_text;
-use crate::texts::{command_text, command_word};
+use crate::texts::{command_text, command_word, line_form};
 use clap::Error;
-use input_lines::{ProgramFault, fault_line};
+use command_arguments::{Told, VenueCommand, read_command, told_by};
+use input_lines::ProgramFault;
+use live_runs::{print_text, read_input, report, run_live, write_text};
 use std::alloc::Global;
 use std::convert::AsStr;
 use std::io::{Read, Write};
@@ -145,51 +140,4 @@ fn print_command<H: Threads + Wait + Sync, R: Read, W: Write>(
         Err(fault) => return Err(fault),
     };
     print_text(out, text.as_slice())
-}
-
-/// Prints a text as a whole.
-pub(crate) fn print_text<W: Write>(out: &mut W, text: &[u8]) -> Result<(), ProgramFault>
-    ensures ok { OnOk result (Appends (W.contents out.old) (W.contents out.new) text.now) }
-    ensures err { IfErr result (λ fault. fault ≡ ProgramFault.Write) }
-    ensures part { OnErr result (GainsPart text.now
-        (record { before = W.contents out.old; after = W.contents out.new })) }
-{
-    if !write_text(out, text) {
-        return Err(ProgramFault::Write);
-    }
-    let flushed = out.flush();
-    if flushed.is_err() {
-        return Err(ProgramFault::Write);
-    }
-    Ok(())
-}
-
-/// Tells a fault of a run in one line, and answers the status of a run that has one. The word is
-/// the one of the arguments that names a firm.
-pub(crate) fn report<E: Write>(err: &mut E, word: &[u8], fault: &ProgramFault) -> u8
-    ensures status { result ≡ 1 }
-    ensures told { GainsPart (faults.told_line word.now fault.now)
-        (record { before = E.contents err.old; after = E.contents err.new }) }
-{
-    let line = fault_line(fault);
-    if !matches!(fault, ProgramFault::Firm) {
-        write_text(err, line.as_bytes());
-        return 1;
-    }
-    write_named(err, line.as_bytes(), word);
-    1
-}
-
-/// Writes a line: its front, and the word that it ends with.
-fn write_named<E: Write>(err: &mut E, front: &[u8], word: &[u8])
-    ensures { GainsPart (front.now ++ word.now ++ 10 ∷ [])
-        (record { before = E.contents err.old; after = E.contents err.new }) }
-{
-    if !write_text(err, front) {
-        return;
-    }
-    if !write_text(err, word) {
-        return;
-    }
-    write_text(err, b"\n");
 }

@@ -1,12 +1,15 @@
 //! What each command prints.
 ghost use Rattle.std.specs.Prelude.{◌≡◌, ◌≢◌, None, option_map, IfOk, IfErr};
-ghost use Rattle.venue_commands.specs.Arguments.{line_form, meant};
+ghost use Rattle.live_runs.specs.LineForms.{meant_form};
+ghost use Rattle.venue_commands.specs.Runs.{line_form};
+ghost use Rattle.command_arguments.specs.Arguments.{meant};
 ghost use Rattle.venue_commands.specs.Runs as spec;
 ghost use Rattle.venue_text.specs.KeptDays as kept;
 
-use crate::command::VenueCommand;
 use crate::days::day_text;
+use command_arguments::{VenueCommand, word_bytes};
 use input_lines::ProgramFault;
+use live_runs::LineForm;
 use std::alloc::Global;
 use std::marker::Sync;
 use std::sync::Wait;
@@ -39,20 +42,30 @@ pub(crate) fn command_text<H: Threads + Wait + Sync>(
         VenueCommand::Live { .. } => unreachable!(),
         VenueCommand::Kept(_) => unreachable!(),
         VenueCommand::Compared { .. } => unreachable!(),
-        VenueCommand::Due { dealer } => due_command_text(alloc, dealer.as_bytes(), input),
+        VenueCommand::Due { dealer } => {
+            let only = word_bytes(*dealer);
+            due_command_text(alloc, only, input)
+        }
         VenueCommand::Compare { dealer } => compare_text(alloc, dealer.as_bytes(), input),
         VenueCommand::Blotter { firm } => blotter_command_text(alloc, firm.as_bytes(), input),
     }
 }
 
-/// The bytes of a word, where there is one.
-pub(crate) fn word_bytes(word: Option<&str>) -> Option<&[u8]>
-    ensures { option_map (λ bytes. bytes.now) result ≡ option_map (λ text. text.now) word.entry }
+/// Whether a command takes a day line by line, and how it prints then.
+pub(crate) fn line_form<'a>(command: &VenueCommand<'a>) -> Option<LineForm<'a>>
+    ensures { option_map meant_form result ≡ line_form (meant command.now) }
 {
-    let Some(word) = word else {
-        return None;
-    };
-    Some(word.as_bytes())
+    match command {
+        VenueCommand::Live { form } => Some(LineForm::Answered(*form)),
+        VenueCommand::Kept(wanted) => Some(LineForm::Kept(*wanted)),
+        VenueCommand::Compared { dealer } => Some(LineForm::Compared(dealer.as_bytes())),
+        VenueCommand::Alone { .. } => None,
+        VenueCommand::Replay { .. } => None,
+        VenueCommand::Day { .. } => None,
+        VenueCommand::Due { .. } => None,
+        VenueCommand::Compare { .. } => None,
+        VenueCommand::Blotter { .. } => None,
+    }
 }
 
 /// The word in what is asked for at the end of a day.
@@ -61,7 +74,7 @@ fn wanted_word<'a>(wanted: Wanted<'a>) -> &'a [u8]
 {
     match wanted {
         Wanted::Messages(firm, _) => firm.unwrap_or(b""),
-        Wanted::Due(dealer) => dealer,
+        Wanted::Due(dealer) => dealer.unwrap_or(b""),
         Wanted::Blotter(firm) => firm,
     }
 }
@@ -76,7 +89,7 @@ pub(crate) fn command_word<'a>(command: &VenueCommand<'a>) -> &'a [u8]
         VenueCommand::Day { .. } => b"",
         VenueCommand::Live { .. } => b"",
         VenueCommand::Kept(wanted) => wanted_word(*wanted),
-        VenueCommand::Due { dealer } => dealer.as_bytes(),
+        VenueCommand::Due { dealer } => dealer.unwrap_or("").as_bytes(),
         VenueCommand::Compare { dealer } => dealer.as_bytes(),
         VenueCommand::Compared { dealer } => dealer.as_bytes(),
         VenueCommand::Blotter { firm } => firm.as_bytes(),

@@ -122,14 +122,14 @@ dealer_is_known config name dealer is =
 
 -- and it is the one that the day has
 dealer_of : (found : Result ℕ ProgramFault) (has : Asked)
-    → (found >>= (λ (dealer : ℕ). Ok (by_number.Due dealer))) ≡ Ok has
-    → (dealer : ℕ) × (found ≡ Ok dealer) × (has ≡ by_number.Due dealer)
+    → ((found >>= (λ (dealer : ℕ). Ok (Some dealer))) >>= (λ (only : Option ℕ). Ok (by_number.Due only))) ≡ Ok has
+    → (dealer : ℕ) × (found ≡ Ok dealer) × (has ≡ by_number.Due (Some dealer))
 dealer_of (Ok dealer) has is = (dealer, refl, cc)
 dealer_of (Err fault) has is = cc
 
 pub dealer_is_asked : (name : List ℕ) (config : Configuration) (taken : Taken) (kept : KeptDay)
-    → Keeps (dues name) config taken kept
+    → Keeps (dues (Some name)) config taken kept
     → (dealer : ℕ) × (dealer_by name (values_of config) ≡ Ok dealer)
-    × (kept.asked ≡ by_number.Due dealer)
+    × (kept.asked ≡ by_number.Due (Some dealer))
 dealer_is_asked name config taken kept keeps =
     dealer_of (dealer_by name (values_of config)) kept.asked keeps.asked_is

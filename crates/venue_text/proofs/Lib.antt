@@ -2,6 +2,7 @@ pub mod ArrivalLemmas
 pub mod AskedLemmas
 pub mod CompareLemmas
 pub mod DayLemmas
+pub mod DueLemmas
 pub mod FieldLemmas
 pub mod FirmLineLemmas
 pub mod KeptLemmas

@@ -32,6 +32,13 @@ firms_by (Some name) config = do
   firm ← firm_by name config
   Ok (Some firm)
 
+-- DEALER, which may be left out: one dealer, or all
+abbrev pub dealers_by : Option (List ℕ) → ConfigValues → Result (Option ℕ) ProgramFault
+dealers_by None config = Ok None
+dealers_by (Some name) config = do
+  dealer ← dealer_by name config
+  Ok (Some dealer)
+
 -- What the parts of one day spell, and what the argument names in its venue: a fault of the
 -- configuration is told first, then that of the argument, then the first of the lines of steps.
 abbrev pub day_for : {A : Type 0} → (ConfigValues → Result A ProgramFault) → DayParts

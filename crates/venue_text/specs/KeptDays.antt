@@ -1,16 +1,14 @@
 -- A day that comes line by line, and of which something is printed at its end: `replay`, `due` and
 -- `blotter` with `--live`.
-use Rattle.std.specs.Prelude.{◌≡◌, ℕ, Bool, List, [], ◌++◌, slice_get, Option, Some, None, Result, Ok}
+use Rattle.std.specs.Prelude.{◌≡◌, ℕ, Bool, List, [], ◌++◌, slice_get, Option, Result, Ok}
 use Rattle.std.specs.Option.{option_map, option_to_list}
-use Rattle.venue_rows.specs.Rows.{ConfigValues, Configuration, dealer_numbered, values_of}
-use Rattle.venue_rows.specs.declared.dealer_rows.DealerRow.{DealerRow}
-use Rattle.step_replay.specs.AuditTrail.{due_to}
+use Rattle.venue_rows.specs.Rows.{ConfigValues, Configuration, values_of}
 use Rattle.step_replay.specs.FirmDays.{firm_days}
 use Rattle.step_replay.specs.LiveDays.{live_trail}
 use Rattle.step_replay.specs.declared.steps.Step.{Step}
-use Rattle.venue_text.specs.AskedDays.{dealer_by, firm_by, firms_by}
+use Rattle.venue_text.specs.AskedDays.{dealers_by, firm_by, firms_by}
 use Rattle.venue_text.specs.BlotterCommand as blotters
-use Rattle.venue_text.specs.DueCommand.{due_text}
+use Rattle.venue_text.specs.DueCommand.{due_texts}
 use Rattle.venue_text.specs.LiveAnswers.{Goes}
 use Rattle.venue_text.specs.LiveLines.{Taken, nothing_taken, with_any_line}
 use Rattle.venue_text.specs.ReplayText.{days_text, named_days}
@@ -27,14 +25,14 @@ use Rattle.venue_text.specs.declared.kept_days.Wanted.TheVariants as rust
 pub data Wanted : Type 0 where
   -- the messages of all firms, or of the firm with this name, as whole frames or as lines of fields
   messages : Option (List ℕ) → Bool → Wanted
-  -- the due text of the dealer with this name
-  dues : List ℕ → Wanted
+  -- the due text of all dealers, or of the dealer with this name
+  dues : Option (List ℕ) → Wanted
   -- the blotter of the firm with this name
   blotter : List ℕ → Wanted
 
 abbrev pub meant : RustWanted → Wanted
 meant (rust.Messages name frames) = messages (option_map (λ text. text.now) name) frames
-meant (rust.Due name) = dues name.now
+meant (rust.Due name) = dues (option_map (λ text. text.now) name)
 meant (rust.Blotter name) = blotter name.now
 
 -- the same by the numbers of the firms, or the fault of a name
@@ -43,8 +41,8 @@ asked_in (messages name frames) config = do
   only ← firms_by name config
   Ok (asked.Messages only frames)
 asked_in (dues name) config = do
-  dealer ← dealer_by name config
-  Ok (asked.Due dealer)
+  only ← dealers_by name config
+  Ok (asked.Due only)
 asked_in (blotter name) config = do
   firm ← firm_by name config
   Ok (asked.Blotter firm)
@@ -57,16 +55,10 @@ asked_venue wanted text = do
 
 -- What is printed of steps: what the command prints of them without `--live`, where each step is
 -- followed by the turns of its actor that leave none.
-abbrev pub due_text_of : Configuration → ℕ → List Step → Option DealerRow → List ℕ
-due_text_of config dealer steps None = []
-due_text_of config dealer steps (Some row) =
-    due_text config.date row (due_to dealer (live_trail config steps))
-
 abbrev pub text_of_asked : Configuration → List Step → Asked → List ℕ
 text_of_asked config steps (asked.Messages only frames) =
     days_text frames only (named_days config (firm_days config (live_trail config steps).facts))
-text_of_asked config steps (asked.Due dealer) =
-    due_text_of config dealer steps (dealer_numbered config dealer)
+text_of_asked config steps (asked.Due only) = due_texts only config (live_trail config steps)
 text_of_asked config steps (asked.Blotter firm) =
     blotters.blotter_of (slice_get (firm_days config (live_trail config steps).facts) firm)
 

@@ -10,7 +10,7 @@ ghost use Rattle.venue_text.specs.AskedDays as spec;
 use input_lines::{DayParts, ProgramFault, asked_dealer, asked_firm, read_steps, read_venue};
 use std::alloc::Global;
 use step_replay::{Due, ReplayFault, Step, World, due, run};
-use venue_rows::{DealerRow, VenueConfig};
+use venue_rows::VenueConfig;
 
 /// A venue, the number of the firm that an argument names in it, and the steps of a day.
 #[derive(Drop)]
@@ -20,7 +20,7 @@ pub(crate) struct AskedDay {
     pub(crate) steps: Vec<Step>,
 }
 
-/// A venue, the number of a firm where an argument names one, and the steps of a day.
+/// A venue, the number of a firm or a dealer where an argument names one, and the steps of a day.
 #[derive(Drop)]
 pub(crate) struct OpenDay {
     pub(crate) venue: VenueConfig,
@@ -92,6 +92,27 @@ pub(crate) fn read_open_day(
     Ok(OpenDay { venue, only, steps })
 }
 
+/// Reads a day for DEALER, which may be left out.
+pub(crate) fn read_open_dealers_day(
+    alloc: Global,
+    parts: DayParts<'_>,
+    name: Option<&[u8]>,
+) -> Result<OpenDay, ProgramFault>
+    ensures ok { IfOk result (λ day. spec.day_for (spec.dealers_by (option_copied name.entry))
+        (record { config = parts.entry.config.now; steps = parts.entry.steps })
+        ≡ Ok (day.only, record { config = values_of day.venue; steps = day.steps.items })) }
+    ensures err { IfErr result (λ fault. fault ≢ ProgramFault.Memory
+        → spec.day_for (spec.dealers_by (option_copied name.entry))
+        (record { config = parts.entry.config.now; steps = parts.entry.steps }) ≡ Err fault) }
+    ensures unwritten { IfErr result (λ fault. fault ≢ ProgramFault.Write) }
+    ensures known { IfOk result (λ day. first_fault day.venue day.steps.items ≡ None) }
+{
+    let venue = read_venue(alloc, parts.config)?;
+    let only = asked_dealers(&venue, name)?;
+    let steps = read_steps(alloc, &venue, parts.steps)?;
+    Ok(OpenDay { venue, only, steps })
+}
+
 /// The number of the firm that an argument names, if there is an argument.
 pub(crate) fn asked_firms(
     venue: &VenueConfig,
@@ -104,6 +125,20 @@ pub(crate) fn asked_firms(
     };
     let firm = asked_firm(venue, name)?;
     Ok(Some(firm))
+}
+
+/// The number of the dealer that an argument names, if there is an argument.
+pub(crate) fn asked_dealers(
+    venue: &VenueConfig,
+    name: Option<&[u8]>,
+) -> Result<Option<u16>, ProgramFault>
+    ensures { result ≡ spec.dealers_by (option_copied name.entry) (values_of venue.now) }
+{
+    let Some(name) = name else {
+        return Ok(None);
+    };
+    let dealer = asked_dealer(venue, name)?;
+    Ok(Some(dealer))
 }
 
 /// The venue after a day each step of which names what the venue has: only memory can be refused.
@@ -149,15 +184,4 @@ fn refused(fault: ReplayFault) -> ProgramFault
 {
     let _ = fault;
     ProgramFault::Memory
-}
-
-/// The row of a dealer.
-pub(crate) fn dealer_row(venue: &VenueConfig, dealer: u16) -> &DealerRow
-    requires { IsSome (dealer_numbered venue.now dealer) }
-    ensures { dealer_numbered venue.now dealer ≡ Some result.now }
-{
-    let Some(row) = venue.dealer(dealer) else {
-        unreachable!();
-    };
-    row
 }

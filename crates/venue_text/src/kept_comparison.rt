@@ -1,5 +1,5 @@
 //! What `compare --live` prints.
-ghost use Rattle.std.specs.Prelude.{◌≡◌, ℕ, [], List, IfOk, IsSome};
+ghost use Rattle.std.specs.Prelude.{◌≡◌, ℕ, [], List, Some, IfOk, IsSome};
 ghost use Rattle.step_replay.specs.LiveStanding.{IsAt};
 ghost use Rattle.step_replay.specs.declared.steps.Step.{Step};
 ghost use Rattle.venue_rows.specs.Rows.{Configuration, dealer_numbered};
@@ -20,8 +20,8 @@ use std::alloc::Global;
 /// [`compare_text`](crate::compare_text) has them.
 pub fn compared_text(alloc: Global, one: KeptDay, other: KeptDay) -> Result<Vec<u8>, Memory>
     ensures { IfOk result (λ text. (name : List ℕ) (config other_config : Configuration)
-        (taken other_taken : Taken) → Keeps (dues name) config taken one
-        → Keeps (dues name) other_config other_taken other
+        (taken other_taken : Taken) → Keeps (dues (Some name)) config taken one
+        → Keeps (dues (Some name)) other_config other_taken other
         → spec.IsKeptComparison name config taken.steps other_config other_taken.steps
         text.items) }
 {
@@ -36,10 +36,10 @@ pub fn compared_text(alloc: Global, one: KeptDay, other: KeptDay) -> Result<Vec<
 
 /// The number of the dealer whose due text is asked for.
 fn dealer_of(asked: Asked) -> u16
-    ensures { (dealer : ℕ) → asked ≡ Asked.Due dealer → result ≡ dealer }
+    ensures { (dealer : ℕ) → asked ≡ Asked.Due (Some dealer) → result ≡ dealer }
 {
     match asked {
-        Asked::Due(dealer) => dealer,
+        Asked::Due(dealer) => dealer.unwrap_or(0),
         Asked::Messages(_, _) => 0,
         Asked::Blotter(_) => 0,
     }

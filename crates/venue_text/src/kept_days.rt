@@ -1,19 +1,23 @@
 //! A day that comes line by line, and of which something is printed at its end.
-ghost use Rattle.std.specs.Prelude.{◌≡◌, ◌≢◌, List, Err, IfOk, IfErr};
+ghost use Rattle.std.specs.Prelude.{◌≡◌, ◌≢◌, ◌++◌, List, Err, IfOk, IfErr, OnOk};
+ghost use Rattle.std.specs.List.{flat_map};
+ghost use Rattle.step_replay.specs.LiveDays.{live_trail};
 ghost use Rattle.step_replay.specs.LiveStanding.{IsAt};
 ghost use Rattle.step_replay.specs.declared.steps.Step.{Step};
 ghost use Rattle.venue_rows.specs.Rows.{Configuration, values_of};
+ghost use Rattle.venue_text.specs.DueCommand.{dealer_text, numbered_dealers};
 ghost use Rattle.venue_text.specs.KeptDays as spec;
 ghost use Rattle.venue_text.specs.LiveLines.{Taken};
+ghost use Rattle.venue_text.specs.ReplayText.{one_at};
 
 use crate::blotter_command::lines_text;
-use crate::day_arguments::asked_firms;
-use crate::due_command::written_text;
+use crate::day_arguments::{asked_dealers, asked_firms};
+use crate::due_command::push_due_text;
 use crate::live_form::LiveForm;
 use crate::live_lines::LiveDay;
 use crate::replay_command::days_text;
 use fix_fields::Memory;
-use input_lines::{ProgramFault, asked_dealer, asked_firm};
+use input_lines::{ProgramFault, asked_firm};
 use std::alloc::Global;
 use venue_rows::VenueConfig;
 
@@ -22,8 +26,8 @@ use venue_rows::VenueConfig;
 pub enum Wanted<'a> {
     /// The messages of all firms, or of the firm with this name, as whole frames or as lines.
     Messages(Option<&'a [u8]>, bool),
-    /// What was due to the dealer with this name, as due text.
-    Due(&'a [u8]),
+    /// What was due to each dealer, or to the dealer with this name, as due text.
+    Due(Option<&'a [u8]>),
     /// The blotter of the firm with this name.
     Blotter(&'a [u8]),
 }
@@ -33,8 +37,8 @@ pub enum Wanted<'a> {
 pub(crate) enum Asked {
     /// The messages of all firms or of one, as whole frames or as lines.
     Messages(Option<u16>, bool),
-    /// What was due to a dealer.
-    Due(u16),
+    /// What was due to each dealer, or to one.
+    Due(Option<u16>),
     /// The blotter of a firm.
     Blotter(u16),
 }
@@ -92,8 +96,8 @@ impl KeptDay {
                 let text = messages_of(alloc, self.day, only, frames)?;
                 Ok(text)
             }
-            Asked::Due(dealer) => {
-                let text = due_text_of(alloc, &self.day, dealer)?;
+            Asked::Due(only) => {
+                let text = texts_of_dues(alloc, &self.day, only)?;
                 Ok(text)
             }
             Asked::Blotter(firm) => {
@@ -115,8 +119,8 @@ fn asked_of(config: &VenueConfig, wanted: Wanted<'_>) -> Result<Asked, ProgramFa
             Ok(Asked::Messages(only, frames))
         }
         Wanted::Due(name) => {
-            let dealer = asked_dealer(config, name)?;
-            Ok(Asked::Due(dealer))
+            let only = asked_dealers(config, name)?;
+            Ok(Asked::Due(only))
         }
         Wanted::Blotter(name) => {
             let firm = asked_firm(config, name)?;
@@ -141,17 +145,46 @@ fn messages_of(
     Ok(text)
 }
 
-/// What was due to a dealer, as due text: nothing where no dealer has this number.
-fn due_text_of(alloc: Global, day: &LiveDay, dealer: u16) -> Result<Vec<u8>, Memory>
+/// The due texts of the dealers that are asked for.
+fn texts_of_dues(alloc: Global, day: &LiveDay, only: Option<u16>) -> Result<Vec<u8>, Memory>
     ensures { IfOk result (λ text. (steps : List Step) → IsAt day.now.config steps day.now.venue
-        → text.items ≡ spec.text_of_asked day.now.config steps (Asked.Due dealer)) }
+        → text.items ≡ spec.text_of_asked day.now.config steps (Asked.Due only)) }
+{
+    let mut text = Vec::new(alloc);
+    let Some(dealer) = only else {
+        push_dealers(&mut text, day)?;
+        return Ok(text);
+    };
+    push_dealer(&mut text, day, dealer)?;
+    Ok(text)
+}
+
+/// The due texts of all dealers.
+fn push_dealers(text: &mut Vec<u8>, day: &LiveDay) -> Result<(), Memory>
+    ensures { OnOk result ((steps : List Step) → IsAt day.now.config steps day.now.venue
+        → text.new.items ≡ text.old.items
+        ++ flat_map (dealer_text day.now.config (live_trail day.now.config steps))
+        (numbered_dealers day.now.config)) }
+{
+    for dealer in 0..day.config.dealer_count() {
+        push_dealer(text, day, dealer)?;
+    }
+    Ok(())
+}
+
+/// The due text of the dealer with this number: nothing where no dealer has it.
+fn push_dealer(text: &mut Vec<u8>, day: &LiveDay, dealer: u16) -> Result<(), Memory>
+    ensures { OnOk result ((steps : List Step) → IsAt day.now.config steps day.now.venue
+        → text.new.items ≡ text.old.items
+        ++ flat_map (dealer_text day.now.config (live_trail day.now.config steps))
+        (one_at dealer (numbered_dealers day.now.config))) }
 {
     let Some(row) = day.config.dealer(dealer) else {
-        return Ok(Vec::new(alloc));
+        return Ok(());
     };
-    let dues = day.venue.due(alloc, dealer)?;
-    let text = written_text(alloc, day.config.date(), row, dues.as_slice())?;
-    Ok(text)
+    let dues = day.venue.due(*text.allocator(), dealer)?;
+    push_due_text(text, day.config.date(), row, dues.as_slice())?;
+    Ok(())
 }
 
 /// The blotter of a firm.

@@ -1,5 +1,5 @@
-use Rattle.venue_commands.proofs.StreamLemmas.{fault_left, printed_err, printed_ok}
-use Rattle.venue_commands.specs.Arguments.{meant}
+use Rattle.venue_commands.proofs.PrintLemmas.{fault_left, printed_err, printed_ok}
+use Rattle.command_arguments.specs.Arguments.{meant}
 use Rattle.venue_commands.proofs.program.print_command.Goals as goal
 
 pub returns-in-Err-clause-err : goal.returns-in-Err-clause-err

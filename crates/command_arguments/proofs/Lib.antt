@@ -1,0 +1,6 @@
+pub mod AppLemmas
+pub mod LawfulArguments
+pub mod TableEnds
+pub mod TableRows
+pub mod TableTurns
+pub mod WordLemmas

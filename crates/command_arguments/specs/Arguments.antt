@@ -1,0 +1,298 @@
+-- The arguments of the program's commands, and what is wrong with arguments that are no command.
+use Rattle.std.specs.Prelude.{◌≡◌, ◌<◌, ◌==◌, ◌&&◌, Bool, true, false, not, List, [], ◌∷◌, ◌++◌}
+use Rattle.std.specs.Prelude.{Option, Some, None, length, codes, find, fold, map}
+use Rattle.std.specs.Prelude.{string_bytes, if◌then◌else◌, is_some, option_and_then, option_map}
+use Rattle.std.specs.Prelude.{slice_get, unwrap_or}
+use Rattle.std.specs.List.{list_any}
+use Rattle.std.specs.Str.{bytes_eq, chars}
+use Rattle.clap.specs.Simple.{Shape, on_top}
+use Rattle.clap.specs.Words.{App, Kinds, Rule, Text, fault_of, new_app, new_rule, with_rule}
+use Rattle.clap.specs.Words.{app_of, with_subcommand}
+use Rattle.clap.specs.declared.builder.command.Command.{Command as Built}
+use Rattle.clap.specs.declared.builder.command.Command.TheViews.{out-Command}
+use Rattle.clap.specs.declared.builder.action.ArgAction.TheVariants.{SetTrue}
+use Rattle.clap.specs.declared.error.kind.ErrorKind.{ErrorKind}
+use Rattle.clap.specs.declared.error.kind.ErrorKind.TheVariants as kind
+use Rattle.venue_text.specs.KeptDays as kept_days
+use Rattle.venue_text.specs.KeptDays.{Wanted, dues, messages}
+use Rattle.venue_text.specs.declared.live_form.LiveForm.{LiveForm}
+use Rattle.command_arguments.specs.declared.command.Flags.{Flags}
+use Rattle.command_arguments.specs.declared.command.Told.{Told}
+use Rattle.command_arguments.specs.declared.command.Told.TheVariants as told
+use Rattle.command_arguments.specs.declared.command.VenueCommand.{VenueCommand}
+use Rattle.command_arguments.specs.declared.table.CommandLine.{CommandLine}
+use Rattle.command_arguments.specs.declared.table.WordLine.{WordLine}
+use Rattle.command_arguments.specs.declared.command.VenueCommand.TheVariants as rust
+
+-- What a command asks for.
+pub data Command : Type 0 where
+  -- the messages of the dealer whose due text is read, as whole frames or as lines of fields
+  alone : Bool → Command
+  -- all firms' messages of a day, or those of the firm with this name
+  replay : Option Text → Bool → Command
+  -- the messages, the due text or the blotter of a day that comes line by line, as `live` takes it
+  kept : Wanted → Command
+  -- all firms' messages of a day on threads, and with the second flag the number of the steps into
+  -- which it is woven
+  day : Bool → Bool → Command
+  -- a day that goes on, line by line, printed in this form
+  live : LiveForm → Command
+  -- the due text of each dealer, or of the dealer with this name
+  due : Option Text → Command
+  -- what differs for the dealer with this name between two days
+  compare : Text → Command
+  -- the same of two days that come line by line, as `live` takes them
+  compared : Text → Command
+  -- the blotter of the firm with this name
+  blotter : Text → Command
+
+-- The words behind a command's name.
+
+-- a word behind which no word is a flag
+abbrev pub is_dashes : Text → Bool
+is_dashes word = bytes_eq word (codes "--")
+
+-- a word that is read as flags: a hyphen, and at least one character behind it
+abbrev pub is_flag : Text → Bool
+is_flag [] = false
+is_flag (first ∷ rest) = first == 45 && is_some (slice_get (chars rest) 0)
+
+-- the flags among the words
+abbrev pub flags_in : List Text → List Text
+flags_in [] = []
+flags_in (word ∷ rest) =
+    if is_dashes word then []
+    else (if is_flag word then word ∷ flags_in rest else flags_in rest)
+
+-- the other words
+abbrev pub plain_in : List Text → List Text
+plain_in [] = []
+plain_in (word ∷ rest) =
+    if is_dashes word then rest
+    else (if is_flag word then plain_in rest else word ∷ plain_in rest)
+
+-- a text is one of these
+abbrev pub is_among : Text → List Text → Bool
+is_among text texts = list_any (λ other. bytes_eq other text) texts
+
+-- the flag of a name
+abbrev pub spelled : Text → Text
+spelled name = codes "--" ++ name
+
+-- each of the flags is one of these, and is given once
+abbrev pub are_flags : List Text → List Text → Bool
+are_flags own [] = true
+are_flags own (flag ∷ rest) =
+    is_among flag own && (not (is_among flag rest) && are_flags own rest)
+
+-- which of the program's flags are given
+abbrev pub given : List Text → Flags
+given flags = record {
+  frames = is_among (codes "--frames") flags;
+  woven = is_among (codes "--woven") flags;
+  marks = is_among (codes "--marks") flags;
+  live = is_among (codes "--live") flags;
+}
+
+-- How many words a command takes.
+pub data Words : Type 0 where
+  no_word : Words
+  one_or_none : Words
+  one_word : Words
+
+-- so many words there are
+abbrev pub are_words : Words → List Text → Bool
+are_words no_word [] = true
+are_words one_or_none [] = true
+are_words one_word [] = false
+are_words no_word (word ∷ []) = false
+are_words one_or_none (word ∷ []) = true
+are_words one_word (word ∷ []) = true
+are_words words (word ∷ more ∷ rest) = false
+
+-- The table of the commands: a command's name, the names of its flags, how many words it takes, and
+-- what it asks for by its word and by the flags that are given.
+pub record Line : Type 0 where
+  pub name : Text
+  pub flags : List Text
+  pub words : Words
+  pub asks : Option Text → Flags → Command
+
+-- the names of the flags
+abbrev pub frames_flag : Text
+frames_flag = codes "frames"
+
+abbrev pub woven_flag : Text
+woven_flag = codes "woven"
+
+abbrev pub marks_flag : Text
+marks_flag = codes "marks"
+
+abbrev pub live_flag : Text
+live_flag = codes "live"
+
+-- a replay, a due text, a comparison and a blotter, by the flags
+abbrev pub replay_by : Option Text → Flags → Command
+replay_by word flags =
+    if flags.live then kept (messages word flags.frames) else replay word flags.frames
+
+abbrev pub due_by : Option Text → Flags → Command
+due_by dealer flags = if flags.live then kept (dues dealer) else due dealer
+
+abbrev pub compare_by : Text → Flags → Command
+compare_by dealer flags = if flags.live then compared dealer else compare dealer
+
+abbrev pub blotter_by : Text → Flags → Command
+blotter_by firm flags = if flags.live then kept (kept_days.blotter firm) else blotter firm
+
+-- the form that the flags ask for
+abbrev pub form_by : Flags → LiveForm
+form_by flags = record { frames = flags.frames; marks = flags.marks }
+
+abbrev pub line : Text → List Text → Words → (Option Text → Flags → Command) → Line
+line name flags words asks = record { name = name; flags = flags; words = words; asks = asks }
+
+abbrev pub commands : List Line
+commands =
+    line (codes "alone") (frames_flag ∷ []) no_word (λ word flags. alone flags.frames)
+    ∷ line (codes "replay") (frames_flag ∷ live_flag ∷ []) one_or_none replay_by
+    ∷ line (codes "day") (frames_flag ∷ woven_flag ∷ []) no_word
+    (λ word flags. day flags.frames flags.woven)
+    ∷ line (codes "due") (live_flag ∷ []) one_word
+    (λ word flags. due_by (Some (unwrap_or word [])) flags)
+    ∷ line (codes "dues") (live_flag ∷ []) no_word (λ word flags. due_by None flags)
+    ∷ line (codes "compare") (live_flag ∷ []) one_word
+    (λ word flags. compare_by (unwrap_or word []) flags)
+    ∷ line (codes "blotter") (live_flag ∷ []) one_word
+    (λ word flags. blotter_by (unwrap_or word []) flags)
+    ∷ line (codes "live") (frames_flag ∷ marks_flag ∷ []) no_word (λ word flags. live (form_by flags))
+    ∷ []
+
+-- the line of a name
+abbrev pub line_of : Text → List Line → Option Line
+line_of name lines = find (λ l. bytes_eq l.name name) lines
+
+-- what a line asks for by these words and flags, where they are its own
+abbrev pub asked_by : List Text → List Text → Line → Option Command
+asked_by words flags l =
+    if are_words l.words words && are_flags (map spelled l.flags) flags
+    then Some (l.asks (slice_get words 0) (given flags)) else None
+
+-- The command that arguments ask for, where they are those of one. No arguments at all mean
+-- `alone`.
+abbrev pub command_of : List Text → Option Command
+command_of [] = Some (alone false)
+command_of (name ∷ rest) =
+    option_and_then (asked_by (plain_in rest) (flags_in rest)) (line_of name commands)
+
+-- a command by its name, the word that was found for it, and the flags that were
+abbrev pub named_command : Text → Option Text → Flags → Command
+named_command name firm flags =
+    if bytes_eq name (codes "alone") then alone flags.frames
+    else (if bytes_eq name (codes "replay") then replay_by firm flags
+    else (if bytes_eq name (codes "day") then day flags.frames flags.woven
+    else (if bytes_eq name (codes "live") then live (form_by flags)
+    else (if bytes_eq name (codes "due") then due_by (Some (unwrap_or firm [])) flags
+    else (if bytes_eq name (codes "dues") then due_by None flags
+    else (if bytes_eq name (codes "compare") then compare_by (unwrap_or firm []) flags
+    else blotter_by (unwrap_or firm []) flags))))))
+
+-- the command of the code's type
+abbrev pub meant : VenueCommand → Command
+meant (rust.Alone frames) = alone frames
+meant (rust.Replay firm frames) = replay (option_map (λ word. word.now) firm) frames
+meant (rust.Kept wanted) = kept (kept_days.meant wanted)
+meant (rust.Day frames woven) = day frames woven
+meant (rust.Live form) = live form
+meant (rust.Due dealer) = due (option_map (λ word. word.now) dealer)
+meant (rust.Compare dealer) = compare dealer.now
+meant (rust.Compared dealer) = compared dealer.now
+meant (rust.Blotter firm) = blotter firm.now
+
+-- The same as clap reads it.
+
+-- a flag
+abbrev pub flag_rule : Text → Rule
+flag_rule name = record (new_rule name) { long = Some name; action = Some SetTrue }
+
+-- the word that names a firm
+abbrev pub word_rule : Bool → Rule
+word_rule required = record (new_rule (codes "firm")) { value_names = 1; required = required }
+
+abbrev pub word_rules : Words → List Rule
+word_rules no_word = []
+word_rules one_or_none = word_rule false ∷ []
+word_rules one_word = word_rule true ∷ []
+
+-- a command of this name, with these flags and words
+abbrev pub leaf_app : Text → List Text → Words → App
+leaf_app name flags words =
+    fold with_rule (new_app name) (map flag_rule flags ++ word_rules words)
+
+-- a command of the table
+abbrev pub line_app : Line → App
+line_app l = leaf_app l.name l.flags l.words
+
+-- how many words a command of the code's table takes, the command itself, and a program with such
+-- commands more
+abbrev pub words_of : Option WordLine → Words
+words_of None = no_word
+words_of (Some word) = if word.required then one_word else one_or_none
+
+abbrev pub told_app : CommandLine → App
+told_app l = leaf_app l.name.now (map (λ flag. flag.name.now) l.flags.now) (words_of l.word)
+
+abbrev pub with_told : App → List CommandLine → App
+with_told app lines = fold (λ app l. with_subcommand app (told_app l).top) app lines
+
+-- the program's settings
+abbrev pub settings : Shape → Shape
+settings s = record s { has_version = true; no_binary_name = true; subcommand_required = true }
+
+-- the program, which has a version and wants one of its commands; its own name is not among the
+-- arguments
+abbrev pub program_app : App
+program_app = on_top settings (new_app (codes "rfq_venue"))
+
+-- the program with these commands
+abbrev pub with_lines : List Line → App
+with_lines lines = fold (λ app l. with_subcommand app (line_app l).top) program_app lines
+
+-- the whole program
+abbrev pub venue_app : App
+venue_app = with_lines commands
+
+-- a command that is built is this one, and has no argument that those below it share
+abbrev pub IsAppOf : App → Built → Type 0
+IsAppOf app command = (app_of command ≡ app) × ((out-Command command).has_globals ≡ false)
+
+-- What clap finds wrong with arguments, as the kinds that its error may have.
+unfoldable pub arguments_fault : List Text → Kinds
+arguments_fault arguments = fault_of venue_app arguments
+
+-- the arguments ask for help or for the version, which clap tells as an error
+abbrev pub is_help : ErrorKind → Bool
+is_help kind.DisplayHelp = true
+is_help kind.DisplayVersion = true
+is_help _ = false
+
+-- the arguments are wrong
+abbrev pub is_mistake : ErrorKind → Bool
+is_mistake kind.DisplayHelp = false
+is_mistake kind.DisplayVersion = false
+is_mistake kind.OutOfMemory = false
+is_mistake _ = true
+
+-- some error that the arguments may have asks for help
+abbrev pub may_be_help : Kinds → Bool
+may_be_help kinds = list_any is_help kinds
+
+-- some error that the arguments may have is a mistake
+abbrev pub may_be_mistake : Kinds → Bool
+may_be_mistake kinds = list_any is_mistake kinds
+
+-- what is told of an error of a kind: a text that is not empty, unless memory was refused
+abbrev pub IsToldOf : ErrorKind → Told → Type 0
+IsToldOf k (told.Help text) = (is_help k ≡ true) × (0 < length (string_bytes text))
+IsToldOf k (told.Wrong text) = (is_mistake k ≡ true) × (0 < length (string_bytes text))
+IsToldOf k told.Memory = Unit {0}

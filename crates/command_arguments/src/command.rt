@@ -1,0 +1,365 @@
+//! The arguments of a command.
+ghost use Rattle.std.specs.Prelude.{◌≡◌, ◌↔◌, ℕ, List, [], ◌∷◌, Some, None, codes, map};
+ghost use Rattle.std.specs.Prelude.{◌<◌, IfOk, IfErr, is_some, length, option_map, true, false};
+ghost use Rattle.clap.specs.Words.{App, HasKind, kind_of, rule_of};
+ghost use Rattle.command_arguments.specs.Arguments as spec;
+
+use crate::help::{ABOUT, READS, VERSION};
+use crate::table::{COMMANDS, CommandLine, FlagLine, WordLine};
+use clap::error::ErrorKind;
+use clap::{Arg, ArgAction, Command, Error};
+use fix_fields::Memory;
+use std::alloc::Global;
+use std::convert::AsStr;
+use venue_text::{LiveForm, Wanted};
+
+/// What a command asks for.
+#[derive(Clone, Copy)]
+pub enum VenueCommand<'a> {
+    /// The messages of the dealer whose due text is read.
+    Alone {
+        /// Each message is printed as its whole frame.
+        frames: bool,
+    },
+    /// All firms' messages of a day.
+    Replay {
+        /// Those of the firm with this name alone.
+        firm: Option<&'a str>,
+        /// Each message is printed as its whole frame.
+        frames: bool,
+    },
+    /// The messages, the due text or the blotter of a day that comes line by line, as `live` takes
+    /// it.
+    Kept(Wanted<'a>),
+    /// All firms' messages of a day on threads.
+    Day {
+        /// Each message is printed as its whole frame.
+        frames: bool,
+        /// Behind them stands into how many steps the day is woven.
+        woven: bool,
+    },
+    /// A day that goes on: the messages of each line as it comes.
+    Live {
+        /// How it is printed.
+        form: LiveForm,
+    },
+    /// The due text of each dealer.
+    Due {
+        /// That of the dealer with this name alone.
+        dealer: Option<&'a str>,
+    },
+    /// What differs for a dealer between two days.
+    Compare {
+        /// Its name.
+        dealer: &'a str,
+    },
+    /// The same of two days that come line by line, as `live` takes them.
+    Compared {
+        /// Its name.
+        dealer: &'a str,
+    },
+    /// The blotter of a firm.
+    Blotter {
+        /// Its name.
+        firm: &'a str,
+    },
+}
+
+/// What is told of arguments that are not those of a command.
+#[derive(Drop)]
+pub enum Told {
+    /// They ask for this help, or for the version.
+    Help(String),
+    /// They are wrong, and this says why.
+    Wrong(String),
+    /// Memory was refused.
+    Memory,
+}
+
+/// Which of the program's flags are given.
+#[derive(Clone, Copy)]
+pub(crate) struct Flags {
+    /// `--frames`: each message is printed as its whole frame.
+    pub(crate) frames: bool,
+    /// `--woven`: behind the messages of a day stands into how many steps it is woven.
+    pub(crate) woven: bool,
+    /// `--marks`: behind the messages of a line stands its mark.
+    pub(crate) marks: bool,
+    /// `--live`: the day is taken as `live` takes it.
+    pub(crate) live: bool,
+}
+
+/// The command that arguments ask for, or what is wrong with arguments that are not those of one.
+pub fn read_command<'a, S: AsStr>(
+    alloc: Global,
+    arguments: &'a [S],
+) -> Result<VenueCommand<'a>, Error>
+    requires { 0 < length arguments.now }
+    ensures ok { IfOk result (λ command.
+        spec.command_of (map S.text arguments.entry.now) ≡ Some (spec.meant command)) }
+    ensures none { IfOk result (λ _. spec.arguments_fault (map S.text arguments.entry.now) ≡ []) }
+    ensures err { IfErr result (HasKind (spec.arguments_fault (map S.text arguments.entry.now))) }
+{
+    let matches = venue_command(alloc)?.try_get_matches_from(arguments)?;
+    let Some((name, words)) = matches.subcommand() else {
+        return Ok(VenueCommand::Alone { frames: false });
+    };
+    let frames = words.get_flag("frames");
+    let woven = words.get_flag("woven");
+    let marks = words.get_flag("marks");
+    let live = words.get_flag("live");
+    let flags = Flags {
+        frames,
+        woven,
+        marks,
+        live,
+    };
+    let command = command_named(name, words.get_str("firm"), flags);
+    Ok(command)
+}
+
+/// The command with this name, by the word that was found for it and the flags that were.
+fn command_named<'a>(name: &str, firm: Option<&'a str>, flags: Flags) -> VenueCommand<'a>
+    ensures { spec.meant result
+        ≡ spec.named_command name.now (option_map (λ word. word.now) firm.entry) flags }
+{
+    if name == "alone" {
+        return VenueCommand::Alone {
+            frames: flags.frames,
+        };
+    }
+    if name == "replay" {
+        return replay_by(firm, flags);
+    }
+    if name == "day" {
+        return VenueCommand::Day {
+            frames: flags.frames,
+            woven: flags.woven,
+        };
+    }
+    if name == "live" {
+        return VenueCommand::Live {
+            form: form_by(flags),
+        };
+    }
+    let word = firm.unwrap_or("");
+    if name == "due" {
+        return due_by(Some(word), flags);
+    }
+    if name == "dues" {
+        return due_by(None, flags);
+    }
+    if name == "compare" {
+        return compare_by(word, flags);
+    }
+    blotter_by(word, flags)
+}
+
+/// A due text, by the flags that are given.
+fn due_by<'a>(dealer: Option<&'a str>, flags: Flags) -> VenueCommand<'a>
+    ensures { spec.meant result ≡ spec.due_by (option_map (λ word. word.now) dealer.entry) flags }
+{
+    if flags.live {
+        return VenueCommand::Kept(Wanted::Due(word_bytes(dealer)));
+    }
+    VenueCommand::Due { dealer }
+}
+
+/// A comparison, by the flags that are given.
+fn compare_by<'a>(dealer: &'a str, flags: Flags) -> VenueCommand<'a>
+    ensures { spec.meant result ≡ spec.compare_by dealer.now flags }
+{
+    if flags.live {
+        return VenueCommand::Compared { dealer };
+    }
+    VenueCommand::Compare { dealer }
+}
+
+/// A blotter, by the flags that are given.
+fn blotter_by<'a>(firm: &'a str, flags: Flags) -> VenueCommand<'a>
+    ensures { spec.meant result ≡ spec.blotter_by firm.now flags }
+{
+    if flags.live {
+        return VenueCommand::Kept(Wanted::Blotter(firm.as_bytes()));
+    }
+    VenueCommand::Blotter { firm }
+}
+
+/// A replay, by the flags that are given.
+fn replay_by<'a>(firm: Option<&'a str>, flags: Flags) -> VenueCommand<'a>
+    ensures { spec.meant result ≡ spec.replay_by (option_map (λ word. word.now) firm.entry) flags }
+{
+    if flags.live {
+        return VenueCommand::Kept(Wanted::Messages(word_bytes(firm), flags.frames));
+    }
+    VenueCommand::Replay {
+        firm,
+        frames: flags.frames,
+    }
+}
+
+/// The form in which `live` prints, by the flags that are given.
+fn form_by(flags: Flags) -> LiveForm
+    ensures { result ≡ spec.form_by flags }
+{
+    LiveForm {
+        frames: flags.frames,
+        marks: flags.marks,
+    }
+}
+
+/// The bytes of a word, where there is one.
+pub fn word_bytes(word: Option<&str>) -> Option<&[u8]>
+    ensures { option_map (λ bytes. bytes.now) result ≡ option_map (λ text. text.now) word.entry }
+{
+    let Some(word) = word else {
+        return None;
+    };
+    Some(word.as_bytes())
+}
+
+/// A command of the table.
+fn line_command<'a>(alloc: Global, line: &CommandLine) -> Result<Command<'a>, Memory>
+    ensures { IfOk result (spec.IsAppOf (spec.told_app line.now)) }
+{
+    let mut command = Command::new(alloc, line.name)
+        .about(line.about)
+        .after_help(line.input);
+    for flag in line.flags {
+        command = command.arg(flag_arg(alloc, flag))?;
+    }
+    let Some(word) = &line.word else {
+        return Ok(command);
+    };
+    command.arg(word_arg(alloc, word))
+}
+
+/// A flag.
+fn flag_arg<'a>(alloc: Global, flag: &FlagLine) -> Arg<'a>
+    ensures rule { rule_of result ≡ spec.flag_rule flag.now.name.now }
+    ensures own { result.global ≡ false }
+{
+    Arg::new(alloc, flag.name)
+        .long(flag.name)
+        .action(ArgAction::SetTrue)
+        .help(flag.help)
+}
+
+/// The word that names a firm.
+fn word_arg<'a>(alloc: Global, word: &WordLine) -> Arg<'a>
+    ensures rule { rule_of result ≡ spec.word_rule word.now.required }
+    ensures own { result.global ≡ false }
+{
+    Arg::new(alloc, "firm")
+        .value_name(word.shown)
+        .required(word.required)
+        .help(word.help)
+}
+
+/// The program without its commands.
+fn program_command<'a>(alloc: Global) -> Result<Command<'a>, Memory>
+    ensures { IfOk result (spec.IsAppOf spec.program_app) }
+{
+    let named = Command::new(alloc, "rfq_venue").bin_name("rfq_venue")?;
+    let program = named
+        .version(VERSION)
+        .about(ABOUT)
+        .after_help(READS)
+        .no_binary_name(true)
+        .subcommand_required(true);
+    Ok(program)
+}
+
+/// The program and its commands.
+fn venue_command<'a>(alloc: Global) -> Result<Command<'a>, Memory>
+    ensures { IfOk result (spec.IsAppOf spec.venue_app) }
+{
+    let program = program_command(alloc)?;
+    with_commands(alloc, program, &COMMANDS)
+}
+
+/// A program with commands more.
+fn with_commands<'a>(
+    alloc: Global,
+    mut program: Command<'a>,
+    lines: &[CommandLine],
+) -> Result<Command<'a>, Memory>
+    ensures { (app : App) → spec.IsAppOf app program.entry
+        → IfOk result (spec.IsAppOf (spec.with_told app lines.now)) }
+{
+    for line in lines {
+        program = program.subcommand(line_command(alloc, line)?)?;
+    }
+    Ok(program)
+}
+
+/// What an error of the arguments is to tell.
+pub fn told_by(alloc: Global, error: &Error) -> Told
+    ensures { spec.IsToldOf (kind_of error.now) result }
+{
+    let Ok(text) = error.to_string(alloc) else {
+        return Told::Memory;
+    };
+    // Clap promises nothing of a text that was made while memory was refused.
+    if text.is_empty() {
+        return Told::Memory;
+    }
+    match error.kind() {
+        ErrorKind::OutOfMemory => Told::Memory,
+        ErrorKind::DisplayHelp | ErrorKind::DisplayVersion => Told::Help(text),
+        _ => Told::Wrong(text),
+    }
+}
+
+/// The arguments with which clap finds nothing wrong are those of a command.
+pub fn these_arguments_are_commands()
+    ensures { (name : List ℕ) → (rest : List (List ℕ))
+        → (spec.arguments_fault (name ∷ rest) ≡ [])
+        ↔ (is_some (spec.command_of (name ∷ rest)) ≡ true) }
+{}
+
+/// What is wrong with some arguments that are no command: they ask for help or the version, or
+/// there is a mistake in them. `run_program` of `venue_commands` says how a run with such arguments
+/// ends.
+pub fn arguments_have_these_faults()
+    ensures help { spec.arguments_fault (codes "--help" ∷ []) ≡ ErrorKind.DisplayHelp ∷ [] }
+    ensures short_help { spec.arguments_fault (codes "-h" ∷ []) ≡ ErrorKind.DisplayHelp ∷ [] }
+    ensures version { spec.arguments_fault (codes "--version" ∷ [])
+        ≡ ErrorKind.DisplayVersion ∷ [] }
+    ensures short_version { spec.arguments_fault (codes "-V" ∷ [])
+        ≡ ErrorKind.DisplayVersion ∷ [] }
+    ensures help_as_a_command { spec.arguments_fault (codes "help" ∷ [])
+        ≡ ErrorKind.DisplayHelp ∷ ErrorKind.InvalidSubcommand ∷ [] }
+    ensures help_on_replay { spec.arguments_fault (codes "replay" ∷ codes "--help" ∷ [])
+        ≡ ErrorKind.DisplayHelp ∷ [] }
+
+    // Help wins at its first flag, whatever stands behind it.
+    ensures help_first { (rest : List (List ℕ)) → spec.arguments_fault (codes "--help" ∷ rest)
+        ≡ ErrorKind.DisplayHelp ∷ [] }
+    ensures help_on_due_first { spec.arguments_fault
+        (codes "due" ∷ codes "DLR1" ∷ codes "-h" ∷ codes "x" ∷ []) ≡ ErrorKind.DisplayHelp ∷ [] }
+
+    ensures frames_of_nothing { spec.arguments_fault (codes "--frames" ∷ [])
+        ≡ ErrorKind.UnknownArgument ∷ [] }
+    ensures frames_twice { spec.arguments_fault
+        (codes "replay" ∷ codes "--frames" ∷ codes "--frames" ∷ [])
+        ≡ ErrorKind.ArgumentConflict ∷ [] }
+    ensures both_flags { spec.arguments_fault
+        (codes "day" ∷ codes "--woven" ∷ codes "--frames" ∷ []) ≡ [] }
+    ensures woven_twice { spec.arguments_fault
+        (codes "day" ∷ codes "--woven" ∷ codes "--woven" ∷ []) ≡ ErrorKind.ArgumentConflict ∷ [] }
+    ensures woven_replay { spec.arguments_fault (codes "replay" ∷ codes "--woven" ∷ [])
+        ≡ ErrorKind.UnknownArgument ∷ [] }
+    ensures marks_and_frames { spec.arguments_fault
+        (codes "live" ∷ codes "--marks" ∷ codes "--frames" ∷ []) ≡ [] }
+    ensures marks_of_replay { spec.arguments_fault (codes "replay" ∷ codes "--marks" ∷ [])
+        ≡ ErrorKind.UnknownArgument ∷ [] }
+    ensures one_argument_more { spec.arguments_fault (codes "alone" ∷ codes "x" ∷ [])
+        ≡ ErrorKind.UnknownArgument ∷ [] }
+    ensures one_argument_less { spec.arguments_fault (codes "due" ∷ [])
+        ≡ ErrorKind.MissingRequiredArgument ∷ [] }
+    ensures dues_of_one { spec.arguments_fault (codes "dues" ∷ codes "x" ∷ [])
+        ≡ ErrorKind.UnknownArgument ∷ [] }
+    ensures no_command { spec.arguments_fault (codes "days" ∷ [])
+        ≡ ErrorKind.UnknownArgument ∷ ErrorKind.InvalidSubcommand ∷ [] }
+{}

@@ -1,0 +1,25 @@
+//! The arguments of the program's commands: what they ask for, or what is wrong with them.
+//!
+//! ```text
+//! let command = read_command(alloc, &["replay", "DLR1", "--frames"])?;
+//! ```
+//!
+//! The commands are a table, of which `clap` is told, and which the help prints.
+//!
+//! # What is promised
+//!
+//! - [`read_command`]: arguments that are those of a command give it (`command_of` of
+//!   `specs/Arguments`), all others one of the errors that they have (`arguments_fault`).
+//! - [`told_by`] says whether an error asks for help, and gives its text.
+//! - [`these_arguments_are_commands`] and [`arguments_have_these_faults`] say which arguments are
+//!   those of a command, and what is wrong with some others.
+#![tactic(auto)]
+
+mod command;
+mod help;
+mod table;
+
+pub use command::{
+    Told, VenueCommand, arguments_have_these_faults, read_command, these_arguments_are_commands,
+    told_by, word_bytes,
+};

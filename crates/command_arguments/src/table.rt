@@ -1,0 +1,135 @@
+//! The table of the commands, as clap is told of them.
+use crate::help::{
+    ALONE, BLOTTER, COMPARE, DAY, DAYS, DEALER, DUE, DUE_TEXT, DUES, FIRM, FRAMES, LINE_BY_LINE,
+    LIVE, LIVE_DAY, MARKS, REPLAY, THREADED, THREADS, WOVEN,
+};
+
+/// A command: its arguments, and the texts of its help.
+pub(crate) struct CommandLine {
+    /// Its name.
+    pub(crate) name: &'static str,
+    /// What it does, in one line.
+    pub(crate) about: &'static str,
+    /// What it reads.
+    pub(crate) input: &'static str,
+    /// Its flags.
+    pub(crate) flags: &'static [FlagLine],
+    /// Its word, where it takes one.
+    pub(crate) word: Option<WordLine>,
+}
+
+/// A flag of a command.
+pub(crate) struct FlagLine {
+    /// Its name, which stands behind `--`.
+    pub(crate) name: &'static str,
+    /// What it asks for.
+    pub(crate) help: &'static str,
+}
+
+/// The word of a command, which names a firm.
+pub(crate) struct WordLine {
+    /// How the help calls it.
+    pub(crate) shown: &'static str,
+    /// Whether it has to be there.
+    pub(crate) required: bool,
+    /// What the help says of it.
+    pub(crate) help: &'static str,
+}
+
+const WITH_FRAMES: FlagLine = FlagLine {
+    name: "frames",
+    help: FRAMES,
+};
+
+const WITH_WOVEN: FlagLine = FlagLine {
+    name: "woven",
+    help: WOVEN,
+};
+
+const WITH_LIVE: FlagLine = FlagLine {
+    name: "live",
+    help: LINE_BY_LINE,
+};
+
+const WITH_MARKS: FlagLine = FlagLine {
+    name: "marks",
+    help: MARKS,
+};
+
+const OF_DEALER: WordLine = WordLine {
+    shown: "DEALER",
+    required: true,
+    help: DEALER,
+};
+
+const OF_FIRM: WordLine = WordLine {
+    shown: "FIRM",
+    required: true,
+    help: FIRM,
+};
+
+const OF_ANY_FIRM: WordLine = WordLine {
+    shown: "FIRM",
+    required: false,
+    help: FIRM,
+};
+
+/// The commands, in the order in which the help lists them.
+pub(crate) const COMMANDS: [CommandLine; 8] = [
+    CommandLine {
+        name: "alone",
+        about: ALONE,
+        input: DUE_TEXT,
+        flags: &[WITH_FRAMES],
+        word: None,
+    },
+    CommandLine {
+        name: "replay",
+        about: REPLAY,
+        input: DAY,
+        flags: &[WITH_FRAMES, WITH_LIVE],
+        word: Some(OF_ANY_FIRM),
+    },
+    CommandLine {
+        name: "day",
+        about: THREADED,
+        input: THREADS,
+        flags: &[WITH_FRAMES, WITH_WOVEN],
+        word: None,
+    },
+    CommandLine {
+        name: "due",
+        about: DUE,
+        input: DAY,
+        flags: &[WITH_LIVE],
+        word: Some(OF_DEALER),
+    },
+    CommandLine {
+        name: "dues",
+        about: DUES,
+        input: DAY,
+        flags: &[WITH_LIVE],
+        word: None,
+    },
+    CommandLine {
+        name: "compare",
+        about: COMPARE,
+        input: DAYS,
+        flags: &[WITH_LIVE],
+        word: Some(OF_DEALER),
+    },
+    CommandLine {
+        name: "blotter",
+        about: BLOTTER,
+        input: DAY,
+        flags: &[WITH_LIVE],
+        word: Some(OF_FIRM),
+    },
+    CommandLine {
+        name: "live",
+        about: LIVE,
+        input: LIVE_DAY,
+        flags: &[WITH_FRAMES, WITH_MARKS],
+        word: None,
+    },
+];

@@ -1,0 +1,408 @@
+-- Lines of an input as they come: their parts, and what one line more brings.
+use Rattle.std.proofs.Common.{◌≡◌, ℕ, ◌+◌, ◌<◌, ◌≤◌, ◌==◌, ◌||◌, Bool, true, false, List, [], ◌∷◌, ◌++◌, length, take, drop, suc, fold}
+use Rattle.std.proofs.Common.{cond, refl, sym, ap, ap₂, ◌∙◌, arith, inl, inr, append_assoc, add-one}
+use Rattle.std.proofs.Math.Nat.{add_comm}
+use Rattle.std.specs.List.{count_by, list_any, before_first, after_first, position_or_len}
+use Rattle.std.proofs.lemmas.Bool.{cases_Bool, false≢true}
+use Rattle.std.proofs.lemmas.List.{length-append, append-nil}
+use Rattle.std.proofs.lemmas.Grind.{flat_map-append, fold-append}
+use Rattle.std.proofs.lemmas.List.Folds.{list_any-append}
+use Rattle.std.proofs.lemmas.List.Sums.{sum_by_push}
+use Rattle.venue_rows.specs.Rows.{ConfigValues, Configuration, values_of}
+use Rattle.input_lines.specs.DueText.{Lines}
+use Rattle.input_lines.specs.Lines.{is_skipped, lines_of, spoken_from}
+use Rattle.venue_text.specs.LiveInput.{are_divided, as_part, configuration_in, lines_text, numbered_from, numbered_in, steps_in, taken_in, taken_of, text_in}
+use Rattle.venue_text.specs.LiveLines.{Taken, line_text, nothing_taken, with_any_line, with_line}
+use Rattle.input_lines.specs.VenueParts.{InputPart, is_divided, is_divider, part_before, part_behind, spoken_in, text_of, text_of_lines}
+use Rattle.venue_text.specs.declared.live_form.LiveForm.{LiveForm}
+use Rattle.live_runs.specs.LiveRuns.{are_four, behind_one, first_taken, second_configuration, second_day, second_taken}
+use Rattle.live_runs.specs.LiveStages.{taken_at}
+
+-- The first element of a list that passes a test.
+
+stop_here : {X : Type 0} (p : X → Bool) (x : X) (xs : List X) → p x ≡ true → position_or_len p (x ∷ xs) ≡ 0
+stop_here p x xs here = rw here refl
+
+skip_one : {X : Type 0} (p : X → Bool) (x : X) (xs : List X) → p x ≡ false → position_or_len p (x ∷ xs) ≡ suc (position_or_len p xs)
+skip_one p x xs other = rw other (add_comm 1 (position_or_len p xs) ∙ add-one (position_or_len p xs))
+
+before_here : {X : Type 0} (p : X → Bool) (x : X) (xs : List X) → p x ≡ true → before_first p (x ∷ xs) ≡ []
+before_here p x xs here = ap (λ n. take n (x ∷ xs)) (stop_here p x xs here)
+
+after_here : {X : Type 0} (p : X → Bool) (x : X) (xs : List X) → p x ≡ true → after_first p (x ∷ xs) ≡ xs
+after_here p x xs here = ap (λ n. drop (n + 1) (x ∷ xs)) (stop_here p x xs here)
+
+before_skip : {X : Type 0} (p : X → Bool) (x : X) (xs : List X) → p x ≡ false → before_first p (x ∷ xs) ≡ x ∷ before_first p xs
+before_skip p x xs other = ap (λ n. take n (x ∷ xs)) (skip_one p x xs other)
+
+after_skip : {X : Type 0} (p : X → Bool) (x : X) (xs : List X) → p x ≡ false → after_first p (x ∷ xs) ≡ after_first p xs
+after_skip p x xs other =
+    let n = position_or_len p xs in
+    let place : position_or_len p (x ∷ xs) + 1 ≡ suc (n + 1) = ap (λ m. m + 1) (skip_one p x xs other) ∙ omega arith in
+    ap (λ m. drop m (x ∷ xs)) place
+
+-- more elements behind a list that has one
+pub record PartsStay {X : Type 0} (p : X → Bool) (xs more : List X) : Type 0 where
+  pub before : before_first p (xs ++ more) ≡ before_first p xs
+  pub after : after_first p (xs ++ more) ≡ after_first p xs ++ more
+  pub any : list_any p (xs ++ more) ≡ true
+  pub count : length xs ≡ length (before_first p xs) + 1 + length (after_first p xs)
+
+pub parts_stay : {X : Type 0} (p : X → Bool) (xs more : List X) → list_any p xs ≡ true → PartsStay p xs more
+parts_stay p [] more some = absurd (false≢true some)
+parts_stay p (x ∷ xs) more some =
+    elim (cases_Bool (p x)) [
+      | inl here ↦ record {
+        before = before_here p x (xs ++ more) here ∙ sym (before_here p x xs here);
+        after = after_here p x (xs ++ more) here ∙ ap (λ l. l ++ more) (sym (after_here p x xs here));
+        any = rw here refl;
+        count = rw (before_here p x xs here, after_here p x xs here) (omega arith);
+      }
+      | inr other ↦
+          (let behind = parts_stay p xs more (rw other at some) in
+          record {
+            before = before_skip p x (xs ++ more) other ∙ ap (λ l. x ∷ l) behind.before ∙ sym (before_skip p x xs other);
+            after = after_skip p x (xs ++ more) other ∙ behind.after ∙ ap (λ l. l ++ more) (sym (after_skip p x xs other));
+            any = rw other behind.any;
+            count = rw (before_skip p x xs other, after_skip p x xs other) (omega (arith, behind.count));
+          })
+    ]
+
+-- elements behind those of which none passes
+pub before_more : {X : Type 0} (p : X → Bool) (xs more : List X) → list_any p xs ≡ false → before_first p (xs ++ more) ≡ xs ++ before_first p more
+before_more p [] more none = refl
+before_more p (x ∷ xs) more none =
+    elim (cases_Bool (p x)) [
+      | inl here ↦ (let never : true ≡ false = rw here at none in cc)
+      | inr other ↦ before_skip p x (xs ++ more) other ∙ ap (λ l. x ∷ l) (before_more p xs more (rw other at none))
+    ]
+
+pub after_more : {X : Type 0} (p : X → Bool) (xs more : List X) → list_any p xs ≡ false → after_first p (xs ++ more) ≡ after_first p more
+after_more p [] more none = refl
+after_more p (x ∷ xs) more none =
+    elim (cases_Bool (p x)) [
+      | inl here ↦ (let never : true ≡ false = rw here at none in cc)
+      | inr other ↦ after_skip p x (xs ++ more) other ∙ after_more p xs more (rw other at none)
+    ]
+
+any_or : (a b : Bool) → a ≡ false → (a || b) ≡ b
+any_or a b e = rw e refl
+
+-- Lines that divide, and lines behind them.
+
+module _ (lines : List (List ℕ)) (line : List ℕ) (undivided : are_divided lines ≡ false) where
+  pub still_undivided : is_divider line ≡ false → are_divided (lines ++ line ∷ []) ≡ false
+  still_undivided other = rw (list_any-append is_divider lines (line ∷ []), undivided, other) refl
+
+  module _ (here : is_divider line ≡ true) where
+    pub now_divided : are_divided (lines ++ line ∷ []) ≡ true
+    now_divided = rw (list_any-append is_divider lines (line ∷ []), undivided, here) refl
+
+    pub configuration_is : configuration_in (lines ++ line ∷ []) ≡ text_of_lines lines
+    configuration_is =
+        ap text_of_lines (before_more is_divider lines (line ∷ []) undivided ∙ ap (λ l. lines ++ l) (before_here is_divider line [] here) ∙ append-nil lines)
+
+    pub nothing_behind : (config : Configuration) → taken_in config (lines ++ line ∷ []) ≡ nothing_taken (values_of config)
+    unfolding taken_of
+    nothing_behind config =
+        ap (λ l. fold (with_line (values_of config)) (nothing_taken (values_of config)) (spoken_from (1 + length (before_first is_divider (lines ++ line ∷ [])) + 1) l))
+        (after_more is_divider lines (line ∷ []) undivided ∙ after_here is_divider line [] here)
+
+    pub nothing_printed : (form : LiveForm) (config : Configuration) → text_in form config (lines ++ line ∷ []) ≡ []
+    nothing_printed form config =
+        ap (λ l. lines_text form config (nothing_taken (values_of config)) (numbered_from (1 + length (before_first is_divider (lines ++ line ∷ [])) + 1) l))
+        (after_more is_divider lines (line ∷ []) undivided ∙ after_here is_divider line [] here)
+
+pub configuration_stays : (lines more : List (List ℕ)) → are_divided lines ≡ true → configuration_in (lines ++ more) ≡ configuration_in lines
+configuration_stays lines more divided = ap text_of_lines (parts_stay is_divider lines more divided).before
+
+-- a configuration that goes on is a part of the whole
+pub configuration_grows : (lines more : List (List ℕ)) → are_divided lines ≡ false → length (text_of_lines lines) ≤ length (configuration_in (lines ++ more))
+configuration_grows lines more undivided =
+    rw (
+      before_more is_divider lines more undivided,
+      flat_map-append (λ (l : List ℕ). l ++ 10 ∷ []) lines (before_first is_divider more),
+      length-append (text_of_lines lines) (text_of_lines (before_first is_divider more)),
+    ) (omega arith)
+
+pub text_grows : (lines : List (List ℕ)) (line : List ℕ) → text_of_lines (lines ++ line ∷ []) ≡ text_of_lines lines ++ line ++ 10 ∷ []
+text_grows lines line =
+    flat_map-append (λ (l : List ℕ). l ++ 10 ∷ []) lines (line ∷ []) ∙ ap (λ t. text_of_lines lines ++ t) (append-nil (line ++ 10 ∷ []))
+    ∙ sym (append_assoc (text_of_lines lines) line (10 ∷ []))
+
+-- A line of steps more.
+
+spoken_more : (k : ℕ) (lines : List (List ℕ)) (line : List ℕ)
+    → spoken_from k (lines ++ line ∷ []) ≡ spoken_from k lines ++ spoken_from (k + length lines) (line ∷ [])
+spoken_more k [] line = ap (λ n. spoken_from n (line ∷ [])) (omega arith)
+spoken_more k (first ∷ lines) line =
+    let place : k + 1 + length lines ≡ k + length (first ∷ lines) = omega arith in
+    let behind = spoken_more (k + 1) lines line ∙ ap (λ n. spoken_from (k + 1) lines ++ spoken_from n (line ∷ [])) place in
+    elim (cases_Bool (is_skipped first)) [
+      | inl skipped ↦ rw skipped behind
+      | inr spoken ↦ rw spoken (ap (λ (l : Lines). (k, first) ∷ l) behind)
+    ]
+
+module _ (config : Configuration) (lines : List (List ℕ)) (line : List ℕ) (divided : are_divided lines ≡ true) where
+  steps_more : steps_in (lines ++ line ∷ []) ≡ steps_in lines ++ spoken_from (length lines + 1) (line ∷ [])
+  steps_more =
+      let stay = parts_stay is_divider lines (line ∷ []) divided in
+      let first = 1 + length (before_first is_divider lines) + 1 in
+      let place : first + length (after_first is_divider lines) ≡ length lines + 1 = omega (arith, stay.count) in
+      ap₂ (λ (b a : List (List ℕ)). spoken_from (1 + length b + 1) a) stay.before stay.after
+      ∙ spoken_more first (after_first is_divider lines) line
+      ∙ ap (λ n. spoken_from first (after_first is_divider lines) ++ spoken_from n (line ∷ [])) place
+
+  taken_more : taken_in config (lines ++ line ∷ []) ≡ fold (with_line (values_of config)) (taken_in config lines) (spoken_from (length lines + 1) (line ∷ []))
+  unfolding taken_of
+  taken_more =
+      ap (fold (with_line (values_of config)) (nothing_taken (values_of config))) steps_more
+      ∙ fold-append (with_line (values_of config)) (nothing_taken (values_of config)) (steps_in lines) (spoken_from (length lines + 1) (line ∷ []))
+
+  pub taken_any : taken_in config (lines ++ line ∷ [])
+      ≡ with_any_line (values_of config) (taken_in config lines) (length lines + 1, line)
+  taken_any =
+      elim (cases_Bool (is_skipped line)) [
+        | inl skipped ↦ taken_more ∙ rw skipped refl
+        | inr spoken ↦ taken_more ∙ rw spoken refl
+      ]
+
+-- The same behind a configuration whose first line has number k.
+
+module _ (config : Configuration) (k : ℕ) (lines : List (List ℕ)) (line : List ℕ) where
+  pub nothing_at : are_divided lines ≡ false → is_divider line ≡ true → taken_at config k (lines ++ line ∷ []) ≡ nothing_taken (values_of config)
+  unfolding taken_of
+  nothing_at undivided here =
+      ap (λ l. fold (with_line (values_of config)) (nothing_taken (values_of config)) (spoken_from (k + length (before_first is_divider (lines ++ line ∷ [])) + 1) l))
+      (after_more is_divider lines (line ∷ []) undivided ∙ after_here is_divider line [] here)
+
+  module _ (divided : are_divided lines ≡ true) where
+    steps_at : spoken_in (part_behind (record { first = k; lines = lines ++ line ∷ [] }))
+        ≡ spoken_in (part_behind (record { first = k; lines = lines })) ++ spoken_from (k + length lines) (line ∷ [])
+    steps_at =
+        let stay = parts_stay is_divider lines (line ∷ []) divided in
+        let first = k + length (before_first is_divider lines) + 1 in
+        let place : first + length (after_first is_divider lines) ≡ k + length lines = omega (arith, stay.count) in
+        ap₂ (λ (b a : List (List ℕ)). spoken_from (k + length b + 1) a) stay.before stay.after
+        ∙ spoken_more first (after_first is_divider lines) line
+        ∙ ap (λ n. spoken_from first (after_first is_divider lines) ++ spoken_from n (line ∷ [])) place
+
+    taken_more_at : taken_at config k (lines ++ line ∷ []) ≡ fold (with_line (values_of config)) (taken_at config k lines) (spoken_from (k + length lines) (line ∷ []))
+    unfolding taken_of
+    taken_more_at =
+        ap (fold (with_line (values_of config)) (nothing_taken (values_of config))) steps_at
+        ∙ fold-append (with_line (values_of config)) (nothing_taken (values_of config)) (spoken_in (part_behind (record { first = k; lines = lines })))
+        (spoken_from (k + length lines) (line ∷ []))
+
+    pub taken_any_at : taken_at config k (lines ++ line ∷ []) ≡ with_any_line (values_of config) (taken_at config k lines) (k + length lines, line)
+    taken_any_at =
+        elim (cases_Bool (is_skipped line)) [
+          | inl skipped ↦ taken_more_at ∙ rw skipped refl
+          | inr spoken ↦ taken_more_at ∙ rw spoken refl
+        ]
+
+-- Two days, one behind the other.
+
+abbrev part_of : ℕ → List (List ℕ) → InputPart
+part_of k lines = record { first = k; lines = lines }
+
+before_none : {X : Type 0} (p : X → Bool) (xs : List X) → list_any p xs ≡ false → before_first p xs ≡ xs
+before_none p xs none = ap (before_first p) (sym (append-nil xs)) ∙ before_more p xs [] none ∙ append-nil xs
+
+after_none : {X : Type 0} (p : X → Bool) (xs : List X) → list_any p xs ≡ false → after_first p xs ≡ []
+after_none p xs none = ap (after_first p) (sym (append-nil xs)) ∙ after_more p xs [] none
+
+pub undivided_alone : (lines : List (List ℕ)) → are_divided lines ≡ false → are_four lines ≡ false
+undivided_alone lines undivided = ap (λ l. list_any is_divider (after_first is_divider l)) (after_none is_divider lines undivided)
+
+pub first_alone : (lines : List (List ℕ)) → is_divided (behind_one lines) ≡ false → are_four lines ≡ false
+first_alone lines alone = ap (list_any is_divider) (after_none is_divider (behind_one lines).lines alone)
+
+pub first_taken_alone : (config : Configuration) (lines : List (List ℕ)) → is_divided (behind_one lines) ≡ false
+    → first_taken config lines ≡ taken_in config lines
+first_taken_alone config lines alone =
+    ap (λ l. taken_of (values_of config) (spoken_in (part_of (behind_one lines).first l))) (before_none is_divider (behind_one lines).lines alone)
+
+-- the first steps of a day
+pub none_behind : (lines : List (List ℕ)) (line : List ℕ) → are_divided lines ≡ false → is_divider line ≡ true
+    → is_divided (behind_one (lines ++ line ∷ [])) ≡ false
+none_behind lines line undivided here =
+    ap (list_any is_divider) (after_more is_divider lines (line ∷ []) undivided ∙ after_here is_divider line [] here)
+
+-- a line more of them
+pub alone_still : (lines : List (List ℕ)) (line : List ℕ) → are_divided lines ≡ true → is_divided (behind_one lines) ≡ false
+    → is_divider line ≡ false → is_divided (behind_one (lines ++ line ∷ [])) ≡ false
+alone_still lines line divided alone other =
+    ap (list_any is_divider) (parts_stay is_divider lines (line ∷ []) divided).after
+    ∙ still_undivided (behind_one lines).lines line alone other
+
+module _ (first : List (List ℕ)) (divider : List ℕ) (behind : List (List ℕ)) (divided : are_divided first ≡ true)
+    (alone : is_divided (behind_one first) ≡ false) (divides : is_divider divider ≡ true) where
+  abbrev own_steps : List (List ℕ)
+  own_steps = after_first is_divider first
+
+  behind_is : behind_one (first ++ divider ∷ behind) ≡ part_of (behind_one first).first (own_steps ++ divider ∷ behind)
+  behind_is =
+      let stay = parts_stay is_divider first (divider ∷ behind) divided in
+      ap₂ (λ (b a : List (List ℕ)). part_of (1 + length b + 1) a) stay.before stay.after
+
+  before_is : before_first is_divider (own_steps ++ divider ∷ behind) ≡ own_steps
+  before_is =
+      before_more is_divider own_steps (divider ∷ behind) alone ∙ ap (λ l. own_steps ++ l) (before_here is_divider divider behind divides)
+      ∙ append-nil own_steps
+
+  after_is : after_first is_divider (own_steps ++ divider ∷ behind) ≡ behind
+  after_is = after_more is_divider own_steps (divider ∷ behind) alone ∙ after_here is_divider divider behind divides
+
+  second_is : second_day (first ++ divider ∷ behind) ≡ part_of (length first + 2) behind
+  second_is =
+      let stay = parts_stay is_divider first [] divided in
+      let number : (behind_one first).first + length own_steps + 1 ≡ length first + 2 = omega (arith, stay.count) in
+      ap (λ (p : InputPart). part_behind p) behind_is
+      ∙ ap₂ (λ (b a : List (List ℕ)). part_of ((behind_one first).first + length b + 1) a) before_is after_is
+      ∙ ap (λ n. part_of n behind) number
+
+  pub four_is : are_four (first ++ divider ∷ behind) ≡ are_divided behind
+  four_is = ap (λ (p : InputPart). is_divided p) second_is
+
+  pub second_configuration_is : second_configuration (first ++ divider ∷ behind) ≡ configuration_in behind
+  second_configuration_is = ap (λ (p : InputPart). text_of (part_before p)) second_is
+
+  pub first_taken_is : (config : Configuration) → first_taken config (first ++ divider ∷ behind) ≡ taken_in config first
+  first_taken_is config =
+      ap (λ (p : InputPart). taken_of (values_of config) (spoken_in (part_before p))) behind_is
+      ∙ ap (λ l. taken_of (values_of config) (spoken_in (part_of (behind_one first).first l))) before_is
+
+  pub second_taken_is : (config : Configuration) → second_taken config (first ++ divider ∷ behind) ≡ taken_at config (length first + 2) behind
+  second_taken_is config = ap (λ (p : InputPart). taken_of (values_of config) (spoken_in (part_behind p))) second_is
+
+-- lines that are skipped bring nothing
+any_lines : (config : ConfigValues) (taken : Taken) (k : ℕ) (lines : List (List ℕ))
+    → fold (with_any_line config) taken (numbered_from k lines)
+    ≡ fold (with_line config) taken (spoken_from k lines)
+any_lines config taken k [] = refl
+any_lines config taken k (line ∷ lines) =
+    go (is_skipped line) refl (λ then. any_lines config then (k + 1) lines)
+  where
+    go : (b : Bool) → is_skipped line ≡ b
+        → ((then : Taken) → fold (with_any_line config) then (numbered_from (k + 1) lines)
+        ≡ fold (with_line config) then (spoken_from (k + 1) lines))
+        → fold (with_any_line config) taken (numbered_from k (line ∷ lines))
+        ≡ fold (with_line config) taken (spoken_from k (line ∷ lines))
+    go true skipped later =
+        let one : with_any_line config taken (k, line) ≡ taken = rw skipped refl in
+        let none : spoken_from k (line ∷ lines) ≡ spoken_from (k + 1) lines = rw skipped refl in
+        ap (λ (t : Taken). fold (with_any_line config) t (numbered_from (k + 1) lines)) one
+        ∙ later taken
+        ∙ ap (λ (l : Lines). fold (with_line config) taken l) (sym none)
+    go false spoken later =
+        let then = with_line config taken (k, line) in
+        let one : with_any_line config taken (k, line) ≡ then = rw spoken refl in
+        let some : spoken_from k (line ∷ lines) ≡ (k, line) ∷ spoken_from (k + 1) lines =
+        rw spoken refl in
+        ap (λ (t : Taken). fold (with_any_line config) t (numbered_from (k + 1) lines)) one
+        ∙ later then
+        ∙ ap (λ (l : Lines). fold (with_line config) taken l) (sym some)
+
+numbered_more : (k : ℕ) (lines : List (List ℕ)) (line : List ℕ)
+    → numbered_from k (lines ++ line ∷ []) ≡ numbered_from k lines ++ (k + length lines, line) ∷ []
+numbered_more k [] line = ap (λ (n : ℕ). (n, line) ∷ []) (omega arith)
+numbered_more k (first ∷ lines) line =
+    let place : k + 1 + length lines ≡ k + length (first ∷ lines) = omega arith in
+    ap (λ (l : Lines). (k, first) ∷ l)
+    (numbered_more (k + 1) lines line ∙ ap (λ n. numbered_from (k + 1) lines ++ (n, line) ∷ []) place)
+
+-- the text of a line stands behind those of the lines before
+texts_more : (form : LiveForm) (config : Configuration) (taken : Taken) (lines : Lines) (line : ℕ × List ℕ)
+    → lines_text form config taken (lines ++ line ∷ [])
+    ≡ lines_text form config taken lines
+    ++ line_text form config (fold (with_any_line (values_of config)) taken lines) line.0 line.1
+texts_more form config taken [] line = append-nil (line_text form config taken line.0 line.1)
+texts_more form config taken (first ∷ lines) line =
+    let here = line_text form config taken first.0 first.1 in
+    let then = with_any_line (values_of config) taken first in
+    ap (λ (l : List ℕ). here ++ l) (texts_more form config then lines line)
+    ∙ sym (append_assoc here (lines_text form config then lines)
+    (line_text form config (fold (with_any_line (values_of config)) then lines) line.0 line.1))
+
+module _ (form : LiveForm) (config : Configuration) (lines : List (List ℕ)) (line : List ℕ) (divided : are_divided lines ≡ true) where
+  all_more : numbered_in (part_behind (as_part (lines ++ line ∷ [])))
+      ≡ numbered_in (part_behind (as_part lines)) ++ (length lines + 1, line) ∷ []
+  all_more =
+      let stay = parts_stay is_divider lines (line ∷ []) divided in
+      let first = 1 + length (before_first is_divider lines) + 1 in
+      let place : first + length (after_first is_divider lines) ≡ length lines + 1 = omega (arith, stay.count) in
+      ap₂ (λ (b a : List (List ℕ)). numbered_from (1 + length b + 1) a) stay.before stay.after
+      ∙ numbered_more first (after_first is_divider lines) line
+      ∙ ap (λ n. numbered_from first (after_first is_divider lines) ++ (n, line) ∷ []) place
+
+  pub text_more : text_in form config (lines ++ line ∷ [])
+      ≡ text_in form config lines ++ line_text form config (taken_in config lines) (length lines + 1) line
+  unfolding taken_of
+  text_more =
+      let first = nothing_taken (values_of config) in
+      let part = part_behind (as_part lines) in
+      ap (lines_text form config first) all_more
+      ∙ texts_more form config first (numbered_in part) (length lines + 1, line)
+      ∙ ap (λ (t : Taken). text_in form config lines ++ line_text form config t (length lines + 1) line)
+      (any_lines (values_of config) first part.first part.lines)
+
+-- Bytes.
+
+abbrev is_end : ℕ → Bool
+is_end c = c == 10
+
+-- the line feeds among bytes
+pub feeds_end : (bytes : List ℕ) → count_by is_end (bytes ++ 10 ∷ []) ≡ count_by is_end bytes + 1
+feeds_end bytes = sum_by_push (λ c. cond (is_end c) 1 0) bytes 10
+
+pub feeds_stay : (bytes : List ℕ) (c : ℕ) → (c == 10) ≡ false → count_by is_end (bytes ++ c ∷ []) ≡ count_by is_end bytes
+feeds_stay bytes c goes =
+    sum_by_push (λ x. cond (is_end x) 1 0) bytes c ∙ ap (λ b. count_by is_end bytes + cond b 1 0) goes ∙ omega arith
+
+onto : (c : ℕ) (text front : List ℕ) (parts : List (List ℕ)) → (c == 10) ≡ false → lines_of text ≡ front ∷ parts → lines_of (c ∷ text) ≡ (c ∷ front) ∷ parts
+onto c text front parts goes is = rw (goes, is) refl
+
+none_in : (c : ℕ) (text : List ℕ) → list_any is_end (c ∷ text) ≡ false → ((c == 10) ≡ false) × (list_any is_end text ≡ false)
+none_in c text none =
+    elim (cases_Bool (c == 10)) [
+      | inl here ↦ (let never : true ≡ false = rw here at none in cc)
+      | inr other ↦ (other, rw other at none)
+    ]
+
+-- a line that has begun, and its end
+pub line_closed : (begun tail : List ℕ) → list_any is_end begun ≡ false → lines_of (begun ++ 10 ∷ tail) ≡ begun ∷ lines_of tail
+line_closed [] tail none = refl
+line_closed (c ∷ begun) tail none =
+    let parts = none_in c begun none in
+    onto c (begun ++ 10 ∷ tail) begun (lines_of tail) parts.0 (line_closed begun tail parts.1)
+
+-- a last line without its end
+pub line_last : (c : ℕ) (begun : List ℕ) → list_any is_end (c ∷ begun) ≡ false → lines_of (c ∷ begun) ≡ (c ∷ begun) ∷ []
+line_last c [] none = let parts = none_in c [] none in rw parts.0 refl
+line_last c (d ∷ begun) none =
+    let parts = none_in c (d ∷ begun) none in
+    onto c (d ∷ begun) (d ∷ begun) [] parts.0 (line_last d begun parts.1)
+
+-- a line that goes on is at least as long as what has begun and its next byte
+pub record GoesOn (begun : List ℕ) (all : List (List ℕ)) : Type 0 where
+  pub line : List ℕ
+  pub behind : List (List ℕ)
+  pub is : all ≡ line ∷ behind
+  pub long : length begun < length line
+
+first_of : (c : ℕ) (tail : List ℕ) (lines : List (List ℕ)) → lines_of tail ≡ lines → (c == 10) ≡ false → GoesOn [] (lines_of (c ∷ tail))
+first_of c tail [] is goes = record { line = c ∷ []; behind = []; is = rw (goes, is) refl; long = omega arith }
+first_of c tail (line ∷ behind) is goes = record { line = c ∷ line; behind = behind; is = rw (goes, is) refl; long = omega arith }
+
+pub line_goes_on : (begun : List ℕ) (c : ℕ) (tail : List ℕ) → list_any is_end begun ≡ false → (c == 10) ≡ false → GoesOn begun (lines_of (begun ++ c ∷ tail))
+line_goes_on [] c tail none goes = first_of c tail (lines_of tail) refl goes
+line_goes_on (d ∷ begun) c tail none goes =
+    let parts = none_in d begun none in
+    let behind = line_goes_on begun c tail parts.1 goes in
+    record {
+      line = d ∷ behind.line;
+      behind = behind.behind;
+      is = onto d (begun ++ c ∷ tail) behind.line behind.behind parts.0 behind.is;
+      long = (let more = behind.long in omega (arith, more));
+    }

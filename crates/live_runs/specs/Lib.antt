@@ -1,0 +1,4 @@
+pub mod LineForms
+pub mod LiveRuns
+pub mod LiveStages
+pub mod Written

@@ -1,5 +1,0 @@
-use Rattle.venue_commands.specs.Arguments.{program_app}
-use Rattle.venue_commands.proofs.command.venue_command.Goals as goal
-
-pub returns : goal.returns
-returns c = c.with_commands.ensures program_app c.in_ok-program.ensures
