@@ -20,7 +20,7 @@ from mireseason_audit.pair import Compared, Differences, difference_words, diffe
 from mireseason_audit.plain_wire import carries
 from mireseason_audit.prices import Price
 from mireseason_audit.reading import Reader
-from mireseason_audit.records import Entry, Sent, day_of
+from mireseason_audit.records import Entry, Sent, configured, day_of
 from mireseason_audit.seal import Sealed, compared
 from mireseason_audit.second_day import moved_fields
 from mireseason_audit.timeline import broken, gap_text
@@ -226,6 +226,16 @@ class Chains(unittest.TestCase):
         parts = [line.replace(b"%%\n", b""), line.replace(digest, b"00")]
         for wrong in (b"", line[1:], line + b" ", *parts):
             self.assertRaises(Wrong, day_of, wrong)
+
+    def test_no_file_is_called_by_what_is_no_name(self) -> None:
+        """Files are called by the names of firms, and a log may have been written by anybody."""
+        for name in ("A", "ABCDEFG8"):
+            text = CONFIGURATION.replace(b"INV1", name.encode())
+            self.assertEqual(configured("", "", text).firms[1].name, name)
+        for name in ("", "../../x", "/tmp/x", "A/B", "a", "1A", "ABCDEFGH9", "A\\n", "A\\u0000"):
+            text = CONFIGURATION.replace(b"INV1", name.encode())
+            self.assertRaisesRegex(Wrong, "has a firm named", configured, "", "", text)
+        self.assertRaises(Wrong, configured, "", "", CONFIGURATION.replace(b'"INV1"', b"5"))
 
 
 class Wires(unittest.TestCase):
