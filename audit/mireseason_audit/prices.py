@@ -1,11 +1,13 @@
 """A price as it stands in a message, and in 32nds. Whether it is lawful is for the venue to say."""
 
+import re
 from dataclasses import dataclass
-from decimal import Decimal, InvalidOperation
+from decimal import Decimal
 from functools import lru_cache
 
 TICKS = 256  # in a point
 MOST_DIGITS = 15
+FORM = re.compile(r"-?([0-9]*)\.?([0-9]*)")
 
 
 @dataclass(frozen=True)
@@ -16,14 +18,11 @@ class Price:
 
     @property
     def decimal(self) -> Decimal | None:
-        """None where the text is no number."""
-        if len(self.text) > MOST_DIGITS + 2:
+        """None where the text is not of a price's form, which has no exponent."""
+        found = FORM.fullmatch(self.text)
+        if found is None or not 1 <= len(found[1]) + len(found[2]) <= MOST_DIGITS:
             return None
-        try:
-            value = Decimal(self.text)
-        except InvalidOperation:
-            return None
-        return value if value.is_finite() else None
+        return Decimal(self.text)
 
     @property
     def ticks(self) -> int | None:
