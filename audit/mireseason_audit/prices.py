@@ -1,4 +1,6 @@
-"""A price as it stands in a message, and in 32nds. Whether it is lawful is for the venue to say."""
+"""A price as it stands in a message, and in 32nds; and a quantity. Whether one is lawful is for the
+venue to say.
+"""
 
 import re
 from dataclasses import dataclass
@@ -10,6 +12,20 @@ MOST_DIGITS = 15
 FORM = re.compile(r"-?([0-9]*)\.?([0-9]*)")
 
 
+def number_of(text: str) -> Decimal | None:
+    """A number as a message may spell it, without an exponent; None where the text is none."""
+    found = FORM.fullmatch(text)
+    if found is None or not 1 <= len(found[1]) + len(found[2]) <= MOST_DIGITS:
+        return None
+    return Decimal(text)
+
+
+def quantity_of(text: str) -> int | None:
+    """A whole number, which a message may spell with a point; None where the text is none."""
+    value = number_of(text)
+    return int(value) if value is not None and value == int(value) else None
+
+
 @dataclass(frozen=True)
 class Price:
     """A price as it was written."""
@@ -18,11 +34,8 @@ class Price:
 
     @property
     def decimal(self) -> Decimal | None:
-        """None where the text is not of a price's form, which has no exponent."""
-        found = FORM.fullmatch(self.text)
-        if found is None or not 1 <= len(found[1]) + len(found[2]) <= MOST_DIGITS:
-            return None
-        return Decimal(self.text)
+        """None where the text is no number."""
+        return number_of(self.text)
 
     @property
     def ticks(self) -> int | None:

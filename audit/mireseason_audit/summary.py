@@ -12,6 +12,7 @@ from .dictionary import Dictionary
 from .exchanges import Exchange, exchanges
 from .frame import text_of
 from .log import Source
+from .prices import quantity_of
 from .progress import Step
 from .reading import Reader
 from .records import Day
@@ -60,7 +61,8 @@ class Summary:
     @property
     def quantity(self) -> int:
         """What was awarded in all."""
-        return sum(int(one.quantity) for one in self.requests if one.end == "awarded")
+        awarded = (one.quantity for one in self.requests if one.end == "awarded")
+        return sum(quantity_of(quantity) or 0 for quantity in awarded)
 
 
 class Summarizer:

@@ -21,8 +21,11 @@ from mireseason_audit.plain_wire import carries
 from mireseason_audit.prices import Price
 from mireseason_audit.reading import Reader
 from mireseason_audit.records import Entry, Sent, configured, day_of
+from mireseason_audit.requests import Request
 from mireseason_audit.seal import Sealed, compared
 from mireseason_audit.second_day import moved_fields
+from mireseason_audit.summary import Summary
+from mireseason_audit.templates import date_text, quantity_text
 from mireseason_audit.timeline import broken, gap_text
 from mireseason_audit.wire import carried, parts_of
 
@@ -118,6 +121,29 @@ class Prices(unittest.TestCase):
         same = [pair for pair in fields_of(soh(QUOTE))[2:-1] if pair[0] != 133]
         self.assertEqual([pair for pair in fields if pair[0] != 133], same)
         self.assertIsNone(moved_fields(fields_of(soh(ACCEPTED)), 32))
+
+
+class Quantities(unittest.TestCase):
+    """A quantity is spelled with at most one point: `2000000.` and `2000000.0` are 2,000,000."""
+
+    def test_texts(self) -> None:
+        for text, expected in (
+            ("2000000", "2\u202f000\u202f000"), ("2000000.", "2\u202f000\u202f000"),
+            ("0002000000.0", "2\u202f000\u202f000"), ("7", "7"),
+            (".5", ".5"), ("", ""), ("x", "x"), ("\u00b2", "\u00b2"), ("1e6", "1e6"),
+        ):
+            self.assertEqual(quantity_text(text), expected)
+        self.assertEqual(date_text("20251109"), "9 November 2025")
+        for text in ("2025110", "20251309", "\u00b2" * 8, "2025\u0661\u066109", ""):
+            self.assertEqual(date_text(text), text)
+
+    def test_what_was_awarded_in_all(self) -> None:
+        summary = Summary()
+        ends = ("2000000.0", "awarded"), ("7", "passed"), ("5.", "awarded")
+        for key, (quantity, end) in enumerate(ends):
+            texts = ["09:00:00.000", "INV1", "T1", "A", "X", "1", quantity, "09:05:00.000"]
+            summary.requests.append(Request(key, key + 1, *texts, ["DLR1"], end=end))
+        self.assertEqual(summary.quantity, 2_000_005)
 
 
 class Lines(unittest.TestCase):
