@@ -9,6 +9,9 @@ from .records import SOH
 
 START = re.compile(rb"8=FIXT\.1\.1\x019=([0-9]{1,6})\x01")
 CHECKSUM_BYTES = 7  # 10=ccc and its SOH
+LONGEST = 4096  # bytes of a message that the venue reads
+TAG = re.compile(rb"[1-9][0-9]{0,8}")
+NUMBER = re.compile(r"[0-9]{1,9}")
 
 
 class Fields(list[tuple[int, bytes]]):
@@ -20,22 +23,29 @@ class Fields(list[tuple[int, bytes]]):
 
 
 def fields_of(data: bytes) -> Fields:
-    """All fields; of what is no field (no digits, no equals sign) the tag is 0."""
-    return Fields(map(field_of, data.removesuffix(SOH).split(SOH)))
+    """All fields; of what is no field (no tag, no equals sign) the tag is 0."""
+    parts = data.removesuffix(SOH).split(SOH)
+    return Fields(map(kept_field_of if len(data) <= LONGEST else field_of, parts))
 
 
-@lru_cache(maxsize=1 << 14)
 def field_of(part: bytes) -> tuple[int, bytes]:
-    """One field; most of a message's stand in many others."""
+    """One field."""
     text, equals, value = part.partition(b"=")
-    tag = int(text) if text.isdigit() else 0
-    return (tag, value) if tag and equals else (0, part)
+    return (int(text), value) if equals and TAG.fullmatch(text) else (0, part)
+
+
+kept_field_of = lru_cache(maxsize=1 << 14)(field_of)  # most of a message's stand in many others
 
 
 def text_of(fields: Fields, tag: int) -> str:
     """The first value of a tag as text; empty where there is none."""
     value = fields.firsts.get(tag)
     return "" if value is None else value.decode("utf-8", "replace")
+
+
+def number_in(text: str) -> int | None:
+    """A number as the venue reads one: up to nine digits; None where the text is none."""
+    return int(text) if NUMBER.fullmatch(text) else None
 
 
 def sum_of(data: bytes) -> int:

@@ -11,7 +11,7 @@ from dataclasses import dataclass, field
 from pathlib import Path
 
 from .exchanges import Exchange, exchanges
-from .frame import Fields, fields_of, text_of
+from .frame import Fields, fields_of, number_in, text_of
 from .lines import Came
 from .log import Log
 from .records import Day
@@ -61,9 +61,9 @@ class LeftOutDay:
                 return None
             fields = changed(fields, QUOTE, named)
         less = self.left_out.get(came.firm, 0)
-        number = text_of(fields, SEQ_NUM)
-        if less and number.isdigit():
-            fields = changed(fields, SEQ_NUM, str(int(number) - less))
+        number = number_in(text_of(fields, SEQ_NUM))
+        if less and number is not None:
+            fields = changed(fields, SEQ_NUM, str(number - less))
         return line if fields == body_of(came.fields) else line_of(came, fields)
 
     def _leave(self, firm: str) -> None:

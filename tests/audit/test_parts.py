@@ -13,7 +13,7 @@ from common import ROOT, folder
 from mireseason_audit.chain import ChainReader, hash_of
 from mireseason_audit.dictionary import read_dictionary
 from mireseason_audit.faults import Unreadable, Wrong
-from mireseason_audit.frame import barred, fault_of, fields_of, framed, sum_of
+from mireseason_audit.frame import barred, fault_of, fields_of, framed, number_in, sum_of
 from mireseason_audit.jobs import due_texts, held
 from mireseason_audit.lines import came_of, firm_and_time
 from mireseason_audit.pair import Compared, Differences, difference_words, differences
@@ -24,6 +24,7 @@ from mireseason_audit.records import Entry, Sent, configured, day_of
 from mireseason_audit.requests import Request
 from mireseason_audit.seal import Sealed, compared
 from mireseason_audit.second_day import moved_fields
+from mireseason_audit.story import seconds
 from mireseason_audit.summary import Summary
 from mireseason_audit.templates import date_text, quantity_text
 from mireseason_audit.timeline import broken, gap_text
@@ -94,6 +95,14 @@ class Frames(unittest.TestCase):
     def test_bytes_that_are_no_text(self) -> None:
         self.assertEqual(barred(b"8=\xff\x01\x00|"), "8=\\xff|\\x00|")
         self.assertEqual(fields_of(b"x\x01=\x018=1\x01"), [(0, b"x"), (0, b"="), (8, b"1")])
+
+    def test_a_tag_has_up_to_nine_digits(self) -> None:
+        long = b"1" * 5000 + b"=x"
+        for part in (long, b"0131=x", b"1234567890=x", b"+8=x", b"1_0=x", "\u0661=x".encode()):
+            self.assertEqual(fields_of(part), [(0, part)])
+        self.assertEqual(fields_of(b"123456789=\xff=\x01"), [(123456789, b"\xff=")])
+        self.assertEqual(fields_of(b"1=" + b"x" * 9999), [(1, b"x" * 9999)])
+        self.assertEqual([number_in(text) for text in ("012", "\u00b2", "1" * 10)], [12, None, None])
 
 
 class Prices(unittest.TestCase):
@@ -384,6 +393,7 @@ class Words(unittest.TestCase):
             ("AJ", "693=N1|131=R1|694=3", True, "expired"),
             ("AJ", "693=N1|131=R1|694=6", True, "passed"),
             ("3", "45=4|371=50|372=Z|373=1", True, "rejected: required tag missing"),
+            ("3", "45=4|371=\u00b2|373=1", True, "rejected: required tag missing"),
         ):
             self.assertEqual(told(head % (kind, body), is_dealer), expected, body)
 
@@ -396,13 +406,17 @@ class Words(unittest.TestCase):
         with folder() as name:
             path = Path(name) / "none.xml"
             self.assertRaises(Unreadable, read_dictionary, path)
-            path.write_text("<fix>")
-            self.assertRaises(Unreadable, read_dictionary, path)
+            for text in ("<fix>", "<fix><fields><field number='x'/></fields></fix>"):
+                path.write_text(text)
+                self.assertRaises(Unreadable, read_dictionary, path)
 
     def test_texts_of_the_drawing(self) -> None:
         self.assertEqual(broken("a bb ccc dddd", 6), ["a bb", "ccc", "dddd"])
         texts = [gap_text(gap) for gap in (0.04, 59.9, 61, 3600)]
         self.assertEqual(texts, ["+0.040 s", "+59.900 s", "+1 min 01 s", "+60 min 00 s"])
+        self.assertEqual([seconds(text) for text in ("09:00:01", "00:01:00.500")], [32401, 60.5])
+        for text in ("", "00:00:inf", "00:00:nan", "09:00", "x:00:00", "9:0:0", "09:00:00\n"):
+            self.assertEqual(seconds(text), 0, text)
 
 
 class Pairs(unittest.TestCase):
