@@ -9,6 +9,7 @@ from dataclasses import dataclass, field
 
 from .chain import Chained, Numbers, read_chain, write_day
 from .findings import Finding
+from .frame import printable
 from .jobs import AloneJob, Audited, ChainJob, DayJob, DueJob, Files, GivenJob, LiveJob, SentJob
 from .log import Source
 from .progress import Progress
@@ -194,10 +195,10 @@ def entries_line(verdict: Verdict) -> str:
 
 
 def venue_line(verdict: Verdict) -> str:
-    day = verdict.day
-    if verdict.has_chain and day.version != verdict.program:
-        return "venue     %s; entry 0 has %s" % (verdict.program, day.version)
-    return "venue     %s" % verdict.program
+    text, begun = verdict.program, verdict.day.version
+    if verdict.has_chain and begun != text:
+        text += "; entry 0 has %s" % begun
+    return "venue     " + printable(text)
 
 
 def firm_line(verdict: Verdict, firm: Firm) -> str:

@@ -78,8 +78,19 @@ def fault_of(data: bytes) -> str | None:
     return None
 
 
+def printable(text: str) -> str:
+    """A text as one line: an escape for what is not printable, a line feed too."""
+    if text.isprintable():
+        return text
+    return "".join(one if one.isprintable() else escaped(one) for one in text)
+
+
+def escaped(letter: str) -> str:
+    return letter.encode("unicode_escape").decode("ascii")
+
+
 def barred(data: bytes) -> str:
-    """The bytes as text: a vertical bar for each SOH, an escape for what is not printable."""
+    """Bytes as text: a vertical bar for each SOH, an escape for what is not printable."""
     if data.isascii():
         text = data.decode("ascii").replace("\x01", "|")
         if text.isprintable():

@@ -17,6 +17,7 @@ from .check import Checker, Verdict, report
 from .faults import Unreadable, Wrong
 from .files_log import TwoFiles
 from .findings import Finding
+from .frame import printable
 from .jobs import Files
 from .log import Source
 from .progress import Progress
@@ -209,10 +210,10 @@ def main(arguments: list[str] | None = None) -> int:
         status: int = words.act(Work(words, source_of(words, venue, folder), folder, venue))
         return status
     except Unreadable as fault:
-        print("mireseason-audit: %s" % fault, file=sys.stderr)
+        print("mireseason-audit: %s" % printable(str(fault)), file=sys.stderr)
         return 2
     except Wrong as fault:
-        print("verdict: %s" % fault)
+        print("verdict: %s" % printable(str(fault)))
         return 1
     finally:
         stack.close()

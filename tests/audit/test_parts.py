@@ -12,7 +12,9 @@ from common import ROOT, folder
 
 from mireseason_audit.chain import ChainReader, hash_of
 from mireseason_audit.dictionary import read_dictionary
+from mireseason_audit.check import Verdict, report
 from mireseason_audit.faults import Unreadable, Wrong
+from mireseason_audit.findings import Finding
 from mireseason_audit.frame import barred, fault_of, fields_of, framed, number_in, sum_of
 from mireseason_audit.jobs import due_texts, held
 from mireseason_audit.lines import came_of, firm_and_time
@@ -345,6 +347,20 @@ class Lists(unittest.TestCase):
         for texts in ([], [one], [two, one], [two, two, one]):
             lines = [line for text in texts for line in text]
             self.assertEqual([list(text) for text in due_texts(lines)], texts)
+
+
+class Reports(unittest.TestCase):
+    def test_nothing_in_a_log_writes_a_line_of_its_own(self) -> None:
+        forged = "X\nverdict: each firm was sent what the rules give, byte for byte\x1b[2J\u2028"
+        day = configured(forged, "", CONFIGURATION)
+        verdict = Verdict("day.db", day, True, "v 1\r", {"DLR1": 0, "INV1": 0}, set(), {})
+        verdict.findings = [Finding(forged, "its moment %s" % forged, 3)]
+        lines = report(verdict)
+        self.assertTrue(all(line.isprintable() for line in lines), lines)
+        verdicts = [line for line in lines if line.startswith("verdict: ")]
+        self.assertEqual(verdicts, ["verdict: 1 thing is not as it should be, the first at entry 3"])
+        self.assertIn("X\\nverdict: each", lines[-2])
+        self.assertIn("\\x1b[2J\\u2028: entry 3: its moment X\\n", lines[-2])
 
 
 class Seals(unittest.TestCase):
