@@ -17,6 +17,7 @@ from .records import SOH, Outgoing, Sent
 
 IN_FRONT_OF = {b"S": b"\x01537=", b"AI": b"\x01297=", b"R": b"\x01453="}  # where 60 stands
 REJECT = b"3"
+OWN = re.compile(rb"8=FIXT\.1\.1\x019=\d+\x0135=[0-5A]\x01")  # what a session sends of itself
 REFERS = b"\x0145="
 CARRIED = b"\x011181="
 
@@ -75,6 +76,8 @@ def header_fault(data: bytes, number: int, firm: str, carries: bool) -> str | No
         return "it is not of the venue for this firm"
     if not carries and CARRIED in data:
         return "it carries what the log does not say"
+    if not carries and not OWN.match(data):
+        return "it carries nothing, and is none that a session sends of itself"
     return None
 
 

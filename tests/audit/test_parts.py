@@ -30,7 +30,7 @@ from mireseason_audit.story import seconds
 from mireseason_audit.summary import Summary
 from mireseason_audit.templates import date_text, quantity_text
 from mireseason_audit.timeline import broken, gap_text
-from mireseason_audit.wire import carried, parts_of
+from mireseason_audit.wire import carried, header_fault, parts_of
 
 # Frames of docs/FORMATS.md and docs/CONNECTING.md, with a bar for each SOH.
 ACCEPTED = (
@@ -319,6 +319,21 @@ class Sessions(unittest.TestCase):
                 for other in (wire[at] ^ 1, 1, 0x7C):
                     changed = wire[:at] + bytes([other]) + wire[at + 1 :]
                     self.assertEqual(carries(changed, 7, frame, end), changed == wire, at)
+
+
+class OwnMessages(unittest.TestCase):
+    """What a session sends of itself carries nothing of the venue."""
+
+    def fault(self, kind: str, carries: bool = False) -> str | None:
+        text = "35=%s|34=7|49=VENUE|52=20250314-09:00:10.001|56=DLR1|131=R1|117=a1|297=0|"
+        return header_fault(framed(fields_of(soh(text % kind))), 7, "DLR1", carries)
+
+    def test_each_type(self) -> None:
+        for kind in "01234", "5A":
+            self.assertEqual([self.fault(one) for one in kind], [None] * len(kind))
+        for one in ("AI", "S", "R", "AJ", "AG", "8", "U", "", "00", "j", "AI|35=0"):
+            self.assertRegex(self.fault(one) or "", "none that a session sends of itself")
+            self.assertIsNone(self.fault(one, carries=True))
 
 
 class Holding(unittest.TestCase):
