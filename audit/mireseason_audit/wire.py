@@ -20,6 +20,11 @@ REJECT = b"3"
 OWN = re.compile(rb"8=FIXT\.1\.1\x019=\d+\x0135=[0-5A]\x01")  # what a session sends of itself
 REFERS = b"\x0145="
 CARRIED = b"\x011181="
+# The header of a message that carries one of the venue's: 35, 34, 49, 52, 56, and no other field.
+HEADER = re.compile(
+    rb"8=FIXT\.1\.1\x019=\d+\x0135=([^\x01]*)\x0134=\d+\x0149=[^\x01]*\x0152=[^\x01]*"
+    rb"\x0156=[^\x01]*"
+)
 
 
 class Parts(NamedTuple):
@@ -134,7 +139,8 @@ class WireReader:
         if parts is None:
             return False
         head, mark, rest = data.partition(CARRIED)
-        if b"\x0135=" + parts.kind + SOH not in head + SOH:
+        header = HEADER.fullmatch(head)
+        if header is None or header[1] != parts.kind:
             return False
         number = self._session_number(expected.place) if parts.kind == REJECT else None
         return mark + rest[: -CHECKSUM_BYTES - 1] == carried(parts, number)

@@ -22,7 +22,7 @@ from mireseason_audit.pair import Compared, Differences, difference_words, diffe
 from mireseason_audit.plain_wire import carries
 from mireseason_audit.prices import Price
 from mireseason_audit.reading import Reader
-from mireseason_audit.records import Entry, Sent, configured, day_of
+from mireseason_audit.records import Entry, Outgoing, Sent, configured, day_of
 from mireseason_audit.requests import Request
 from mireseason_audit.seal import Sealed, compared
 from mireseason_audit.second_day import moved_fields
@@ -30,7 +30,7 @@ from mireseason_audit.story import seconds
 from mireseason_audit.summary import Summary
 from mireseason_audit.templates import date_text, quantity_text
 from mireseason_audit.timeline import broken, gap_text
-from mireseason_audit.wire import carried, header_fault, parts_of
+from mireseason_audit.wire import WireReader, carried, header_fault, parts_of
 
 # Frames of docs/FORMATS.md and docs/CONNECTING.md, with a bar for each SOH.
 ACCEPTED = (
@@ -319,6 +319,26 @@ class Sessions(unittest.TestCase):
                 for other in (wire[at] ^ 1, 1, 0x7C):
                     changed = wire[:at] + bytes([other]) + wire[at + 1 :]
                     self.assertEqual(carries(changed, 7, frame, end), changed == wire, at)
+
+    def test_a_header_with_another_field(self) -> None:
+        """The length and the sum are those of what stands there."""
+        frame = soh(ACCEPTED)
+        parts = parts_of(frame)
+        assert parts is not None
+        sent, body = Sent("DLR1", 2, 9, frame), carried(parts, None) + b"\x01"
+        whole = "35=AI|34=1|49=VENUE|52=20250314-09:00:10.001|56=DLR1"
+        for head, is_right in (
+            (whole, True),
+            (whole.replace("|56=", "|115=X|56="), False),
+            (whole.replace("|52=", "|43=Y|52="), False),
+            (whole.replace("35=AI", "35=0").replace("|56=", "|35=AI|56="), False),
+            (whole + "|57=X", False),
+        ):
+            data = framed(fields_of(soh(head) + body))
+            reader = WireReader(iter([sent]), lambda place: None)
+            found = reader.take(Outgoing("DLR1", 1, 2, data))
+            self.assertEqual(found is None, is_right, head)
+            self.assertEqual(carries(data, 1, frame, b"\x0156=DLR1"), is_right, head)
 
 
 class OwnMessages(unittest.TestCase):
