@@ -29,7 +29,7 @@ class Finding:
         return ", ".join(words)
 
     def lines(self) -> Iterator[str]:
-        """The finding as lines of a report. Names and times may be anything that stands in a log."""
+        """The finding as lines of a report. Names and times are whatever stands in the log."""
         where = self.place_words
         yield printable("%s: %s%s" % (self.where, where + ": " if where else "", self.text))
         if self.given is not None:

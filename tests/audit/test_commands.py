@@ -107,6 +107,19 @@ class Commands(unittest.TestCase):
         self.assertEqual(ran.status, 2, ran.text)
         self.assertIn("sent ALPHA 1", ran.err)
 
+    def test_a_line_feed_in_a_line(self) -> None:
+        """An entry is one line for the venue, so that those behind it keep their places."""
+        self.change("UPDATE entry SET line = CAST(line || char(10) || 'clock 09:00:00.000' AS BLOB)"
+                    " WHERE place = 300")
+        last = [row for row in Witness(DAY).sent if row.firm == "BRAVO"][-1]
+        self.change("UPDATE sent SET place = 301 WHERE firm = 'BRAVO' AND number = ?", last.number)
+        ran = audit("check", self.log)
+        self.assertEqual(ran.status, 1, ran.text)
+        self.assertIn("entries: entry 300: it was changed", ran.out)
+        self.assertIn("entries: entry 300: the venue does not take its line: form", ran.out)
+        text = "BRAVO: entry 301, number %d: it is given for entry %d" % (last.number, last.place)
+        self.assertIn(text, ran.out)
+
     def test_a_log_in_a_folder_that_is_not_ours(self) -> None:
         """A file that was copied while it was open, without its write-ahead log, can still be
         read.

@@ -104,7 +104,8 @@ class Frames(unittest.TestCase):
             self.assertEqual(fields_of(part), [(0, part)])
         self.assertEqual(fields_of(b"123456789=\xff=\x01"), [(123456789, b"\xff=")])
         self.assertEqual(fields_of(b"1=" + b"x" * 9999), [(1, b"x" * 9999)])
-        self.assertEqual([number_in(text) for text in ("012", "\u00b2", "1" * 10)], [12, None, None])
+        for text, number in (("012", 12), ("", None), ("\u00b2", None), ("1" * 10, None)):
+            self.assertEqual(number_in(text), number, text)
 
 
 class Prices(unittest.TestCase):
@@ -114,7 +115,8 @@ class Prices(unittest.TestCase):
             ("101", "101-00"), ("0.00390625", "0-001"), (".5", "0-16"), ("5.", "5-00"),
             ("99.501", ""), ("", ""), ("x", ""), ("-1", ""), (".", ""), ("-", ""), ("-.", ""),
             ("1.2.3", ""), ("1e2", ""), ("1e9999", ""), ("1e999999999", ""), ("1_0", ""),
-            ("+1", ""), ("\u0663", ""), ("NaN", ""), ("Infinity", ""), ("99.5\n", ""), ("0" * 16, ""),
+            ("+1", ""), ("\u0663", ""), ("NaN", ""), ("Infinity", ""), ("99.5\n", ""),
+            ("0" * 16, ""),
         ):
             self.assertEqual(Price(text).thirty_seconds, expected, text)
 
@@ -226,6 +228,23 @@ class Chains(unittest.TestCase):
         self.assertEqual(len(self.found(first, second, stranger)), 1)
         foreign = entry(2, "09:00:02.000", b"clock 09:00:02.000", bytes(32))
         self.assertEqual(len(self.found(first, second, foreign)), 1)
+
+    def test_lines_that_no_gateway_writes(self) -> None:
+        """Each is of the row's firm and moment, and follows on the entry before it."""
+        first = entry(0, "09:00:00.000", b"", bytes(32))
+        moment = "09:00:01.000"
+        for line, is_right in (
+            (b"hex DLR1 09:00:01.000 00", True),
+            (b"hex DLR1 09:00:01.000 00\nclock 09:00:01.000", False),
+            (b"in DLR1 09:00:01.000 8=FIXT.1.1|", False),
+            (b"piece DLR1 09:00:01.000 8", False),
+            (b"say DLR1 T1 09:00:01.000 S 117=a", False),
+        ):
+            second = entry(1, moment, line, first.hash, firm="DLR1", number=1)
+            found = self.found(first, second)
+            expected = [] if is_right else ["its line is none that a gateway writes"]
+            self.assertEqual(found, expected, line)
+            self.assertEqual(self.in_blocks([first, second], 2), expected, line)
 
     def test_blocks_say_what_entries_one_by_one_say(self) -> None:
         """Forty entries, one of them spoilt in each way: taken in blocks of any size."""
@@ -392,8 +411,8 @@ class Reports(unittest.TestCase):
         verdict.findings = [Finding(forged, "its moment %s" % forged, 3)]
         lines = report(verdict)
         self.assertTrue(all(line.isprintable() for line in lines), lines)
-        verdicts = [line for line in lines if line.startswith("verdict: ")]
-        self.assertEqual(verdicts, ["verdict: 1 thing is not as it should be, the first at entry 3"])
+        verdicts = [line.partition(",")[0] for line in lines if line.startswith("verdict: ")]
+        self.assertEqual(verdicts, ["verdict: 1 thing is not as it should be"])
         self.assertIn("X\\nverdict: each", lines[-2])
         self.assertIn("\\x1b[2J\\u2028: entry 3: its moment X\\n", lines[-2])
 
