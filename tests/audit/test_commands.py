@@ -107,6 +107,43 @@ class Commands(unittest.TestCase):
         self.assertEqual(ran.status, 2, ran.text)
         self.assertIn("sent ALPHA 1", ran.err)
 
+    def test_another_type_in_a_column_of_names_and_times(self) -> None:
+        """Whoever asks for a firm's rows by its name gets none in which the name is no text."""
+        for query, text in (
+            ("UPDATE entry SET firm = CAST(firm AS BLOB) WHERE place = 300",
+             "entries: entry 300: it was changed"),
+            ("UPDATE entry SET moment = CAST(moment AS BLOB) WHERE place = 300",
+             "entries: entry 300: it was changed"),
+            ("UPDATE entry SET moment = CAST(x'ff' || moment AS TEXT) WHERE place = 300",
+             "entries: entry 300: it was changed"),
+            ("UPDATE entry SET line = CAST(line || x'ff' AS TEXT) WHERE place = 300",
+             "entries: entry 300: it was changed"),
+            ("INSERT INTO sent VALUES (CAST('ALPHA' AS BLOB), 1, 3, x'00')",
+             "b'ALPHA': the configuration has no such firm"),
+            ("INSERT INTO outgoing VALUES (CAST(x'ff' AS TEXT), 1, NULL, x'00')",
+             "\\xff: the configuration has no such firm"),
+        ):
+            shutil.copyfile(DAY, self.log)
+            self.change(query)
+            ran = audit("check", self.log)
+            self.assertEqual((ran.status, ran.err), (1, ""), query)
+            self.assertIn("\n" + text, ran.out)
+
+    def test_no_number_where_one_should_stand(self) -> None:
+        rejected = "(SELECT place FROM sent WHERE instr(bytes, '35=3' || char(1)) LIMIT 1)"
+        for query, text in (
+            ("UPDATE session SET target = 'x' WHERE firm = 'ALPHA'", "session ALPHA: 'x' stands"),
+            ("UPDATE entry SET number = 'x' WHERE place = " + rejected, ": 'x' stands where"),
+            ("UPDATE outgoing SET sent = 'x' WHERE firm = 'ALPHA' AND number = 4",
+             "outgoing ALPHA 4: 'x' stands"),
+        ):
+            shutil.copyfile(DAY, self.log)
+            self.change(query)
+            ran = audit("check", self.log)
+            self.assertEqual((ran.status, ran.out), (2, ""), query)
+            self.assertIn(text, ran.err)
+            self.assertEqual(len(ran.err.splitlines()), 1)
+
     def test_a_line_feed_in_a_line(self) -> None:
         """An entry is one line for the venue, so that those behind it keep their places."""
         self.change("UPDATE entry SET line = CAST(line || char(10) || 'clock 09:00:00.000' AS BLOB)"
