@@ -5,6 +5,7 @@ something can't be read.
 import base64
 import os
 import re
+import shlex
 import shutil
 import sqlite3
 import subprocess
@@ -12,7 +13,7 @@ import unittest
 from contextlib import closing
 from pathlib import Path
 
-from common import AUDIT, DAY, audit, folder, keys, openssl, venue_words
+from common import AUDIT, DAY, audit, folder, keys, openssl, remembered, venue_words
 from witness import Witness
 
 
@@ -96,6 +97,30 @@ class Commands(unittest.TestCase):
             self.assertNotEqual(ran.status, 0, words)
             self.assertNotIn("Traceback", ran.text)
         self.assertEqual(audit("check", self.log, venue=["/nowhere/venue"]).status, 2)
+
+    def test_lists_that_are_not_one_for_each_dealer(self) -> None:
+        """Whatever the program prints with status 0: nothing is said of the log then."""
+        first, last = "/^dealer ALPHA/", "/^dealer EIGER/"
+        for edit, text in (
+            ("%s,$d" % first, "gives a list of no dealer's"),
+            ("%s,$d" % last, "gives a list of no dealer's"),
+            ("$!N;/dealer EIGER/d;P;D", "gives no list of EIGER"),
+            ("s/^dealer BRAVO/dealer CEDAR/", "gives a list of no dealer's"),
+            ("$a date 20261125", "gives a list of no dealer's"),
+            ("1i own 09:00:00.000 x", "gives a list of no dealer's"),
+            ("s/^lifted .*/lifted x/", "of the list of"),
+        ):
+            with self.subTest(edit):
+                ran = audit("check", self.log, venue=self.edited("dues", edit))
+                self.assertEqual((ran.status, ran.out), (2, ""))
+                self.assertIn(text, ran.err)
+                self.assertEqual(len(ran.err.splitlines()), 1)
+
+    def edited(self, command: str, edit: str) -> list[str]:
+        """The program, with what it prints for one command edited by sed."""
+        words = shlex.join(remembered())
+        script = 'case " $* " in *" %s "*) %s "$@" | sed %s ;; *) exec %s "$@" ;; esac'
+        return ["sh", "-c", script % (command, words, shlex.quote(edit), words), "sh"]
 
     def test_another_type_in_a_column(self) -> None:
         self.change("UPDATE entry SET line = CAST(line AS TEXT) WHERE place = 3")

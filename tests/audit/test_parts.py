@@ -16,7 +16,7 @@ from mireseason_audit.check import Verdict, report
 from mireseason_audit.faults import Unreadable, Wrong
 from mireseason_audit.findings import Finding
 from mireseason_audit.frame import barred, fault_of, fields_of, framed, number_in, sum_of
-from mireseason_audit.jobs import due_texts, held
+from mireseason_audit.jobs import due_texts, held, is_head
 from mireseason_audit.lines import came_of, firm_and_time
 from mireseason_audit.pair import Compared, Differences, difference_words, differences
 from mireseason_audit.plain_wire import carries
@@ -400,7 +400,18 @@ class Lists(unittest.TestCase):
         two = [head, b"dealer DLR2 4 10000000 T2"]
         for texts in ([], [one], [two, one], [two, two, one]):
             lines = [line for text in texts for line in text]
-            self.assertEqual([list(text) for text in due_texts(lines)], texts)
+            cut = [[*head, *items] for head, items in due_texts(lines)]
+            self.assertEqual(cut, texts)
+
+    def test_whose_each_is(self) -> None:
+        day, date = configured("", "", CONFIGURATION), b"date 20250314"
+        dealer = day.firms[0]
+        self.assertTrue(is_head([date, b"dealer DLR1 4 10000000 T1"], day, dealer))
+        for head in (
+            [date, b"dealer DLR11 4 10000000 T1"], [date, b"dealer DLR2 4 10000000 T1"],
+            [date], [], [b"date 20250315", b"dealer DLR1 4 10000000 T1"], [date, b"lifted 1"],
+        ):
+            self.assertFalse(is_head(head, day, dealer), head)
 
 
 class Reports(unittest.TestCase):
