@@ -19,7 +19,9 @@ from .log import Log, Source
 from .plain_wire import PlainSession
 from .progress import Step
 from .records import SOH, Day, Firm, Messages, Sent
-from .streams import Followed, grown_blocks_of, is_same, lines_in, lines_of
+from .streams import (
+    Followed, count_of_lines, grown_blocks_of, is_same, last_line_of, lines_in, lines_of,
+)
 from .venue import LineFault, Venue, message_of
 from .wire import check_wire
 
@@ -133,8 +135,18 @@ class LiveJob(FindingsJob):
     def _findings(self, log: Log, step: Step) -> Iterator[Finding]:
         files, arguments = self.audited.files, ["live", "--frames", "--marks"]
         faults = self.audited.venue.to_file(arguments, files.day, files.given)
+        self._check_answers(" ".join(arguments))
         files.given_whole.touch()
         yield from self._faulty_lines(log, faults)
+
+    def _check_answers(self, command: str) -> None:
+        """A program that does not answer each line says nothing of the log."""
+        files, lines = self.audited.files, count_of_lines(self.audited.files.day)
+        marks = tuple(mark + b"%d " % lines for mark in MARKS)
+        last = last_line_of(files.given) + b" "
+        if lines > lines_before(self.audited.day) and not last.startswith(marks):
+            text = "`%s %s` has not answered the last line, %d"
+            raise Unreadable(text % (self.audited.venue, command, lines))
 
     def _faulty_lines(self, log: Log, faults: list[LineFault]) -> Iterator[Finding]:
         """Entries whose line the venue does not take; a day of no gateway may have some."""

@@ -116,6 +116,14 @@ class Commands(unittest.TestCase):
                 self.assertIn(text, ran.err)
                 self.assertEqual(len(ran.err.splitlines()), 1)
 
+    def test_lines_that_are_not_answered(self) -> None:
+        """A program that ends early with status 0: nothing is said of the log then."""
+        for edit in ("200q", "$d", "/^done /d", "d", "s/^done /dune /", "1q"):
+            with self.subTest(edit):
+                ran = audit("check", self.log, venue=self.edited("live", edit))
+                self.assertEqual((ran.status, ran.out), (2, ""))
+                self.assertIn("has not answered the last line, 399", ran.err)
+
     def edited(self, command: str, edit: str) -> list[str]:
         """The program, with what it prints for one command edited by sed."""
         words = shlex.join(remembered())

@@ -52,6 +52,18 @@ class Streams(unittest.TestCase):
                 file.write(part)
         whole.touch()
 
+    def test_the_last_line(self) -> None:
+        for data, last, count in (
+            (b"", b"", 0), (b"\n", b"", 1), (b"a", b"a", 0), (b"a\nbb\n", b"bb", 2),
+            (b"a\nbb", b"bb", 1), (b"a\n\n", b"", 2), (b"x" * 9 + b"\nyy\n", b"yy", 2),
+            (b"abcdefgh\n", b"defgh", 1),
+        ):
+            with folder() as name, patch.object(streams, "LAST_BYTES", 6):
+                path = Path(name) / "file"
+                path.write_bytes(data)
+                self.assertEqual(streams.last_line_of(path), last, data)
+                self.assertEqual(streams.count_of_lines(path), count, data)
+
     def test_files_that_are_the_same(self) -> None:
         with folder() as name, patch.object(streams, "BLOCK", 4):
             one, other = Path(name) / "one", Path(name) / "other"
