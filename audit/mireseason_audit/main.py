@@ -155,13 +155,13 @@ def seal_words(verdict: Verdict, found: list[Finding]) -> str:
 def do_seal(work: Work) -> int:
     if work.words.sent is not None:
         raise Unreadable("two files have no chain, so there is nothing to be sealed")
-    chained = work.checker().chain()
-    if chained.findings:
+    with work.source.open() as log:
+        day, chained = log.day(), work.checker().chain(log)
+        what = None if chained.findings else sealed(log, day, chained)
+    if what is None:
         print("\n".join(line for finding in chained.findings for line in finding.lines()))
         print("verdict: not sealed")
         return 1
-    with work.source.open() as log:
-        what = sealed(log, log.day(), chained)
     path = seal_path(work.words, work.source, work.words.out)
     write_seal(what, work.words.key, path)
     print("sealed: %d entries, the last %s" % (chained.entries, chained.last.hex()))

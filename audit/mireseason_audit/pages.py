@@ -52,6 +52,7 @@ class Pager:
         checker.progress.begin("messages", checker.rows_of(verdict))
         results = run_jobs(plan, checker.at_once, checker.progress)
         checker.progress.end()
+        checker.check_end(verdict)
         (summary,) = [result for result in results if isinstance(result, Summary)]
         found = [result for result in results if not isinstance(result, Summary)]
         return judged(verdict, found), summary
@@ -67,6 +68,7 @@ class Pager:
         shutil.copyfile(checker.files.day, self.folder / "day.live")
         shutil.copyfile(HERE / "style.css", self.folder / "style.css")
         checker.progress.end()
+        checker.check_end(verdict)
 
     def sign(self, key: Path | None) -> None:
         """The sums of all files, and the signature of these where there is a key."""

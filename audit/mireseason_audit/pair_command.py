@@ -47,12 +47,14 @@ class PairCommand:
 
     def run(self) -> Told:
         told = Told()
-        day = self.checker.begun().day
+        begun = self.checker.begun()
+        day = begun.day
         self.checker.write_day(day)
         venue, files = self.checker.venue, self.checker.files
         venue.to_file(["due", self.dealer, "--live"], files.day, files.due(self.dealer))
         self._prices(day, told)
         self._left_out(day, told)
+        self.checker.check_end(begun)
         return told
 
     # ------------------------------------------------------------ prices

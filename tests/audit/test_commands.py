@@ -177,6 +177,29 @@ class Commands(unittest.TestCase):
             self.assertIn(text, ran.err)
             self.assertEqual(len(ran.err.splitlines()), 1)
 
+    def test_a_log_that_goes_on_while_it_is_read(self) -> None:
+        """The program is the one who knows when it is read: an entry is added when it is asked."""
+        words = "INSERT INTO entry SELECT place + 1, 0, moment, NULL, NULL, line, hash, hash"
+        words += " FROM entry ORDER BY place DESC LIMIT 1"
+        program = shlex.join(venue_words())
+        cases: list[tuple[str, str, list[object]]] = [
+            ("alone", "check", []),
+            ("live", "check", []),
+            ("compare", "page", [self.place / "pages"]),
+            ("compare", "pair", ["ALPHA"]),
+        ]
+        for number, (asked, command, rest) in enumerate(cases):
+            with self.subTest(command + " " + asked):
+                self.log = self.place / ("day-%d.db" % number)
+                shutil.copyfile(DAY, self.log)
+                self.change("PRAGMA journal_mode = WAL")
+                script = 'case " $* " in *" %s "*) sqlite3 %s "%s" ;; esac; exec %s "$@"'
+                grow = ["sh", "-c", script % (asked, self.log, words, program), "sh"]
+                ran = audit(command, self.log, *rest, venue=grow)
+                self.assertEqual((ran.status, ran.out), (2, ""))
+                self.assertRegex(ran.err, "goes on while it is read, from entry 336 to 3")
+                self.assertEqual(len(ran.err.splitlines()), 1)
+
     def test_a_line_feed_in_a_line(self) -> None:
         """An entry is one line for the venue, so that those behind it keep their places."""
         self.change("UPDATE entry SET line = CAST(line || char(10) || 'clock 09:00:00.000' AS BLOB)"
