@@ -43,6 +43,9 @@ void Gateway::start() {
     for (const auto &day : days_) {
         day->start(*engine_);
     }
+    if (status_.stopping().stop_requested()) {
+        return;
+    }
     engine_->listen();
     events_->info("ready address={}:{} tls={} firms={}", settings.address, settings.port,
                   !settings.certificate.empty(), starts.size());
