@@ -1,5 +1,6 @@
 """Messages of a session that stands: what is odd in them, and how they come."""
 
+import socket
 import threading
 
 from firm import Received
@@ -402,7 +403,28 @@ def one_that_does_not_read(stage: Stage) -> None:
     stage.auction([stage.other])
 
 
+def asks_and_does_not_read(stage: Stage) -> None:
+    """A firm that asks for all again, takes none of it, and goes on sending: the gateway waits for it without work, and ends
+    the connection at the limit."""
+    seconds, count = 8, 1000
+    stage.door.limits["send_seconds"] = seconds
+    stage.open(stage.other, stage.investor)
+    with on_a_wire(stage) as wire:
+        wire.raw(b"".join(wire.message(b"Z", b"DLR1", cancel(b"c%d" % number)) for number in range(count)))
+        last = b"c%d" % (count - 1)
+        check(wire.read_until(lambda message: message.value(117) == last) is not None, "the last is not answered")
+        wire.socket.setsockopt(socket.SOL_SOCKET, socket.SO_RCVBUF, 2048)
+        before = stage.worked()
+        wire.raw(b"".join(wire.message(b"2", b"DLR1", [(7, b"1"), (16, b"0")]) for _ in range(100)))
+        wire.raw(b"".join(wire.message(b"0", b"DLR1", []) for _ in range(200)))
+        until("its connection has ended", LONG, lambda: stage.counters()["mireseason_connections"] == 2)
+        worked = stage.worked() - before
+        check(worked < seconds / 2 or not stage.tools.measures, "the gateway has worked for %.1f s" % worked)
+    stage.whole()
+
+
 TRIED = [every_byte_in_text, another_firms_words, five_thousand_bytes, about_the_longest_frame, microseconds,
          wrong_clock, poss_resend, unknown_trader, poss_dup, fields_of_no_use, no_frames, no_numbers_of_the_venue,
          number_without_end, ahead_of_a_gap, gap_without_end, resent_as_it_was,
-         resent_after_a_crash, faster_than_the_log, longer_than_the_limit, one_that_does_not_read]
+         resent_after_a_crash, faster_than_the_log, longer_than_the_limit, one_that_does_not_read,
+         asks_and_does_not_read]
