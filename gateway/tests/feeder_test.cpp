@@ -135,11 +135,11 @@ void kept_by_their_bytes() {
 
 // One that is killed ends with what it has started, which has the same output.
 void killed_with_its_own() {
-    Process process({"sh", "-c", "sleep 30 & echo; wait"});
+    Process process({"sh", "-c", "sleep 200 & echo; wait"});
     read_some(process, 1);
     process.kill();
     auto rest = std::async(std::launch::async, [&] { return process.read_output(); });
-    check(rest.wait_for(std::chrono::seconds(15)) == std::future_status::ready,
+    check(rest.wait_for(std::chrono::seconds(60)) == std::future_status::ready,
           "the output of a process that was killed does not end");
     check(rest.get().empty(), "it says something more");
 }

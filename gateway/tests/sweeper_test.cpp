@@ -16,6 +16,8 @@ namespace {
 
 using namespace std::chrono_literals;
 
+constexpr auto longest = 60s;
+
 // Keeps what is committed.
 class MemoryDatabase final : public Database {
   public:
@@ -77,7 +79,7 @@ void a_deadline_that_has_come() {
     DayWithADeadline day;
     {
         const Sweeper sweeper(day.answers, day.log, day.clock);
-        const auto latest = std::chrono::steady_clock::now() + 10s;
+        const auto latest = std::chrono::steady_clock::now() + longest;
         while (day.committed.last_place() < 2 && std::chrono::steady_clock::now() < latest) {
             std::this_thread::yield();
         }
@@ -106,7 +108,7 @@ void a_venue_that_does_not_answer() {
                 day.log.flush();
             }
         });
-        const bool went_on = firm.wait_for(10s) == std::future_status::ready;
+        const bool went_on = firm.wait_for(longest) == std::future_status::ready;
         is_over = true;
         check(went_on, "a firm waits for a venue that does not answer");
         same<std::size_t>(0, sweeps_of(day.database), "sweeps behind other messages");
@@ -139,7 +141,7 @@ void a_sweep_that_is_not_answered() {
     const std::uint32_t held = once_it_waits(last);
     // The venue answers what it has, and so the sweep comes.
     day.answers.put(day.log.last_place(), Moment{0});
-    const auto latest = std::chrono::steady_clock::now() + 10s;
+    const auto latest = std::chrono::steady_clock::now() + longest;
     while (last == held && std::chrono::steady_clock::now() < latest) {
         std::this_thread::yield();
     }

@@ -9,7 +9,9 @@ from stage import DEALER, Stage, check
 from wait import LONG, until
 
 SOON = 25  # seconds: less than the gateway waits at most for a firm that fills a gap
-AS_AUCTIONS = 10  # or for so many times what an auction takes, on a machine that is slower than that
+AS_AUCTIONS = 30  # or for so many times what an auction takes, on a machine that is slower than that
+
+DEADLINE = 110  # seconds: a clock that is set forward by these is still one whose 52 is taken
 
 
 def reject_for_one_away(stage: Stage) -> None:
@@ -105,10 +107,10 @@ def clock_set_forward(stage: Stage) -> None:
     step.write_bytes(struct.pack("=q", 0))
     stage.door.environment = {"LD_PRELOAD": str(stage.tools.shim), "CLOCK_STEP": str(step)}
     stage.open(*stage.firms)
-    stage.ask(LONG + 40)
+    stage.ask(DEADLINE)
     with step.open("r+b") as file:
-        file.write(struct.pack("=q", int(LONG) + 45))
-    stage.answer(stage.investor, "that a request expired", lambda message: message.value(297) == b"7")
+        file.write(struct.pack("=q", DEADLINE + 2))
+    stage.answer(stage.investor, "that a request expired", lambda message: message.value(297) == b"7", limit=DEADLINE - 20)
     stage.whole()
 
 

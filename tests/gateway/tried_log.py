@@ -195,7 +195,8 @@ def on_before_midnight(stage: Stage, seconds: int) -> bool:
     stage.door.start()
     for firm in stage.firms:
         firm.start()
-    all_on = within(seconds, lambda: stage.door.has_ended() or all([firm.logged_on() for firm in stage.firms]))
+    # In the half of the time: they have to settle before its end.
+    all_on = within(seconds / 2, lambda: stage.door.has_ended() or all([firm.logged_on() for firm in stage.firms]))
     return all_on and not stage.door.has_ended()
 
 

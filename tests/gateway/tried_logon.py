@@ -336,7 +336,7 @@ def gets_a_logon(stage: Stage, name: str | None) -> bool:
 
 def plain_to_tls(stage: Stage) -> None:
     """Plain TCP, and connections that begin no handshake: closed at the limit, and no other handshake waits for them."""
-    longest = 40  # seconds: a stock engine has to have logged on by then, on a busy machine too
+    longest = 60  # seconds: a stock engine has to have logged on by then, on a busy machine too
     stage.door.limits["logon_seconds"] = longest
     with_tls(stage)
     stage.open(stage.investor)
