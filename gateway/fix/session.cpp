@@ -17,10 +17,10 @@ namespace {
 using Clock = std::chrono::steady_clock;
 
 // The answer to this TestRequest tells that a firm that has logged on has filled its gap. It is
-// waited for so long, and longer once the firm has asked for a gap: a stock engine that is sent a
-// Reject while it fills one counts wrong.
+// waited for so long, which is long for an engine that is there, and longer once the firm has asked
+// for a gap: a stock engine that is sent a Reject while it fills one counts wrong.
 const std::string question = "MIRESEASON-";
-constexpr auto settling = std::chrono::seconds(1);
+constexpr auto settling = std::chrono::seconds(10);
 constexpr auto filling = std::chrono::seconds(30);
 
 // Resent at once: so much of a firm's day is in memory at a time.
@@ -190,7 +190,8 @@ void FirmSession::take_resend_request(FIX::Message message, Connection &connecti
         next(message);
         return;
     }
-    if (is_settling()) {
+    const bool fills_gap = had_ < asked_at_;
+    if (fills_gap) {
         settled_at_ = settled_by_;
     }
     const int last = asked == 0 ? last_sent : std::min(asked, last_sent);
@@ -203,7 +204,7 @@ void FirmSession::take_resend_request(FIX::Message message, Connection &connecti
         connection.drain();
         there = session_->isLoggedOn();
     }
-    if (there && is_settling()) {
+    if (there && fills_gap) {
         // The one behind the Logon was part of the gap, and is left out of it like all of the
         // session's.
         ask_whether_settled();

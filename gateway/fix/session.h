@@ -132,10 +132,10 @@ class FirmSession final : private FIX::Application, private FIX::Log {
     // Of the connection's thread.
     std::chrono::steady_clock::time_point settled_by_; // whatever it asks for
     unsigned questions_ = 0;
-    int asked_at_ = 0;         // the number of the last question
-    int had_ = 0;              // that of the last one that was answered: the firm had all before it
-    bool is_admitted_ = false; // its Logon is taken next
-    std::string refusal_;      // why that one is refused, if its sender is
+    int asked_at_ = 0;          // the number of the last question
+    int had_ = 0;               // of the last one that was answered: the firm had all before it
+    bool is_admitted_ = false;  // its Logon is taken next
+    std::string refusal_;       // why that one is refused, if its sender is
     bool has_received_ = false; // what the host was not told the end of
 
     std::mutex at_work_; // over what the connection's thread does here, and deliver_at_once()
