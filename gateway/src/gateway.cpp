@@ -89,6 +89,11 @@ std::optional<std::string> Gateway::run() {
         for (const auto &day : days_) {
             day->finish();
         }
+        // Only now: until then each of several may fail.
+        status_.end();
+        for (const auto &day : days_) {
+            day->end();
+        }
     }
     return status_.failure();
 }

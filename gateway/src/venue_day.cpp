@@ -269,14 +269,15 @@ void VenueDay::wait_until_handed_over() {
 
 void VenueDay::finish() {
     sweeper_.reset();
-    const std::uint32_t last = log_->last_place();
-    answers_.wait(last, longest_end, status_.failed());
+    answers_.wait(log_->last_place(), longest_end, status_.failed());
     wait_until_handed_over();
-    status_.end();
+}
+
+void VenueDay::end() {
     venue_->stop();
     wait_until_handed_over();
     log_->flush();
-    events_->info("ended{} entries={}", of_venue(), last);
+    events_->info("ended{} entries={}", of_venue(), log_->last_place());
 }
 
 // Sessions that were there when the gateway ended, and ended with it.

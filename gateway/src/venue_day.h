@@ -49,9 +49,11 @@ class VenueDay final : private SessionHost, private VenueListener {
     std::vector<SessionStart> session_starts();
     // Has what the log lacks handed to the engine, unless the gateway is to stop.
     void start(Engine &engine);
-    // Lets the venue answer what came, hands that over, and commits.
+    // Lets the venue answer what came, and hands that over.
     void finish();
-    // Ends the venue's process, and what is handed to the engine.
+    // Ends the venue's process, and commits.
+    void end();
+    // Ends all at once, and what is handed to the engine.
     void close();
 
     bool is_today() const { return clock_.is_today(); }
