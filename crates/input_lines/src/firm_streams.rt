@@ -62,7 +62,7 @@ impl Model for Heard {
 }
 
 impl Heard {
-    /// Nothing of so many firms.
+    /// Nothing of so many firms. It fails for memory alone.
     pub fn nothing(alloc: Global, firms: usize) -> Result<Self, Memory>
         ensures { IfOk result (λ heard. heard ≡ spec.nothing_heard firms) }
     {

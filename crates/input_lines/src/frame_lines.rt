@@ -11,7 +11,8 @@ use quote_messages::Message;
 use std::alloc::{AllocError, Global};
 
 /// What `TIME FRAME` spells, or none where it is not of its form: the moment, and the bytes of
-/// FRAME, which is the rest of the line and not empty, with SOH for each vertical bar.
+/// FRAME, which is the rest of the line and not empty, with SOH for each vertical bar. It fails for
+/// memory alone.
 #[tactic(auto, unfolding(crate::specs::SayLine::received_of))]
 pub fn read_received(
     alloc: Global,
@@ -52,7 +53,8 @@ fn soh_for_bar(c: u8) -> u8
     c
 }
 
-/// The bytes of a message, with a vertical bar for each SOH.
+/// Puts the bytes of a message behind a text, with a vertical bar for each SOH. It fails for memory
+/// alone, and then some of them may stand there.
 pub fn push_barred(text: &mut Vec<u8>, message: &[u8]) -> Result<(), Memory>
     ensures { OnOk result (text.new.items ≡ text.old.items ++ map spec.with_bar message.now) }
 {

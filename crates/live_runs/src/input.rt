@@ -9,7 +9,8 @@ use std::io::Read;
 /// How many bytes are read at once.
 const CHUNK: usize = 16_384;
 
-/// Reads to the end, or until there are more bytes than an input has at most.
+/// Reads to the end, or until there are more bytes than an input has at most. The fault is
+/// [`ProgramFault::Read`], where the reader gives an error, or [`ProgramFault::Memory`].
 pub fn read_input<R: Read>(alloc: Global, input: &mut R) -> Result<Vec<u8>, ProgramFault>
     ensures ok { IfOk result (λ bytes.
         IfSome (R.remaining input.old) (λ all. IsReadOf all bytes.items)) }
