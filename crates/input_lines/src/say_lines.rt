@@ -43,8 +43,8 @@ impl<'a> Model for Said<'a> {
 }
 
 impl<'a> Said<'a> {
-    /// What `TRADER TIME TYPE BODY` spells, or none where it is not of its form. It fails for memory
-    /// alone.
+    /// What `TRADER TIME TYPE BODY` spells, or none where it is not of its form. It fails for
+    /// memory alone.
     #[tactic(auto, unfolding(crate::specs::SayLine::said_of))]
     pub fn read(alloc: Global, date: &Date, text: &'a [u8]) -> Result<Option<Self>, Memory>
         ensures { IfOk result (λ said. said ≡ spec.said_of date.now text.entry.now) }
