@@ -1,5 +1,6 @@
 //! Reading standard input.
 ghost use Rattle.std.specs.Prelude.{◌≡◌, ◌⊎◌, ◌≤◌, ◌+◌, length, IfOk, IfErr, IfSome};
+ghost use Rattle.std.specs.Io.KnownBytes.{Consumes};
 ghost use Rattle.live_runs.specs.Written.{IsReadOf};
 
 use input_lines::{MOST_INPUT, ProgramFault};
@@ -15,6 +16,8 @@ const CHUNK: usize = 16_384;
 pub fn read_input<R: Read>(alloc: Global, input: &mut R) -> Result<Vec<u8>, ProgramFault>
     ensures ok { IfOk result (λ bytes.
         IfSome (R.remaining input.old) (λ all. IsReadOf all bytes.items)) }
+    ensures left { IfOk result (λ bytes.
+        Consumes (R.remaining input.old) (R.remaining input.new) bytes.items) }
     ensures few { IfOk result (λ bytes. length bytes.items ≤ MOST_INPUT + 16384) }
     ensures err { IfErr result (λ fault.
         (fault ≡ ProgramFault.Read) ⊎ (fault ≡ ProgramFault.Memory)) }
