@@ -1,4 +1,5 @@
 //! The driver of the program's commands: runs over an input that is given line by line.
+use crate::in_step::ran_in_step;
 use crate::inputs::Inputs;
 use crate::laws::{each, same};
 use crate::process::ended_process;
@@ -62,6 +63,19 @@ impl Commands {
             .show_ends(call.alloc, first, last, &mut call.answer)
     }
 
+    /// `in_step WORDS`: the same where each line of steps is given once the answer of the one before
+    /// it was flushed.
+    fn show_in_step<H: Threads + Wait + Sync>(
+        &mut self,
+        rt: &H,
+        call: &mut Call<'_>,
+    ) -> Result<(), CaseFault> {
+        let words = words_of(call.alloc, call.words.rest())?;
+        let input = self.inputs.bytes.as_slice();
+        self.last = ran_in_step(rt, call.alloc, words.as_slice(), input);
+        self.last.show(call.alloc, &mut call.answer)
+    }
+
     /// `process WORDS`: the same of a process with these arguments, which may be any bytes.
     fn show_process<H: Threads + Wait + Sync>(
         &mut self,
@@ -97,6 +111,7 @@ impl Commands {
         match call.name {
             "run" => self.show(rt, call),
             "ends" => self.show_ends(rt, call),
+            "in_step" => self.show_in_step(rt, call),
             "process" => self.show_process(rt, call),
             "told" => self.told(call),
             "each" => each(rt, call, self.inputs.bytes.as_slice()),
