@@ -50,7 +50,7 @@ impl<'a> Asking<'a> {
             self.asked = Some(asked.saturating_add(1));
             return;
         }
-        if line == b"%%\n" {
+        if line == b"%%\n".as_slice() {
             self.asked = Some(0);
         }
     }
