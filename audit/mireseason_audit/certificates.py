@@ -124,7 +124,8 @@ class CertificateJob:
             second=self.second,
             seen=list(itertools.zip_longest(before, after)),
         )
-        (self.folder / "certificates" / (self.dealer.name + ".html")).write_text(text)
+        path = self.folder / "certificates" / (self.dealer.name + ".html")
+        path.write_text(text, encoding="utf-8")
 
 
 class Sums:

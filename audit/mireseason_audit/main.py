@@ -4,12 +4,15 @@ What one command alone needs is imported by it: jinja2 takes longer than the che
 """
 
 import argparse
+import io
 import os
 import shlex
+import signal
+import sqlite3
 import sys
 import tempfile
+import traceback
 from collections.abc import Callable
-from contextlib import ExitStack
 from dataclasses import dataclass
 from pathlib import Path
 
@@ -24,7 +27,7 @@ from .progress import Progress
 from .seal import Sealed, compared, read_seal, sealed, write_seal
 from .sqlite_log import SqliteSource
 from .venue import Venue
-from .work import processors
+from .work import SIGNALS, processors
 
 ROOT = Path(__file__).resolve().parent.parent.parent
 VENUE = ROOT / "crates" / "rfq_venue" / "out" / "rfq_venue"
@@ -201,19 +204,51 @@ def do_pair(work: Work) -> int:
     return 0 if told.is_good else 1
 
 
-def main(arguments: list[str] | None = None) -> int:
-    words = parser_of().parse_args(arguments)
-    stack = ExitStack()
+def venue_of(words: argparse.Namespace) -> Venue:
+    """The program that the arguments name."""
     try:
-        folder = Path(stack.enter_context(tempfile.TemporaryDirectory(prefix="mireseason-")))
-        venue = Venue(tuple(shlex.split(words.venue)))
-        status: int = words.act(Work(words, source_of(words, venue, folder), folder, venue))
-        return status
-    except Unreadable as fault:
-        print("mireseason-audit: %s" % printable(str(fault)), file=sys.stderr)
-        return 2
+        return Venue(tuple(shlex.split(words.venue)))
+    except ValueError as fault:
+        raise Unreadable("the venue's program %s: %s" % (words.venue, fault)) from None
+
+
+def act(words: argparse.Namespace) -> int:
+    """Does the command, in a folder that is gone at its end; answers the status."""
+    try:
+        with tempfile.TemporaryDirectory(prefix="mireseason-") as name:
+            folder, venue = Path(name), venue_of(words)
+            status: int = words.act(Work(words, source_of(words, venue, folder), folder, venue))
     except Wrong as fault:
         print("verdict: %s" % printable(str(fault)))
-        return 1
-    finally:
-        stack.close()
+        status = 1
+    sys.stdout.flush()
+    return status
+
+
+def ended(number: int, frame: object) -> None:
+    """A signal ends the jobs, and takes the folder away."""
+    sys.exit(128 + number)
+
+
+def main(arguments: list[str] | None = None) -> int:
+    words = parser_of().parse_args(arguments)
+    for number in SIGNALS:
+        signal.signal(number, ended)
+    for stream in (sys.stdout, sys.stderr):
+        if isinstance(stream, io.TextIOWrapper):
+            stream.reconfigure(errors="backslashreplace")
+    try:
+        return act(words)
+    except (Unreadable, OSError, sqlite3.Error) as fault:
+        print("mireseason-audit: %s" % printable(str(fault)), file=sys.stderr)
+    except Exception:  # a fault of this program says nothing of the log either
+        traceback.print_exc()
+    drop_output()
+    return 2
+
+
+def drop_output() -> None:
+    """What is still to be printed may be what can't be written: nobody is to try it again."""
+    nowhere = os.open(os.devnull, os.O_WRONLY)
+    os.dup2(nowhere, sys.stdout.fileno())
+    os.close(nowhere)

@@ -139,7 +139,7 @@ class Pager:
                 fault_link=fault_link,
                 page_name=page_name,
             )
-            (self.folder / day_page(page + 1)).write_text(text)
+            (self.folder / day_page(page + 1)).write_text(text, encoding="utf-8")
 
 
 @dataclass(frozen=True)
@@ -167,7 +167,7 @@ class FaultsJob:
                     file_name=file_name,
                     fault_link=fault_link,
                 )
-                (self.folder / ("refused-%d.html" % (page + 1))).write_text(text)
+                (self.folder / ("refused-%d.html" % (page + 1))).write_text(text, encoding="utf-8")
         step(0)
         return len(mine)
 

@@ -7,9 +7,12 @@ import os
 import re
 import shlex
 import shutil
+import signal
 import sqlite3
 import subprocess
+import time
 import unittest
+from collections.abc import Callable
 from contextlib import closing
 from pathlib import Path
 
@@ -237,6 +240,77 @@ class Commands(unittest.TestCase):
         ran = audit("check", self.log)
         self.assertEqual(ran.status, 1)
         self.assertIn("NOBODY: the configuration has no such firm", ran.out)
+
+    # ------------------------------------------------------------ what fails beside the log
+
+    def test_what_can_not_be_written(self) -> None:
+        """Neither says anything of the log, and each is one line with its cause."""
+        with open("/dev/full", "wb") as full:
+            words = [str(AUDIT), "check", "--venue", shlex.join(remembered()), str(self.log)]
+            done = subprocess.run(words, stdout=full, stderr=subprocess.PIPE, check=False)
+        self.assertEqual((done.returncode, len(done.stderr.splitlines())), (2, 1))
+        self.assertIn(b"No space left on device", done.stderr)
+        limited = ["sh", "-c", 'ulimit -f 16; exec "$@"', "sh", *words]  # of the size of a file
+        done = subprocess.run(limited, capture_output=True, check=False)
+        self.assertEqual((done.returncode, done.stdout), (2, b""))
+        self.assertIn(b"File too large", done.stderr)
+        self.assertEqual(len(done.stderr.splitlines()), 1)
+        (self.place / "file").write_text("")
+        ran = audit("page", self.log, self.place / "file" / "pages")
+        self.assertEqual((ran.status, ran.out, len(ran.err.splitlines())), (2, "", 1), ran.err)
+
+    def test_words_of_a_program_that_are_none(self) -> None:
+        for words in ("'", "rfq_venue \\", ""):
+            done = subprocess.run(
+                [str(AUDIT), "check", str(self.log)], env={**os.environ, "VENUE": words},
+                capture_output=True, text=True, check=False,
+            )
+            self.assertEqual((done.returncode, len(done.stderr.splitlines())), (2, 1), done.stderr)
+
+    def test_a_program_that_ends_while_it_is_asked_line_by_line(self) -> None:
+        """`pair` asks `live` line by line."""
+        words = 'case "$*" in live*) exit 0 ;; esac; exec %s "$@"' % shlex.join(venue_words())
+        ran = audit("pair", self.log, "ALPHA", venue=["sh", "-c", words, "sh"])
+        self.assertEqual((ran.status, len(ran.err.splitlines())), (2, 1), ran.err)
+
+    def test_a_signal(self) -> None:
+        """It ends the program that is run, too, and leaves no file behind, if it can be handled."""
+        asleep = 'case "$*" in live*) echo $$ >"$TMPDIR/asleep"; exec sleep 60 ;; esac; '
+        program = asleep + 'exec %s "$@"' % shlex.join(remembered())
+        venue = shlex.join(["sh", "-c", program, "sh"])
+        for number, status in ((signal.SIGTERM, 143), (signal.SIGINT, 130), (signal.SIGKILL, -9)):
+            left = self.place / ("left-%d" % number)
+            left.mkdir()
+            process = subprocess.Popen(
+                [str(AUDIT), "check", "--venue", venue, str(self.log)],
+                env={**os.environ, "TMPDIR": str(left)}, stderr=subprocess.PIPE,
+            )
+            file = left / "asleep"
+            self.wait_until(lambda: file.exists() and file.read_text().strip() != "")
+            asked = Path("/proc") / file.read_text().strip()
+            process.send_signal(number)
+            _, told = process.communicate(timeout=30)  # whoever has it open is gone then
+            self.assertEqual((process.returncode, told), (status, b""))
+            self.assertFalse(asked.exists())
+            if number != signal.SIGKILL:
+                self.assertEqual([path.name for path in left.iterdir()], ["asleep"])
+
+    def wait_until(self, holds: Callable[[], bool]) -> None:
+        deadline = time.monotonic() + 60
+        while not holds():
+            self.assertLess(time.monotonic(), deadline)
+            time.sleep(0.05)
+
+    def test_a_locale_without_letters_of_other_alphabets(self) -> None:
+        plain = {"LC_ALL": "C", "PYTHONUTF8": "0", "PYTHONCOERCECLOCALE": "0"}
+        pages = self.place / "pages"
+        ran = audit("page", self.log, pages, **plain)
+        self.assertEqual((ran.status, ran.err), (0, ""))
+        self.assertIn("✓", (pages / "index.html").read_text(encoding="utf-8"))
+        self.change("INSERT INTO sent VALUES ('É', 1, 3, x'00')")
+        ran = audit("check", self.log, **plain)
+        self.assertEqual((ran.status, ran.err), (1, ""))
+        self.assertIn("\\xc9: the configuration has no such firm", ran.out)
 
     # ------------------------------------------------------------ two files
 
