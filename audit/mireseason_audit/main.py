@@ -132,6 +132,8 @@ def checked(work: Work) -> Verdict:
 def seal_of(work: Work) -> Sealed | None:
     """The seal that the arguments name; it is read first, since it may be none of the key."""
     words = work.words
+    if words.key is None and words.seal is not None:
+        raise Unreadable("a seal says nothing without --key, the public key that signed it")
     if words.key is None:
         return None
     return read_seal(seal_path(words, work.source, words.seal), words.key)

@@ -366,6 +366,20 @@ class Commands(unittest.TestCase):
             self.log.with_name("day.db.seal").write_bytes(first[:at] + changed + first[at + 1 :])
             self.assertIn(audit("check", self.log, "--key", public).status, (1, 2), at)
 
+    def test_a_seal_that_is_there_stays(self) -> None:
+        private, public = keys(self.place)
+        seal = self.log.with_name("day.db.seal")
+        seal.write_bytes(b"another")
+        ran = audit("seal", self.log, "--key", private)
+        self.assertEqual((ran.status, ran.out, seal.read_bytes()), (2, "", b"another"))
+        self.assertIn("is there, and has another seal", ran.err)
+        other = self.place / "other.seal"
+        self.assertEqual(audit("seal", self.log, "--key", private, "--out", other).status, 0)
+        ran = audit("check", self.log, "--seal", other)
+        self.assertEqual((ran.status, ran.out), (2, ""))
+        ran = audit("check", self.log, "--seal", other, "--key", public)
+        self.assertEqual(ran.status, 0, ran.text)
+
     def test_the_signature_is_openssl_s(self) -> None:
         """Whoever has openssl alone verifies a seal: its last line is the signature of the
         others.

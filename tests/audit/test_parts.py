@@ -8,7 +8,7 @@ from collections import Counter
 from pathlib import Path
 from typing import Any
 
-from common import ROOT, folder
+from common import ROOT, folder, keys
 
 from mireseason_audit.chain import ChainReader, hash_of
 from mireseason_audit.dictionary import read_dictionary
@@ -24,7 +24,7 @@ from mireseason_audit.prices import Price
 from mireseason_audit.reading import Reader
 from mireseason_audit.records import Entry, Outgoing, Sent, configured, day_of
 from mireseason_audit.requests import Request
-from mireseason_audit.seal import Sealed, compared
+from mireseason_audit.seal import Sealed, compared, read_seal, write_seal
 from mireseason_audit.second_day import moved_fields
 from mireseason_audit.story import seconds
 from mireseason_audit.summary import Summary
@@ -446,6 +446,27 @@ class Seals(unittest.TestCase):
         self.assertEqual(self.found(120, 234), [behind % 120 + unknown])
         others = "from entry 101 to 120 they are not those that were sealed"
         self.assertEqual(self.found(120, 110), [others + "; the log ends at entry 110"])
+
+    def test_each_changed_line(self) -> None:
+        """Whatever else a seal says than the log: it is told."""
+        days = ["%s day %s" % (word, word) for word in ("date", "version", "program")]
+        lines = ["title", *days, "configuration day c", "entry 0 a", "entry 100 b", "last 120 c"]
+        lines += ["sent DLR1 2 d", "session DLR1 3 e", "sent INV1 0 f", "session INV1 1 g"]
+        sealed = Sealed(tuple(lines))
+        self.assertEqual(list(compared(sealed, sealed)), [])
+        for at in range(len(lines)):
+            for other in ([lines[at] + "x"], [], [lines[at], lines[at]]):
+                now = Sealed((*lines[:at], *other, *lines[at + 1 :]))
+                self.assertTrue(list(compared(sealed, now)), (at, other))
+                self.assertTrue(list(compared(now, sealed)), (at, other))
+
+    def test_a_version_in_two_lines(self) -> None:
+        """A line ends at a line feed alone, in a seal as in entry 0."""
+        what = Sealed(("mireseason-seal 1", "version day v\x0b1\u2028\r", "last 0 a"))
+        with folder() as name:
+            private, public = keys(Path(name))
+            write_seal(what, private, Path(name) / "seal")
+            self.assertEqual(read_seal(Path(name) / "seal", public), what)
 
 
 class Words(unittest.TestCase):
