@@ -11,7 +11,7 @@ from .jobs import by_place
 from .left_out import LeftOutDay
 from .lines import Came
 from .log import Log
-from .pair import Differences, compare, difference_words, differences
+from .pair import Compared, Differences, compare, difference_words, differences
 from .records import Day
 from .second_day import Move, MovedDay, append
 from .venue import message_of
@@ -148,16 +148,28 @@ class PairCommand:
         told.say("rfq_venue compare %s --live: %s." % (self.dealer, ", ".join(compared.lines)))
         venue.to_file(["due", self.dealer, "--live"], path, second)
         found = differences(files.due(self.dealer), second)
-        if not compared.holds:
-            told.say("ROW AND LIST ARE EQUAL AND THE MESSAGES ARE NOT: THAT MUST NOT BE.", False)
-        elif compared.due_equal:
-            text = "All %d items of its list are equal, so it was sent the same bytes."
-            told.say(text % found.items)
-        else:
-            told.say("Of its list, and so of its messages, this differs and nothing else:")
-        for words in difference_words(found):
-            told.say(words, found.are_declared, indent=8)
+        say_compared(compared, found, told)
         return found
+
+
+def say_compared(compared: Compared, found: Differences, told: Told) -> None:
+    """What `compare` says of two days, whose lists differ as was found, in words."""
+    words = difference_words(found)
+    if not compared.row_equal:
+        told.say("THE DATE OR ITS ROW DIFFERS, AND BOTH DAYS HAVE ONE CONFIGURATION.", False)
+    if not compared.holds:
+        told.say("ROW AND LIST ARE EQUAL AND THE MESSAGES ARE NOT: THAT MUST NOT BE.", False)
+    elif not compared.due_equal and not words:
+        told.say("The items of its list are the same, and STAND IN ANOTHER ORDER.", False)
+    elif not compared.due_equal:
+        told.say("Of its list, and so of its messages, this differs and nothing else:")
+    elif words:
+        told.say("`compare` SAYS THAT ITS LISTS ARE EQUAL, AND THEY ARE NOT:", False)
+    else:
+        text = "All %d items of its list are equal, so it was sent the same bytes."
+        told.say(text % found.items)
+    for text in words:
+        told.say(text, found.are_declared, indent=8)
 
 
 def answer_of(frame: bytes) -> tuple[str, str]:

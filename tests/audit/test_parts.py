@@ -18,7 +18,10 @@ from mireseason_audit.findings import Finding
 from mireseason_audit.frame import barred, fault_of, fields_of, framed, number_in, sum_of
 from mireseason_audit.jobs import due_texts, held, is_head
 from mireseason_audit.lines import came_of, firm_and_time
-from mireseason_audit.pair import Compared, Differences, difference_words, differences
+from mireseason_audit.pair import (
+    Compared, Differences, compared_by, difference_words, differences,
+)
+from mireseason_audit.pair_command import Told, say_compared
 from mireseason_audit.plain_wire import carries
 from mireseason_audit.prices import Price
 from mireseason_audit.reading import Reader
@@ -548,6 +551,37 @@ class Pairs(unittest.TestCase):
         lost = self.held(shown + own, shown)
         self.assertFalse(lost.are_declared)
         self.assertIn("MUST NOT", difference_words(lost)[0])
+
+    def test_what_compare_may_print(self) -> None:
+        for lines in (
+            ("row equal", "due equal", "messages equal"),
+            ("row differs", "due differs at 3", "messages differ at 12"),
+        ):
+            self.assertEqual(compared_by(lines).lines, lines)
+        for wrong in (
+            (), ("row equal", "due equal"), ("x", "y", "z"), ("row equal", "due equal", ""),
+            ("due equal", "row equal", "messages equal"),
+            ("row equal", "due differs at ", "messages equal"),
+            ("row equal", "due equal", "messages differs at 2"),
+            ("row equal", "due equal", "messages equal", "more"),
+        ):
+            self.assertRaises(Unreadable, compared_by, wrong)
+
+    def test_what_is_said_of_it(self) -> None:
+        own, other = "own 09:00:10.000 8=FIXT.1.1|\n", "own 09:00:11.000 8=FIXT.1.1|\n"
+        same, turned = self.held(own + other, own + other), self.held(own + other, other + own)
+        notice = self.held("closed 1 4 09:01:00.000\n", "closed 1 5 09:01:00.000\n")
+        for lines, found, is_good in (
+            (("row equal", "due equal", "messages equal"), same, True),
+            (("row equal", "due differs at 1", "messages differ at 2"), notice, True),
+            (("row equal", "due equal", "messages differ at 2"), same, False),
+            (("row differs", "due equal", "messages equal"), same, False),
+            (("row equal", "due differs at 1", "messages equal"), turned, False),
+            (("row equal", "due equal", "messages equal"), notice, False),
+        ):
+            told = Told()
+            say_compared(Compared(lines), found, told)
+            self.assertEqual(told.is_good, is_good, told.lines)
 
     def test_the_headline(self) -> None:
         self.assertTrue(Compared(("row equal", "due equal", "messages equal")).holds)
