@@ -333,6 +333,22 @@ class Commands(unittest.TestCase):
         self.assertEqual(audit("check", day, "--sent", self.place / "nothing").status, 2)
         self.assertEqual(audit("seal", day, "--sent", sent, "--key", sent).status, 2)
 
+    def test_two_files_that_are_none(self) -> None:
+        day, sent = self.two_files()
+        lines = sent.read_bytes().splitlines(keepends=True)
+        for line in (b"x\n", b"\n", b" 8=FIXT.1.1|\n", b"ALPHA \n"):
+            sent.write_bytes(b"".join([*lines[:7], line, *lines[7:]]))
+            ran = audit("check", day, "--sent", sent)
+            told = "mireseason-audit: %s: line 8 is no message\n" % sent
+            self.assertEqual((ran.status, ran.text), (2, told), line)
+        sent.write_bytes(b"done 1\n" + b"".join(lines) + b"fault 2 form\ndone 3 09:00:00.000\n")
+        self.assertEqual(audit("check", day, "--sent", sent).status, 0)
+        for text in (b"", b"%% \n", b"version = 1\n", b"# a line\n" * 2_000_000, b"x" * 20_000_000):
+            day.write_bytes(text)
+            ran = audit("check", day, "--sent", sent)
+            self.assertEqual((ran.status, ran.out), (2, ""), text[:9])
+            self.assertIn("no line `%%` stands behind a configuration", ran.err)
+
     def test_two_files_are_paged(self) -> None:
         """One line more has bytes that are no message: the venue drops them without an answer."""
         day, sent = self.two_files()
