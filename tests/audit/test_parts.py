@@ -3,21 +3,26 @@ entries and names.
 """
 
 import hashlib
+import pickle
 import unittest
 from collections import Counter
+from contextlib import closing
 from pathlib import Path
 from typing import Any
 
 from common import ROOT, folder, keys
 
+from mireseason_audit.book import Book
 from mireseason_audit.chain import ChainReader, hash_of
 from mireseason_audit.dictionary import read_dictionary
 from mireseason_audit.check import Verdict, report
+from mireseason_audit.exchanges import Exchange
 from mireseason_audit.faults import Unreadable, Wrong
 from mireseason_audit.findings import Finding
 from mireseason_audit.frame import barred, fault_of, fields_of, framed, number_in, sum_of
 from mireseason_audit.jobs import due_texts, held, is_head
 from mireseason_audit.lines import came_of, firm_and_time
+from mireseason_audit.messages import MessageWriter, Shown
 from mireseason_audit.pair import (
     Compared, Differences, compared_by, difference_words, differences,
 )
@@ -30,7 +35,7 @@ from mireseason_audit.requests import Request
 from mireseason_audit.seal import Sealed, compared, read_seal, write_seal
 from mireseason_audit.second_day import moved_fields
 from mireseason_audit.story import seconds
-from mireseason_audit.summary import Summary
+from mireseason_audit.summary import Summarizer, Summary
 from mireseason_audit.templates import date_text, quantity_text
 from mireseason_audit.timeline import broken, gap_text
 from mireseason_audit.wire import WireReader, carried, header_fault, parts_of
@@ -415,6 +420,31 @@ class Lists(unittest.TestCase):
             [date], [], [b"date 20250315", b"dealer DLR1 4 10000000 T1"], [date, b"lifted 1"],
         ):
             self.assertFalse(is_head(head, day, dealer), head)
+
+
+class Memory(unittest.TestCase):
+    """What firms send does not stay in memory, whatever they send."""
+
+    def test_types_that_nobody_has(self) -> None:
+        day = configured("", "", CONFIGURATION)
+        reader = Reader(read_dictionary(ROOT / "fix" / "MIRESEASON.xml"))
+        with folder() as name, closing(Book(Path(name) / "book", write=True)) as book:
+            summarizer = Summarizer(day, reader, book)
+            size = 0
+            for number in range(400):
+                line = b"in INV1 09:00:00.000 35=%d%b|" % (number, b"x" * 4000)
+                row = Entry(number + 1, 0, "09:00:00.000", "INV1", 1, line, b"", b"")
+                summarizer.take(Exchange(row, came_of(line), ()))
+                size = size or len(pickle.dumps(summarizer.summary))
+            self.assertEqual(summarizer.summary.firms["INV1"].came, 400)
+            self.assertLess(len(pickle.dumps(summarizer.summary)), 2 * size)
+
+    def test_fields_that_are_long(self) -> None:
+        writer = MessageWriter(read_dictionary(ROOT / "fix" / "MIRESEASON.xml"))
+        for number in range(400):
+            fields = fields_of(b"117=%d%b\x01" % (number, b"x" * 4000))
+            writer.html(Shown("e1", True, "09:00:00.000", 1, "1", "", fields))
+        self.assertLess(len(pickle.dumps(writer)), 100_000)
 
 
 class Reports(unittest.TestCase):
