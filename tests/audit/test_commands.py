@@ -429,6 +429,26 @@ class Commands(unittest.TestCase):
         self.assertIn("as it was sealed", (pages / "index.html").read_text())
         self.assertEqual(audit("page", self.log, pages).status, 2)  # the folder is not empty
 
+    def test_a_request_that_the_day_does_not_have(self) -> None:
+        """The folder is still empty, so that it can be written into."""
+        pages = self.place / "pages"
+        for number in (0, 41, -1):
+            ran = audit("page", self.log, pages, "--request", number)
+            self.assertEqual((ran.status, ran.out), (2, ""), number)
+            self.assertIn("the day has no request %d: it has 40" % number, ran.err)
+        ran = audit("page", self.log, pages, "--request", 40)
+        self.assertEqual(ran.status, 0, ran.text)
+
+    def test_a_place_that_is_far_away(self) -> None:
+        """A firm's pages are as many as there are places."""
+        self.change("UPDATE entry SET place = 1000000000000000 WHERE place = 336")
+        ran = audit("check", self.log)
+        self.assertIn("entry 336 is missing: behind 335 comes 1000000000000000", ran.out)
+        ran = audit("page", self.log, self.place / "pages")
+        self.assertEqual((ran.status, ran.err), (1, ""))
+        self.assertIn("336 entries, and a place 1000000000000000", ran.out)
+        self.assertEqual(list((self.place / "pages").iterdir()), [])
+
     def test_a_page_of_a_day_with_a_fault(self) -> None:
         self.change_answer("'297=0'", "'297=9'")
         ran = audit("page", self.log, self.place / "pages")
