@@ -107,9 +107,9 @@ class Reader:
         quote = text_of(fields, 117)
         return Words(Shape.WITHDRAW, "withdraws", detail=quote, quote=quote)
 
-    def clock(self) -> Words:
-        """A sweep."""
-        return Words(Shape.CLOCK, "deadline")
+    def unread(self, firm: str | None) -> Words:
+        """What is no message of its own: a piece of a firm's stream, or without a firm a sweep."""
+        return Words(Shape.TOLD, "sends a piece") if firm else Words(Shape.CLOCK, "deadline")
 
     # ------------------------------------------------------------ what a firm is told
 

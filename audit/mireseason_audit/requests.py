@@ -179,9 +179,9 @@ class Requests:
             Note(one.firm.name, one.number, one.kind, reader.told(one.fields, one.firm.is_dealer))
             for one in told
         )
-        said = reader.said(came.fields) if came else reader.clock()
-        actor = came.firm if came else None
-        return Act(exchange.place, exchange.moment, actor, exchange.entry.number, said, notes)
+        said = reader.said(came.fields) if came else reader.unread(exchange.firm)
+        number = exchange.entry.number
+        return Act(exchange.place, exchange.moment, exchange.firm, number, said, notes)
 
     def _follow(self, request: Request, act: Act) -> None:
         """What an act changes of its request, by what firms are told."""

@@ -12,11 +12,12 @@ from typing import Any
 
 from common import ROOT, folder, keys
 
+from mireseason_audit import pair_command
 from mireseason_audit.book import Book
 from mireseason_audit.chain import ChainReader, hash_of
 from mireseason_audit.dictionary import read_dictionary
 from mireseason_audit.check import Verdict, report
-from mireseason_audit.exchanges import Exchange
+from mireseason_audit.exchanges import Exchange, Told
 from mireseason_audit.faults import Unreadable, Wrong
 from mireseason_audit.findings import Finding
 from mireseason_audit.frame import barred, fault_of, fields_of, framed, number_in, sum_of
@@ -26,12 +27,11 @@ from mireseason_audit.messages import MessageWriter, Shown
 from mireseason_audit.pair import (
     Compared, Differences, compared_by, difference_words, differences,
 )
-from mireseason_audit.pair_command import Told, say_compared
 from mireseason_audit.plain_wire import carries
 from mireseason_audit.prices import Price
 from mireseason_audit.reading import Reader
 from mireseason_audit.records import Entry, Outgoing, Sent, configured, day_of
-from mireseason_audit.requests import Request
+from mireseason_audit.requests import Request, Requests
 from mireseason_audit.seal import Sealed, compared, read_seal, write_seal
 from mireseason_audit.second_day import moved_fields
 from mireseason_audit.story import seconds
@@ -422,6 +422,31 @@ class Lists(unittest.TestCase):
             self.assertFalse(is_head(head, day, dealer), head)
 
 
+class Acts(unittest.TestCase):
+    def test_who_acts(self) -> None:
+        """A message that comes in pieces is its firm's, and a sweep the clock's."""
+        day = configured("", "", CONFIGURATION)
+        reader = Reader(read_dictionary(ROOT / "fix" / "MIRESEASON.xml"))
+        asks = soh("35=R|49=INV1|56=VENUE|34=1|50=T1|131=A|48=BONDA0000001|54=1|38=7|448=DLR1|")
+        line = b"in INV1 09:00:00.000 " + asks
+        for text, actor, words in (
+            (line, "INV1", "asks"),
+            (b"piece INV1 09:00:00.000 10=000|", "INV1", "sends a piece"),
+            (b"clock 09:00:00.000", None, "deadline"),
+        ):
+            requests = Requests(reader)
+            told = soh("35=AI|49=VENUE|56=INV1|34=1|52=20250314-09:00:00.000|131=A|297=0|")
+            answer = Told(day.firms[1], 1, "AI", fields_of(told), told)
+            list(requests.take(self.exchange(1, line, answer)))
+            ((_, act),) = requests.take(self.exchange(2, text, answer))
+            self.assertEqual((act.actor, act.said.text), (actor, words))
+
+    def exchange(self, place: int, line: bytes, *told: Told) -> Exchange:
+        firm, _ = firm_and_time(line)
+        row = Entry(place, 0, "09:00:00.000", firm, None, line, b"", b"")
+        return Exchange(row, came_of(line), told)
+
+
 class Memory(unittest.TestCase):
     """What firms send does not stay in memory, whatever they send."""
 
@@ -609,8 +634,8 @@ class Pairs(unittest.TestCase):
             (("row equal", "due differs at 1", "messages equal"), turned, False),
             (("row equal", "due equal", "messages equal"), notice, False),
         ):
-            told = Told()
-            say_compared(Compared(lines), found, told)
+            told = pair_command.Told()
+            pair_command.say_compared(Compared(lines), found, told)
             self.assertEqual(told.is_good, is_good, told.lines)
 
     def test_the_headline(self) -> None:
