@@ -16,7 +16,8 @@ from collections.abc import Callable
 from contextlib import closing
 from pathlib import Path
 
-from common import AUDIT, DAY, audit, folder, keys, openssl, remembered, venue_words
+from common import AUDIT, DAY, ROOT, audit, folder, keys, openssl, remembered, venue_words
+from pages import read_page, rows_of, table_behind, walk
 from witness import Witness
 
 
@@ -359,6 +360,49 @@ class Commands(unittest.TestCase):
         self.assertEqual(refused.count("no answer"), 1)
         pages = len(list((self.place / "pages" / "requests").iterdir()))
         self.assertEqual(pages, len(Witness(self.log).requests))
+
+    def test_what_firms_write_is_text_on_the_pages(self) -> None:
+        """Identifiers may have any letter of ASCII; other fields, and bytes that are no message,
+        may be anything at all. A quantity may have a point, and a price an exponent.
+        """
+        script, image = "<script>alert(1)</script>", "\"><img/src=x/onerror=a()>'&lt;{{7*7}}"
+        deadline = "20250314-09:05:00"
+        day, sent = self.place / "day.live", self.place / "sent.txt"
+        lines = [
+            "say INV1 T8 09:00:00 R 131=%s|146=1|48=BONDA0000001|22=4|54=1|38=2000000.0|126=%s"
+            "|453=1|448=DLR1|447=D|452=35" % (script, deadline),
+            "say DLR1 T1 09:01:00 S 117=%s|131=R1|48=BONDA0000001|22=4|133=99.5" % image,
+            "say DLR1 T1 09:01:01 S 117=b|131=R1|48=BONDA0000001|22=4|133=1e9999|58=</b>",
+            "say DLR1 T1 09:01:02 %s 117=b|58=%s" % (script.replace(" ", ""), image),
+            "in DLR1 09:01:03 </code></details><script>\xff\x00 \u202e",
+            "hex DLR1 00:00:inf 00",
+            "hex DLR1 09:01:04 %s" % ("131=R1\x01" * 2).encode().hex(),
+            "say INV1 T8 09:02:00 AJ 693=%s|694=1|117=Q1" % image,
+        ]
+        head = (ROOT / "examples" / "three-dealers.toml").read_bytes() + b"%%\n"
+        day.write_bytes(head + "".join(line + "\n" for line in lines).encode("utf-8", "replace"))
+        with day.open("rb") as file:
+            words = [*venue_words(), "live", "--frames"]
+            done = subprocess.run(words, stdin=file, capture_output=True, check=True)
+        sent.write_bytes(done.stdout)
+        pages = self.place / "pages"
+        ran = audit("page", day, pages, "--sent", sent)
+        self.assertEqual(ran.status, 0, ran.text)
+        for path in pages.rglob("*.html"):
+            for element in walk(read_page(path)):
+                self.assertNotIn(element.name, ("script", "img"), path)
+                self.assertFalse([key for key in element.attributes if key.startswith("on")], path)
+        index = read_page(pages / "index.html")
+        ((row,),) = (rows_of(table_behind(index, "Requests")),)
+        texts = [cell.text for cell in row]
+        self.assertEqual(texts[3], script)
+        self.assertEqual(texts[5], "2 000 000")
+        self.assertIn("Awarded, face value2 000 000", index.all("dl", "figures")[0].text)
+        request = read_page(pages / "requests" / "0001.html")
+        self.assertIn(image, request.text)
+        self.assertIn("1e9999", request.text)
+        firm = read_page(pages / "firms" / "DLR1-1.html")
+        self.assertIn("</code></details><script>\\xc3\\xbf\\x00 \\xe2\\x80\\xae", firm.text)
 
     # ------------------------------------------------------------ seal
 
