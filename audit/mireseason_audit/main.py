@@ -33,6 +33,7 @@ ROOT = Path(__file__).resolve().parent.parent.parent
 VENUE = ROOT / "crates" / "rfq_venue" / "out" / "rfq_venue"
 DICTIONARY = ROOT / "fix" / "MIRESEASON.xml"
 AT_ONCE = processors() + 1  # a process that waits for the disk leaves its processor
+ADDRESSES = ("postgres://", "postgresql://")
 LOG_HELP = "a file of SQLite; postgres:CONNECTION with --schema; or a day of `live` with --sent"
 
 
@@ -102,11 +103,16 @@ def source_of(words: argparse.Namespace, venue: Venue, folder: Path) -> Source:
             if not path.is_file():
                 raise Unreadable("%s: there is no such file" % path)
         return TwoFiles(Path(words.log), words.sent, venue).to_log(folder / "files.db")
-    if words.log.startswith(("postgres:", "postgresql:")):
+    if words.log.startswith(("postgres:", *ADDRESSES)):
         from .postgres_log import PostgresSource
 
-        return PostgresSource(words.log.removeprefix("postgres:"), words.schema)
+        return PostgresSource(connection_of(words.log), words.schema)
     return SqliteSource(Path(words.log))
+
+
+def connection_of(log: str) -> str:
+    """What libpq is given: the words behind `postgres:`, or an address, which begins so."""
+    return log if log.startswith(ADDRESSES) else log.removeprefix("postgres:")
 
 
 def seal_path(words: argparse.Namespace, source: Source, named: Path | None) -> Path:

@@ -23,6 +23,7 @@ from mireseason_audit.findings import Finding
 from mireseason_audit.frame import barred, fault_of, fields_of, framed, number_in, sum_of
 from mireseason_audit.jobs import due_texts, held, is_head
 from mireseason_audit.lines import came_of, firm_and_time
+from mireseason_audit.main import connection_of, parser_of, source_of
 from mireseason_audit.messages import MessageWriter, Shown
 from mireseason_audit.pair import (
     Compared, Differences, compared_by, difference_words, differences,
@@ -38,6 +39,7 @@ from mireseason_audit.story import seconds
 from mireseason_audit.summary import Summarizer, Summary
 from mireseason_audit.templates import date_text, quantity_text
 from mireseason_audit.timeline import broken, gap_text
+from mireseason_audit.venue import Venue
 from mireseason_audit.wire import WireReader, carried, header_fault, parts_of
 
 # Frames of docs/FORMATS.md and docs/CONNECTING.md, with a bar for each SOH.
@@ -397,6 +399,18 @@ class Holding(unittest.TestCase):
         self.assertEqual(self.found([a], [one, two]), [("log", 2)])
         self.assertEqual(self.found([b, a], [one, two]), [("log", 1)])
         self.assertEqual(self.found([ACCEPTED.encode()], [one]), [("log", 1)])  # bars are no SOH
+
+
+class Names(unittest.TestCase):
+    def test_what_names_a_log(self) -> None:
+        for log, connection in (
+            ("postgres:host=db1 dbname=x", "host=db1 dbname=x"), ("postgres:", ""),
+            ("postgres://db1/x", "postgres://db1/x"), ("postgresql://db1/x", "postgresql://db1/x"),
+        ):
+            self.assertEqual(connection_of(log), connection)
+            words = parser_of().parse_args(["check", log, "--schema", "day"])
+            source = source_of(words, Venue(()), Path())
+            self.assertEqual((source.name, getattr(source, "connection")), ("day", connection))
 
 
 class Lists(unittest.TestCase):
