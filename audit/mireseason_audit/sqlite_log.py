@@ -68,6 +68,11 @@ def text_of(data: bytes) -> str:
     return data.decode("utf-8", "backslashreplace")
 
 
+def has_more(path: Path) -> bool:
+    """Whether there is a log beside the file, without which the file is not whole."""
+    return any(path.with_name(path.name + end).exists() for end in ("-wal", "-journal"))
+
+
 def connected(path: Path) -> sqlite3.Connection:
     """A reader of the file; of one in a folder that can't be written to, as the file stands."""
     address = path.resolve().as_uri()
@@ -80,6 +85,6 @@ def connected(path: Path) -> sqlite3.Connection:
             return connection
         except sqlite3.OperationalError:
             connection.close()
-            if path.with_name(path.name + "-wal").exists() or "immutable" in ending:
+            if "immutable" in ending or has_more(path):
                 raise
     raise AssertionError("the loop returns or raises")

@@ -204,6 +204,39 @@ class Commands(unittest.TestCase):
                 self.assertRegex(ran.err, "goes on while it is read, from entry 336 to 3")
                 self.assertEqual(len(ran.err.splitlines()), 1)
 
+    def test_a_log_that_is_lost_while_it_is_read(self) -> None:
+        for number, command in enumerate((
+            "rm %s", "truncate -s 8192 %s", "truncate -s 100 %s", "truncate -s 0 %s",
+            "echo no log >%s", "dd if=/dev/urandom of=%s bs=4096 count=99 2>/dev/null",
+        )):
+            with self.subTest(command):
+                self.log = self.place / ("day-%d.db" % number)
+                shutil.copyfile(DAY, self.log)
+                script = 'case " $* " in *" live "*) %s ;; esac; exec %s "$@"'
+                words = script % (command % self.log, shlex.join(remembered()))
+                ran = audit("check", self.log, venue=["sh", "-c", words, "sh"])
+                self.assertEqual((ran.status, ran.out), (2, ""), ran.text)
+                self.assertEqual(len(ran.err.splitlines()), 1, ran.err)
+                self.assertIn(self.log.name, ran.err)
+
+    def test_a_file_that_is_not_whole(self) -> None:
+        """What stands in a log beside it was not written into it yet, and nobody may do so."""
+        connection = sqlite3.connect(self.log, isolation_level=None)
+        connection.execute("PRAGMA cache_size = 1")
+        connection.execute("BEGIN")
+        connection.execute("UPDATE entry SET term = 7")
+        (self.place / "cut").mkdir()
+        log = self.place / "cut" / "day.db"
+        for end in ("", "-journal"):
+            shutil.copyfile(str(self.log) + end, str(log) + end)
+        connection.close()
+        log.parent.chmod(0o555)
+        try:
+            ran = audit("check", log)
+        finally:
+            log.parent.chmod(0o755)
+        self.assertEqual((ran.status, ran.out), (2, ""), ran.text)
+
     def test_a_line_feed_in_a_line(self) -> None:
         """An entry is one line for the venue, so that those behind it keep their places."""
         self.change("UPDATE entry SET line = CAST(line || char(10) || 'clock 09:00:00.000' AS BLOB)"
