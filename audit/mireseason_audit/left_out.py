@@ -15,7 +15,7 @@ from .frame import Fields, fields_of, number_in, text_of
 from .lines import Came
 from .log import Log
 from .records import Day
-from .second_day import QUOTE, SEQ_NUM, body_of, line_of
+from .second_day import QUOTE, SEQ_NUM, body_of, is_whole, line_of
 from .venue import Conversation, Venue
 
 
@@ -51,7 +51,7 @@ class LeftOutDay:
         if exchange.firm in dealers:
             self._leave(exchange.firm or "")
             return None
-        if came is None or came.frame is None or came.firm == self.dealer:
+        if came is None or not is_whole(came) or came.firm == self.dealer:
             return line
         fields = body_of(came.fields)
         if is_hit(came):

@@ -75,45 +75,41 @@ class PairCommand:
 
     def _moved_day(self, day: Day, path: Path) -> tuple[MovedDay, int]:
         """Moves prices, and puts back those for which the venue has another answer."""
-        kept: set[tuple[str, str]] = set()
+        kept: set[int] = set()
         while True:
             changed = MovedDay()
             with self.checker.source.open() as log:
                 changed.write(log, day, self._move(kept), path)
-                places = {one.place: (one.dealer, one.number) for one in changed.moved}
+                places = {one.place: one.dealer for one in changed.moved}
                 otherwise = self._otherwise(log, path, places)
             if not otherwise:
                 return changed, len(kept)
             kept |= otherwise
 
-    def _move(self, kept: set[tuple[str, str]]) -> Move:
+    def _move(self, kept: set[int]) -> Move:
         """By how many 32nds each quote is moved: the same at each call."""
         draw = random.Random(self.seed)
 
-        def move(came: Came) -> int:
+        def move(place: int, came: Came) -> int:
             by = draw.choice(CHOICES)
-            stays = came.firm == self.dealer or (came.firm, text_of(came.fields, 34)) in kept
-            return 0 if stays else by
+            return 0 if came.firm == self.dealer or place in kept else by
 
         return move
 
-    def _otherwise(
-        self, log: Log, path: Path, places: dict[int, tuple[str, str]]
-    ) -> set[tuple[str, str]]:
-        """The moved quotes that the venue answers otherwise than the log has it."""
+    def _otherwise(self, log: Log, path: Path, places: dict[int, str]) -> set[int]:
+        """The places of moved quotes that the venue answers otherwise than the log has it."""
         before = {}
-        for firm in {firm for firm, _ in places.values()}:
+        for firm in set(places.values()):
             for row in log.sent(firm):
-                if places.get(row.place, ("", ""))[0] == firm:
+                if places.get(row.place) == firm:
                     before[row.place] = answer_of(row.bytes)
         found = set()
         arguments = ["live", "--frames", "--marks"]
         with self.checker.venue.run(arguments, path) as run:
             for place, lines in by_place(run.lines(), (p for p in log.places() if p > 0)):
-                firm, number = places.get(place, ("", ""))
                 for name, frame in map(message_of, lines):
-                    if name == firm and answer_of(frame) != before.get(place):
-                        found.add((firm, number))
+                    if name == places.get(place) and answer_of(frame) != before.get(place):
+                        found.add(place)
         return found
 
     # ------------------------------------------------------------ messages left out

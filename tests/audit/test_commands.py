@@ -573,6 +573,26 @@ class Commands(unittest.TestCase):
         self.assertEqual(audit("pair", self.log, "FJORD").status, 2)
         self.assertEqual(audit("pair", self.log, "NOBODY").status, 2)
 
+    def test_pair_of_two_files(self) -> None:
+        """Messages that the program frames are moved, named anew and left out as others are; what
+        is no frame stays.
+        """
+        day, sent = self.place / "day.live", self.place / "sent.txt"
+        text = (ROOT / "examples" / "live" / "auction.lines").read_bytes()
+        hits = [line for line in text.splitlines(keepends=True) if line.startswith(b"say INV1")]
+        more = b"in DLR2 09:00:30 8=FIXT.1.1|9=5|35=S|117=x|131=R1|133=99|10=000|\n"
+        for quote, count in ((b"Q2", 1), (b"Q1", 0)):
+            day.write_bytes(text.replace(hits[1], more + hits[1].replace(b"Q2", quote)))
+            with day.open("rb") as file:
+                words = [*venue_words(), "live", "--frames"]
+                done = subprocess.run(words, stdin=file, capture_output=True, check=True)
+            sent.write_bytes(done.stdout)
+            ran = audit("pair", day, "DLR1", "--sent", sent, venue=venue_words())
+            self.assertEqual((ran.status, ran.err), (0, ""), ran.text)
+            self.assertIn("1 quotes of 1 dealers moved by up to 64 32nds", ran.out)
+            told = "all 2 of the other dealers are left out, and %d hits of quotes"
+            self.assertIn(told % count, ran.out)
+
     def test_wrong_arguments(self) -> None:
         wrong: list[list[str]] = [[], ["nothing"], ["check"], ["page", "x"], ["pair", "x"]]
         for words in wrong:
