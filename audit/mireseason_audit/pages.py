@@ -66,7 +66,10 @@ class Pager:
         checker = self.checker
         rows = len(summary.requests) + summary.came + summary.sent
         checker.progress.begin("pages", rows)
-        run_jobs(plan_of(self._jobs(verdict, summary)), checker.at_once, checker.progress)
+        jobs = plan_of(self._jobs(verdict, summary))
+        for result in run_jobs(jobs, checker.at_once, checker.progress):
+            if isinstance(result, list):
+                verdict.findings += result
         with closing(Book(self._book)) as book:
             self._write_day(verdict, summary, book)
         shutil.copyfile(checker.files.day, self.folder / "day.live")

@@ -559,6 +559,17 @@ class Commands(unittest.TestCase):
             answers.append(done.stdout.split()[0])
         self.assertEqual(answers, [hashes[0], hashes[1], hashes[0], hashes[1]])
 
+    def test_a_certificate_that_compare_speaks_against(self) -> None:
+        for number, edit in enumerate((
+            "s/^due .*/due equal/;s/^messages .*/messages differ at 1/",
+            "s/^row equal/row differs/",
+        )):
+            pages = self.place / ("pages-%d" % number)
+            ran = audit("page", self.log, pages, venue=self.edited("compare", edit))
+            self.assertEqual((ran.status, ran.err), (1, ""), ran.text)
+            self.assertRegex(ran.out, "ALPHA: a second day beside this one: row ")
+            self.assertIn("a second day beside this one", (pages / "index.html").read_text())
+
     def test_pair(self) -> None:
         ran = audit("pair", self.log, "ALPHA", venue=venue_words())
         self.assertEqual(ran.status, 0, ran.text)
