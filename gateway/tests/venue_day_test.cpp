@@ -21,7 +21,7 @@ using namespace std::chrono_literals;
 
 // Answers each message of F, as the venue does. It puts its number down when it starts, and is slow
 // to begin from the second time on.
-constexpr const char *venue_text = R"(
+constexpr const char *venue_text = R"sh(
 echo $$ >> "$1/starts"
 [ "$(wc -l < "$1/starts")" = 1 ] || sleep 1
 lines=0 given=0 begun=
@@ -41,7 +41,7 @@ do
     ;
     esac
 done
-)";
+)sh";
 
 Config config_of(const std::filesystem::path &folder) {
         std::filesystem::remove_all(folder);
