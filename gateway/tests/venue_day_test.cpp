@@ -25,20 +25,16 @@ constexpr const char *venue_text = R"sh(
 echo $$ >> "$1/starts"
 [ "$(wc -l < "$1/starts")" = 1 ] || sleep 1
 lines=0 given=0 begun=
-while IFS= read -r line;
-do
+while IFS= read -r line; do
     lines=$((lines + 1))
     case $begun$line in
-    %%) begun=+ ;
-;
+    %%) begun=+ ;;
     +hex*)
         given=$((given + 1))
         echo "F 8=FIXT.1.1|9=1|35=AI|49=VENUE|56=F|34=$given|52=20250314-09:00:00.000|297=9|10=0|"
         echo "done $lines"
-        ;
-    ;
-    +*) echo "done $lines" ;
-    ;
+        ;;
+    +*) echo "done $lines" ;;
     esac
 done
 )sh";
