@@ -34,6 +34,7 @@ VENUE = ROOT / "crates" / "rfq_venue" / "out" / "rfq_venue"
 DICTIONARY = ROOT / "fix" / "MIRESEASON.xml"
 AT_ONCE = processors() + 1  # a process that waits for the disk leaves its processor
 ADDRESSES = ("postgres://", "postgresql://")
+SEAL_HELP = "the seal (if it is not named LOG.seal; of a schema SCHEMA.seal in this folder)"
 LOG_HELP = "a file of SQLite; postgres:CONNECTION with --schema; or a day of `live` with --sent"
 
 
@@ -55,25 +56,27 @@ def parser_of() -> argparse.ArgumentParser:
     parser = argparse.ArgumentParser(
         prog="mireseason-audit",
         description="What firms were really sent on a day, checked and shown.",
-        epilog="Status 0: all is as it should be; 1: it is not; 2: something could not be read.",
+        epilog="Status 0: all is as it should be; 1: it is not; 2: that is not known, since"
+        " something could not be read or written, or the log went on meanwhile.",
     )
     commands = parser.add_subparsers(dest="command", required=True, metavar="COMMAND")
     text = "holds what was sent, and the record, against the venue"
     check = command(commands, "check", text, do_check)
     check.add_argument("--key", type=Path, help="the public key of the seal, in PEM")
-    check.add_argument("--seal", type=Path, help="the seal (LOG.seal if it is not named)")
+    check.add_argument("--seal", type=Path, help=SEAL_HELP)
     seal = command(commands, "seal", "signs what the log has", do_seal)
     seal.add_argument("--key", type=Path, required=True, help="a private Ed25519 key in PEM")
-    seal.add_argument("--out", type=Path, help="the seal (LOG.seal if it is not named)")
+    seal.add_argument("--out", type=Path, help=SEAL_HELP)
     page = command(commands, "page", "writes the day as static pages", do_page)
     page.add_argument("folder", metavar="DIR", type=Path, help="an empty folder, or a new one")
     page.add_argument("--request", type=int, help="the request of the certificates' second day")
-    page.add_argument("--dictionary", type=Path, default=DICTIONARY, help="fix/MIRESEASON.xml")
+    text = "names of fields and values (fix/MIRESEASON.xml)"
+    page.add_argument("--dictionary", type=Path, default=DICTIONARY, help=text)
     page.add_argument("--key", type=Path, help="the public key of the seal, in PEM")
-    page.add_argument("--seal", type=Path, help="the seal (LOG.seal if it is not named)")
+    page.add_argument("--seal", type=Path, help=SEAL_HELP)
     page.add_argument("--sign", type=Path, help="a private Ed25519 key that signs the pages")
     pair = command(commands, "pair", "second days beside this one, for one dealer", do_pair)
-    pair.add_argument("dealer", metavar="DEALER")
+    pair.add_argument("dealer", metavar="DEALER", help="a dealer of the day")
     pair.add_argument("--seed", type=int, default=1, help="of the prices that are drawn")
     return parser
 
@@ -92,7 +95,8 @@ def command(
     parser.add_argument("--sent", type=Path, help="what was sent, as `live --frames` prints it")
     venue = os.environ.get("VENUE", shlex.quote(str(VENUE)))
     parser.add_argument("--venue", default=venue, help="the words of the venue's program (VENUE)")
-    parser.add_argument("--jobs", type=int, default=AT_ONCE, help="processes at one time")
+    text = "processes at one time (%(default)s)"
+    parser.add_argument("--jobs", type=int, default=AT_ONCE, help=text)
     return parser
 
 
