@@ -6,6 +6,7 @@ soon as what it needs is there.
 
 from collections.abc import Iterable
 from dataclasses import dataclass, field
+from typing import Any
 
 from .chain import Chained, Numbers, read_chain, write_day
 from .faults import Unreadable
@@ -94,7 +95,7 @@ class Checker:
             text = "%s goes on while it is read, from entry %d to %d: wait until its day is over"
             raise Unreadable(text % (verdict.source, verdict.last_place, last))
 
-    def add_jobs(self, plan: "Plan[Result]", verdict: Verdict) -> None:
+    def add_jobs(self, plan: "Plan[Any]", verdict: Verdict) -> None:
         """All jobs of a check, those on which others wait and those that take longest in front."""
         audited = Audited(self.source, self.venue, self.files, verdict.day)
         written = plan.add(DayJob(audited))

@@ -2,7 +2,7 @@
 
 import re
 import zlib
-from collections.abc import Iterable
+from collections.abc import Callable, Iterable
 from functools import lru_cache
 
 from .records import SOH
@@ -25,7 +25,8 @@ class Fields(list[tuple[int, bytes]]):
 def fields_of(data: bytes) -> Fields:
     """All fields; of what is no field (no tag, no equals sign) the tag is 0."""
     parts = data.removesuffix(SOH).split(SOH)
-    return Fields(map(kept_field_of if len(data) <= LONGEST else field_of, parts))
+    read = kept_field_of if len(data) <= LONGEST else field_of
+    return Fields(map(read, parts))
 
 
 def field_of(part: bytes) -> tuple[int, bytes]:
@@ -34,7 +35,8 @@ def field_of(part: bytes) -> tuple[int, bytes]:
     return (int(text), value) if equals and TAG.fullmatch(text) else (0, part)
 
 
-kept_field_of = lru_cache(maxsize=1 << 14)(field_of)  # most of a message's stand in many others
+# The same; most of a message's fields stand in many others.
+kept_field_of: Callable[[bytes], tuple[int, bytes]] = lru_cache(maxsize=1 << 14)(field_of)
 
 
 def text_of(fields: Fields, tag: int) -> str:

@@ -20,10 +20,11 @@ FIRMS = """WITH RECURSIVE found(firm) AS (SELECT min(firm) FROM TABLE_ UNION ALL
     SELECT (SELECT min(firm) FROM TABLE_ WHERE firm > found.firm) FROM found
     WHERE found.firm IS NOT NULL) SELECT firm FROM found WHERE firm IS NOT NULL"""
 
-NONE = type(None)
-ENTRY_TYPES = ({int}, {int}, {str}, {str, NONE}, {int, NONE}, {bytes}, {bytes}, {bytes})
-SENT_TYPES = ({int}, {int}, {bytes})
-OUTGOING_TYPES = ({int}, {int, NONE}, {bytes})
+Types = Sequence[set[type]]  # of each column, those that its values may have
+NONE: type = type(None)
+ENTRY_TYPES: Types = ({int}, {int}, {str}, {str, NONE}, {int, NONE}, {bytes}, {bytes}, {bytes})
+SENT_TYPES: Types = ({int}, {int}, {bytes})
+OUTGOING_TYPES: Types = ({int}, {int, NONE}, {bytes})
 
 Rows = list[tuple[Any, ...]]
 
@@ -72,9 +73,7 @@ class SqlLog(Log):
     def outgoing_blocks(self, firm: str) -> Iterator[Messages]:
         return self._messages(OUTGOING, "outgoing", firm, OUTGOING_TYPES)
 
-    def _messages(
-        self, query: str, table: str, firm: str, types: Sequence[set[type]]
-    ) -> Iterator[Messages]:
+    def _messages(self, query: str, table: str, firm: str, types: Types) -> Iterator[Messages]:
         """The messages of a firm, as rows of a table."""
         for rows in self.blocks(query, firm):
             numbers, others, data = zip(*rows)
@@ -129,7 +128,7 @@ class SqlLog(Log):
         return int(count)
 
 
-def are_of(columns: Any, types: Sequence[set[type]]) -> bool:
+def are_of(columns: Any, types: Types) -> bool:
     """Whether each column has values of its types and no others."""
     return all(set(map(type, column)) <= wanted for column, wanted in zip(columns, types))
 

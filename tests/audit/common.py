@@ -48,7 +48,9 @@ class Ran:
         return self.out + self.err
 
 
-def audit(*words: object, venue: list[str] | None = None, **environment: str) -> Ran:
+def audit(
+    *words: object, venue: list[str] | None = None, environment: dict[str, str] | None = None
+) -> Ran:
     """Runs a command of the audit."""
     listed = [str(word) for word in words]
     listed[1:1] = ["--venue", shlex.join(venue or remembered())]
@@ -56,7 +58,7 @@ def audit(*words: object, venue: list[str] | None = None, **environment: str) ->
         [str(AUDIT), *listed],
         capture_output=True,
         text=True,
-        env={**os.environ, **environment},
+        env={**os.environ, **(environment or {})},
         check=False,
     )
     return Ran(done.returncode, done.stdout, done.stderr)

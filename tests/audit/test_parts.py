@@ -120,8 +120,11 @@ class Quantities(unittest.TestCase):
         summary = Summary()
         ends = ("2000000.0", "awarded"), ("7", "passed"), ("5.", "awarded")
         for key, (quantity, end) in enumerate(ends):
-            texts = ["09:00:00.000", "INV1", "T1", "A", "X", "1", quantity, "09:05:00.000"]
-            summary.requests.append(Request(key, key + 1, *texts, ["DLR1"], end=end))
+            asked = Request(
+                key, key + 1, "09:00:00.000", "INV1", "T1", "A", "X", "1", quantity,
+                "09:05:00.000", ["DLR1"], end=end,
+            )
+            summary.requests.append(asked)
         self.assertEqual(summary.quantity, 2_000_005)
 
 
@@ -179,7 +182,8 @@ class Lists(unittest.TestCase):
         head = b"date 20250314"
         one = [head, b"dealer DLR1 4 10000000 T1", b"own 09:00:10.000 date |", b"lifted 1"]
         two = [head, b"dealer DLR2 4 10000000 T2"]
-        for texts in ([], [one], [two, one], [two, two, one]):
+        days: list[list[list[bytes]]] = [[], [one], [two, one], [two, two, one]]
+        for texts in days:
             lines = [line for text in texts for line in text]
             cut = [[*head, *items] for head, items in due_texts(lines)]
             self.assertEqual(cut, texts)
@@ -188,10 +192,11 @@ class Lists(unittest.TestCase):
         day, date = configured("", "", CONFIGURATION), b"date 20250314"
         dealer = day.firms[0]
         self.assertTrue(is_head([date, b"dealer DLR1 4 10000000 T1"], day, dealer))
-        for head in (
+        others: list[list[bytes]] = [
             [date, b"dealer DLR11 4 10000000 T1"], [date, b"dealer DLR2 4 10000000 T1"],
             [date], [], [b"date 20250315", b"dealer DLR1 4 10000000 T1"], [date, b"lifted 1"],
-        ):
+        ]
+        for head in others:
             self.assertFalse(is_head(head, day, dealer), head)
 
 

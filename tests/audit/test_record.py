@@ -259,7 +259,8 @@ class Seals(unittest.TestCase):
         sealed = Sealed(tuple(lines))
         self.assertEqual(list(compared(sealed, sealed)), [])
         for at in range(len(lines)):
-            for other in ([lines[at] + "x"], [], [lines[at], lines[at]]):
+            changes: list[list[str]] = [[lines[at] + "x"], [], [lines[at], lines[at]]]
+            for other in changes:
                 now = Sealed((*lines[:at], *other, *lines[at + 1 :]))
                 self.assertTrue(list(compared(sealed, now)), (at, other))
                 self.assertTrue(list(compared(now, sealed)), (at, other))

@@ -271,11 +271,11 @@ class Statuses(LogCase):
     def test_a_locale_without_letters_of_other_alphabets(self) -> None:
         plain = {"LC_ALL": "C", "PYTHONUTF8": "0", "PYTHONCOERCECLOCALE": "0"}
         pages = self.place / "pages"
-        ran = audit("page", self.log, pages, **plain)
+        ran = audit("page", self.log, pages, environment=plain)
         self.assertEqual((ran.status, ran.err), (0, ""))
         self.assertIn("✓", (pages / "index.html").read_text(encoding="utf-8"))
         self.change("INSERT INTO sent VALUES ('É', 1, 3, x'00')")
-        ran = audit("check", self.log, **plain)
+        ran = audit("check", self.log, environment=plain)
         self.assertEqual((ran.status, ran.err), (1, ""))
         self.assertIn("\\xc9: the configuration has no such firm", ran.out)
 

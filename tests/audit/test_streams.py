@@ -13,7 +13,7 @@ from common import folder
 from mireseason_audit import streams
 from mireseason_audit.faults import Unreadable
 from mireseason_audit.progress import Progress, Step
-from mireseason_audit.work import Plan, plan_of, run_jobs
+from mireseason_audit.work import Job, Plan, plan_of, run_jobs
 
 
 class Streams(unittest.TestCase):
@@ -137,7 +137,7 @@ class Bars(unittest.TestCase):
     def test_jobs_in_processes(self) -> None:
         """Results come in the order of the jobs; a fault of a process is raised here."""
         progress = Progress(io.StringIO())
-        jobs = [lambda step, at=at: at * at for at in range(9)]
+        jobs: list[Job[int]] = [lambda step, at=at: at * at for at in range(9)]
         self.assertEqual(run_jobs(plan_of(jobs), 3, progress), [at * at for at in range(9)])
         self.assertEqual(run_jobs(plan_of([]), 3, progress), [])
 
@@ -147,7 +147,8 @@ class Bars(unittest.TestCase):
         def ends(step: object) -> int:
             os._exit(3)
 
-        failing, ending = plan_of([*jobs, fails]), plan_of([ends])
+        failing: Plan[int] = plan_of([*jobs, fails])
+        ending: Plan[int] = plan_of([ends])
         self.assertRaisesRegex(Unreadable, "this", run_jobs, failing, 2, progress)
         self.assertRaisesRegex(Unreadable, "status 3", run_jobs, ending, 1, progress)
 
