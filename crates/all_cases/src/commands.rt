@@ -4,7 +4,7 @@ use crate::inputs::Inputs;
 use crate::laws::{each, same};
 use crate::process::ended_process;
 use crate::runs::{Ended, first_lines, ran, words_of};
-use case_lines::{Call, CaseFault, Report, Running, Step, text_of_cases};
+use case_lines::{Call, CaseFault, Report, Running, Step, Words, text_of_cases};
 use std::alloc::Global;
 use std::marker::Sync;
 use std::sync::Wait;
@@ -151,12 +151,46 @@ fn take_step<H: Threads + Wait + Sync>(
     match step {
         Step::Nothing => {}
         Step::Begin => commands.begin(alloc),
-        Step::Call(line) => running.hear(made(rt, Call::of(alloc, line), commands)),
+        Step::Call(line) => running.hear(made(rt, alloc, line, commands)),
     }
 }
 
-/// What the program answers to a call, each word of which has to be read.
+/// What the program answers to the call that a line is.
 fn made<H: Threads + Wait + Sync>(
+    rt: &H,
+    alloc: Global,
+    line: &str,
+    commands: &mut Commands,
+) -> Result<String, CaseFault> {
+    if let Some(repeated) = line.strip_prefix("repeat ") {
+        return made_often(rt, alloc, repeated, commands);
+    }
+    made_once(rt, Call::of(alloc, line), commands)
+}
+
+/// `FROM TO CALL`: makes CALL once for each number from FROM to TO, which stands in it for `<n>`. It
+/// gives what the last one answers.
+fn made_often<H: Threads + Wait + Sync>(
+    rt: &H,
+    alloc: Global,
+    line: &str,
+    commands: &mut Commands,
+) -> Result<String, CaseFault> {
+    let mut words = Words::of(line);
+    let from = words.number()?;
+    let to = words.number()?;
+    let call = words.rest();
+    let mut last = String::new(alloc);
+    for n in from..=to {
+        let number = format!(in alloc; "{n}")?;
+        let call = call.replace(alloc, "<n>", number.as_str())?;
+        last = made_once(rt, Call::of(alloc, call.as_str()), commands)?;
+    }
+    Ok(last)
+}
+
+/// What the program answers to a call, each word of which has to be read.
+fn made_once<H: Threads + Wait + Sync>(
     rt: &H,
     mut call: Call<'_>,
     commands: &mut Commands,
