@@ -219,6 +219,26 @@ class Acts(unittest.TestCase):
             ((_, act),) = requests.take(self.exchange(2, text, answer))
             self.assertEqual((act.actor, act.said.text), (actor, words))
 
+    def test_a_request_that_came_in_pieces(self) -> None:
+        """It is opened by no line, and what is told of it is no matter of the request before it."""
+        day = configured("", "", CONFIGURATION)
+        requests = Requests(Reader(read_dictionary(ROOT / "fix" / "MIRESEASON.xml")))
+        accepted = "35=AI|56=INV1|131=%s|297=0|"
+        shown = "35=R|56=DLR1|131=%s|126=20250314-09:05:00|"
+        for place, verb, name, own in ((1, b"in", "A", "R1"), (2, b"piece", "B", "R2")):
+            line = verb + b" INV1 09:00:00.000 35=R|131=%b|448=DLR1|" % name.encode()
+            texts = soh(accepted % name), soh(shown % own)
+            told = [
+                Told(firm, place, kind, fields_of(text), text)
+                for firm, kind, text in zip(reversed(day.firms), ("AI", "R"), texts)
+            ]
+            list(requests.take(self.exchange(place, line, *told)))
+        self.assertEqual([one.shown for one in requests.all], [{"DLR1": "R1"}])
+        cancel = soh("35=AI|56=DLR1|131=R2|117=x|297=0|")
+        answer = Told(day.firms[0], 3, "AI", fields_of(cancel), cancel)
+        line = b"in DLR1 09:00:00.000 35=S|131=R2|117=x|"
+        self.assertEqual(list(requests.take(self.exchange(3, line, answer))), [])
+
     def exchange(self, place: int, line: bytes, *told: Told) -> Exchange:
         firm, _ = firm_and_time(line)
         row = Entry(place, 0, "09:00:00.000", firm, None, line, b"", b"")
