@@ -25,7 +25,7 @@ from mireseason_audit.pair import Compared, Differences, compared_by, difference
 from mireseason_audit.prices import Price
 from mireseason_audit.reading import Reader
 from mireseason_audit.records import Entry, Sent, configured
-from mireseason_audit.requests import Request, Requests
+from mireseason_audit.requests import Request, Requests, dealers_of
 from mireseason_audit.second_day import moved_fields
 from mireseason_audit.story import seconds
 from mireseason_audit.summary import Summarizer, Summary
@@ -218,6 +218,17 @@ class Acts(unittest.TestCase):
             list(requests.take(self.exchange(1, line, answer)))
             ((_, act),) = requests.take(self.exchange(2, text, answer))
             self.assertEqual((act.actor, act.said.text), (actor, words))
+
+    def test_whom_a_request_names(self) -> None:
+        """447=D and 452=35 name a dealer, in any order; entries of other roles name none."""
+        for text, dealers in (
+            ("453=1|448=DLR1|447=D|452=35|", ["DLR1"]),
+            ("453=3|448=DLR2|452=35|447=D|448=BANK|447=D|452=4|448=DLR1|447=D|452=35|",
+             ["DLR2", "DLR1"]),
+            ("453=2|448=DLR1|447=B|452=35|448=DLR2|447=D|452=035|", []),
+            ("453=0|", []),
+        ):
+            self.assertEqual(dealers_of(fields_of(soh(text))), dealers, text)
 
     def test_a_request_that_came_in_pieces(self) -> None:
         """It is opened by no line, and what is told of it is no matter of the request before it."""
