@@ -24,7 +24,7 @@ from .frame import printable
 from .jobs import Files
 from .log import Source
 from .progress import Progress
-from .seal import Sealed, compared, read_seal, sealed, write_seal
+from .seal import Sealed, check_key, compared, read_seal, sealed, write_seal
 from .sqlite_log import SqliteSource
 from .venue import Venue
 from .work import SIGNALS, processors
@@ -170,6 +170,7 @@ def seal_words(verdict: Verdict, found: list[Finding]) -> str:
 def do_seal(work: Work) -> int:
     if work.words.sent is not None:
         raise Unreadable("two files have no chain, so there is nothing to be sealed")
+    check_key(work.words.key)
     with work.source.open() as log:
         day, chained = log.day(), work.checker().chain(log)
         what = None if chained.findings else sealed(log, day, chained)
@@ -188,6 +189,8 @@ def do_page(work: Work) -> int:
     from .pages import Pager
 
     words, seal = work.words, seal_of(work)
+    if words.sign is not None:
+        check_key(words.sign)
     key = None if words.request is None else words.request - 1
     pager = Pager(work.checker(), words.dictionary, words.folder, work.folder, key)
     verdict, summary = pager.check()

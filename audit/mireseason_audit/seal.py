@@ -179,6 +179,11 @@ def sign(text: bytes, key: Path) -> bytes:
         return openssl(["pkeyutl", "-sign", "-rawin", "-inkey", str(key), "-in", file.name])
 
 
+def check_key(key: Path) -> None:
+    """Whether there is a private key, before what it signs is read for minutes."""
+    openssl(["pkey", "-in", str(key), "-noout"])
+
+
 def verify(text: bytes, signature: bytes, key: Path) -> bool:
     """Whether a signature is that of a public key in PEM."""
     openssl(["pkey", "-pubin", "-in", str(key), "-noout"])

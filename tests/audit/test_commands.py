@@ -230,6 +230,17 @@ class Commands(LogCase):
         self.assertIn("as it was sealed", (pages / "index.html").read_text())
         self.assertEqual(audit("page", self.log, pages).status, 2)  # the folder is not empty
 
+    def test_a_key_that_is_none(self) -> None:
+        """It is looked at before the day is."""
+        _, public = keys(self.place)
+        pages = self.place / "pages"
+        for key in (self.place / "none.pem", public, self.log):
+            for words in (["page", self.log, pages, "--sign"], ["seal", self.log, "--key"]):
+                ran = audit(*words, key, venue=["/nowhere/venue"])
+                self.assertEqual((ran.status, ran.out), (2, ""))
+                self.assertIn("openssl pkey", ran.err)
+        self.assertFalse(pages.exists())
+
     def test_a_request_that_the_day_does_not_have(self) -> None:
         """The folder is still empty, so that it can be written into."""
         pages = self.place / "pages"
