@@ -137,6 +137,7 @@ class Chains(unittest.TestCase):
             text = CONFIGURATION.replace(b"INV1", name.encode())
             self.assertRaisesRegex(Wrong, "has a firm named", configured, "", "", text)
         self.assertRaises(Wrong, configured, "", "", CONFIGURATION.replace(b'"INV1"', b"5"))
+        self.assertRaises(Wrong, configured, "", "", CONFIGURATION + b"x = " + b"[" * 100_000)
 
 
 class Wires(unittest.TestCase):
@@ -213,6 +214,11 @@ class OwnMessages(unittest.TestCase):
     def test_each_type(self) -> None:
         for kind in "01234", "5A":
             self.assertEqual([self.fault(one) for one in kind], [None] * len(kind))
+        for one, text in (
+            ("0|34=8|34=7", "its 34 is another"), ("0|49=X", "it is not of the venue"),
+            ("0|56=DLR2", "it is not of the venue"),
+        ):
+            self.assertRegex(self.fault(one) or "", text)
         for one in ("AI", "S", "R", "AJ", "AG", "8", "U", "", "00", "j", "AI|35=0"):
             self.assertRegex(self.fault(one) or "", "none that a session sends of itself")
             self.assertIsNone(self.fault(one, carries=True))
