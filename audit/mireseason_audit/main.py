@@ -194,7 +194,13 @@ def do_page(work: Work) -> int:
     key = None if words.request is None else words.request - 1
     pager = Pager(work.checker(), words.dictionary, words.folder, work.folder, key)
     verdict, summary = pager.check()
-    pager.write(compared_with(work, seal, verdict), summary)
+    compared_with(work, seal, verdict)
+    obstacle = pager.obstacle(verdict, summary)
+    if obstacle is not None:
+        verdict.findings.append(obstacle)
+        print("\n".join(report(verdict)))
+        return 1
+    pager.write(verdict, summary)
     pager.sign(words.sign)
     print("\n".join(report(verdict)))
     print("%d requests: %s" % (len(summary.requests), words.folder / "index.html"))

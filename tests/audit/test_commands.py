@@ -258,7 +258,9 @@ class Commands(LogCase):
         self.assertIn("entry 336 is missing: behind 335 comes 1000000000000000", ran.out)
         ran = audit("page", self.log, self.place / "pages")
         self.assertEqual((ran.status, ran.err), (1, ""))
-        self.assertIn("336 entries, and a place 1000000000000000", ran.out)
+        self.assertIn("entry 336 is missing: behind 335 comes 1000000000000000", ran.out)
+        text = "entries: no pages are written of 336 entries with places up to 1000000000000000"
+        self.assertIn(text, ran.out)
         self.assertEqual(list((self.place / "pages").iterdir()), [])
 
     def test_a_page_of_a_day_with_a_fault(self) -> None:
