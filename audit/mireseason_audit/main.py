@@ -24,7 +24,7 @@ from .frame import printable
 from .jobs import Files
 from .log import Source
 from .progress import Progress
-from .seal import Sealed, check_key, compared, read_seal, sealed, write_seal
+from .seal import KeptLog, Sealed, check_key, compared, read_seal, sealed, write_seal
 from .sqlite_log import SqliteSource
 from .venue import Venue
 from .work import SIGNALS, processors
@@ -153,7 +153,8 @@ def compared_with(work: Work, seal: Sealed | None, verdict: Verdict) -> Verdict:
     """The verdict with what the seal says."""
     if seal is not None:
         with work.source.open() as log:
-            found = list(compared(seal, sealed(log, verdict.day, verdict.chained)))
+            now = sealed(log, verdict.day, verdict.chained)
+            found = list(compared(seal, now, KeptLog(log)))
         verdict.findings += found
         verdict.seal = seal_words(verdict, found)
     return verdict
