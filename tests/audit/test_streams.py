@@ -149,7 +149,9 @@ class Bars(unittest.TestCase):
 
         failing: Plan[int] = plan_of([*jobs, fails])
         ending: Plan[int] = plan_of([ends])
-        self.assertRaisesRegex(Unreadable, "this", run_jobs, failing, 2, progress)
+        with self.assertRaisesRegex(Unreadable, "^this$") as caught:
+            run_jobs(failing, 2, progress)
+        self.assertIn("in fails\n", "".join(caught.exception.__notes__))
         self.assertRaisesRegex(Unreadable, "status 3", run_jobs, ending, 1, progress)
 
     def test_jobs_that_wait_for_others(self) -> None:
