@@ -364,14 +364,14 @@ def faster_than_the_log(stage: Stage) -> None:
     stage.door.environment = {"LD_PRELOAD": str(stage.tools.shim), "DISK_SLOW": "20"}
     stage.open(stage.other, stage.investor)
     with on_a_wire(stage) as wire:
-        before, count = stage.memory(), 4000
+        before, count = stage.memory(), 8000  # 50 MB of lines, of which a gateway keeps some four times 4 MiB, and more of a slow venue
         data = b"".join(wire.message(b"Z", b"DLR1", cancel(b"c%d" % number) + [(TEXT, b"x" * 3000)]) for number in range(count))
         sender = threading.Thread(target=wire.raw, args=(data,))
         sender.start()
         stage.ping(stage.other)
         check(wire.read_until(lambda message: message.value(117) == b"c%d" % (count - 1), 5 * LONG) is not None, "the last is not answered")
         sender.join()
-        check(stage.memory() - before < 32 * 2**20, "%d bytes of memory more" % (stage.memory() - before))
+        check(stage.memory() - before < 60 * 2**20, "%d bytes of memory more" % (stage.memory() - before))
     check(stage.entries_of(stage.dealer) == count, "%d of %d are in the log" % (stage.entries_of(stage.dealer), count))
     stage.whole()
 
