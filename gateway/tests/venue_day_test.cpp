@@ -2,6 +2,7 @@
 //
 // usage: venue_day_test FOLDER
 #include "check.h"
+#include "no_events.h"
 #include "password.h"
 #include "sqlite_statement.h"
 #include "venue_day.h"
@@ -90,15 +91,6 @@ void end_venue(const std::filesystem::path &folder) {
     }
 }
 
-class NoEvents final : public EngineEvents {
-  public:
-    void connection_opened(const std::string &) override {}
-    void connection_closed(const std::string &, const std::string &) override {}
-    void refused(const std::string &, const std::string &) override {}
-    void dropped(const std::string &, const std::string &) override {}
-    void session_event(const std::string &, const std::string &) override {}
-};
-
 // Whether the first message of the session carries the venue's first one.
 bool is_stored(const Config &config) {
     const auto connection = sqlite::connect(config.sqlite.string(), SQLITE_OPEN_READONLY);
@@ -135,6 +127,6 @@ int main(int count, char **words) {
     return run_with(count, words, 1, 1, "venue_day_test FOLDER", [](std::span<char *> given) {
         // As the gateway does: the venue may end while it is fed.
         std::signal(SIGPIPE, SIG_IGN);
-        given_again_before_sessions(std::filesystem::path(given[0]) / "venue_day_test");
+        given_again_before_sessions(std::filesystem::path(given[0]) / "venue_day");
     });
 }
