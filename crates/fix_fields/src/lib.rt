@@ -22,7 +22,8 @@
 //!
 //! - [`read_frame`] reads exactly the frames, and gives the fields that a frame was built from. No
 //!   bytes are a frame of two lists of fields. Other bytes have one fault, the first in the order
-//!   of [`Garbled`]. Reading takes no memory and copies nothing.
+//!   of [`Garbled`]. Reading takes no memory and copies nothing. [`known_frame`] gives the frame of
+//!   bytes that are known to be one, and tests nothing.
 //! - [`Frame::get`] is the value of the first field with a tag, [`Frame::times`] how many have it,
 //!   and [`Frame::fields`] goes over all of them in order.
 //! - What [`FrameWriter::finish`] returns is the frame of the fields that were written, with the
@@ -55,7 +56,7 @@ mod writer;
 
 pub use dates::Date;
 pub use fault::{Garbled, MomentFault, StreamFault};
-pub use frames::{Fields, Frame, read_frame};
+pub use frames::{Fields, Frame, known_frame, read_frame};
 pub use laws::{
     decimal_len_is_the_length, frame_of_is_the_reading, frames_have_one_reading,
     moment_of_is_the_reading,

@@ -109,7 +109,7 @@ fn lawful_tag(text: &[u8]) -> (u32, usize)
 /// How many bytes stand before the first SOH of a text that has one: as [`value_len`] finds it, but
 /// no byte is compared with the end.
 #[inline(always)]
-fn len_before_soh(text: &[u8]) -> usize
+pub(crate) fn len_before_soh(text: &[u8]) -> usize
     requires { position_or_len (λ byte. byte == 1) text.now < length text.now }
     ensures inside { result < length text.now }
     ensures place { result ≡ position_or_len (λ byte. byte == 1) text.now }
