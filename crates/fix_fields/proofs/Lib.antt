@@ -3,6 +3,7 @@ pub mod FieldLemmas
 pub mod LawfulLemmas
 pub mod CutLemmas
 pub mod FrameLemmas
+pub mod TagLemmas
 pub mod WriterLemmas
 pub mod FrontLemmas
 pub mod CuttingLemmas
