@@ -5,8 +5,8 @@ ghost use Rattle.fix_fields.specs.Frame.{IsValue};
 ghost use Rattle.input_lines.specs.SayLine.{with_bar};
 ghost use Rattle.input_lines.specs.SayLine as spec;
 
+use crate::bars::push_barred;
 use crate::fields::{Field, read_fields};
-use crate::frame_lines::push_barred;
 use crate::parts::{cut_part, read_time};
 use crate::say_frames::{begun_frame, finished, has_tag, with_all, with_header_field};
 use fix_fields::{Date, Memory, Moment, moment_text};
