@@ -107,7 +107,7 @@ fn begins_with_zero(text: &[u8]) -> bool
 }
 
 /// Whether a value has no SOH.
-fn is_plain_value(value: &[u8]) -> bool
+pub(crate) fn is_plain_value(value: &[u8]) -> bool
     ensures { result ≡ spec.is_plain_value value.now }
 {
     value.iter().all(|c| *c != 1)

@@ -6,7 +6,7 @@ ghost use Rattle.input_lines.specs.SayLine.{with_bar};
 ghost use Rattle.input_lines.specs.SayLine as spec;
 
 use crate::bars::push_barred;
-use crate::fields::{Field, read_fields};
+use crate::fields::{Field, is_plain_value, read_fields};
 use crate::parts::{cut_part, read_time};
 use crate::say_frames::{begun_frame, finished, has_tag, with_all, with_header_field};
 use fix_fields::{Date, Memory, Moment, moment_text};
@@ -100,7 +100,8 @@ impl<'a> Said<'a> {
     }
 
     /// The message as a firm with this word as its name would send it, with a vertical bar for each
-    /// SOH in the word.
+    /// SOH in the word. A word without one is not copied.
+    #[tactic(auto, using(crate::proofs::BarLemmas::barred_plain, crate::proofs::TagLemmas::value_is_plain))]
     pub(crate) fn message_by(
         &self,
         alloc: Global,
@@ -111,6 +112,10 @@ impl<'a> Said<'a> {
         ensures { IfOk result (λ message.
             message ≡ spec.said_message date.now (map with_bar word.now) number self.now) }
     {
+        if is_plain_value(word) {
+            let message = self.framed(alloc, date, word, number)?;
+            return Ok(message);
+        }
         let word = with_bars(alloc, word)?;
         let message = self.framed(alloc, date, word.as_slice(), number)?;
         Ok(message)
