@@ -32,7 +32,7 @@
 //!   tells how much still fits. A call whose memory is refused leaves the writer as it was.
 //! - [`read_moment`] reads exactly the two spellings of a moment of its date, and tells what is no
 //!   spelling at all from what is one of another date. What [`moment_text`] returns is read back;
-//!   [`time_text`] is its part behind the date.
+//!   [`moment_bytes`] are its bytes, and [`time_text`] is its part behind the date.
 //!
 //! Not promised: that memory is there; calendar arithmetic, since a [`Date`] is any month from 01
 //! to 12 with any day from 01 to 31.
@@ -62,7 +62,7 @@ pub use laws::{
     moment_of_is_the_reading,
 };
 pub use limits::{MOST_BODY, MOST_FRAME};
-pub use moments::{Moment, moment_text, read_moment, time_text};
+pub use moments::{Moment, moment_bytes, moment_text, read_moment, time_text};
 pub use stream_laws::{
     envelopes_of_is_the_cutting, frames_are_cut, pieces_make_no_difference,
     stream_faults_are_for_ever,

@@ -9,7 +9,7 @@ use crate::bars::push_barred;
 use crate::fields::{Field, is_plain_value, read_fields};
 use crate::parts::{cut_part, read_time};
 use crate::say_frames::{begun_frame, finished, has_tag, with_all, with_header_field};
-use fix_fields::{Date, Memory, Moment, moment_text};
+use fix_fields::{Date, Memory, Moment, moment_bytes};
 use itoa::Buffer;
 use quote_messages::Message;
 use std::alloc::Global;
@@ -136,12 +136,12 @@ impl<'a> Said<'a> {
     {
         let mut buffer = Buffer::new();
         let digits = buffer.format(number).as_bytes();
-        let time = moment_text(date, self.moment);
+        let time = moment_bytes(date, self.moment);
         let typed = begun_frame(alloc, self.msg_type)?;
         let sender = with_header_field(typed, &self.fields, 49, firm)?;
         let target = with_header_field(sender, &self.fields, 56, b"VENUE")?;
         let numbered = with_header_field(target, &self.fields, 34, digits)?;
-        let timed = with_header_field(numbered, &self.fields, 52, time.as_bytes())?;
+        let timed = with_header_field(numbered, &self.fields, 52, &time)?;
         let header = with_header_field(timed, &self.fields, 50, self.trader)?;
         let whole = with_all(header, &self.fields)?;
         let message = finished(whole)?;
