@@ -4,6 +4,7 @@ pub mod LawfulLemmas
 pub mod CutLemmas
 pub mod FrameLemmas
 pub mod TagLemmas
+pub mod SumLemmas
 pub mod WriterLemmas
 pub mod FrontLemmas
 pub mod CuttingLemmas

@@ -1,5 +1,5 @@
 //! Frames that are read.
-ghost use Rattle.std.specs.Prelude.{◌≡◌, ℕ, ◌+◌, ◌<◌, ◌≤◌, ◌%◌, ◌↔◌, List, Ok, Err, length, sum};
+ghost use Rattle.std.specs.Prelude.{◌≡◌, ℕ, ◌+◌, ◌<◌, ◌≤◌, ◌↔◌, List, Ok, Err, length};
 ghost use Rattle.std.specs.Prelude.{MatchOption, MatchResult, IfOk, OnOk, IfSome, Some, None};
 ghost use Rattle.std.specs.Prelude.{IsTrue, is_some};
 ghost use Rattle.std.specs.Option.{option_copied};
@@ -13,6 +13,7 @@ ghost use Rattle.fix_fields.specs.Scan.{IsEnd};
 use crate::fault::Garbled;
 use crate::limits::{MOST_BODY, MOST_FRAME};
 use crate::scan::{SOH, first_field, is_body, leading_number, len_before_soh};
+use crate::sums::checksum;
 use std::marker::Model;
 
 /// The bytes that each frame begins with: BeginString (8), and the tag of BodyLength (9).
@@ -173,17 +174,6 @@ pub(crate) fn sum_of_end(tail: &[u8]) -> Option<u32>
         return None;
     }
     Some(sum)
-}
-
-/// The sum of bytes, modulo 256.
-pub(crate) fn checksum(bytes: &[u8]) -> u8
-    ensures { result ≡ sum bytes.now % 256 }
-{
-    let mut sum: u8 = 0;
-    for byte in bytes {
-        sum = sum.wrapping_add(*byte);
-    }
-    sum
 }
 
 /// Reads the frame that bytes are. Each fault comes where its check is the first, in the order of

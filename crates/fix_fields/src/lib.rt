@@ -52,6 +52,7 @@ mod moments;
 mod scan;
 mod stream_laws;
 mod streams;
+mod sums;
 mod writer;
 
 pub use dates::Date;

@@ -7,9 +7,10 @@ ghost use Rattle.fix_fields.specs.Frame.{field_text, frame_text, frame_of};
 ghost use Rattle.fix_fields.specs.Scan.{text_around};
 
 use crate::Memory;
-use crate::frames::{END_LEN, START, checksum};
+use crate::frames::{END_LEN, START};
 use crate::limits::MOST_BODY;
 use crate::scan::{SOH, value_len};
+use crate::sums::checksum;
 use itoa::{Buffer, write_digits};
 use std::alloc::Global;
 use std::marker::Model;
