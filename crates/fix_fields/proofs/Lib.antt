@@ -1,5 +1,6 @@
 pub mod Digits
 pub mod FieldLemmas
+pub mod BlockLemmas
 pub mod LawfulLemmas
 pub mod CutLemmas
 pub mod FrameLemmas

@@ -1,10 +1,8 @@
 //! Sums of bytes.
 ghost use Rattle.std.specs.Prelude.{◌≡◌, ◌≤◌, ◌%◌, take, length, sum};
 
+use crate::limits::BLOCK;
 use std::simd::prelude::*;
-
-/// How many bytes are added together.
-const BLOCK: usize = 16;
 
 /// The sum of bytes, modulo 256.
 pub(crate) fn checksum(bytes: &[u8]) -> u8
