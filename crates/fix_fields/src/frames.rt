@@ -121,6 +121,7 @@ impl<'a> Iterator for Fields<'a> {
 
     ghost remaining = { item_count (λ rest. rest) };
 
+    #[inline(always)]
     fn next(&mut self) -> Option<(u32, &'a [u8])> {
         if self.rest.is_empty() {
             return None;
