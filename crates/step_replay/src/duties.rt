@@ -37,6 +37,8 @@ pub(crate) fn sweep(floor: &mut Floor, room: RoomRef, moment: Moment) -> Result<
 }
 
 /// What comes to a place is brought to it.
+// Inlined, so that what comes is not moved once more.
+#[inline(always)]
 fn bring(floor: &mut Floor, arrival: Arrival) -> Result<Duties, Memory>
     ensures { IfOk result (λ duties. ActsOnce
         (λ config facts. coming.arrival_effect config facts arrival)
