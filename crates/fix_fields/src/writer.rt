@@ -168,7 +168,7 @@ fn push_field(body: &mut Vec<u8>, tag: u32, value: &[u8]) -> Result<(), Memory>
     body.reserve(value.len() + 12)?;
     push_tag(body, tag)?;
     body.extend_from_slice(value)?;
-    body.push(SOH)?;
+    body.push_reserved(SOH);
     Ok(())
 }
 

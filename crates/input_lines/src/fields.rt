@@ -49,7 +49,7 @@ impl<'a> Field<'a> {
 }
 
 /// How many fields a usual BODY has at most: for so many there is room from the first on.
-const USUAL_FIELDS: usize = 8;
+const USUAL_FIELDS: usize = 16;
 
 /// The fields that vertical bars divide, one at the end allowed, or none where one of them is not
 /// of the form of a field.
