@@ -187,20 +187,56 @@ fn push_tag(body: &mut Vec<u8>, tag: u32) -> Result<(), Memory>
     let ones = b'0' + (tag % 10) as u8;
     let tens = b'0' + (above % 10) as u8;
     if tag < 10 {
-        body.extend_from_slice(&[ones, b'='])?;
+        push_two(body, ones, b'=');
         return Ok(());
     }
     if tag < 100 {
-        body.extend_from_slice(&[tens, ones, b'='])?;
+        push_three(body, tens, ones, b'=');
         return Ok(());
     }
     if tag < 1_000 {
         let hundreds = b'0' + (above / 10) as u8;
-        body.extend_from_slice(&[hundreds, tens, ones, b'='])?;
+        push_four(body, hundreds, tens, ones, b'=');
         return Ok(());
     }
     push_long_tag(body, tag)?;
     Ok(())
+}
+
+/// Puts two bytes at the end of a body that has room for them.
+#[inline(always)]
+fn push_two(body: &mut Vec<u8>, first: u8, second: u8)
+    requires { vec_len body.old + 2 ≤ vec_capacity body.old }
+    ensures items { body.new.items ≡ body.old.items ++ first ∷ second ∷ [] }
+    ensures len { vec_len body.new ≡ vec_len body.old + 2 }
+    ensures capacity { vec_capacity body.new ≡ vec_capacity body.old }
+{
+    body.push_reserved(first);
+    body.push_reserved(second);
+}
+
+/// The same of three.
+#[inline(always)]
+fn push_three(body: &mut Vec<u8>, first: u8, second: u8, third: u8)
+    requires { vec_len body.old + 3 ≤ vec_capacity body.old }
+    ensures items { body.new.items ≡ body.old.items ++ first ∷ second ∷ third ∷ [] }
+    ensures len { vec_len body.new ≡ vec_len body.old + 3 }
+    ensures capacity { vec_capacity body.new ≡ vec_capacity body.old }
+{
+    body.push_reserved(first);
+    push_two(body, second, third);
+}
+
+/// The same of four.
+#[inline(always)]
+fn push_four(body: &mut Vec<u8>, first: u8, second: u8, third: u8, fourth: u8)
+    requires { vec_len body.old + 4 ≤ vec_capacity body.old }
+    ensures items { body.new.items ≡ body.old.items ++ first ∷ second ∷ third ∷ fourth ∷ [] }
+    ensures len { vec_len body.new ≡ vec_len body.old + 4 }
+    ensures capacity { vec_capacity body.new ≡ vec_capacity body.old }
+{
+    body.push_reserved(first);
+    push_three(body, second, third, fourth);
 }
 
 /// The same of a tag of any length.
