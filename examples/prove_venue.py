@@ -136,6 +136,12 @@ class Proof:
         told = re.findall(r"so far: (\d+) of (\d+) functions", self.text())
         return "%s %s of %s functions" % (self.name, *told[-1]) if told else self.name
 
+    def why(self) -> str:
+        """What rt tells of a crate that is not proved: its first faults, or else its last words."""
+        lines = self.text().splitlines()
+        faults = [line for line in lines if ": error: " in line or line.endswith(": not proved")]
+        return "\n".join(faults[:20] or lines[-20:])
+
     def end(self) -> None:
         if self.process.poll() is None:
             os.killpg(self.process.pid, signal.SIGTERM)
@@ -189,8 +195,7 @@ class Prover:
     def take_ended(self) -> None:
         for proof in [each for each in self.running if each.process.poll() is not None]:
             if proof.process.returncode != 0:
-                last = "\n".join(proof.text().splitlines()[-20:])
-                sys.exit("%s was not proved:\n%s" % (proof.name, last))
+                sys.exit("%s was not proved:\n%s" % (proof.name, proof.why()))
             proof.copy.move_made()
             self.running.remove(proof)
             self.left.remove(proof.name)

@@ -36,6 +36,7 @@ end() {
 trap end EXIT
 trap 'exit 143' HUP INT TERM
 exec </dev/null
+: >"$work/absent"
 export LC_ALL=C.UTF-8
 # Compilers, databases and browsers want a place of their own.
 [ -n "${HOME:-}" ] && [ -w "$HOME" ] || export HOME="$work"
@@ -62,14 +63,25 @@ what_is_left() {
     echo $((most - ($(date +%s) - start)))
 }
 
+# can_have SECONDS PACKAGE ..: installs what is missing. What could not be had once is not tried again: without a
+# network that takes minutes each time.
+can_have() {
+    seconds=$1
+    shift
+    ! printf '%s\n' "$@" | grep -xF -f "$work/absent" >"$work/lacking" || return 1
+    ! timeout "$seconds" tests/packages.sh "$@" 2>"$work/packages" || return 0
+    sed -n 's/ is not installed.*//p' "$work/packages" | tee "$work/lacking" >>"$work/absent"
+    return 1
+}
+
 # form NAME SECONDS PACKAGES COUNT COMMAND ..: COUNT is a sed script that prints how many were tried.
 form() {
     name=$1 limit=$2 packages=$3 tried=$4
     shift 4
     left=$(what_is_left)
     # shellcheck disable=SC2086 # a word for each package
-    if [ "$left" -ge "$least" ] && ! timeout "$left" tests/packages.sh $packages 2>"$work/packages"; then
-        echo "$name: not run: can't be installed: $(sed -n 's/ is not installed.*//p' "$work/packages" | paste -sd ' ')"
+    if [ "$left" -ge "$least" ] && ! can_have "$left" $packages; then
+        echo "$name: not run: can't be installed: $(paste -sd ' ' "$work/lacking")"
         return
     fi
     began=$(date +%s)

@@ -9,6 +9,7 @@ from collections.abc import Iterator
 from dataclasses import dataclass
 from pathlib import Path
 
+from .findings import Finding
 from .frame import barred, fields_of, text_of
 from .jobs import Files
 from .log import Source
@@ -50,7 +51,7 @@ class Seen:
 
 @dataclass(frozen=True)
 class CertificateJob:
-    """Writes the certificate of one dealer, in a process of its own."""
+    """Writes the certificate of one dealer, in a process of its own; answers what must not be."""
 
     source: Source
     venue: Venue
@@ -62,7 +63,7 @@ class CertificateJob:
     good: bool
     folder: Path
 
-    def __call__(self, step: Step) -> None:
+    def __call__(self, step: Step) -> list[Finding]:
         name = self.dealer.name
         list_path = self.folder / "certificates" / (name + ".due")
         sums = Sums()
@@ -85,6 +86,9 @@ class CertificateJob:
                 after = self._seen(run.lines(), request)
         self._write(sums, digest, messages_path, compared, before, after)
         step(1)
+        if compared is None or (compared.row_equal and compared.holds):
+            return []
+        return [Finding(name, "a second day beside this one: " + ", ".join(compared.lines))]
 
     def _seen(self, lines: Iterator[bytes], request: Request) -> list[Seen]:
         """What is about one request of all that the venue gives the dealer on a day."""
@@ -124,7 +128,8 @@ class CertificateJob:
             second=self.second,
             seen=list(itertools.zip_longest(before, after)),
         )
-        (self.folder / "certificates" / (self.dealer.name + ".html")).write_text(text)
+        path = self.folder / "certificates" / (self.dealer.name + ".html")
+        path.write_text(text, encoding="utf-8")
 
 
 class Sums:

@@ -12,6 +12,7 @@ from .progress import Step
 from .records import Day, Entry, EntryRow
 
 NO_HASH = bytes(32)
+FEED = b"\n"
 CHECKPOINT = 100  # entries from one hash of a seal to the next
 NO_NUMBER = (0, 0)
 
@@ -159,6 +160,8 @@ class ChainReader:
         if time != entry.moment:
             text = "its line is of %s, and its row of %s" % (time, entry.moment)
             self.tell("time", entry, text)
+        if (firm, time) == (entry.firm, entry.moment):
+            self.tell("line", entry, "its line is none that a gateway writes")
 
 
 def never_falls(values: list[int] | list[str]) -> bool:
@@ -166,9 +169,9 @@ def never_falls(values: list[int] | list[str]) -> bool:
 
 
 def is_step_line(line: bytes, firm: str | None, moment: str) -> bool:
-    """Whether a line begins as that of this firm at this moment; without a firm, of a clock."""
+    """Whether a line is one, and that of this firm at this moment; without a firm, of a clock."""
     if firm:
-        return line.startswith(f"hex {firm} {moment} ".encode())
+        return line.startswith(f"hex {firm} {moment} ".encode()) and FEED not in line
     return firm is None and line == b"clock " + moment.encode()
 
 
@@ -182,11 +185,18 @@ def read_chain(log: Log, step: Step) -> Chained:
 
 
 def write_day(log: Log, day: Day, path: Path, step: Step) -> None:
-    """Writes the day into a file as the venue reads it."""
+    """Writes the day into a file as the venue reads it.
+
+    An entry is one line of it, whatever stands in the log: where one has a line feed, which no
+    gateway writes, a carriage return stands in its place, and the venue does not take the line.
+    """
     with path.open("wb") as file:
         file.write(day.head)
         for lines in log.line_blocks():
-            file.write(b"\n".join([*lines, b""]))
+            text = FEED.join([*lines, b""])
+            if text.count(FEED) != len(lines):
+                text = b"".join(line.replace(FEED, b"\r") + FEED for line in lines)
+            file.write(text)
             step(len(lines))
 
 

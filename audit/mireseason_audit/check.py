@@ -6,11 +6,14 @@ soon as what it needs is there.
 
 from collections.abc import Iterable
 from dataclasses import dataclass, field
+from typing import Any
 
 from .chain import Chained, Numbers, read_chain, write_day
+from .faults import Unreadable
 from .findings import Finding
+from .frame import printable
 from .jobs import AloneJob, Audited, ChainJob, DayJob, DueJob, Files, GivenJob, LiveJob, SentJob
-from .log import Source
+from .log import Log, Source
 from .progress import Progress
 from .records import Day, Firm
 from .venue import Venue
@@ -30,6 +33,7 @@ class Verdict:
     messages: dict[str, int]  # of each firm, how many it was sent
     addressed: set[str]  # firms to which any message went
     targets: dict[str, int]  # of each firm, the number that its session expects next
+    last_place: int = -1  # of the entries, when the check began
     chained: Chained = field(default_factory=Chained)
     findings: list[Finding] = field(default_factory=list)
     seal: str = ""  # what was found of the seal, where there is one
@@ -78,9 +82,20 @@ class Checker:
         self.progress.begin("messages", self.rows_of(verdict))
         results = run_jobs(plan, self.at_once, self.progress)
         self.progress.end()
+        self.check_end(verdict)
         return judged(verdict, results)
 
-    def add_jobs(self, plan: "Plan[Result]", verdict: Verdict) -> None:
+    def check_end(self, verdict: Verdict) -> None:
+        """Whether the log still ends where it ended: each job opens it for itself, and what they
+        say of logs of different lengths does not agree.
+        """
+        with self.source.open() as log:
+            last, counts = log.last_place(), counts_of(log, verdict.day)
+        if (last, counts) != (verdict.last_place, verdict.messages):
+            text = "%s goes on while it is read, from entry %d to %d: wait until its day is over"
+            raise Unreadable(text % (verdict.source, verdict.last_place, last))
+
+    def add_jobs(self, plan: "Plan[Any]", verdict: Verdict) -> None:
         """All jobs of a check, those on which others wait and those that take longest in front."""
         audited = Audited(self.source, self.venue, self.files, verdict.day)
         written = plan.add(DayJob(audited))
@@ -94,8 +109,7 @@ class Checker:
 
     def rows_of(self, verdict: Verdict) -> int:
         """How many rows the jobs that tell their steps go over: entries and messages, twice."""
-        with self.source.open() as log:
-            return 2 * (log.last_place() + 1 + sum(verdict.messages.values()))
+        return 2 * (verdict.last_place + 1 + sum(verdict.messages.values()))
 
     def begun(self) -> Verdict:
         """The day, and what of it is counted at once."""
@@ -106,9 +120,10 @@ class Checker:
                 day,
                 log.has_chain,
                 self.venue.version(),
-                {firm.name: log.count_of(firm.name) for firm in day.firms},
+                counts_of(log, day),
                 log.firms(),
                 log.targets() if log.has_chain else {},
+                log.last_place(),
             )
 
     def write_day(self, day: Day) -> None:
@@ -118,13 +133,17 @@ class Checker:
             write_day(log, day, self.files.day, self.progress.step)
             self.progress.end()
 
-    def chain(self) -> Chained:
+    def chain(self, log: Log) -> Chained:
         """The entries alone."""
-        with self.source.open() as log:
-            self.progress.begin("entries", log.last_place() + 1)
-            chained = read_chain(log, self.progress.step)
-            self.progress.end()
+        self.progress.begin("entries", log.last_place() + 1)
+        chained = read_chain(log, self.progress.step)
+        self.progress.end()
         return chained
+
+
+def counts_of(log: Log, day: Day) -> dict[str, int]:
+    """How many messages each firm was sent."""
+    return {firm.name: log.count_of(firm.name) for firm in day.firms}
 
 
 def judged(verdict: Verdict, results: Iterable[Result]) -> Verdict:
@@ -194,10 +213,10 @@ def entries_line(verdict: Verdict) -> str:
 
 
 def venue_line(verdict: Verdict) -> str:
-    day = verdict.day
-    if verdict.has_chain and day.version != verdict.program:
-        return "venue     %s; entry 0 has %s" % (verdict.program, day.version)
-    return "venue     %s" % verdict.program
+    text, begun = verdict.program, verdict.day.version
+    if verdict.has_chain and begun != text:
+        text += "; entry 0 has %s" % begun
+    return "venue     " + printable(text)
 
 
 def firm_line(verdict: Verdict, firm: Firm) -> str:

@@ -49,6 +49,14 @@ def read_dictionary(path: Path) -> Dictionary:
         root = ElementTree.parse(path).getroot()
     except (OSError, ElementTree.ParseError) as fault:
         raise Unreadable("the dictionary %s: %s" % (path, fault)) from None
+    try:
+        return named_by(root)
+    except ValueError as fault:
+        raise Unreadable("the dictionary %s: %s" % (path, fault)) from None
+
+
+def named_by(root: ElementTree.Element) -> Dictionary:
+    """What the dictionary has; ValueError where a tag is no number."""
     found = Dictionary()
     for message in root.iterfind("messages/message"):
         found.types[message.get("msgtype", "")] = message.get("name", "")

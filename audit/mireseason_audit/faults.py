@@ -2,7 +2,7 @@
 
 
 class Unreadable(Exception):
-    """Something could not be read, or a program could not be run: status 2."""
+    """Something could not be read, or a program not run, or it did not answer: status 2."""
 
 
 class Wrong(Exception):

@@ -7,14 +7,16 @@ import sqlite3
 from collections.abc import Iterator
 from dataclasses import dataclass
 from pathlib import Path
+from typing import BinaryIO
 
 from .faults import Unreadable
-from .jobs import by_place
+from .jobs import MARKS, by_place
 from .lines import decoded, firm_and_time
 from .records import DIVIDER
 from .sqlite_log import SqliteSource
 from .venue import Venue, message_of
 
+MOST_BYTES = 16_777_216  # of a configuration
 TABLES = """
 CREATE TABLE form (number INTEGER NOT NULL);
 INSERT INTO form (number) VALUES (1);
@@ -58,20 +60,32 @@ class TwoFiles:
     def _entries(self) -> Iterator[tuple[int, str, str | None, bytes]]:
         """The configuration as the line of place 0, and the lines behind it."""
         with self.day.open("rb") as file:
-            head = list(itertools.takewhile(lambda line: line != DIVIDER, file))
-            yield 0, "", None, b"".join(head)
+            yield 0, "", None, self._configuration(file)
             for place, line in enumerate(file, 1):
                 line = line.removesuffix(b"\n")
                 firm, time = firm_and_time(line)
                 yield place, time or "", firm, line
 
+    def _configuration(self, file: BinaryIO) -> bytes:
+        """What stands in front of the first `%%`, which is read too."""
+        lines: list[bytes] = []
+        left = MOST_BYTES
+        while left > 0 and (line := file.readline(left)):
+            if line in (DIVIDER, DIVIDER.rstrip()):
+                return b"".join(lines)
+            lines.append(line)
+            left -= len(line)
+        raise Unreadable("%s: no line `%%%%` stands behind a configuration" % self.day)
+
     def _messages(self) -> Iterator[tuple[str, int, bytes]]:
         numbers: dict[str, int] = {}
         with self.sent.open("rb") as file:
-            for line in file:
-                if line.startswith((b"done ", b"fault ")) or b" " not in line:
+            for count, line in enumerate(file, 1):
+                if line.startswith(MARKS):
                     continue
                 firm, frame = message_of(line.removesuffix(b"\n"))
+                if not firm or not frame:
+                    raise Unreadable("%s: line %d is no message" % (self.sent, count))
                 numbers[firm] = numbers.get(firm, 0) + 1
                 yield firm, numbers[firm], frame
 

@@ -3,7 +3,7 @@
 from collections.abc import Iterator
 from dataclasses import dataclass
 
-from .frame import barred
+from .frame import barred, printable
 
 
 @dataclass(frozen=True)
@@ -29,9 +29,9 @@ class Finding:
         return ", ".join(words)
 
     def lines(self) -> Iterator[str]:
-        """The finding as lines of a report."""
+        """The finding as lines of a report. Names and times are whatever stands in the log."""
         where = self.place_words
-        yield "%s: %s%s" % (self.where, where + ": " if where else "", self.text)
+        yield printable("%s: %s%s" % (self.where, where + ": " if where else "", self.text))
         if self.given is not None:
             yield "    %-16s %s" % (self.given_by, barred(self.given))
         if self.found is not None:

@@ -66,7 +66,8 @@ class FirmJob:
             count=len(parts),
             messages="".join(parts),
         )
-        (self.folder / page_name(self.firm.name, page * ENTRIES_A_PAGE)).write_text(text)
+        path = self.folder / page_name(self.firm.name, page * ENTRIES_A_PAGE)
+        path.write_text(text, encoding="utf-8")
 
 
 def merged(log: Log, firm: str) -> Iterator[tuple[int, Entry | Sent]]:

@@ -2,13 +2,16 @@
 
 import re
 import zlib
-from collections.abc import Iterable
+from collections.abc import Callable, Iterable
 from functools import lru_cache
 
 from .records import SOH
 
 START = re.compile(rb"8=FIXT\.1\.1\x019=([0-9]{1,6})\x01")
 CHECKSUM_BYTES = 7  # 10=ccc and its SOH
+LONGEST = 4096  # bytes of a message that the venue reads
+TAG = re.compile(rb"[1-9][0-9]{0,8}")
+NUMBER = re.compile(r"[0-9]{1,9}")
 
 
 class Fields(list[tuple[int, bytes]]):
@@ -20,22 +23,31 @@ class Fields(list[tuple[int, bytes]]):
 
 
 def fields_of(data: bytes) -> Fields:
-    """All fields; of what is no field (no digits, no equals sign) the tag is 0."""
-    return Fields(map(field_of, data.removesuffix(SOH).split(SOH)))
+    """All fields; of what is no field (no tag, no equals sign) the tag is 0."""
+    parts = data.removesuffix(SOH).split(SOH)
+    read = kept_field_of if len(data) <= LONGEST else field_of
+    return Fields(map(read, parts))
 
 
-@lru_cache(maxsize=1 << 14)
 def field_of(part: bytes) -> tuple[int, bytes]:
-    """One field; most of a message's stand in many others."""
+    """One field."""
     text, equals, value = part.partition(b"=")
-    tag = int(text) if text.isdigit() else 0
-    return (tag, value) if tag and equals else (0, part)
+    return (int(text), value) if equals and TAG.fullmatch(text) else (0, part)
+
+
+# The same; most of a message's fields stand in many others.
+kept_field_of: Callable[[bytes], tuple[int, bytes]] = lru_cache(maxsize=1 << 14)(field_of)
 
 
 def text_of(fields: Fields, tag: int) -> str:
     """The first value of a tag as text; empty where there is none."""
     value = fields.firsts.get(tag)
     return "" if value is None else value.decode("utf-8", "replace")
+
+
+def number_in(text: str) -> int | None:
+    """A number as the venue reads one: up to nine digits; None where the text is none."""
+    return int(text) if NUMBER.fullmatch(text) else None
 
 
 def sum_of(data: bytes) -> int:
@@ -68,8 +80,19 @@ def fault_of(data: bytes) -> str | None:
     return None
 
 
+def printable(text: str) -> str:
+    """A text as one line: an escape for what is not printable, a line feed too."""
+    if text.isprintable():
+        return text
+    return "".join(one if one.isprintable() else escaped(one) for one in text)
+
+
+def escaped(letter: str) -> str:
+    return letter.encode("unicode_escape").decode("ascii")
+
+
 def barred(data: bytes) -> str:
-    """The bytes as text: a vertical bar for each SOH, an escape for what is not printable."""
+    """Bytes as text: a vertical bar for each SOH, an escape for what is not printable."""
     if data.isascii():
         text = data.decode("ascii").replace("\x01", "|")
         if text.isprintable():

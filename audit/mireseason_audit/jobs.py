@@ -18,8 +18,10 @@ from .lines import decoded
 from .log import Log, Source
 from .plain_wire import PlainSession
 from .progress import Step
-from .records import SOH, Day, Messages, Sent
-from .streams import Followed, grown_blocks_of, is_same, lines_in, lines_of
+from .records import SOH, Day, Firm, Messages, Sent
+from .streams import (
+    Followed, count_of_lines, grown_blocks_of, is_same, last_line_of, lines_in, lines_of,
+)
 from .venue import LineFault, Venue, message_of
 from .wire import check_wire
 
@@ -29,6 +31,7 @@ ANOTHER = "the log has another message than the venue gives"
 ALONE = "what was due to it alone gives another message than it was sent"
 MARKS = (b"done ", b"fault ")
 BARS = bytes.maketrans(SOH, b"|")
+HEAD_LINES = 2  # of a due text
 
 
 @dataclass(frozen=True)
@@ -132,8 +135,18 @@ class LiveJob(FindingsJob):
     def _findings(self, log: Log, step: Step) -> Iterator[Finding]:
         files, arguments = self.audited.files, ["live", "--frames", "--marks"]
         faults = self.audited.venue.to_file(arguments, files.day, files.given)
+        self._check_answers(" ".join(arguments))
         files.given_whole.touch()
         yield from self._faulty_lines(log, faults)
+
+    def _check_answers(self, command: str) -> None:
+        """A program that does not answer each line says nothing of the log."""
+        files, lines = self.audited.files, count_of_lines(self.audited.files.day)
+        marks = tuple(mark + b"%d " % lines for mark in MARKS)
+        last = last_line_of(files.given) + b" "
+        if lines > lines_before(self.audited.day) and not last.startswith(marks):
+            text = "`%s %s` has not answered the last line, %d"
+            raise Unreadable(text % (self.audited.venue, command, lines))
 
     def _faulty_lines(self, log: Log, faults: list[LineFault]) -> Iterator[Finding]:
         """Entries whose line the venue does not take; a day of no gateway may have some."""
@@ -225,13 +238,17 @@ class DueJob(FindingsJob):
     """`dues --live` over the day, the list of each dealer left in a file of its own."""
 
     def _findings(self, log: Log, step: Step) -> Iterator[Finding]:
-        venue, files, dealers = self.audited.venue, self.audited.files, self.audited.day.dealers
+        venue, files, day = self.audited.venue, self.audited.files, self.audited.day
+        waiting = iter(day.dealers)
         with venue.run(["dues", "--live"], files.day) as run:
-            for dealer, text in itertools.zip_longest(dealers, due_texts(run.lines())):
-                if dealer is None or text is None:
-                    raise Unreadable("`%s dues --live` gives not one list for each dealer" % venue)
+            for head, items in due_texts(run.lines()):
+                dealer = next(waiting, None)
+                if dealer is None or not is_head(head, day, dealer):
+                    raise Unreadable("`%s dues --live` gives a list of no dealer's" % venue)
                 with files.due(dealer.name).open("wb") as file:
-                    file.writelines(line + b"\n" for line in text)
+                    file.writelines(line + b"\n" for line in itertools.chain(head, items))
+        for dealer in waiting:
+            raise Unreadable("`%s dues --live` gives no list of %s" % (venue, dealer.name))
         return iter(())
 
 
@@ -243,7 +260,10 @@ class AloneJob(FindingsJob):
 
     def _findings(self, log: Log, step: Step) -> Iterator[Finding]:
         venue, files, dealer = self.audited.venue, self.audited.files, self.dealer
-        venue.to_file(["alone", "--frames"], files.due(dealer), files.alone(dealer))
+        try:
+            venue.to_file(["alone", "--frames"], files.due(dealer), files.alone(dealer))
+        except Unreadable as fault:
+            raise Unreadable("of the list of %s %s" % (dealer, fault)) from None
         if not is_same(files.alone(dealer), files.sent(dealer)):
             yield from held(dealer, log.sent(dealer), lines_of(files.alone(dealer)), ALONE)
 
@@ -270,17 +290,27 @@ def kept(log: Log, firm: str, files: Files, step: Step) -> Iterator[Messages]:
         files.sent(firm).unlink()
 
 
-def due_texts(lines: Iterable[bytes]) -> Iterator[Iterator[bytes]]:
-    """The lines of each due text of some that stand one behind the other."""
+def due_texts(lines: Iterable[bytes]) -> Iterator[tuple[list[bytes], Iterator[bytes]]]:
+    """Of due texts that stand one behind the other, the head of each and the lines behind it.
+
+    A text begins with its date. No other line begins so, since each begins with the word that says
+    what it is, and a message that has a line feed is written in hexadecimal digits.
+    """
     count = 0
 
     def number(line: bytes) -> int:
         nonlocal count
-        count += line.startswith(b"date ")  # the first line of a text, and no other
+        count += line.startswith(b"date ")
         return count
 
     for _, text in itertools.groupby(lines, number):
-        yield text
+        yield list(itertools.islice(text, HEAD_LINES)), text
+
+
+def is_head(head: list[bytes], day: Day, dealer: Firm) -> bool:
+    """Whether lines are the head of a due text: the date and the row of this dealer."""
+    date, row = b"date %b" % day.date.encode(), b"dealer %b " % dealer.name.encode()
+    return len(head) == HEAD_LINES and head[0] == date and head[1].startswith(row)
 
 
 def misplaced(

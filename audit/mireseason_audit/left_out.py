@@ -11,11 +11,11 @@ from dataclasses import dataclass, field
 from pathlib import Path
 
 from .exchanges import Exchange, exchanges
-from .frame import Fields, fields_of, text_of
+from .frame import Fields, fields_of, number_in, text_of
 from .lines import Came
 from .log import Log
 from .records import Day
-from .second_day import QUOTE, SEQ_NUM, body_of, line_of
+from .second_day import QUOTE, SEQ_NUM, body_of, is_whole, line_of
 from .venue import Conversation, Venue
 
 
@@ -51,7 +51,7 @@ class LeftOutDay:
         if exchange.firm in dealers:
             self._leave(exchange.firm or "")
             return None
-        if came is None or came.frame is None or came.firm == self.dealer:
+        if came is None or not is_whole(came) or came.firm == self.dealer:
             return line
         fields = body_of(came.fields)
         if is_hit(came):
@@ -61,9 +61,9 @@ class LeftOutDay:
                 return None
             fields = changed(fields, QUOTE, named)
         less = self.left_out.get(came.firm, 0)
-        number = text_of(fields, SEQ_NUM)
-        if less and number.isdigit():
-            fields = changed(fields, SEQ_NUM, str(int(number) - less))
+        number = number_in(text_of(fields, SEQ_NUM))
+        if less and number is not None:
+            fields = changed(fields, SEQ_NUM, str(number - less))
         return line if fields == body_of(came.fields) else line_of(came, fields)
 
     def _leave(self, firm: str) -> None:

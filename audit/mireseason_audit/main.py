@@ -4,12 +4,15 @@ What one command alone needs is imported by it: jinja2 takes longer than the che
 """
 
 import argparse
+import io
 import os
 import shlex
+import signal
+import sqlite3
 import sys
 import tempfile
+import traceback
 from collections.abc import Callable
-from contextlib import ExitStack
 from dataclasses import dataclass
 from pathlib import Path
 
@@ -17,18 +20,21 @@ from .check import Checker, Verdict, report
 from .faults import Unreadable, Wrong
 from .files_log import TwoFiles
 from .findings import Finding
+from .frame import printable
 from .jobs import Files
 from .log import Source
 from .progress import Progress
 from .seal import Sealed, compared, read_seal, sealed, write_seal
 from .sqlite_log import SqliteSource
 from .venue import Venue
-from .work import processors
+from .work import SIGNALS, processors
 
 ROOT = Path(__file__).resolve().parent.parent.parent
 VENUE = ROOT / "crates" / "rfq_venue" / "out" / "rfq_venue"
 DICTIONARY = ROOT / "fix" / "MIRESEASON.xml"
 AT_ONCE = processors() + 1  # a process that waits for the disk leaves its processor
+ADDRESSES = ("postgres://", "postgresql://")
+SEAL_HELP = "the seal (if it is not named LOG.seal; of a schema SCHEMA.seal in this folder)"
 LOG_HELP = "a file of SQLite; postgres:CONNECTION with --schema; or a day of `live` with --sent"
 
 
@@ -50,25 +56,27 @@ def parser_of() -> argparse.ArgumentParser:
     parser = argparse.ArgumentParser(
         prog="mireseason-audit",
         description="What firms were really sent on a day, checked and shown.",
-        epilog="Status 0: all is as it should be; 1: it is not; 2: something could not be read.",
+        epilog="Status 0: all is as it should be; 1: it is not; 2: that is not known, since"
+        " something could not be read or written, or the log went on meanwhile.",
     )
     commands = parser.add_subparsers(dest="command", required=True, metavar="COMMAND")
     text = "holds what was sent, and the record, against the venue"
     check = command(commands, "check", text, do_check)
     check.add_argument("--key", type=Path, help="the public key of the seal, in PEM")
-    check.add_argument("--seal", type=Path, help="the seal (LOG.seal if it is not named)")
+    check.add_argument("--seal", type=Path, help=SEAL_HELP)
     seal = command(commands, "seal", "signs what the log has", do_seal)
     seal.add_argument("--key", type=Path, required=True, help="a private Ed25519 key in PEM")
-    seal.add_argument("--out", type=Path, help="the seal (LOG.seal if it is not named)")
+    seal.add_argument("--out", type=Path, help=SEAL_HELP)
     page = command(commands, "page", "writes the day as static pages", do_page)
     page.add_argument("folder", metavar="DIR", type=Path, help="an empty folder, or a new one")
     page.add_argument("--request", type=int, help="the request of the certificates' second day")
-    page.add_argument("--dictionary", type=Path, default=DICTIONARY, help="fix/MIRESEASON.xml")
+    text = "names of fields and values (fix/MIRESEASON.xml)"
+    page.add_argument("--dictionary", type=Path, default=DICTIONARY, help=text)
     page.add_argument("--key", type=Path, help="the public key of the seal, in PEM")
-    page.add_argument("--seal", type=Path, help="the seal (LOG.seal if it is not named)")
+    page.add_argument("--seal", type=Path, help=SEAL_HELP)
     page.add_argument("--sign", type=Path, help="a private Ed25519 key that signs the pages")
     pair = command(commands, "pair", "second days beside this one, for one dealer", do_pair)
-    pair.add_argument("dealer", metavar="DEALER")
+    pair.add_argument("dealer", metavar="DEALER", help="a dealer of the day")
     pair.add_argument("--seed", type=int, default=1, help="of the prices that are drawn")
     return parser
 
@@ -87,7 +95,8 @@ def command(
     parser.add_argument("--sent", type=Path, help="what was sent, as `live --frames` prints it")
     venue = os.environ.get("VENUE", shlex.quote(str(VENUE)))
     parser.add_argument("--venue", default=venue, help="the words of the venue's program (VENUE)")
-    parser.add_argument("--jobs", type=int, default=AT_ONCE, help="processes at one time")
+    text = "processes at one time (%(default)s)"
+    parser.add_argument("--jobs", type=int, default=AT_ONCE, help=text)
     return parser
 
 
@@ -98,11 +107,16 @@ def source_of(words: argparse.Namespace, venue: Venue, folder: Path) -> Source:
             if not path.is_file():
                 raise Unreadable("%s: there is no such file" % path)
         return TwoFiles(Path(words.log), words.sent, venue).to_log(folder / "files.db")
-    if words.log.startswith(("postgres:", "postgresql:")):
+    if words.log.startswith(("postgres:", *ADDRESSES)):
         from .postgres_log import PostgresSource
 
-        return PostgresSource(words.log.removeprefix("postgres:"), words.schema)
+        return PostgresSource(connection_of(words.log), words.schema)
     return SqliteSource(Path(words.log))
+
+
+def connection_of(log: str) -> str:
+    """What libpq is given: the words behind `postgres:`, or an address, which begins so."""
+    return log if log.startswith(ADDRESSES) else log.removeprefix("postgres:")
 
 
 def seal_path(words: argparse.Namespace, source: Source, named: Path | None) -> Path:
@@ -128,6 +142,8 @@ def checked(work: Work) -> Verdict:
 def seal_of(work: Work) -> Sealed | None:
     """The seal that the arguments name; it is read first, since it may be none of the key."""
     words = work.words
+    if words.key is None and words.seal is not None:
+        raise Unreadable("a seal says nothing without --key, the public key that signed it")
     if words.key is None:
         return None
     return read_seal(seal_path(words, work.source, words.seal), words.key)
@@ -154,13 +170,13 @@ def seal_words(verdict: Verdict, found: list[Finding]) -> str:
 def do_seal(work: Work) -> int:
     if work.words.sent is not None:
         raise Unreadable("two files have no chain, so there is nothing to be sealed")
-    chained = work.checker().chain()
-    if chained.findings:
+    with work.source.open() as log:
+        day, chained = log.day(), work.checker().chain(log)
+        what = None if chained.findings else sealed(log, day, chained)
+    if what is None:
         print("\n".join(line for finding in chained.findings for line in finding.lines()))
         print("verdict: not sealed")
         return 1
-    with work.source.open() as log:
-        what = sealed(log, log.day(), chained)
     path = seal_path(work.words, work.source, work.words.out)
     write_seal(what, work.words.key, path)
     print("sealed: %d entries, the last %s" % (chained.entries, chained.last.hex()))
@@ -200,19 +216,51 @@ def do_pair(work: Work) -> int:
     return 0 if told.is_good else 1
 
 
+def venue_of(words: argparse.Namespace) -> Venue:
+    """The program that the arguments name."""
+    try:
+        return Venue(tuple(shlex.split(words.venue)))
+    except ValueError as fault:
+        raise Unreadable("the venue's program %s: %s" % (words.venue, fault)) from None
+
+
+def act(words: argparse.Namespace) -> int:
+    """Does the command, in a folder that is gone at its end; answers the status."""
+    try:
+        with tempfile.TemporaryDirectory(prefix="mireseason-") as name:
+            folder, venue = Path(name), venue_of(words)
+            status: int = words.act(Work(words, source_of(words, venue, folder), folder, venue))
+    except Wrong as fault:
+        print("verdict: %s" % printable(str(fault)))
+        status = 1
+    sys.stdout.flush()
+    return status
+
+
+def ended(number: int, frame: object) -> None:
+    """A signal ends the jobs, and takes the folder away."""
+    sys.exit(128 + number)
+
+
 def main(arguments: list[str] | None = None) -> int:
     words = parser_of().parse_args(arguments)
-    stack = ExitStack()
+    for number in SIGNALS:
+        signal.signal(number, ended)
+    for stream in (sys.stdout, sys.stderr):
+        if isinstance(stream, io.TextIOWrapper):
+            stream.reconfigure(errors="backslashreplace")
     try:
-        folder = Path(stack.enter_context(tempfile.TemporaryDirectory(prefix="mireseason-")))
-        venue = Venue(tuple(shlex.split(words.venue)))
-        status: int = words.act(Work(words, source_of(words, venue, folder), folder, venue))
-        return status
-    except Unreadable as fault:
-        print("mireseason-audit: %s" % fault, file=sys.stderr)
-        return 2
-    except Wrong as fault:
-        print("verdict: %s" % fault)
-        return 1
-    finally:
-        stack.close()
+        return act(words)
+    except (Unreadable, OSError, sqlite3.Error) as fault:
+        print("mireseason-audit: %s" % printable(str(fault)), file=sys.stderr)
+    except Exception:  # a fault of this program says nothing of the log either
+        traceback.print_exc()
+    drop_output()
+    return 2
+
+
+def drop_output() -> None:
+    """What is still to be printed may be what can't be written: nobody is to try it again."""
+    nowhere = os.open(os.devnull, os.O_WRONLY)
+    os.dup2(nowhere, sys.stdout.fileno())
+    os.close(nowhere)

@@ -7,6 +7,9 @@ from .dictionary import Dictionary
 from .frame import Fields, barred, text_of
 
 
+MOST_KEPT, LONGEST_KEPT = 10_000, 64  # fields that are kept as they are written, and their bytes
+
+
 class Shown(NamedTuple):
     """A message, and what stands above it."""
 
@@ -57,7 +60,8 @@ class MessageWriter:
         text = self._kept.get(field)
         if text is None:
             text = self._written(*field)
-            if field[0] in self._dictionary.names and len(self._kept) < 10_000:
+            is_short = len(field[1]) <= LONGEST_KEPT
+            if is_short and field[0] in self._dictionary.names and len(self._kept) < MOST_KEPT:
                 self._kept[field] = text
         return text
 

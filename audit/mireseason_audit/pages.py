@@ -9,8 +9,8 @@ from .book import Book, Fault
 from .certificates import CertificateJob, second_for, seconds_for
 from .check import Checker, Result, Verdict, judged
 from .dictionary import read_dictionary
-from .faults import Unreadable
-from .firm_pages import FirmJob, page_name
+from .faults import Unreadable, Wrong
+from .firm_pages import ENTRIES_A_PAGE, FirmJob, page_name
 from .reading import Reader
 from .progress import Step
 from .records import Day
@@ -23,6 +23,7 @@ from .work import Job, Plan, plan_of, run_jobs
 ROWS_A_PAGE = 500
 PAGES_A_JOB, FILES_A_JOB = 50, 250
 FAULTS_ON_THE_DAY = 30
+MOST_PLACES_AN_ENTRY = 10  # a log that lacks more has places that nobody gave
 FOLDERS = ("requests", "firms", "certificates")
 
 
@@ -42,7 +43,7 @@ class Pager:
 
     def check(self) -> tuple[Verdict, Summary]:
         """Checks the day, and reads its requests beside that."""
-        make_folders(self.folder)
+        make_folder(self.folder)
         checker = self.checker
         verdict = checker.begun()
         dictionary = read_dictionary(self.dictionary)
@@ -52,21 +53,39 @@ class Pager:
         checker.progress.begin("messages", checker.rows_of(verdict))
         results = run_jobs(plan, checker.at_once, checker.progress)
         checker.progress.end()
+        checker.check_end(verdict)
         (summary,) = [result for result in results if isinstance(result, Summary)]
         found = [result for result in results if not isinstance(result, Summary)]
         return judged(verdict, found), summary
 
     def write(self, verdict: Verdict, summary: Summary) -> None:
         """Writes all pages."""
+        self._check_pages(verdict, summary)
+        for name in FOLDERS:
+            (self.folder / name).mkdir()
         checker = self.checker
         rows = len(summary.requests) + summary.came + summary.sent
         checker.progress.begin("pages", rows)
-        run_jobs(plan_of(self._jobs(verdict, summary)), checker.at_once, checker.progress)
+        jobs = plan_of(self._jobs(verdict, summary))
+        for result in run_jobs(jobs, checker.at_once, checker.progress):
+            if isinstance(result, list):
+                verdict.findings += result
         with closing(Book(self._book)) as book:
             self._write_day(verdict, summary, book)
         shutil.copyfile(checker.files.day, self.folder / "day.live")
         shutil.copyfile(HERE / "style.css", self.folder / "style.css")
         checker.progress.end()
+        checker.check_end(verdict)
+
+    def _check_pages(self, verdict: Verdict, summary: Summary) -> None:
+        """Whether what is asked can be written: a firm's pages are as many as the places need."""
+        if self.request is not None and self.request not in range(len(summary.requests)):
+            text = "the day has no request %d: it has %d"
+            raise Unreadable(text % (self.request + 1, len(summary.requests)))
+        most = MOST_PLACES_AN_ENTRY * (summary.entries + ENTRIES_A_PAGE)
+        if verdict.last_place > most:
+            text = "no pages are written: %s has %d entries, and a place %d"
+            raise Wrong(text % (verdict.source, summary.entries, verdict.last_place))
 
     def sign(self, key: Path | None) -> None:
         """The sums of all files, and the signature of these where there is a key."""
@@ -137,7 +156,7 @@ class Pager:
                 fault_link=fault_link,
                 page_name=page_name,
             )
-            (self.folder / day_page(page + 1)).write_text(text)
+            (self.folder / day_page(page + 1)).write_text(text, encoding="utf-8")
 
 
 @dataclass(frozen=True)
@@ -165,7 +184,7 @@ class FaultsJob:
                     file_name=file_name,
                     fault_link=fault_link,
                 )
-                (self.folder / ("refused-%d.html" % (page + 1))).write_text(text)
+                (self.folder / ("refused-%d.html" % (page + 1))).write_text(text, encoding="utf-8")
         step(0)
         return len(mine)
 
@@ -182,13 +201,11 @@ def fault_link(fault: Fault) -> str:
     return "%s#e%d" % (page_name(fault.firm, fault.place), fault.place)
 
 
-def make_folders(folder: Path) -> None:
+def make_folder(folder: Path) -> None:
     """An empty folder, or one that was not there."""
     try:
         folder.mkdir(parents=True, exist_ok=True)
         if any(folder.iterdir()):
             raise Unreadable("%s is not empty" % folder)
-        for name in FOLDERS:
-            (folder / name).mkdir()
     except OSError as fault:
         raise Unreadable("the pages can't be written: %s" % fault) from None

@@ -1,5 +1,6 @@
 """`compare` of the day with a second one, and in words what it says."""
 
+import re
 from collections import Counter
 from dataclasses import dataclass, field
 from pathlib import Path
@@ -8,6 +9,11 @@ from .faults import Unreadable
 from .lines import decoded
 from .venue import Venue
 
+LINES = (
+    re.compile("row (equal|differs)"),
+    re.compile("due (equal|differs at [0-9]+)"),
+    re.compile("messages (equal|differ at [0-9]+)"),
+)
 KINDS = {"1": "won", "3": "expired", "4": "cover", "5": "done away", "6": "passed"}
 
 
@@ -39,8 +45,13 @@ def compare(venue: Venue, dealer: str, both: Path) -> Compared:
     """What `compare --live` says of two days."""
     with venue.run(["compare", dealer, "--live"], both) as run:
         lines = tuple(decoded(line) for line in run.lines())
-    if len(lines) != 3:
-        raise Unreadable("`compare` prints %d lines, and not three" % len(lines))
+    return compared_by(lines)
+
+
+def compared_by(lines: tuple[str, ...]) -> Compared:
+    """What `compare` printed; Unreadable where it is not what it prints."""
+    if len(lines) != len(LINES) or not all(map(re.fullmatch, LINES, lines)):
+        raise Unreadable("`compare` prints none of its answers: %s" % ", ".join(lines))
     return Compared(lines)
 
 

@@ -11,7 +11,7 @@ from .jobs import by_place
 from .left_out import LeftOutDay
 from .lines import Came
 from .log import Log
-from .pair import Differences, compare, difference_words, differences
+from .pair import Compared, Differences, compare, difference_words, differences
 from .records import Day
 from .second_day import Move, MovedDay, append
 from .venue import message_of
@@ -47,12 +47,14 @@ class PairCommand:
 
     def run(self) -> Told:
         told = Told()
-        day = self.checker.begun().day
+        begun = self.checker.begun()
+        day = begun.day
         self.checker.write_day(day)
         venue, files = self.checker.venue, self.checker.files
         venue.to_file(["due", self.dealer, "--live"], files.day, files.due(self.dealer))
         self._prices(day, told)
         self._left_out(day, told)
+        self.checker.check_end(begun)
         return told
 
     # ------------------------------------------------------------ prices
@@ -73,45 +75,41 @@ class PairCommand:
 
     def _moved_day(self, day: Day, path: Path) -> tuple[MovedDay, int]:
         """Moves prices, and puts back those for which the venue has another answer."""
-        kept: set[tuple[str, str]] = set()
+        kept: set[int] = set()
         while True:
             changed = MovedDay()
             with self.checker.source.open() as log:
                 changed.write(log, day, self._move(kept), path)
-                places = {one.place: (one.dealer, one.number) for one in changed.moved}
+                places = {one.place: one.dealer for one in changed.moved}
                 otherwise = self._otherwise(log, path, places)
             if not otherwise:
                 return changed, len(kept)
             kept |= otherwise
 
-    def _move(self, kept: set[tuple[str, str]]) -> Move:
+    def _move(self, kept: set[int]) -> Move:
         """By how many 32nds each quote is moved: the same at each call."""
         draw = random.Random(self.seed)
 
-        def move(came: Came) -> int:
+        def move(place: int, came: Came) -> int:
             by = draw.choice(CHOICES)
-            stays = came.firm == self.dealer or (came.firm, text_of(came.fields, 34)) in kept
-            return 0 if stays else by
+            return 0 if came.firm == self.dealer or place in kept else by
 
         return move
 
-    def _otherwise(
-        self, log: Log, path: Path, places: dict[int, tuple[str, str]]
-    ) -> set[tuple[str, str]]:
-        """The moved quotes that the venue answers otherwise than the log has it."""
+    def _otherwise(self, log: Log, path: Path, places: dict[int, str]) -> set[int]:
+        """The places of moved quotes that the venue answers otherwise than the log has it."""
         before = {}
-        for firm in {firm for firm, _ in places.values()}:
+        for firm in set(places.values()):
             for row in log.sent(firm):
-                if places.get(row.place, ("", ""))[0] == firm:
+                if places.get(row.place) == firm:
                     before[row.place] = answer_of(row.bytes)
         found = set()
         arguments = ["live", "--frames", "--marks"]
         with self.checker.venue.run(arguments, path) as run:
             for place, lines in by_place(run.lines(), (p for p in log.places() if p > 0)):
-                firm, number = places.get(place, ("", ""))
                 for name, frame in map(message_of, lines):
-                    if name == firm and answer_of(frame) != before.get(place):
-                        found.add((firm, number))
+                    if name == places.get(place) and answer_of(frame) != before.get(place):
+                        found.add(place)
         return found
 
     # ------------------------------------------------------------ messages left out
@@ -146,16 +144,28 @@ class PairCommand:
         told.say("rfq_venue compare %s --live: %s." % (self.dealer, ", ".join(compared.lines)))
         venue.to_file(["due", self.dealer, "--live"], path, second)
         found = differences(files.due(self.dealer), second)
-        if not compared.holds:
-            told.say("ROW AND LIST ARE EQUAL AND THE MESSAGES ARE NOT: THAT MUST NOT BE.", False)
-        elif compared.due_equal:
-            text = "All %d items of its list are equal, so it was sent the same bytes."
-            told.say(text % found.items)
-        else:
-            told.say("Of its list, and so of its messages, this differs and nothing else:")
-        for words in difference_words(found):
-            told.say(words, found.are_declared, indent=8)
+        say_compared(compared, found, told)
         return found
+
+
+def say_compared(compared: Compared, found: Differences, told: Told) -> None:
+    """What `compare` says of two days, whose lists differ as was found, in words."""
+    words = difference_words(found)
+    if not compared.row_equal:
+        told.say("THE DATE OR ITS ROW DIFFERS, AND BOTH DAYS HAVE ONE CONFIGURATION.", False)
+    if not compared.holds:
+        told.say("ROW AND LIST ARE EQUAL AND THE MESSAGES ARE NOT: THAT MUST NOT BE.", False)
+    elif not compared.due_equal and not words:
+        told.say("The items of its list are the same, and STAND IN ANOTHER ORDER.", False)
+    elif not compared.due_equal:
+        told.say("Of its list, and so of its messages, this differs and nothing else:")
+    elif words:
+        told.say("`compare` SAYS THAT ITS LISTS ARE EQUAL, AND THEY ARE NOT:", False)
+    else:
+        text = "All %d items of its list are equal, so it was sent the same bytes."
+        told.say(text % found.items)
+    for text in words:
+        told.say(text, found.are_declared, indent=8)
 
 
 def answer_of(frame: bytes) -> tuple[str, str]:

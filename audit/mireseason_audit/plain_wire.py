@@ -114,7 +114,8 @@ def numbered(frame: bytes, session_number: int | None) -> bytes:
 def carries(data: bytes, number: int, frame: bytes, end: bytes) -> bool:
     """Whether a message with this number of its session plainly carries a frame of the venue.
 
-    Its header ends as given: the header of stock engines is in the order of its tags, 56 last.
+    Its header ends as given: the header of stock engines is in the order of its tags, 56 last, and
+    has 52 in front of that.
     """
     parts = frame.split(SOH, 7)  # 8, 9, 35, 49, 56, 34, 52 and the rest
     if len(parts) < 8:
@@ -126,10 +127,12 @@ def carries(data: bytes, number: int, frame: bytes, end: bytes) -> bool:
         at = len(rest) - END_BYTES
     text = b"%b%b\x0160=%b%b" % (parts[5][3:], rest[:at], parts[6][3:], rest[at:-END_BYTES])
     head, _, tail = data.partition(CARRIED)
+    start = HEAD % (length_of(len(data)), kind, number)
     return (
         tail[:-END_BYTES] == text
         and head.endswith(end)
-        and head.startswith(HEAD % (length_of(len(data)), kind, number))
+        and head.startswith(start)
+        and head.find(SOH, len(start)) == len(head) - len(end)
         and data.endswith(ENDS[sum_of(data[: 1 - END_BYTES])])
     )
 

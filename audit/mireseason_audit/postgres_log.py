@@ -54,7 +54,7 @@ class PostgresLog(SqlLog):
                 cursor.execute(query.replace("?", "%s"), values)
                 while rows := cursor.fetchmany(ROWS_AT_A_TIME):
                     yield [tuple(map(plain, row)) for row in rows]
-        except psycopg2.Error as fault:
+        except (psycopg2.Error, UnicodeError) as fault:
             raise Unreadable("%s: %s" % (self._name, one_line(fault))) from None
 
     @staticmethod

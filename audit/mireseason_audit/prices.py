@@ -1,11 +1,29 @@
-"""A price as it stands in a message, and in 32nds. Whether it is lawful is for the venue to say."""
+"""A price as it stands in a message, and in 32nds; and a quantity. Whether one is lawful is for the
+venue to say.
+"""
 
+import re
 from dataclasses import dataclass
-from decimal import Decimal, InvalidOperation
+from decimal import Decimal
 from functools import lru_cache
 
 TICKS = 256  # in a point
 MOST_DIGITS = 15
+FORM = re.compile(r"-?([0-9]*)\.?([0-9]*)")
+
+
+def number_of(text: str) -> Decimal | None:
+    """A number as a message may spell it, without an exponent; None where the text is none."""
+    found = FORM.fullmatch(text)
+    if found is None or not 1 <= len(found[1]) + len(found[2]) <= MOST_DIGITS:
+        return None
+    return Decimal(text)
+
+
+def quantity_of(text: str) -> int | None:
+    """A whole number, which a message may spell with a point; None where the text is none."""
+    value = number_of(text)
+    return int(value) if value is not None and value == int(value) else None
 
 
 @dataclass(frozen=True)
@@ -17,13 +35,7 @@ class Price:
     @property
     def decimal(self) -> Decimal | None:
         """None where the text is no number."""
-        if len(self.text) > MOST_DIGITS + 2:
-            return None
-        try:
-            value = Decimal(self.text)
-        except InvalidOperation:
-            return None
-        return value if value.is_finite() else None
+        return number_of(self.text)
 
     @property
     def ticks(self) -> int | None:

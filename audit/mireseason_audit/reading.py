@@ -4,7 +4,7 @@ from enum import Enum
 from typing import NamedTuple
 
 from .dictionary import Dictionary
-from .frame import Fields, text_of
+from .frame import Fields, number_in, text_of
 from .prices import Price
 
 
@@ -107,9 +107,9 @@ class Reader:
         quote = text_of(fields, 117)
         return Words(Shape.WITHDRAW, "withdraws", detail=quote, quote=quote)
 
-    def clock(self) -> Words:
-        """A sweep."""
-        return Words(Shape.CLOCK, "deadline")
+    def unread(self, firm: str | None) -> Words:
+        """What is no message of its own: a piece of a firm's stream, or without a firm a sweep."""
+        return Words(Shape.TOLD, "sends a piece") if firm else Words(Shape.CLOCK, "deadline")
 
     # ------------------------------------------------------------ what a firm is told
 
@@ -138,7 +138,7 @@ class Reader:
 
     def _told_reject(self, fields: Fields) -> Words:
         tag = text_of(fields, 371)
-        name = self._dictionary.names.get(int(tag), tag) if tag.isdigit() else tag
+        name = self._dictionary.names.get(number_in(tag) or 0, tag)
         text = "rejected: %s" % self.meaning(fields, 373)
         return Words(Shape.REFUSED, text, detail="%s (%s)" % (name, tag), refused=True)
 

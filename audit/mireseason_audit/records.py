@@ -1,6 +1,7 @@
 """The rows of a log, as gateway/schema.sql has them, and the day that stands in entry 0."""
 
 import hashlib
+import re
 import tomllib
 from dataclasses import dataclass
 from typing import Any, NamedTuple
@@ -10,6 +11,7 @@ from .faults import Wrong
 SOH = b"\x01"
 DIVIDER = b"%%\n"
 HEAD = (b"version ", b"program ", b"configuration ")
+NAME = re.compile(r"[A-Z][A-Z0-9]{0,7}")  # of a firm
 
 
 class Entry(NamedTuple):
@@ -108,7 +110,9 @@ def day_of(line: bytes) -> Day:
 
 
 def configured(version: str, program: str, configuration: bytes) -> Day:
-    """The day of a configuration. Which names are lawful is for the venue to say."""
+    """The day of a configuration. Names are looked at here, since files are called by them; all
+    else is for the venue to say.
+    """
     try:
         table = tomllib.loads(configuration.decode())
         firms = [Firm(str(row["name"]), True) for row in table.get("dealer", [])]
@@ -116,4 +120,7 @@ def configured(version: str, program: str, configuration: bytes) -> Day:
         date = str(table["date"])
     except (ValueError, KeyError, TypeError, AttributeError) as fault:
         raise Wrong("entry 0: the configuration can't be read: %s" % fault) from None
+    for firm in firms:
+        if not NAME.fullmatch(firm.name):
+            raise Wrong("entry 0: the configuration has a firm named %r" % firm.name)
     return Day(version, program, configuration, tuple(firms), date)

@@ -42,7 +42,8 @@ class RequestJob:
             for request in self.requests:
                 story = story_of(request, book.acts(request.key))
                 text = request_page(templates, story, roles, self.count)
-                (self.folder / "requests" / file_name(request.key)).write_text(text)
+                path = self.folder / "requests" / file_name(request.key)
+                path.write_text(text, encoding="utf-8")
                 step(1)
         return len(self.requests)
 

@@ -98,7 +98,7 @@ class Requests:
             self.all.append(opened)
         about: dict[int, list[Told]] = defaultdict(list)
         for told in exchange.told:
-            self._learn(told, exchange)
+            self._learn(told, opened)
             key = self._about(told)
             if key is not None:
                 about[key].append(told)
@@ -125,12 +125,12 @@ class Requests:
         self._names.of_investors[came.firm, answer.text(131)] = key
         return request_of(key, exchange, came)
 
-    def _learn(self, told: Told, exchange: Exchange) -> None:
-        """The names that a message of the venue brings."""
+    def _learn(self, told: Told, opened: Request | None) -> None:
+        """The names that a message of the venue brings; a request is shown when it is opened."""
         firm, names = told.firm, self._names
-        if told.kind == "R" and self.all:
-            names.of_dealers[firm.name, told.text(131)] = len(self.all) - 1
-            self.all[-1].shown[firm.name] = told.text(131)
+        if told.kind == "R" and opened is not None:
+            names.of_dealers[firm.name, told.text(131)] = opened.key
+            opened.shown[firm.name] = told.text(131)
         elif told.kind == "S":
             key = names.of_investors.get((firm.name, told.text(131)))
             if key is not None:
@@ -179,9 +179,9 @@ class Requests:
             Note(one.firm.name, one.number, one.kind, reader.told(one.fields, one.firm.is_dealer))
             for one in told
         )
-        said = reader.said(came.fields) if came else reader.clock()
-        actor = came.firm if came else None
-        return Act(exchange.place, exchange.moment, actor, exchange.entry.number, said, notes)
+        said = reader.said(came.fields) if came else reader.unread(exchange.firm)
+        number = exchange.entry.number
+        return Act(exchange.place, exchange.moment, exchange.firm, number, said, notes)
 
     def _follow(self, request: Request, act: Act) -> None:
         """What an act changes of its request, by what firms are told."""

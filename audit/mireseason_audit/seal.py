@@ -71,10 +71,15 @@ def digest(blocks: Iterable[Messages]) -> str:
 
 
 def write_seal(what: Sealed, key: Path, path: Path) -> None:
-    """Signs and writes a seal."""
+    """Signs and writes a seal. One that stands there is evidence, and stays."""
     signature = base64.b64encode(sign(what.text, key))
+    data = what.text + SIGNATURE.encode() + signature + b"\n"
     try:
-        path.write_bytes(what.text + SIGNATURE.encode() + signature + b"\n")
+        with path.open("xb") as file:
+            file.write(data)
+    except FileExistsError:
+        if path.read_bytes() != data:
+            raise Unreadable("%s is there, and has another seal" % path) from None
     except OSError as fault:
         raise Unreadable("the seal can't be written: %s" % fault) from None
 
@@ -94,14 +99,18 @@ def read_seal(path: Path, key: Path) -> Sealed:
         raise Wrong("%s: its signature is no base64" % path.name) from None
     if not verify(body, signature, key):
         raise Wrong("%s: the signature is not that of the key" % path.name)
-    return Sealed(tuple(body.decode("utf-8", "replace").splitlines()))
+    return Sealed(tuple(body.decode("utf-8", "replace").removesuffix("\n").split("\n")))
 
 
 def compared(seal: Sealed, now: Sealed) -> Iterator[Finding]:
     """What a log is now, against what its seal says."""
-    if seal == now:
-        return
-    yield from compared_entries(seal, now)
+    if seal != now:
+        found = [*compared_entries(seal, now), *compared_messages(seal, now)]
+        yield from found or [Finding("entries", "the log is not the one that was sealed")]
+
+
+def compared_messages(seal: Sealed, now: Sealed) -> Iterator[Finding]:
+    """The firms whose messages are not those that were sealed."""
     for word, whose in (("sent", "messages"), ("session", "messages of its session")):
         said, found = seal.values(word), now.values(word)
         for firm in sorted(said.keys() | found.keys()):

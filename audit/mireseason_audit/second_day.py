@@ -4,7 +4,7 @@ from collections.abc import Callable
 from dataclasses import dataclass, field
 from pathlib import Path
 
-from .frame import Fields, framed, text_of
+from .frame import Fields, fault_of, framed, text_of
 from .lines import Came, came_of
 from .log import Log
 from .prices import Price
@@ -21,12 +21,12 @@ class Moved:
 
     place: int
     dealer: str
-    number: str  # 34
     before: Price
     after: Price
 
 
-Move = Callable[[Came], int]  # by how many 32nds a dealer's quote is moved; 0 leaves it
+# By how many 32nds the quote of an entry is moved; 0 leaves it.
+Move = Callable[[int, Came], int]
 
 
 @dataclass
@@ -49,15 +49,14 @@ class MovedDay:
 
     def _line(self, place: int, line: bytes, move: Move) -> bytes:
         came = came_of(line)
-        if came is None or came.frame is None or text_of(came.fields, 35) != "S":
+        if came is None or not is_whole(came) or text_of(came.fields, 35) != "S":
             return line
-        by = move(came)
+        by = move(place, came)
         changed = moved_fields(came.fields, by) if by else None
         if changed is None:
             return line
         fields, before, after = changed
-        number = text_of(came.fields, SEQ_NUM)
-        self.moved.append(Moved(place, came.firm, number, before, after))
+        self.moved.append(Moved(place, came.firm, before, after))
         return line_of(came, fields)
 
 
@@ -71,8 +70,16 @@ def is_with(line: bytes, part: bytes) -> bool:
     return not line.startswith(b"hex ") or part in line.lower()
 
 
+def is_whole(came: Came) -> bool:
+    """Whether a message is a frame, or one that the program frames: what is none stays as it is."""
+    return came.frame is None or fault_of(came.frame) is None
+
+
 def line_of(came: Came, fields: Fields) -> bytes:
     """A line with the same firm and time, and other fields in its body."""
+    if came.frame is None:  # `say FIRM TRADER TIME TYPE BODY`: 35 and 50 stand in front of BODY
+        body = b"|".join(b"%d=%b" % field for field in fields[2:])
+        return b" ".join([*came.line.split(b" ", 5)[:5], body])
     return ("hex %s %s %s" % (came.firm, came.time, framed(fields).hex())).encode()
 
 
@@ -96,7 +103,7 @@ def on_request(request: Request, dealer: str, by: int) -> Move:
     """Moves one dealer's quotes on one request."""
     name = request.shown.get(dealer)
 
-    def move(came: Came) -> int:
+    def move(place: int, came: Came) -> int:
         return by if came.firm == dealer and text_of(came.fields, 131) == name else 0
 
     return move

@@ -20,9 +20,11 @@ FIRMS = """WITH RECURSIVE found(firm) AS (SELECT min(firm) FROM TABLE_ UNION ALL
     SELECT (SELECT min(firm) FROM TABLE_ WHERE firm > found.firm) FROM found
     WHERE found.firm IS NOT NULL) SELECT firm FROM found WHERE firm IS NOT NULL"""
 
-NONE = type(None)
-ENTRY_TYPES = ({int}, {int}, {str}, {str, NONE}, {int, NONE}, {bytes}, {bytes}, {bytes})
-MESSAGE_TYPES = ({int}, {int, NONE}, {bytes})
+Types = Sequence[set[type]]  # of each column, those that its values may have
+NONE: type = type(None)
+ENTRY_TYPES: Types = ({int}, {int}, {str}, {str, NONE}, {int, NONE}, {bytes}, {bytes}, {bytes})
+SENT_TYPES: Types = ({int}, {int}, {bytes})
+OUTGOING_TYPES: Types = ({int}, {int, NONE}, {bytes})
 
 Rows = list[tuple[Any, ...]]
 
@@ -60,24 +62,26 @@ class SqlLog(Log):
     def _entry(
         self, place: int, term: int, moment: Any, firm: Any, number: int | None, *data: Any
     ) -> EntryRow:
-        check_numbers("entry", place, place, term, number)
+        check_numbers("entry", place, place, term, *(() if number is None else (number,)))
         line, before, hash_ = map(self.bytes_of, data)
         firm = None if firm is None else as_text(firm)
         return place, term, as_text(moment), firm, number, line, before, hash_
 
     def sent_blocks(self, firm: str) -> Iterator[Messages]:
-        return self._messages(SENT, "sent %s" % firm, firm)
+        return self._messages(SENT, "sent", firm, SENT_TYPES)
 
     def outgoing_blocks(self, firm: str) -> Iterator[Messages]:
-        return self._messages(OUTGOING, "outgoing %s" % firm, firm)
+        return self._messages(OUTGOING, "outgoing", firm, OUTGOING_TYPES)
 
-    def _messages(self, query: str, table: str, firm: str) -> Iterator[Messages]:
+    def _messages(self, query: str, table: str, firm: str, types: Types) -> Iterator[Messages]:
         """The messages of a firm, as rows of a table."""
         for rows in self.blocks(query, firm):
             numbers, others, data = zip(*rows)
-            if not are_of((numbers, others, data), MESSAGE_TYPES):
+            if not are_of((numbers, others, data), types):
                 for number, other in zip(numbers, others):
-                    check_numbers(table, number, number, other)
+                    may_lack = other is None and NONE in types[1]
+                    values = (number,) if may_lack else (number, other)
+                    check_numbers("%s %s" % (table, firm), number, *values)
                 data = tuple(map(self.bytes_of, data))
             yield Messages(numbers, others, data)
 
@@ -101,11 +105,18 @@ class SqlLog(Log):
         if not places:
             return {}
         query = NUMBERS % ", ".join("%d" % place for place in places)
-        return {place: number for place, number in self.rows(query)}
+        found = {}
+        for place, number in self.rows(query):
+            check_numbers("entry", place, number)
+            found[place] = number
+        return found
 
     def targets(self) -> dict[str, int]:
-        rows = self.rows("SELECT firm, target FROM session")
-        return {as_text(firm): target for firm, target in rows}
+        found = {}
+        for firm, target in self.rows("SELECT firm, target FROM session"):
+            check_numbers("session", as_text(firm), target)
+            found[as_text(firm)] = target
+        return found
 
     def firms(self) -> set[str]:
         tables = "sent", "outgoing"
@@ -117,7 +128,7 @@ class SqlLog(Log):
         return int(count)
 
 
-def are_of(columns: Any, types: Sequence[set[type]]) -> bool:
+def are_of(columns: Any, types: Types) -> bool:
     """Whether each column has values of its types and no others."""
     return all(set(map(type, column)) <= wanted for column, wanted in zip(columns, types))
 
@@ -130,11 +141,10 @@ def check_form(name: str, rows: Rows, form: int) -> None:
 
 def check_numbers(table: str, row: object, *values: object) -> None:
     for value in values:
-        if value is not None and type(value) is not int:
+        if type(value) is not int:
             raise Unreadable("%s %s: %r stands where a number should" % (table, row, value))
 
 
 def as_text(value: object) -> str:
-    if isinstance(value, bytes):
-        return value.decode("utf-8", "replace")
-    return "" if value is None else str(value)
+    """A text; of what is none, how it is written: no name and no time is like it."""
+    return value if isinstance(value, str) else repr(value)

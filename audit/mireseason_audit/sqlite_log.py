@@ -63,17 +63,28 @@ class SqliteLog(SqlLog):
         self._connection.close()
 
 
+def text_of(data: bytes) -> str:
+    """A text of the file, which may be no text: an escape for each byte that is not."""
+    return data.decode("utf-8", "backslashreplace")
+
+
+def has_more(path: Path) -> bool:
+    """Whether there is a log beside the file, without which the file is not whole."""
+    return any(path.with_name(path.name + end).exists() for end in ("-wal", "-journal"))
+
+
 def connected(path: Path) -> sqlite3.Connection:
     """A reader of the file; of one in a folder that can't be written to, as the file stands."""
     address = path.resolve().as_uri()
     for ending in ("?mode=ro", "?mode=ro&immutable=1"):
         connection = sqlite3.connect(address + ending, uri=True, timeout=10, isolation_level=None)
         try:
+            connection.text_factory = text_of
             connection.execute("BEGIN")
             connection.execute("SELECT 1 FROM sqlite_master").fetchone()
             return connection
         except sqlite3.OperationalError:
             connection.close()
-            if path.with_name(path.name + "-wal").exists() or "immutable" in ending:
+            if "immutable" in ending or has_more(path):
                 raise
     raise AssertionError("the loop returns or raises")

@@ -1,5 +1,6 @@
 """One request, whole: its acts in their order, and the life of each quote."""
 
+import re
 from dataclasses import dataclass, field
 from itertools import pairwise
 
@@ -7,6 +8,7 @@ from .prices import Price
 from .reading import GLYPHS, Shape
 from .requests import Act, Note, Request
 
+TIME = re.compile(r"([0-9]{2}):([0-9]{2}):([0-9]{2}(?:\.[0-9]{3})?)")
 FATES = {
     "replaced": Shape.REPLACE,
     "withdrawn": Shape.WITHDRAW,
@@ -81,11 +83,8 @@ class Story:
 
 def seconds(moment: str) -> float:
     """The seconds of a time of day; 0 where the text is none."""
-    parts = moment.split(":")
-    try:
-        return int(parts[0]) * 3600 + int(parts[1]) * 60 + float(parts[2])
-    except (ValueError, IndexError):
-        return 0.0
+    found = TIME.fullmatch(moment)
+    return int(found[1]) * 3600 + int(found[2]) * 60 + float(found[3]) if found else 0.0
 
 
 def story_of(request: Request, acts: list[Act]) -> Story:

@@ -7,6 +7,7 @@ from itertools import zip_longest
 from pathlib import Path
 
 BLOCK = 1 << 20
+LAST_BYTES = 4096
 LOOK = 0.05  # seconds from one look at a file that grows to the next
 
 
@@ -33,6 +34,18 @@ def lines_of(path: Path) -> Iterator[bytes]:
     with path.open("rb") as file:
         for line in file:
             yield line.removesuffix(b"\n")
+
+
+def count_of_lines(path: Path) -> int:
+    """How many line feeds a file has."""
+    return sum(block.count(b"\n") for block in blocks_of(path))
+
+
+def last_line_of(path: Path) -> bytes:
+    """The last line of a file, of one that is longer its end; empty where there is none."""
+    with path.open("rb") as file:
+        file.seek(max(0, path.stat().st_size - LAST_BYTES))
+        return file.read().removesuffix(b"\n").rpartition(b"\n")[2]
 
 
 def lines_in(blocks: Iterable[bytes]) -> Iterator[list[bytes]]:

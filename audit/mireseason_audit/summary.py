@@ -10,8 +10,8 @@ from pathlib import Path
 from .book import Book, Fault
 from .dictionary import Dictionary
 from .exchanges import Exchange, exchanges
-from .frame import text_of
 from .log import Source
+from .prices import quantity_of
 from .progress import Step
 from .reading import Reader
 from .records import Day
@@ -24,8 +24,8 @@ NO_ANSWER = "no answer"
 class FirmCounts:
     """What came from a firm, what it was sent, and what of it was refused."""
 
-    came: Counter[str] = field(default_factory=Counter)  # by MsgType (35)
-    sent: Counter[str] = field(default_factory=Counter)
+    came: int = 0
+    sent: int = 0
     refused: int = 0
 
 
@@ -43,11 +43,11 @@ class Summary:
 
     @property
     def came(self) -> int:
-        return sum(sum(firm.came.values()) for firm in self.firms.values())
+        return sum(firm.came for firm in self.firms.values())
 
     @property
     def sent(self) -> int:
-        return sum(sum(firm.sent.values()) for firm in self.firms.values())
+        return sum(firm.sent for firm in self.firms.values())
 
     @property
     def ends(self) -> Counter[str]:
@@ -60,7 +60,8 @@ class Summary:
     @property
     def quantity(self) -> int:
         """What was awarded in all."""
-        return sum(int(one.quantity) for one in self.requests if one.end == "awarded")
+        awarded = (one.quantity for one in self.requests if one.end == "awarded")
+        return sum(quantity_of(quantity) or 0 for quantity in awarded)
 
 
 class Summarizer:
@@ -81,7 +82,7 @@ class Summarizer:
             self._book.put(request.key, act)
             about = request.key
         for told in exchange.told:
-            summary.firms[told.firm.name].sent[told.kind] += 1
+            summary.firms[told.firm.name].sent += 1
         if exchange.came is None:
             summary.sweeps += exchange.entry.line.startswith((b"clock ", b"expire "))
         elif exchange.came.firm in summary.firms:
@@ -91,7 +92,7 @@ class Summarizer:
         came = exchange.came
         assert came is not None
         counts = self.summary.firms[came.firm]
-        counts.came[text_of(came.fields, 35)] += 1
+        counts.came += 1
         answers = exchange.answers()
         words = [self._reader.told(one.fields, one.firm.is_dealer) for one in answers]
         refused = next((one for one in words if one.refused), None)

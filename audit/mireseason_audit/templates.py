@@ -6,7 +6,7 @@ from pathlib import Path
 import jinja2
 from markupsafe import Markup
 
-from .prices import Price
+from .prices import Price, quantity_of
 from .records import Day
 
 HERE = Path(__file__).resolve().parent / "templates"
@@ -17,12 +17,13 @@ MONTHS = (
 
 def quantity_text(text: str) -> str:
     """A whole number with a space between thousands; what is none stays as it is."""
-    return format(int(text), ",").replace(",", "\u202f") if text.isdigit() else text
+    value = quantity_of(text)
+    return text if value is None else format(value, ",").replace(",", "\u202f")
 
 
 def date_text(text: str) -> str:
     """A date in words; what is none stays as it is."""
-    if len(text) == 8 and text.isdigit() and 1 <= int(text[4:6]) <= 12:
+    if len(text) == 8 and text.isascii() and text.isdigit() and 1 <= int(text[4:6]) <= 12:
         return "%d %s %s" % (int(text[6:]), MONTHS[int(text[4:6]) - 1], text[:4])
     return text
 

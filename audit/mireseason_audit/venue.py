@@ -6,7 +6,7 @@ import select
 import subprocess
 import tempfile
 from collections.abc import Iterator
-from contextlib import ExitStack
+from contextlib import ExitStack, suppress
 from dataclasses import dataclass, field
 from pathlib import Path
 from typing import Self
@@ -180,7 +180,8 @@ class Conversation(Closing):
             self._process.kill()
         for stream in (self._process.stdin, self._process.stdout):
             if stream is not None:
-                stream.close()
+                with suppress(BrokenPipeError):  # it has ended, and was told what it can't read
+                    stream.close()
         self._process.wait()
 
 

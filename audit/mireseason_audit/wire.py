@@ -17,8 +17,14 @@ from .records import SOH, Outgoing, Sent
 
 IN_FRONT_OF = {b"S": b"\x01537=", b"AI": b"\x01297=", b"R": b"\x01453="}  # where 60 stands
 REJECT = b"3"
+OWN = re.compile(rb"8=FIXT\.1\.1\x019=\d+\x0135=[0-5A]\x01")  # what a session sends of itself
 REFERS = b"\x0145="
 CARRIED = b"\x011181="
+# The header of a message that carries one of the venue's: 35, 34, 49, 52, 56, and no other field.
+HEADER = re.compile(
+    rb"8=FIXT\.1\.1\x019=\d+\x0135=([^\x01]*)\x0134=\d+\x0149=[^\x01]*\x0152=[^\x01]*"
+    rb"\x0156=[^\x01]*"
+)
 
 
 class Parts(NamedTuple):
@@ -75,6 +81,8 @@ def header_fault(data: bytes, number: int, firm: str, carries: bool) -> str | No
         return "it is not of the venue for this firm"
     if not carries and CARRIED in data:
         return "it carries what the log does not say"
+    if not carries and not OWN.match(data):
+        return "it carries nothing, and is none that a session sends of itself"
     return None
 
 
@@ -131,7 +139,8 @@ class WireReader:
         if parts is None:
             return False
         head, mark, rest = data.partition(CARRIED)
-        if b"\x0135=" + parts.kind + SOH not in head + SOH:
+        header = HEADER.fullmatch(head)
+        if header is None or header[1] != parts.kind:
             return False
         number = self._session_number(expected.place) if parts.kind == REJECT else None
         return mark + rest[: -CHECKSUM_BYTES - 1] == carried(parts, number)

@@ -18,6 +18,8 @@ from .progress import Progress, Step
 Result = TypeVar("Result")
 Job = Callable[[Step], Result]  # what a process does; it tells the step how many rows it did
 LOOK = 0.2  # seconds from one look at the counter to the next
+SIGNALS = (signal.SIGTERM, signal.SIGHUP, signal.SIGINT)  # that end a command
+DEATH_SIGNAL = 1  # PR_SET_PDEATHSIG of prctl(2): the signal when the parent ends
 
 
 class Plan(Generic[Result]):
@@ -95,9 +97,9 @@ class Workers(Generic[Result]):
         for index in ready[: max(1, at_once) - len(self.running)]:
             self._waiting.remove(index)
             here, there = self._context.Pipe(duplex=False)
-            arguments = (self.plan.jobs[index], there, self.counter)
+            arguments = (self.plan.jobs[index], there, self.counter, os.getpid())
             process = self._context.Process(target=do_job, args=arguments, daemon=True)
-            process.start()
+            start(process)
             there.close()
             self.running.append(Running(index, process, here))
 
@@ -114,6 +116,15 @@ class Workers(Generic[Result]):
             one.process.join()
 
 
+def start(process: BaseProcess) -> None:
+    """Starts a process, which no signal meets before it has said what it does about one."""
+    before = signal.pthread_sigmask(signal.SIG_BLOCK, SIGNALS)
+    try:
+        process.start()
+    finally:
+        signal.pthread_sigmask(signal.SIG_SETMASK, before)
+
+
 def run_jobs(plan: Plan[Result], at_once: int, progress: Progress) -> list[Result]:
     """Does all jobs; answers their results in the jobs' order. The first that fails is raised."""
     workers = Workers(plan)
@@ -127,9 +138,19 @@ def run_jobs(plan: Plan[Result], at_once: int, progress: Progress) -> list[Resul
     return [workers.results[index] for index in range(len(plan.jobs))]
 
 
-def do_job(job: Job[Result], answers: Connection, counter: "Synchronized[int]") -> None:
-    """In the process of the job. Where it has to end, it ends the program that it runs."""
+def do_job(
+    job: Job[Result], answers: Connection, counter: "Synchronized[int]", waiting: int
+) -> None:
+    """In the process of the job. Where it has to end, it ends the program that it runs; and it has
+    to where the process that waits for it is gone, however that ended.
+    """
     signal.signal(signal.SIGTERM, lambda number, frame: sys.exit(1))
+    for number in (signal.SIGINT, signal.SIGHUP):  # of a terminal: who waits for it ends it
+        signal.signal(number, signal.SIG_IGN)
+    signal.pthread_sigmask(signal.SIG_UNBLOCK, SIGNALS)
+    ctypes.CDLL(None).prctl(DEATH_SIGNAL, signal.SIGTERM)
+    if os.getppid() != waiting:
+        sys.exit(1)
 
     def step(rows: int) -> None:
         with counter.get_lock():

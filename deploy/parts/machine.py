@@ -55,7 +55,7 @@ class Machine:
         for gateway in self.gateways:
             gateway.make(configurations, credentials)
             gateway.start()
-        until("a gateway speaks", 180, lambda: self.speaking() is not None)
+        until("a gateway speaks", 420, lambda: self.speaking() is not None)
 
     def listens(self, gateway: GatewayHost) -> bool:
         """Whether it takes connections: only the one that speaks does."""

@@ -100,7 +100,7 @@ class Network:
                     continue
             return not left
 
-        until("all processes of %s end" % name, 20, none_left)
+        until("all processes of %s end" % name, 120, none_left)
 
     def down(self) -> None:
         for name in [*self.hosts, "switch"]:

@@ -151,14 +151,14 @@ bool Connection::shake_hands() {
             return false;
         }
         wants_write_ = progress == Channel::Progress::wants_write;
-        wait(tick);
+        wait(true);
         keep_time();
     }
     return false;
 }
 
 void Connection::turn() {
-    wait(tick);
+    wait(true);
     read();
     write();
     if (session_ != nullptr && Clock::now() - ticked_ >= tick) {
@@ -169,13 +169,13 @@ void Connection::turn() {
     keep_time();
 }
 
-void Connection::wait(milliseconds longest) {
+void Connection::wait(bool reads) {
     std::array<pollfd, 2> set{};
     set[0].fd = channel_.number();
-    set[0].events = static_cast<short>(POLLIN | (wants_write_ ? POLLOUT : 0));
+    set[0].events = static_cast<short>((reads ? POLLIN : 0) | (wants_write_ ? POLLOUT : 0));
     set[1].fd = bell_.number();
     set[1].events = POLLIN;
-    ::poll(set.data(), set.size(), static_cast<int>(longest.count()));
+    ::poll(set.data(), set.size(), static_cast<int>(tick.count()));
     if ((set[1].revents & POLLIN) != 0) {
         std::uint64_t rung = 0;
         const ssize_t count = ::read(bell_.number(), &rung, sizeof rung);
@@ -291,7 +291,8 @@ void Connection::write() {
 void Connection::drain() {
     write();
     while (!shut_ && wants_write_) {
-        wait(tick);
+        // What it sends meanwhile is left where it is, and no reason to look.
+        wait(false);
         write();
         keep_time();
     }

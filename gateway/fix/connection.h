@@ -60,8 +60,8 @@ class Connection final : public FIX::Responder {
     void run();
     bool shake_hands();
     void turn();
-    // Waits until there is something to do.
-    void wait(std::chrono::milliseconds longest);
+    // Waits until there is something to read, where that is looked for, to write, or to look at.
+    void wait(bool reads);
     void read();
     void take_messages();
     void take(const std::string &message);

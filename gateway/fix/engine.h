@@ -75,6 +75,7 @@ struct SessionStart {
     SessionHost *host = nullptr; // outlives the engine
     std::uint32_t sender = 1;    // the next number to the firm
     std::uint32_t target = 1;    // the next number that is expected of it
+    std::uint32_t carried = 0;   // no later message to the firm carries one of the venue
 };
 
 // What happens at connections and sessions, told for the operator; of any thread. what is one of a

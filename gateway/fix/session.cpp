@@ -2,13 +2,13 @@
 
 #include "connection.h"
 #include "cutter.h"
+#include "fields.h"
 
 #include <quickfix/DataDictionaryProvider.h>
 #include <quickfix/TimeRange.h>
 
 #include <algorithm>
 #include <stdexcept>
-#include <thread>
 
 namespace gateway {
 
@@ -17,27 +17,17 @@ namespace {
 using Clock = std::chrono::steady_clock;
 
 // The answer to this TestRequest tells that a firm that has logged on has filled its gap. It is
-// waited for so long, and longer once the firm has asked for a gap: a stock engine that is sent a
-// Reject while it fills one counts wrong.
+// waited for so long, which is long for an engine that is there, and longer once the firm has asked
+// for a gap: a stock engine that is sent a Reject while it fills one counts wrong.
 const std::string question = "MIRESEASON-";
-constexpr auto settling = std::chrono::seconds(1);
+constexpr auto settling = std::chrono::seconds(10);
 constexpr auto filling = std::chrono::seconds(30);
 
 // Resent at once: so much of a firm's day is in memory at a time.
 constexpr int resent_at_once = 500;
 
-// How long a new connection waits for the old one of its firm to be gone.
-constexpr auto old_connection = std::chrono::seconds(2);
-
-// The longest time between two heartbeats that a firm may ask for.
-constexpr int longest_heartbeat = 300;
-
 // The field in which the bytes of a message ride through the engine: RawData (96), never sent.
 constexpr int bytes_field = 96;
-
-std::string text_in(const FIX::FieldMap &fields, int tag) {
-    return fields.isSetField(tag) ? fields.getField(tag) : std::string();
-}
 
 // What the session itself looks at. All other fields are the venue's to judge.
 bool is_of_session(int tag) {
@@ -53,14 +43,6 @@ bool is_of_session(int tag) {
     default:
         return false;
     }
-}
-
-// A number of digits, or -1.
-int number_in(const FIX::FieldMap &fields, int tag) {
-    int number = 0;
-    const std::string text = text_in(fields, tag);
-    return FIX::IntConvertor::convert(text.begin(), text.end(), number) && number >= 0 ? number
-                                                                                       : -1;
 }
 
 // All that stands in front of the value of the first body field of the venue's messages.
@@ -91,53 +73,6 @@ FirmSession::FirmSession(const SessionStart &start, const EngineSettings &settin
 
 FirmSession::~FirmSession() = default;
 
-bool FirmSession::admit(Connection &connection, const std::string &bytes) {
-    FIX::Message logon;
-    if (!read(bytes, logon)) {
-        return false;
-    }
-    const std::string refusal = refusal_of_sender(logon, connection);
-    const Clock::time_point latest =
-        Clock::now() + (refusal.empty() ? old_connection : std::chrono::seconds(0));
-    while (!attach(connection)) {
-        if (Clock::now() >= latest || connection.is_shut()) {
-            events_.refused("second connection", connection.peer() + ": " + firm_);
-            connection.shut("the firm has a connection");
-            return false;
-        }
-        std::this_thread::sleep_for(std::chrono::milliseconds(20));
-    }
-    is_admitted_ = true;
-    refusal_ = refusal;
-    return true;
-}
-
-bool FirmSession::attach(Connection &connection) {
-    const std::lock_guard<std::mutex> lock(mutex_);
-    if (connection_ != nullptr) {
-        return false;
-    }
-    connection_ = &connection;
-    has_logged_on_ = false;
-    session_->logon();
-    session_->setResponder(&connection);
-    return true;
-}
-
-void FirmSession::detach(Connection &connection) {
-    // What the host does about it may wait for the log, under the engine's own lock: whoever would
-    // deliver at once is told that the session is at work.
-    const std::lock_guard<std::mutex> at_work(at_work_);
-    // Takes the connection away from the engine, under that lock, and tells onLogout().
-    session_->disconnect();
-    settle();
-    ahead_.clear();
-    const std::lock_guard<std::mutex> lock(mutex_);
-    if (connection_ == &connection) {
-        connection_ = nullptr;
-    }
-}
-
 // Of the connection's thread, so that it stays.
 Connection &FirmSession::own_connection() {
     const std::lock_guard<std::mutex> lock(mutex_);
@@ -148,14 +83,6 @@ void FirmSession::shut() {
     const std::lock_guard<std::mutex> lock(mutex_);
     if (connection_ != nullptr) {
         connection_->shut("the firm does not keep up");
-    }
-}
-
-void FirmSession::log_out(const std::string &reason) {
-    const std::lock_guard<std::mutex> lock(mutex_);
-    farewell_ = reason;
-    if (connection_ != nullptr) {
-        connection_->wake();
     }
 }
 
@@ -185,7 +112,7 @@ void FirmSession::take(const std::string &bytes) {
         take_resend_request(std::move(message), own_connection());
     } else if (message.isAdmin()) {
         look_for_answer(type, message);
-        next(message);
+        take_admin(type, message);
     } else {
         take_application(message, bytes);
     }
@@ -204,6 +131,7 @@ void FirmSession::all_taken() {
 void FirmSession::look_for_answer(const std::string &type, const FIX::Message &message) {
     if (type == "0" && session_->isLoggedOn() &&
         text_in(message, FIX::FIELD::TestReqID) == question + std::to_string(questions_)) {
+        had_ = asked_at_;
         settle();
     }
 }
@@ -217,56 +145,39 @@ void FirmSession::next(const FIX::Message &message) {
     }
 }
 
-void FirmSession::take_logon(const FIX::Message &message) {
-    const std::string why = refusal_of(message);
-    if (why.empty()) {
+// This engine counts a Logout and a Reject whatever their numbers are, too: where one of the firm's
+// messages is missing it would never ask for it.
+void FirmSession::take_admin(const std::string &type, const FIX::Message &message) {
+    const int number = number_in(message.getHeader(), FIX::FIELD::MsgSeqNum);
+    const int expected = session_->getExpectedTargetNum();
+    const bool resets = type == "4" && text_in(message, FIX::FIELD::GapFillFlag) != "Y";
+    if (type == "5" && number != expected) {
+        end_uncounted();
+    } else if (type == "3" && number > expected) {
+        events_.dropped("gap", firm_);
+    } else if (resets || is_next_or_kept(number)) {
         next(message);
-    } else {
-        refuse(why);
     }
 }
 
-std::string FirmSession::refusal_of(const FIX::Message &logon) {
-    if (session_->isLoggedOn()) {
-        return "logged on already";
+void FirmSession::end_uncounted() {
+    if (session_->isLoggedOn() && !session_->sentLogout()) {
+        send_logout("");
     }
-    // The first one's sender was looked at before.
-    const std::string refusal =
-        is_admitted_ ? refusal_ : refusal_of_sender(logon, own_connection());
-    is_admitted_ = false;
-    if (!refusal.empty()) {
-        return refusal;
-    }
-    // The engine would reset before it asks anybody.
-    if (text_in(logon, FIX::FIELD::ResetSeqNumFlag) == "Y" &&
-        (session_->getExpectedSenderNum() != 1 || session_->getExpectedTargetNum() != 1)) {
-        return "numbers are not reset within the day";
-    }
-    const int heartbeat = number_in(logon, FIX::FIELD::HeartBtInt);
-    if (heartbeat < 1 || heartbeat > longest_heartbeat) {
-        return "108 is not 1 to 300";
-    }
-    return {};
-}
-
-std::string FirmSession::refusal_of_sender(const FIX::Message &logon,
-                                           const Connection &connection) {
-    LogonFacts facts;
-    facts.firm = firm_;
-    facts.username = text_in(logon, FIX::FIELD::Username);
-    facts.password = text_in(logon, FIX::FIELD::Password);
-    facts.over_tls = connection.over_tls();
-    facts.certificate = connection.certificate();
-    return host_.refusal_of(facts);
-}
-
-void FirmSession::refuse(const std::string &why) {
-    events_.refused("logon", firm_ + ": " + why);
-    FIX::Message logout;
-    logout.getHeader().setField(FIX::MsgType(FIX::MsgType_Logout));
-    logout.setField(FIX::Text(why));
-    session_->send(logout);
     session_->disconnect();
+}
+
+// The engine asks for all of a gap: so what is not kept comes again.
+bool FirmSession::is_next_or_kept(int number) {
+    if (number <= session_->getExpectedTargetNum()) {
+        return true;
+    }
+    if (ahead_.size() >= settings_.gap_messages) {
+        events_.dropped("gap", firm_);
+        return false;
+    }
+    ahead_.insert(number);
+    return true;
 }
 
 // The engine reads a whole gap into memory before it sends the first message of it; given piece by
@@ -279,8 +190,9 @@ void FirmSession::take_resend_request(FIX::Message message, Connection &connecti
         next(message);
         return;
     }
-    if (is_settling()) {
-        settled_at_ = Clock::now() + filling;
+    const bool fills_gap = had_ < asked_at_;
+    if (fills_gap) {
+        settled_at_ = settled_by_;
     }
     const int last = asked == 0 ? last_sent : std::min(asked, last_sent);
     bool there = true;
@@ -292,7 +204,7 @@ void FirmSession::take_resend_request(FIX::Message message, Connection &connecti
         connection.drain();
         there = session_->isLoggedOn();
     }
-    if (there && is_settling()) {
+    if (there && fills_gap) {
         // The one behind the Logon was part of the gap, and is left out of it like all of the
         // session's.
         ask_whether_settled();
@@ -304,19 +216,13 @@ void FirmSession::ask_whether_settled() {
     request.getHeader().setField(FIX::MsgType(FIX::MsgType_TestRequest));
     request.setField(FIX::TestReqID(question + std::to_string(++questions_)));
     session_->send(request);
+    asked_at_ = number_in(request.getHeader(), FIX::FIELD::MsgSeqNum);
 }
 
 void FirmSession::take_application(const FIX::Message &message, const std::string &bytes) {
     const FIX::Header &header = message.getHeader();
-    const int number = number_in(header, FIX::FIELD::MsgSeqNum);
-    if (number > session_->getExpectedTargetNum()) {
-        // The engine keeps it until the gap is filled, and asks for all of the gap: so it comes
-        // again.
-        if (ahead_.size() >= settings_.gap_messages) {
-            events_.dropped("gap", firm_);
-            return;
-        }
-        ahead_.insert(number);
+    if (!is_next_or_kept(number_in(header, FIX::FIELD::MsgSeqNum))) {
+        return;
     }
     FIX::Message light;
     // The first one: another in the body is no matter of the session.
@@ -338,7 +244,7 @@ void FirmSession::tick() {
         farewell.swap(farewell_);
     }
     if (!farewell.empty()) {
-        session_->logout(farewell);
+        bid_farewell(farewell);
     }
     session_->next();
 }
@@ -402,9 +308,11 @@ void FirmSession::toApp(FIX::Message &message, const FIX::SessionID &) throw(FIX
 
 void FirmSession::fromAdmin(const FIX::Message &message, const FIX::SessionID &) throw(
     FIX::FieldNotFound, FIX::IncorrectDataFormat, FIX::IncorrectTagValue, FIX::RejectLogon) {
-    const std::string type = text_in(message.getHeader(), FIX::FIELD::MsgType);
-    if (type == "A") {
+    const FIX::Header &header = message.getHeader();
+    ahead_.erase(number_in(header, FIX::FIELD::MsgSeqNum));
+    if (text_in(header, FIX::FIELD::MsgType) == "A") {
         settled_at_ = Clock::now() + settling;
+        settled_by_ = Clock::now() + filling;
         has_logged_on_ = true;
     }
 }

@@ -60,12 +60,19 @@ class FirmSession final : private FIX::Application, private FIX::Log {
     // False where it is no message; that is told.
     bool read(const std::string &bytes, FIX::Message &message);
     void take_logon(const FIX::Message &message);
+    void take_admin(const std::string &type, const FIX::Message &message);
+    void end_uncounted();
+    // Whether the next one is expected, or the engine may keep this one until then.
+    bool is_next_or_kept(int number);
     void take_resend_request(FIX::Message message, Connection &connection);
     Connection &own_connection();
     void take_application(const FIX::Message &message, const std::string &bytes);
     std::string refusal_of(const FIX::Message &logon);
+    std::string refusal_of_header(const FIX::Header &header);
+    void send_logout(const std::string &text);
     std::string refusal_of_sender(const FIX::Message &logon, const Connection &connection);
     void refuse(const std::string &why);
+    void bid_farewell(const std::string &reason);
     bool is_settling() const { return std::chrono::steady_clock::now() < settled_at_.load(); }
     void settle();
     void ask_whether_settled();
@@ -123,7 +130,10 @@ class FirmSession final : private FIX::Application, private FIX::Log {
     std::atomic<std::chrono::steady_clock::time_point> settled_at_{};
     std::atomic<bool> has_logged_on_{false};
     // Of the connection's thread.
+    std::chrono::steady_clock::time_point settled_by_; // whatever it asks for
     unsigned questions_ = 0;
+    int asked_at_ = 0;          // the number of the last question
+    int had_ = 0;               // of the last one that was answered: the firm had all before it
     bool is_admitted_ = false;  // its Logon is taken next
     std::string refusal_;       // why that one is refused, if its sender is
     bool has_received_ = false; // what the host was not told the end of
@@ -133,7 +143,7 @@ class FirmSession final : private FIX::Application, private FIX::Log {
     std::mutex mutex_;
     Connection *connection_ = nullptr;
     std::string farewell_; // why the session is to be logged out, until it is
-    std::set<int> ahead_;  // numbers that came while an earlier one is missing
+    std::set<int> ahead_;  // numbers that the engine keeps while an earlier one is missing
 
     std::unique_ptr<FIX::Session> session_;
 };

@@ -51,7 +51,7 @@ std::string header_for_resend(const std::string &firm, const StoredMessage &mess
 
 SessionStore::SessionStore(const SessionStart &start)
     : firm_(start.firm), host_(*start.host), sender_(static_cast<int>(start.sender)),
-      target_(static_cast<int>(start.target)) {}
+      target_(static_cast<int>(start.target)), last_carried_(static_cast<int>(start.carried)) {}
 
 const SessionStore::Carried *SessionStore::read_last(int number) const {
     const auto found = read_.find(number);
@@ -64,6 +64,9 @@ bool SessionStore::set(int number, const std::string &bytes) throw(FIX::IOExcept
         const std::uint64_t ticket = host_.store_outgoing(firm_, static_cast<std::uint32_t>(number),
                                                           bytes, carries ? carried_ : nullptr);
         unsafe_ = carries ? 0 : ticket;
+        if (carries) {
+            last_carried_ = number;
+        }
     } catch (const std::runtime_error &fault) {
         throw FIX::IOException(fault.what());
     }

@@ -6,8 +6,8 @@
 
 #include <quickfix/MessageStore.h>
 
+#include <atomic>
 #include <map>
-#include <mutex>
 
 namespace gateway {
 
@@ -32,6 +32,9 @@ class SessionStore final : public FIX::MessageStore {
     };
     const Carried *read_last(int number) const;
 
+    // The session's number of the last message of the venue, or a later one; 0 where there is none.
+    int last_carried() const { return last_carried_; }
+
     bool set(int number, const std::string &bytes) throw(FIX::IOException) override;
     void get(int first, int last, std::vector<std::string> &messages) const
         throw(FIX::IOException) override;
@@ -53,6 +56,7 @@ class SessionStore final : public FIX::MessageStore {
     // The session's own lock lies over every call.
     int sender_;
     int target_;
+    std::atomic<int> last_carried_; // which any thread may ask
     std::uint64_t unsafe_ = 0; // the ticket of a message of the session that is not on disk yet
     mutable std::map<int, Carried> read_;
 };

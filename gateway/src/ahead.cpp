@@ -1,5 +1,6 @@
 #include "ahead.h"
 
+#include <algorithm>
 #include <stdexcept>
 #include <utility>
 
@@ -26,6 +27,12 @@ std::optional<Delivery> Ahead::put(Delivery delivery) {
         waiting_[delivery.firm].push_back(std::move(delivery));
     }
     return std::nullopt;
+}
+
+bool Ahead::is_full() {
+    const std::lock_guard lock(mutex_);
+    return std::ranges::any_of(waiting_,
+                               [this](const auto &firm) { return firm.second.size() >= limit_; });
 }
 
 void Ahead::clear() {

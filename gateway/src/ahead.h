@@ -26,6 +26,8 @@ class Ahead {
     // Keeps the message; once all was handed over it is given back, and is the caller's to hand
     // over.
     std::optional<Delivery> put(Delivery delivery);
+    // Whether the venue waits: the log lacks more of a firm's messages than may wait.
+    bool is_full();
     // The venue begins again.
     void clear();
 

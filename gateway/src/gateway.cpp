@@ -43,6 +43,9 @@ void Gateway::start() {
     for (const auto &day : days_) {
         day->start(*engine_);
     }
+    if (status_.stopping().stop_requested()) {
+        return;
+    }
     engine_->listen();
     events_->info("ready address={}:{} tls={} firms={}", settings.address, settings.port,
                   !settings.certificate.empty(), starts.size());
@@ -85,6 +88,11 @@ std::optional<std::string> Gateway::run() {
         engine_->stop(status_.why());
         for (const auto &day : days_) {
             day->finish();
+        }
+        // Only now: until then each of several may fail.
+        status_.end();
+        for (const auto &day : days_) {
+            day->end();
         }
     }
     return status_.failure();

@@ -150,7 +150,7 @@ std::string Process::read_errors() {
 
 void Process::kill() {
     if (pid_ > 0) {
-        ::kill(pid_, SIGKILL);
+        ::kill(-pid_, SIGKILL);
     }
 }
 

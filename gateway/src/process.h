@@ -31,6 +31,7 @@ class Process {
     // The next bytes of its standard output or error, empty at the end.
     std::string read_output();
     std::string read_errors();
+    // And all that it has started: else its output would not end.
     void kill();
     // Waits for its end, and says how it ended.
     std::string wait();

@@ -1,6 +1,8 @@
 #include "sweeper.h"
 
+#include <algorithm>
 #include <chrono>
+#include <optional>
 
 namespace gateway {
 
@@ -10,6 +12,10 @@ using namespace std::chrono_literals;
 
 // By how much a sweep may be late before messages are held for it.
 constexpr auto patience = 100ms;
+
+// How long it sleeps at most before it looks at the clock again: that may have been set forward, or
+// the machine have slept.
+constexpr auto longest_sleep = 1000ms;
 
 // How long a mark is waited for before the next look.
 constexpr auto look = 10ms;
@@ -29,7 +35,7 @@ void Sweeper::run(const std::stop_token &stop) {
         while (const auto next = answers_.wait_for_deadline(stop)) {
             const auto left = clock_.until(next->moment);
             if (left > 0ms) {
-                answers_.wait_for_other(next->moment, left, stop);
+                answers_.wait_for_other(next->moment, std::min(left, longest_sleep), stop);
             } else {
                 sweep(*next, stop);
             }
@@ -56,12 +62,20 @@ void Sweeper::sweep(Answers::Deadline due, const std::stop_token &stop) {
     }
 }
 
+// Its answer is waited for behind the hold: what the venue gives for it may have to wait for a firm
+// that waits for the log.
 void Sweeper::sweep_held(const std::stop_token &stop) {
-    const Log::Hold hold(log_);
-    answers_.wait(log_.last_place(), longest_hold, stop);
-    const auto due = answers_.deadline();
-    if (due && clock_.until(due->moment) <= 0ms) {
-        sweep_behind(due->place, stop);
+    std::optional<std::uint32_t> swept;
+    {
+        const Log::Hold hold(log_);
+        answers_.wait(log_.last_place(), longest_hold, stop);
+        const auto due = answers_.deadline();
+        if (due && clock_.until(due->moment) <= 0ms) {
+            swept = log_.append_clock_behind(due->place);
+        }
+    }
+    if (swept) {
+        answers_.wait(*swept, stop);
     }
 }
 

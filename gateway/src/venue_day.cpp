@@ -62,8 +62,11 @@ void VenueDay::close() {
 void VenueDay::follow(const std::function<bool()> &may) {
     const std::stop_token stop = status_.stopping();
     // A day begins with the gateway that speaks first. Where there is a log, only one whose venue
-    // has answered it takes over: another may be ready at once.
-    const auto ready = [&] { return may() && (!committed_ || answers_.wait(found_, 0ms, stop)); };
+    // has answered it takes over: another may be ready at once. Or one whose venue waits for a log
+    // that lacks more than may wait: nobody else may be there to put it into it.
+    const auto ready = [&] {
+        return may() && (!committed_ || ahead_.is_full() || answers_.wait(found_, 0ms, stop));
+    };
     Follower follower(*database_, events_, ready);
     if (!follower.follow(stop, [](LogReader &log) { return log.last_entry().has_value(); })) {
         return;
@@ -139,16 +142,31 @@ bool VenueDay::catch_up() {
     }
     ahead_.lift_limit();
     const auto writer = database_->writer();
-    while (!answers_.wait(last_.place, sign_of_life, status_.stopping())) {
-        if (status_.stopping().stop_requested()) {
-            return false;
-        }
-        writer->be_seen();
+    const auto lock = all_answered([&writer] { writer->be_seen(); });
+    if (!lock) {
+        return false;
     }
     ahead_.settle(*reader);
     states_ = reader->states();
     comparison_.check_sent(states_);
     return true;
+}
+
+// Waits until the venue has answered the log as far as it was read. Under the lock no other process
+// of it begins, which would give all again. Nothing where the gateway is to stop.
+std::unique_lock<std::mutex> VenueDay::all_answered(const std::function<void()> &meanwhile) {
+    const std::stop_token stop = status_.stopping();
+    while (!stop.stop_requested()) {
+        if (!answers_.wait(last_.place, sign_of_life, stop)) {
+            meanwhile();
+            continue;
+        }
+        std::unique_lock lock(speaking_mutex_);
+        if (answers_.wait(last_.place, 0ms, stop)) {
+            return lock;
+        }
+    }
+    return {};
 }
 
 void VenueDay::open_log(std::uint32_t term) {
@@ -198,6 +216,7 @@ std::vector<SessionStart> VenueDay::session_starts() {
         if (found != states_.end()) {
             const FirmState &state = found->second;
             start.sender = state.outgoing + 1;
+            start.carried = state.sent > 0 ? state.outgoing : 0;
             // A message that is in the log came, whether the number behind it was committed or not.
             start.target = std::max(state.session.target, state.last_number + 1);
         }
@@ -218,14 +237,20 @@ void VenueDay::open_mailboxes(Engine &engine) {
 }
 
 void VenueDay::start(Engine &engine) {
-    begin_to_speak(engine);
-    withdraw_for_lost_sessions();
-    sweeper_ = std::make_unique<Sweeper>(answers_, *log_, clock_);
+    open_mailboxes(engine);
+    if (begin_to_speak()) {
+        withdraw_for_lost_sessions();
+        sweeper_ = std::make_unique<Sweeper>(answers_, *log_, clock_);
+    }
 }
 
-void VenueDay::begin_to_speak(Engine &engine) {
-    const std::lock_guard lock(speaking_mutex_);
-    open_mailboxes(engine);
+// The venue's process may have ended since the log was caught up with: what a firm was sent, and
+// the log lacks, has to have its number again before any session logs on.
+bool VenueDay::begin_to_speak() {
+    const auto lock = all_answered([] {});
+    if (!lock) {
+        return false;
+    }
     ahead_.hand_over([this](Delivery delivery) {
         Firm &firm = firm_of(delivery.firm);
         firm.mailbox->put(std::move(delivery));
@@ -233,6 +258,7 @@ void VenueDay::begin_to_speak(Engine &engine) {
     wait_until_handed_over();
     log_->flush();
     speaks_ = true;
+    return true;
 }
 
 void VenueDay::wait_until_handed_over() {
@@ -243,14 +269,15 @@ void VenueDay::wait_until_handed_over() {
 
 void VenueDay::finish() {
     sweeper_.reset();
-    const std::uint32_t last = log_->last_place();
-    answers_.wait(last, longest_end, status_.failed());
+    answers_.wait(log_->last_place(), longest_end, status_.failed());
     wait_until_handed_over();
-    status_.end();
+}
+
+void VenueDay::end() {
     venue_->stop();
     wait_until_handed_over();
     log_->flush();
-    events_->info("ended{} entries={}", of_venue(), last);
+    events_->info("ended{} entries={}", of_venue(), log_->last_place());
 }
 
 // Sessions that were there when the gateway ended, and ended with it.

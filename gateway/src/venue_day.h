@@ -47,11 +47,13 @@ class VenueDay final : private SessionHost, private VenueListener {
     bool has_term() const { return has_term_; }
     // Where the firms' sessions begin, behind follow().
     std::vector<SessionStart> session_starts();
-    // Has what the log lacks handed to the engine.
+    // Has what the log lacks handed to the engine, unless the gateway is to stop.
     void start(Engine &engine);
-    // Lets the venue answer what came, hands that over, and commits.
+    // Lets the venue answer what came, and hands that over.
     void finish();
-    // Ends the venue's process, and what is handed to the engine.
+    // Ends the venue's process, and commits.
+    void end();
+    // Ends all at once, and what is handed to the engine.
     void close();
 
     bool is_today() const { return clock_.is_today(); }
@@ -73,10 +75,11 @@ class VenueDay final : private SessionHost, private VenueListener {
     void tell_if_ready();
     bool read_on(LogReader &log);
     bool catch_up();
+    std::unique_lock<std::mutex> all_answered(const std::function<void()> &meanwhile);
     void open_log(std::uint32_t term);
     void open_firms();
     void open_mailboxes(Engine &engine);
-    void begin_to_speak(Engine &engine);
+    bool begin_to_speak();
     void hand_over(Delivery delivery);
     void wait_until_handed_over();
     void withdraw_for_lost_sessions();
@@ -116,7 +119,8 @@ class VenueDay final : private SessionHost, private VenueListener {
     std::map<std::string, Firm> firms_;
     Digest first_hash_{};
 
-    std::mutex speaking_mutex_; // of the next one, and of what the venue gave until then
+    // Over the next one, over what the venue gave until then, and over the begin of each process.
+    std::mutex speaking_mutex_;
     bool speaks_ = false;
     std::atomic<bool> has_term_{false};
 

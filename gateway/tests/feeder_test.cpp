@@ -1,11 +1,13 @@
 // What feeds the venue: the log from its begin, entries as they are committed, a process that reads
-// nothing for a while, a chain that is broken, and how much is kept.
+// nothing for a while, a chain that is broken, how much is kept, and how a process ends.
 //
 // usage: feeder_test FOLDER
 #include "check.h"
 #include "feeder.h"
 
+#include <chrono>
 #include <filesystem>
+#include <future>
 #include <iostream>
 #include <thread>
 
@@ -131,6 +133,17 @@ void kept_by_their_bytes() {
     check(committed.from(11).value().empty(), "an entry that is still to come");
 }
 
+// One that is killed ends with what it has started, which has the same output.
+void killed_with_its_own() {
+    Process process({"sh", "-c", "sleep 200 & echo; wait"});
+    read_some(process, 1);
+    process.kill();
+    auto rest = std::async(std::launch::async, [&] { return process.read_output(); });
+    check(rest.wait_for(std::chrono::seconds(60)) == std::future_status::ready,
+          "the output of a process that was killed does not end");
+    check(rest.get().empty(), "it says something more");
+}
+
 std::string fresh(const std::filesystem::path &folder, const std::string &name) {
     const std::filesystem::path file = folder / name;
     for (const char *suffix : {"", "-wal", "-shm", ".lock"}) {
@@ -149,5 +162,6 @@ int main(int count, char **words) {
         fed_as_it_comes(fresh(given[0], "feeder_test.db"));
         a_broken_chain(fresh(given[0], "feeder_broken.db"));
         kept_by_their_bytes();
+        killed_with_its_own();
     });
 }

@@ -1,5 +1,5 @@
 // The clock of the venue: a deadline that has come, messages that always are behind it, and a venue
-// that does not answer meanwhile.
+// that does not answer meanwhile, or not the sweep.
 //
 // usage: sweeper_test
 #include "check.h"
@@ -15,6 +15,8 @@ namespace gateway::tests {
 namespace {
 
 using namespace std::chrono_literals;
+
+constexpr auto longest = 60s;
 
 // Keeps what is committed.
 class MemoryDatabase final : public Database {
@@ -77,7 +79,7 @@ void a_deadline_that_has_come() {
     DayWithADeadline day;
     {
         const Sweeper sweeper(day.answers, day.log, day.clock);
-        const auto latest = std::chrono::steady_clock::now() + 10s;
+        const auto latest = std::chrono::steady_clock::now() + longest;
         while (day.committed.last_place() < 2 && std::chrono::steady_clock::now() < latest) {
             std::this_thread::yield();
         }
@@ -106,11 +108,48 @@ void a_venue_that_does_not_answer() {
                 day.log.flush();
             }
         });
-        const bool went_on = firm.wait_for(10s) == std::future_status::ready;
+        const bool went_on = firm.wait_for(longest) == std::future_status::ready;
         is_over = true;
         check(went_on, "a firm waits for a venue that does not answer");
         same<std::size_t>(0, sweeps_of(day.database), "sweeps behind other messages");
     }
+}
+
+// The number that has not changed for a tenth of a second.
+std::uint32_t once_it_waits(const std::atomic<std::uint32_t> &number) {
+    std::uint32_t seen = number;
+    do {
+        seen = number;
+        std::this_thread::sleep_for(100ms);
+    } while (seen != number);
+    return seen;
+}
+
+// Messages go on behind a sweep: the venue may not answer it before one of them is in the log.
+void a_sweep_that_is_not_answered() {
+    DayWithADeadline day;
+    day.log.append_message("F", 2, "x");
+    std::atomic<std::uint32_t> last{2};
+    std::atomic<bool> is_over{false};
+    const Sweeper sweeper(day.answers, day.log, day.clock);
+    const auto firm = std::async(std::launch::async, [&] {
+        while (!is_over) {
+            day.log.append_message("F", ++last, "x");
+            day.log.flush();
+        }
+    });
+    const std::uint32_t held = once_it_waits(last);
+    // The venue answers what it has, and so the sweep comes.
+    day.answers.put(day.log.last_place(), Moment{0});
+    const auto latest = std::chrono::steady_clock::now() + longest;
+    while (last == held && std::chrono::steady_clock::now() < latest) {
+        std::this_thread::yield();
+    }
+    const bool goes_on = last != held;
+    is_over = true;
+    day.answers.put(day.log.last_place(), std::nullopt);
+    firm.wait();
+    check(goes_on, "a firm waits for a sweep that is not answered");
 }
 
 } // namespace
@@ -122,5 +161,6 @@ int main(int count, char **words) {
     return run_with(count, words, 0, 0, "sweeper_test", [](std::span<char *>) {
         a_deadline_that_has_come();
         a_venue_that_does_not_answer();
+        a_sweep_that_is_not_answered();
     });
 }

@@ -80,10 +80,10 @@ void terms_rise(Schema &schema) {
     same(2U, second->take_over().value_or(0), "the term behind a gateway that has gone");
     second->writer()->commit(batch_of(1, 2));
     const auto third = schema.open("third");
-    // Nothing but the take-over itself comes in the second that is left of its five.
-    schema.run("UPDATE speaker SET seen = clock_timestamp() - interval '4 seconds'");
+    // Nothing but the take-over itself comes in the three seconds that are left of its five.
+    schema.run("UPDATE speaker SET seen = clock_timestamp() - interval '2 seconds'");
     check(!third->take_over(), "a gateway takes over from one that is there");
-    schema.run("UPDATE speaker SET seen = seen - interval '2 seconds'");
+    schema.run("UPDATE speaker SET seen = seen - interval '4 seconds'");
     same(3U, third->take_over().value_or(0), "the term behind a gateway that hangs");
     third->writer()->commit(batch_of(2, 3));
     check(!thrown_by([&] { second->writer()->commit(batch_of(3, 2)); }).empty(),

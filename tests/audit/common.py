@@ -2,9 +2,13 @@
 
 import os
 import shlex
+import shutil
+import sqlite3
 import subprocess
 import sys
 import tempfile
+import unittest
+from contextlib import closing
 from dataclasses import dataclass
 from pathlib import Path
 
@@ -44,7 +48,9 @@ class Ran:
         return self.out + self.err
 
 
-def audit(*words: object, venue: list[str] | None = None, **environment: str) -> Ran:
+def audit(
+    *words: object, venue: list[str] | None = None, environment: dict[str, str] | None = None
+) -> Ran:
     """Runs a command of the audit."""
     listed = [str(word) for word in words]
     listed[1:1] = ["--venue", shlex.join(venue or remembered())]
@@ -52,7 +58,7 @@ def audit(*words: object, venue: list[str] | None = None, **environment: str) ->
         [str(AUDIT), *listed],
         capture_output=True,
         text=True,
-        env={**os.environ, **environment},
+        env={**os.environ, **(environment or {})},
         check=False,
     )
     return Ran(done.returncode, done.stdout, done.stderr)
@@ -75,3 +81,24 @@ def keys(where: Path) -> tuple[Path, Path]:
 
 def openssl(*words: str) -> None:
     subprocess.run(["openssl", *words], check=True, capture_output=True)
+
+
+class LogCase(unittest.TestCase):
+    """Tests that change a copy of the stored day."""
+
+    def setUp(self) -> None:
+        kept = folder()
+        self.addCleanup(kept.cleanup)
+        self.place = Path(kept.name)
+        self.log = self.place / "day.db"
+        shutil.copyfile(DAY, self.log)
+
+    def change(self, query: str, *values: object) -> None:
+        with closing(sqlite3.connect(self.log, isolation_level=None)) as connection:
+            connection.execute(query, values)
+
+    def edited(self, command: str, edit: str) -> list[str]:
+        """The program, with what it prints for one command edited by sed."""
+        words = shlex.join(remembered())
+        script = 'case " $* " in *" %s "*) %s "$@" | sed %s ;; *) exec %s "$@" ;; esac'
+        return ["sh", "-c", script % (command, words, shlex.quote(edit), words), "sh"]

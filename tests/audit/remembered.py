@@ -16,7 +16,7 @@ import sys
 import tempfile
 from pathlib import Path
 
-COMMANDS = ("alone", "replay", "day", "live", "due", "compare", "blotter")
+COMMANDS = ("alone", "replay", "day", "live", "due", "dues", "compare", "blotter")
 
 
 def kept_in(place: Path) -> tuple[bytes, bytes, int] | None:

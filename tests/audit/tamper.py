@@ -43,6 +43,12 @@ def changed_byte(data: bytes, draw: random.Random, first: int = 0) -> bytes:
     return data[:at] + bytes([data[at] ^ draw.randrange(1, 256)]) + data[at + 1 :]
 
 
+def framed(body: bytes) -> bytes:
+    """The frame of a body that has a bar for each SOH."""
+    head = b"8=FIXT.1.1\x019=%d\x01" % len(body) + body.replace(b"|", b"\x01")
+    return head + b"10=%03d\x01" % (sum(head) % 256)
+
+
 class Tamperer:
     """Changes one log."""
 
@@ -284,6 +290,19 @@ class Tamperer:
         pattern = r"%s: its messages of its session are not those that were sealed" % firm
         return Change("the last message of %s's session" % firm, pattern, needs_seal=True)
 
+    def outgoing_added(self) -> Change:
+        """A message of the venue's types that carries none of them, behind a session's last."""
+        firm = self.draw.choice(self.rows("SELECT DISTINCT firm FROM outgoing"))[0]
+        ((number,),) = self.rows(LAST_OF, firm)
+        kind = self.draw.choice([b"AI", b"AJ", b"S", b"R", b"AG", b"8"])
+        data = framed(
+            b"35=%b|34=%d|49=VENUE|52=20261125-17:00:00.000|56=%b|131=R1|117=x1|297=0|"
+            % (kind, number + 1, firm.encode())
+        )
+        self.do("INSERT INTO outgoing VALUES (?, ?, NULL, ?)", firm, number + 1, data)
+        pattern = r"%s: message %d of its session: it carries nothing" % (firm, number + 1)
+        return Change("a message put into %s's session" % firm, pattern)
+
     def outgoing_of_another(self) -> Change:
         firm, number, _, _ = self.some_outgoing()
         data = self.draw.choice(self.rows("SELECT bytes FROM outgoing WHERE firm <> ?", firm))[0]
@@ -340,6 +359,7 @@ KINDS: list[Callable[[Tamperer], Change]] = [
     Tamperer.outgoing_byte,
     Tamperer.outgoing_out,
     Tamperer.outgoing_last,
+    Tamperer.outgoing_added,
     Tamperer.outgoing_of_another,
     Tamperer.outgoing_carried,
     Tamperer.target,

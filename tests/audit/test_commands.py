@@ -1,18 +1,16 @@
-"""The commands and their statuses: 0 where all is as it should be, 1 where it is not, 2 where
-something can't be read.
-"""
+"""The commands, with their statuses: 0 where all is as it should be, 1 where it is not."""
 
 import base64
 import os
 import re
-import shutil
 import sqlite3
 import subprocess
 import unittest
 from contextlib import closing
 from pathlib import Path
 
-from common import AUDIT, DAY, audit, folder, keys, openssl, venue_words
+from common import AUDIT, DAY, ROOT, LogCase, audit, folder, keys, openssl, venue_words
+from pages import read_page, rows_of, table_behind, walk
 from witness import Witness
 
 
@@ -25,18 +23,7 @@ def day_text(path: Path) -> bytes:
     return configuration + b"%%\n" + b"".join(line + b"\n" for line in lines[1:])
 
 
-class Commands(unittest.TestCase):
-    def setUp(self) -> None:
-        kept = folder()
-        self.addCleanup(kept.cleanup)
-        self.place = Path(kept.name)
-        self.log = self.place / "day.db"
-        shutil.copyfile(DAY, self.log)
-
-    def change(self, query: str, *values: object) -> None:
-        with closing(sqlite3.connect(self.log, isolation_level=None)) as connection:
-            connection.execute(query, values)
-
+class Commands(LogCase):
     def change_answer(self, before: str, after: str) -> int:
         """Changes the bytes of the first acceptance of a quote of ALPHA; answers its number."""
         number = next(
@@ -81,57 +68,6 @@ class Commands(unittest.TestCase):
         pattern = r"number %d: the log has another message than the venue gives"
         self.assertRegex(ran.out, pattern % number)
 
-    def test_what_cannot_be_read(self) -> None:
-        empty, text = self.place / "empty.db", self.place / "text.db"
-        empty.write_bytes(b"")
-        text.write_text("no log")
-        for path in (empty, text, self.place / "nothing.db", self.place):
-            self.assertEqual(audit("check", path).status, 2, path)
-        self.change("UPDATE form SET number = 2")
-        self.assertEqual(audit("check", self.log).status, 2)
-
-    def test_a_program_that_is_no_venue(self) -> None:
-        for words in (["false"], ["true"], ["/nowhere/venue"], ["sh", "-c", "exit 3"]):
-            ran = audit("check", self.log, venue=words)
-            self.assertNotEqual(ran.status, 0, words)
-            self.assertNotIn("Traceback", ran.text)
-        self.assertEqual(audit("check", self.log, venue=["/nowhere/venue"]).status, 2)
-
-    def test_another_type_in_a_column(self) -> None:
-        self.change("UPDATE entry SET line = CAST(line AS TEXT) WHERE place = 3")
-        first = " WHERE firm = 'ALPHA' AND number = 1"
-        self.change("UPDATE sent SET bytes = CAST(bytes AS TEXT)" + first)
-        self.assertEqual(audit("check", self.log).status, 0)
-        self.change("UPDATE sent SET place = 'x'" + first)
-        ran = audit("check", self.log)
-        self.assertEqual(ran.status, 2, ran.text)
-        self.assertIn("sent ALPHA 1", ran.err)
-
-    def test_a_log_in_a_folder_that_is_not_ours(self) -> None:
-        """A file that was copied while it was open, without its write-ahead log, can still be
-        read.
-        """
-        with closing(sqlite3.connect(self.log)) as connection:
-            connection.execute("PRAGMA journal_mode = WAL")
-        self.place.chmod(0o555)
-        try:
-            self.assertEqual(audit("check", self.log).status, 0)
-        finally:
-            self.place.chmod(0o755)
-
-    def test_no_entry_and_no_day(self) -> None:
-        self.change("DELETE FROM entry")
-        ran = audit("check", self.log)
-        self.assertEqual((ran.status, ran.err), (1, ""))
-        self.assertIn("no entry 0", ran.out)
-
-    def test_a_firm_that_the_day_does_not_have(self) -> None:
-        rows = "SELECT 'NOBODY', number, place, bytes FROM sent WHERE firm = 'ALPHA'"
-        self.change("INSERT INTO sent " + rows)
-        ran = audit("check", self.log)
-        self.assertEqual(ran.status, 1)
-        self.assertIn("NOBODY: the configuration has no such firm", ran.out)
-
     # ------------------------------------------------------------ two files
 
     def two_files(self) -> tuple[Path, Path]:
@@ -153,6 +89,22 @@ class Commands(unittest.TestCase):
         self.assertEqual(audit("check", day, "--sent", self.place / "nothing").status, 2)
         self.assertEqual(audit("seal", day, "--sent", sent, "--key", sent).status, 2)
 
+    def test_two_files_that_are_none(self) -> None:
+        day, sent = self.two_files()
+        lines = sent.read_bytes().splitlines(keepends=True)
+        for line in (b"x\n", b"\n", b" 8=FIXT.1.1|\n", b"ALPHA \n"):
+            sent.write_bytes(b"".join([*lines[:7], line, *lines[7:]]))
+            ran = audit("check", day, "--sent", sent)
+            told = "mireseason-audit: %s: line 8 is no message\n" % sent
+            self.assertEqual((ran.status, ran.text), (2, told), line)
+        sent.write_bytes(b"done 1\n" + b"".join(lines) + b"fault 2 form\ndone 3 09:00:00.000\n")
+        self.assertEqual(audit("check", day, "--sent", sent).status, 0)
+        for text in (b"", b"%% \n", b"version = 1\n", b"# a line\n" * 2_000_000, b"x" * 20_000_000):
+            day.write_bytes(text)
+            ran = audit("check", day, "--sent", sent)
+            self.assertEqual((ran.status, ran.out), (2, ""), text[:9])
+            self.assertIn("no line `%%` stands behind a configuration", ran.err)
+
     def test_two_files_are_paged(self) -> None:
         """One line more has bytes that are no message: the venue drops them without an answer."""
         day, sent = self.two_files()
@@ -163,6 +115,49 @@ class Commands(unittest.TestCase):
         self.assertEqual(refused.count("no answer"), 1)
         pages = len(list((self.place / "pages" / "requests").iterdir()))
         self.assertEqual(pages, len(Witness(self.log).requests))
+
+    def test_what_firms_write_is_text_on_the_pages(self) -> None:
+        """Identifiers may have any letter of ASCII; other fields, and bytes that are no message,
+        may be anything at all. A quantity may have a point, and a price an exponent.
+        """
+        script, image = "<script>alert(1)</script>", "\"><img/src=x/onerror=a()>'&lt;{{7*7}}"
+        deadline = "20250314-09:05:00"
+        day, sent = self.place / "day.live", self.place / "sent.txt"
+        lines = [
+            "say INV1 T8 09:00:00 R 131=%s|146=1|48=BONDA0000001|22=4|54=1|38=2000000.0|126=%s"
+            "|453=1|448=DLR1|447=D|452=35" % (script, deadline),
+            "say DLR1 T1 09:01:00 S 117=%s|131=R1|48=BONDA0000001|22=4|133=99.5" % image,
+            "say DLR1 T1 09:01:01 S 117=b|131=R1|48=BONDA0000001|22=4|133=1e9999|58=</b>",
+            "say DLR1 T1 09:01:02 %s 117=b|58=%s" % (script.replace(" ", ""), image),
+            "in DLR1 09:01:03 </code></details><script>\xff\x00 \u202e",
+            "hex DLR1 00:00:inf 00",
+            "hex DLR1 09:01:04 %s" % ("131=R1\x01" * 2).encode().hex(),
+            "say INV1 T8 09:02:00 AJ 693=%s|694=1|117=Q1" % image,
+        ]
+        head = (ROOT / "examples" / "three-dealers.toml").read_bytes() + b"%%\n"
+        day.write_bytes(head + "".join(line + "\n" for line in lines).encode("utf-8", "replace"))
+        with day.open("rb") as file:
+            words = [*venue_words(), "live", "--frames"]
+            done = subprocess.run(words, stdin=file, capture_output=True, check=True)
+        sent.write_bytes(done.stdout)
+        pages = self.place / "pages"
+        ran = audit("page", day, pages, "--sent", sent)
+        self.assertEqual(ran.status, 0, ran.text)
+        for path in pages.rglob("*.html"):
+            for element in walk(read_page(path)):
+                self.assertNotIn(element.name, ("script", "img"), path)
+                self.assertFalse([key for key in element.attributes if key.startswith("on")], path)
+        index = read_page(pages / "index.html")
+        ((row,),) = (rows_of(table_behind(index, "Requests")),)
+        texts = [cell.text for cell in row]
+        self.assertEqual(texts[3], script)
+        self.assertEqual(texts[5], "2 000 000")
+        self.assertIn("Awarded, face value2 000 000", index.all("dl", "figures")[0].text)
+        request = read_page(pages / "requests" / "0001.html")
+        self.assertIn(image, request.text)
+        self.assertIn("1e9999", request.text)
+        firm = read_page(pages / "firms" / "DLR1-1.html")
+        self.assertIn("</code></details><script>\\xc3\\xbf\\x00 \\xe2\\x80\\xae", firm.text)
 
     # ------------------------------------------------------------ seal
 
@@ -186,6 +181,20 @@ class Commands(unittest.TestCase):
             self.log.with_name("day.db.seal").write_bytes(first[:at] + changed + first[at + 1 :])
             self.assertIn(audit("check", self.log, "--key", public).status, (1, 2), at)
 
+    def test_a_seal_that_is_there_stays(self) -> None:
+        private, public = keys(self.place)
+        seal = self.log.with_name("day.db.seal")
+        seal.write_bytes(b"another")
+        ran = audit("seal", self.log, "--key", private)
+        self.assertEqual((ran.status, ran.out, seal.read_bytes()), (2, "", b"another"))
+        self.assertIn("is there, and has another seal", ran.err)
+        other = self.place / "other.seal"
+        self.assertEqual(audit("seal", self.log, "--key", private, "--out", other).status, 0)
+        ran = audit("check", self.log, "--seal", other)
+        self.assertEqual((ran.status, ran.out), (2, ""))
+        ran = audit("check", self.log, "--seal", other, "--key", public)
+        self.assertEqual(ran.status, 0, ran.text)
+
     def test_the_signature_is_openssl_s(self) -> None:
         """Whoever has openssl alone verifies a seal: its last line is the signature of the
         others.
@@ -206,6 +215,8 @@ class Commands(unittest.TestCase):
         self.assertEqual(audit("seal", self.log, "--key", private).status, 1)
         self.assertFalse(self.log.with_name("day.db.seal").exists())
 
+    # ------------------------------------------------------------ pages
+
     def test_a_signed_page(self) -> None:
         private, public = keys(self.place)
         pages = self.place / "pages"
@@ -218,6 +229,26 @@ class Commands(unittest.TestCase):
         )
         self.assertIn("as it was sealed", (pages / "index.html").read_text())
         self.assertEqual(audit("page", self.log, pages).status, 2)  # the folder is not empty
+
+    def test_a_request_that_the_day_does_not_have(self) -> None:
+        """The folder is still empty, so that it can be written into."""
+        pages = self.place / "pages"
+        for number in (0, 41, -1):
+            ran = audit("page", self.log, pages, "--request", number)
+            self.assertEqual((ran.status, ran.out), (2, ""), number)
+            self.assertIn("the day has no request %d: it has 40" % number, ran.err)
+        ran = audit("page", self.log, pages, "--request", 40)
+        self.assertEqual(ran.status, 0, ran.text)
+
+    def test_a_place_that_is_far_away(self) -> None:
+        """A firm's pages are as many as there are places."""
+        self.change("UPDATE entry SET place = 1000000000000000 WHERE place = 336")
+        ran = audit("check", self.log)
+        self.assertIn("entry 336 is missing: behind 335 comes 1000000000000000", ran.out)
+        ran = audit("page", self.log, self.place / "pages")
+        self.assertEqual((ran.status, ran.err), (1, ""))
+        self.assertIn("336 entries, and a place 1000000000000000", ran.out)
+        self.assertEqual(list((self.place / "pages").iterdir()), [])
 
     def test_a_page_of_a_day_with_a_fault(self) -> None:
         self.change_answer("'297=0'", "'297=9'")
@@ -252,6 +283,17 @@ class Commands(unittest.TestCase):
             answers.append(done.stdout.split()[0])
         self.assertEqual(answers, [hashes[0], hashes[1], hashes[0], hashes[1]])
 
+    def test_a_certificate_that_compare_speaks_against(self) -> None:
+        for number, edit in enumerate((
+            "s/^due .*/due equal/;s/^messages .*/messages differ at 1/",
+            "s/^row equal/row differs/",
+        )):
+            pages = self.place / ("pages-%d" % number)
+            ran = audit("page", self.log, pages, venue=self.edited("compare", edit))
+            self.assertEqual((ran.status, ran.err), (1, ""), ran.text)
+            self.assertRegex(ran.out, "ALPHA: a second day beside this one: row ")
+            self.assertIn("a second day beside this one", (pages / "index.html").read_text())
+
     def test_pair(self) -> None:
         ran = audit("pair", self.log, "ALPHA", venue=venue_words())
         self.assertEqual(ran.status, 0, ran.text)
@@ -265,6 +307,26 @@ class Commands(unittest.TestCase):
         self.assertNotRegex(without, r"lifted no longer: [1-9]")
         self.assertEqual(audit("pair", self.log, "FJORD").status, 2)
         self.assertEqual(audit("pair", self.log, "NOBODY").status, 2)
+
+    def test_pair_of_two_files(self) -> None:
+        """Messages that the program frames are moved, named anew and left out as others are; what
+        is no frame stays.
+        """
+        day, sent = self.place / "day.live", self.place / "sent.txt"
+        text = (ROOT / "examples" / "live" / "auction.lines").read_bytes()
+        hits = [line for line in text.splitlines(keepends=True) if line.startswith(b"say INV1")]
+        more = b"in DLR2 09:00:30 8=FIXT.1.1|9=5|35=S|117=x|131=R1|133=99|10=000|\n"
+        for quote, count in ((b"Q2", 1), (b"Q1", 0)):
+            day.write_bytes(text.replace(hits[1], more + hits[1].replace(b"Q2", quote)))
+            with day.open("rb") as file:
+                words = [*venue_words(), "live", "--frames"]
+                done = subprocess.run(words, stdin=file, capture_output=True, check=True)
+            sent.write_bytes(done.stdout)
+            ran = audit("pair", day, "DLR1", "--sent", sent, venue=venue_words())
+            self.assertEqual((ran.status, ran.err), (0, ""), ran.text)
+            self.assertIn("1 quotes of 1 dealers moved by up to 64 32nds", ran.out)
+            told = "all 2 of the other dealers are left out, and %d hits of quotes"
+            self.assertIn(told % count, ran.out)
 
     def test_wrong_arguments(self) -> None:
         wrong: list[list[str]] = [[], ["nothing"], ["check"], ["page", "x"], ["pair", "x"]]

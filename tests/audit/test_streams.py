@@ -13,7 +13,7 @@ from common import folder
 from mireseason_audit import streams
 from mireseason_audit.faults import Unreadable
 from mireseason_audit.progress import Progress, Step
-from mireseason_audit.work import Plan, plan_of, run_jobs
+from mireseason_audit.work import Job, Plan, plan_of, run_jobs
 
 
 class Streams(unittest.TestCase):
@@ -51,6 +51,18 @@ class Streams(unittest.TestCase):
             for part in parts:
                 file.write(part)
         whole.touch()
+
+    def test_the_last_line(self) -> None:
+        for data, last, count in (
+            (b"", b"", 0), (b"\n", b"", 1), (b"a", b"a", 0), (b"a\nbb\n", b"bb", 2),
+            (b"a\nbb", b"bb", 1), (b"a\n\n", b"", 2), (b"x" * 9 + b"\nyy\n", b"yy", 2),
+            (b"abcdefgh\n", b"defgh", 1),
+        ):
+            with folder() as name, patch.object(streams, "LAST_BYTES", 6):
+                path = Path(name) / "file"
+                path.write_bytes(data)
+                self.assertEqual(streams.last_line_of(path), last, data)
+                self.assertEqual(streams.count_of_lines(path), count, data)
 
     def test_files_that_are_the_same(self) -> None:
         with folder() as name, patch.object(streams, "BLOCK", 4):
@@ -125,7 +137,7 @@ class Bars(unittest.TestCase):
     def test_jobs_in_processes(self) -> None:
         """Results come in the order of the jobs; a fault of a process is raised here."""
         progress = Progress(io.StringIO())
-        jobs = [lambda step, at=at: at * at for at in range(9)]
+        jobs: list[Job[int]] = [lambda step, at=at: at * at for at in range(9)]
         self.assertEqual(run_jobs(plan_of(jobs), 3, progress), [at * at for at in range(9)])
         self.assertEqual(run_jobs(plan_of([]), 3, progress), [])
 
@@ -135,7 +147,8 @@ class Bars(unittest.TestCase):
         def ends(step: object) -> int:
             os._exit(3)
 
-        failing, ending = plan_of([*jobs, fails]), plan_of([ends])
+        failing: Plan[int] = plan_of([*jobs, fails])
+        ending: Plan[int] = plan_of([ends])
         self.assertRaisesRegex(Unreadable, "this", run_jobs, failing, 2, progress)
         self.assertRaisesRegex(Unreadable, "status 3", run_jobs, ending, 1, progress)
 

@@ -1,18 +1,35 @@
-// Stands between a process and its clock, by LD_PRELOAD: with CLOCK_AHEAD=SECONDS in the
-// environment the date and the time of day are so much later. Clocks that only measure are left
-// alone.
+// Stands between a process and its clock, by LD_PRELOAD: the date and the time of day are later.
+// Clocks that only measure are left alone.
+//
+//     CLOCK_AHEAD=SECONDS  by so much
+//     CLOCK_STEP=FILE      by as many seconds as the eight bytes of the file say now, a number in
+//                          the order of this machine
 #include <dlfcn.h>
+#include <fcntl.h>
+#include <sys/mman.h>
 #include <sys/time.h>
 #include <time.h>
+#include <unistd.h>
 
 #include <cstdlib>
 
 namespace {
 
+// Null where there is no such file.
+const volatile long long *step_in(const char *path) {
+    const int file = path ? ::open(path, O_RDONLY | O_CLOEXEC) : -1;
+    if (file < 0)
+        return nullptr;
+    void *place = ::mmap(nullptr, sizeof(long long), PROT_READ, MAP_SHARED, file, 0);
+    ::close(file);
+    return place == MAP_FAILED ? nullptr : static_cast<const volatile long long *>(place);
+}
+
 time_t ahead() {
     static const char *text = std::getenv("CLOCK_AHEAD");
     static const time_t seconds = text ? std::atol(text) : 0;
-    return seconds;
+    static const volatile long long *step = step_in(std::getenv("CLOCK_STEP"));
+    return seconds + (step ? static_cast<time_t>(*step) : 0);
 }
 
 } // namespace

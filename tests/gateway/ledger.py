@@ -68,7 +68,7 @@ class PostgresLog:
 
 
 def rows(database: Path, query: str) -> list[tuple]:
-    connection = sqlite3.connect("file:%s?mode=ro" % database, uri=True, timeout=10)
+    connection = sqlite3.connect("file:%s?mode=ro" % database, uri=True, timeout=60)
     try:
         return connection.execute(query).fetchall()
     finally:

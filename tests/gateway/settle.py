@@ -12,7 +12,7 @@ from ledger import Ledger, answers, answers_to, marks
 from wait import LONG, until, within
 
 MODEL = [sys.executable, str(Path(__file__).resolve().parent.parent / "model" / "program.py")]
-LOOKS = 5  # how often a day is looked at until no deadline comes behind its last message
+LOOKS = 30  # how often a day is looked at until no deadline comes behind its last message: more than there are of a minute
 
 
 def wait_all_on(door: Door, firms: list[Firm], limit: float = 2 * LONG) -> None:

@@ -1,5 +1,6 @@
 """A gateway with two dealers and an investor, on which faults are tried."""
 
+import os
 import re
 import urllib.request
 from collections.abc import Callable
@@ -34,7 +35,7 @@ class Tools:
     player: Path
     dictionaries: tuple[Path, Path]
     shim: Path  # stands between the gateway and the disk
-    measures: bool = True  # the gateway's memory is its own, and not that of a sanitizer
+    measures: bool = True  # the gateway's memory and work are its own, and not those of a sanitizer
 
 
 @dataclass
@@ -114,6 +115,11 @@ class Stage:
             return 0
         text = Path("/proc/%d/status" % self.door.process.pid).read_text()
         return int(re.search(r"VmRSS:\s+(\d+) kB", text).group(1)) * 1024
+
+    def worked(self) -> float:
+        """The seconds of a processor that the gateway has had."""
+        words = Path("/proc/%d/stat" % self.door.process.pid).read_text().rsplit(")", 1)[1].split()
+        return sum(map(int, words[11:13])) / os.sysconf("SC_CLK_TCK")
 
     def entries_of(self, firm: Firm) -> int:
         return len(self.door.ledger().messages_of(firm.name))

@@ -1,5 +1,6 @@
 """Firms that are away, whose quotes are cancelled for them, and deadlines that pass."""
 
+import struct
 import time
 
 from held import milliseconds
@@ -8,7 +9,9 @@ from stage import DEALER, Stage, check
 from wait import LONG, until
 
 SOON = 25  # seconds: less than the gateway waits at most for a firm that fills a gap
-AS_AUCTIONS = 10  # or for so many times what an auction takes, on a machine that is slower than that
+AS_AUCTIONS = 30  # or for so many times what an auction takes, on a machine that is slower than that
+
+DEADLINE = 110  # seconds: a clock that is set forward by these is still one whose 52 is taken
 
 
 def reject_for_one_away(stage: Stage) -> None:
@@ -98,6 +101,19 @@ def deadline_while_away(stage: Stage) -> None:
     stage.whole()
 
 
+def clock_set_forward(stage: Stage) -> None:
+    """The machine's clock is set forward over a deadline: the request's end is told soon, and not by the time that was left."""
+    step = stage.folder / "step"
+    step.write_bytes(struct.pack("=q", 0))
+    stage.door.environment = {"LD_PRELOAD": str(stage.tools.shim), "CLOCK_STEP": str(step)}
+    stage.open(*stage.firms)
+    stage.ask(DEADLINE)
+    with step.open("r+b") as file:
+        file.write(struct.pack("=q", DEADLINE + 2))
+    stage.answer(stage.investor, "that a request expired", lambda message: message.value(297) == b"7", limit=DEADLINE - 20)
+    stage.whole()
+
+
 def cancelled_for_one_gone(stage: Stage) -> None:
     """The quotes of a dealer that is gone are cancelled by the trader that the configuration names, if it names one."""
     stage.door.cancelled = {DEALER.name: DEALER.trader}
@@ -121,4 +137,4 @@ def cancelled_for_one_gone(stage: Stage) -> None:
 
 
 TRIED = [reject_for_one_away, one_that_was_away, sent_while_away, gaps_on_both_sides, deadline_passes, deadline_while_away,
-         cancelled_for_one_gone]
+         clock_set_forward, cancelled_for_one_gone]

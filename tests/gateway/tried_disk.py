@@ -19,6 +19,7 @@ MESSAGES = 60  # of a short day
 FULL_AT = [1, 2, 3, 4, 5, 6, 7, 8, 9, 10, 12, 14, 17, 20, 25, 30, 40, 50]
 CUTS = 12  # of power, in a day of three times as many messages
 QUICK_FULL_AT = [2, 6, 14, 30]
+ANSWERED = 2.0  # seconds in which a message is answered as a rule: so most commits are of one alone
 SLOW = "4"  # milliseconds that a sync takes longer: a message that did not wait for it comes before its end
 
 
@@ -36,7 +37,7 @@ def traded(stage: Stage, seed: int, goes_on: Callable[[], bool]) -> None:
         send(market.next(), "t%d" % count)
 
 
-def send(act: Act, name: str, wait: float = 0.1) -> None:
+def send(act: Act, name: str, wait: float = ANSWERED) -> None:
     before = len(act.firm.received)
     act.firm.send(name, act.kind, act.fields)
     act.firm.wait_sent(name)

@@ -7,8 +7,9 @@ from collections.abc import Callable
 from datetime import datetime, timedelta, timezone
 
 from door import Door, Programs, today
-from stage import Stage, Wrong, check
+from stage import DEALER, Stage, Wrong, check
 from wait import LONG, until, within
+from wire import Wire
 
 BEFORE_MIDNIGHT = (20, 120, 600)  # seconds: where a busy machine has not all firms on by then, so many more
 
@@ -69,6 +70,8 @@ def goes_on(stage: Stage) -> None:
     """The day goes on, and every firm has what the venue gives over the log."""
     stage.door.start()
     for firm in stage.firms:
+        if not firm.process:
+            firm.start()
         firm.wait_on()
     stage.auction()
     stage.whole()
@@ -192,7 +195,8 @@ def on_before_midnight(stage: Stage, seconds: int) -> bool:
     stage.door.start()
     for firm in stage.firms:
         firm.start()
-    all_on = within(seconds, lambda: stage.door.has_ended() or all([firm.logged_on() for firm in stage.firms]))
+    # In the half of the time: they have to settle before its end.
+    all_on = within(seconds / 2, lambda: stage.door.has_ended() or all([firm.logged_on() for firm in stage.firms]))
     return all_on and not stage.door.has_ended()
 
 
@@ -236,6 +240,36 @@ def ended_at_once(stage: Stage) -> None:
     goes_on(stage)
 
 
+def ended_while_one_fills(stage: Stage) -> None:
+    """SIGTERM, and a firm has not said yet that it misses nothing: it is disconnected without a Logout, which a stock engine
+    would count in the place of a message that it misses."""
+    stage.open(stage.other, stage.investor)
+    with Wire(stage.door.port) as wire:
+        wire.logon(DEALER.name.encode(), DEALER.password.encode())
+        check(wire.read_kind(b"A") is not None, "it is not logged on")
+        check(stage.door.stop() == 0, "the gateway does not end well")
+        check(wire.closed_within(LONG), "the connection stays")
+        check(b"\x0135=5\x01" not in wire.waiting, "it was logged out")
+    goes_on(stage)
+
+
+def more_than_may_wait(stage: Stage) -> None:
+    """The log lacks more messages to one firm than may wait for it: a start gives them all."""
+    stage.door.limits["waiting_messages"] = 16
+    stage.open(*stage.firms)
+    venues = stage.door.venues()
+    for pid in venues:
+        os.kill(pid, signal.SIGSTOP)
+    for count in range(40):
+        stage.say(stage.dealer, "Z", [(298, b"5"), (117, b"x%d" % count)])
+    until("all are in the log", LONG, lambda: stage.entries_of(stage.dealer) == 40)
+    stage.door.process.kill()
+    for pid in venues:
+        os.kill(pid, signal.SIGCONT)
+    stage.door.kill()
+    goes_on(stage)
+
+
 def venue_that_hangs(stage: Stage) -> None:
     """A venue that is stopped and goes on: nothing is lost, and the sessions stand."""
     stage.open(*stage.firms)
@@ -254,4 +288,5 @@ def venue_that_hangs(stage: Stage) -> None:
 
 
 TRIED = [configuration_at_fault, changed_configuration, entry_taken_out, last_entry_taken_out, byte_of_an_entry, byte_of_sent, another_program,
-         another_log_form, another_date, midnight, two_gateways, venue_that_ends, venue_that_says_something, venue_that_hangs, asked_to_end, ended_at_once]
+         another_log_form, another_date, midnight, two_gateways, venue_that_ends, venue_that_says_something, venue_that_hangs, asked_to_end,
+         ended_while_one_fills, more_than_may_wait, ended_at_once]

@@ -1,16 +1,17 @@
 """Messages of a session that stands: what is odd in them, and how they come."""
 
+import socket
 import threading
-from datetime import datetime, timedelta, timezone
 
 from firm import Received
 from frames import read_frame
 from ledger import answers
 from stage import DEALER, Stage, check, quiet
 from wait import LONG, until
-from wire import Fields, Wire, framed, now
+from wire import Fields, Wire, a_while_ago, framed, now
 
 TEXT = 58
+GAP = 'mireseason_dropped_total{reason="gap"}'
 
 
 def logged(stage: Stage, number: int) -> bytes:
@@ -191,10 +192,6 @@ def wrong_clock(stage: Stage) -> None:
     stage.whole()
 
 
-def a_while_ago() -> bytes:
-    return (datetime.now(timezone.utc) - timedelta(seconds=150)).strftime("%Y%m%d-%H:%M:%S.000").encode()
-
-
 def fields_of_no_use(stage: Stage) -> None:
     """58, 60 and 1128 are taken, and ignored by the venue; without a trader the venue rejects."""
     stage.open(stage.other, stage.investor)
@@ -262,6 +259,61 @@ def number_without_end(stage: Stage) -> None:
     with on_a_wire(stage, number) as wire:
         wire.raw(wire.message(b"Z", b"DLR1", cancel(b"next")))
         check(answered(wire, b"next").value(297) == b"9", "the next is not answered as ever")
+    stage.whole()
+
+
+def asked_from(wire: Wire) -> int:
+    """The first number of those that the gateway asks for."""
+    request = wire.read_kind(b"2")
+    check(request is not None, "nothing is asked for")
+    return int(request.value(7))
+
+
+def again(wire: Wire, kind: bytes, number: int, fields: Fields) -> None:
+    """Sends what was asked for under its number."""
+    wire.raw(wire.message(kind, b"DLR1", [(43, b"Y"), (122, now()), *fields], number=number))
+
+
+def ahead_of_a_gap(stage: Stage) -> None:
+    """A Reject and a Logout of a firm whose message before them was not had: it is asked for all the same, and is not lost."""
+    stage.open(stage.other, stage.investor)
+    with on_a_wire(stage) as wire:
+        lost = wire.number
+        wire.number += 1
+        wire.raw(wire.message(b"3", b"DLR1", [(45, b"1"), (373, b"5")]))
+        wire.raw(wire.message(b"Z", b"DLR1", cancel(b"behind")))
+        check(asked_from(wire) == lost, "the message before a Reject is not asked for")
+        wire.raw(wire.message(b"5", b"DLR1", []))
+        check(wire.read_kind(b"5") is not None, "a Logout is not answered")
+        check(wire.closed_within(LONG), "the connection stays")
+        number = wire.number
+    with Wire(stage.door.port) as wire:
+        wire.number = number
+        wire.logon(DEALER.name.encode(), DEALER.password.encode())
+        check(asked_from(wire) == lost, "the message before a Logout is not asked for")
+        again(wire, b"Z", lost, cancel(b"lost"))
+        again(wire, b"4", lost + 1, [(123, b"Y"), (36, b"%d" % (lost + 2))])
+        again(wire, b"Z", lost + 2, cancel(b"behind"))
+        again(wire, b"4", lost + 3, [(123, b"Y"), (36, b"%d" % wire.number)])
+        for name in (b"lost", b"behind"):
+            check(answered(wire, name).value(297) == b"9", "%r is not answered as ever" % name)
+    numbers = [entry.number for entry in stage.door.ledger().messages_of("DLR1")]
+    check(numbers == [lost, lost + 2], "the log has the session's %r" % numbers)
+    stage.whole()
+
+
+def gap_without_end(stage: Stage) -> None:
+    """Messages of the session itself that come ahead of one that never does: no more are kept than `gap_messages`."""
+    kept, count = 64, 3000
+    stage.door.limits["gap_messages"] = kept
+    stage.open(stage.other, stage.investor)
+    with on_a_wire(stage) as wire:
+        before = stage.memory()
+        wire.number += 1
+        check(wire.raw(b"".join(wire.message(b"1", b"DLR1", [(112, b"x" * 15000)]) for _ in range(count))), "they are not read")
+        until("the others are dropped", LONG, lambda: stage.counters().get(GAP, 0) == count - kept)
+        check(stage.memory() - before < 32 * 2**20, "%d bytes of memory more" % (stage.memory() - before))
+    stage.ping(stage.other)
     stage.whole()
 
 
@@ -351,7 +403,28 @@ def one_that_does_not_read(stage: Stage) -> None:
     stage.auction([stage.other])
 
 
+def asks_and_does_not_read(stage: Stage) -> None:
+    """A firm that asks for all again, takes none of it, and goes on sending: the gateway waits for it without work, and ends
+    the connection at the limit."""
+    seconds, count = 8, 1000
+    stage.door.limits["send_seconds"] = seconds
+    stage.open(stage.other, stage.investor)
+    with on_a_wire(stage) as wire:
+        wire.raw(b"".join(wire.message(b"Z", b"DLR1", cancel(b"c%d" % number)) for number in range(count)))
+        last = b"c%d" % (count - 1)
+        check(wire.read_until(lambda message: message.value(117) == last) is not None, "the last is not answered")
+        wire.socket.setsockopt(socket.SOL_SOCKET, socket.SO_RCVBUF, 2048)
+        before = stage.worked()
+        wire.raw(b"".join(wire.message(b"2", b"DLR1", [(7, b"1"), (16, b"0")]) for _ in range(100)))
+        wire.raw(b"".join(wire.message(b"0", b"DLR1", []) for _ in range(200)))
+        until("its connection has ended", LONG, lambda: stage.counters()["mireseason_connections"] == 2)
+        worked = stage.worked() - before
+        check(worked < seconds / 2 or not stage.tools.measures, "the gateway has worked for %.1f s" % worked)
+    stage.whole()
+
+
 TRIED = [every_byte_in_text, another_firms_words, five_thousand_bytes, about_the_longest_frame, microseconds,
          wrong_clock, poss_resend, unknown_trader, poss_dup, fields_of_no_use, no_frames, no_numbers_of_the_venue,
-         number_without_end, resent_as_it_was,
-         resent_after_a_crash, faster_than_the_log, longer_than_the_limit, one_that_does_not_read]
+         number_without_end, ahead_of_a_gap, gap_without_end, resent_as_it_was,
+         resent_after_a_crash, faster_than_the_log, longer_than_the_limit, one_that_does_not_read,
+         asks_and_does_not_read]

@@ -4,7 +4,7 @@ import time
 from collections.abc import Callable
 
 STEP = 0.01
-LONG = 60.0  # seconds: the limit of what comes about soon, on a machine that has much else to do
+LONG = 180.0  # seconds: the limit of what comes about soon, on a machine of two slow processors that has much else to do
 
 
 class TooLong(Exception):

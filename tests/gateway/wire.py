@@ -5,7 +5,7 @@ import socket
 import ssl
 import time
 from collections.abc import Callable
-from datetime import datetime, timezone
+from datetime import datetime, timedelta, timezone
 
 from firm import Received, received_of
 from frames import checksum
@@ -16,6 +16,11 @@ Fields = list[tuple[int, bytes]]
 
 def now() -> bytes:
     return datetime.now(timezone.utc).strftime("%Y%m%d-%H:%M:%S.%f")[:-3].encode()
+
+
+def a_while_ago() -> bytes:
+    """A moment that is too long ago for a 52."""
+    return (datetime.now(timezone.utc) - timedelta(seconds=150)).strftime("%Y%m%d-%H:%M:%S.000").encode()
 
 
 def framed(body: bytes) -> bytes:
@@ -56,11 +61,11 @@ class Wire:
         return framed(b"".join(b"%d=%s\x01" % item for item in head + fields) + tail)
 
     def logon(self, name: bytes, password: bytes | None, user: bytes | None = None, more: Fields | None = None,
-              heartbeat: bytes = b"30") -> bool:
+              heartbeat: bytes = b"30", sending: bytes | None = None) -> bool:
         self.name, fields = name, [(98, b"0"), (108, heartbeat), *(more or [])]
         if password is not None:
             fields += [(553, name if user is None else user), (554, password)]
-        return self.raw(self.message(b"A", name, fields + [(1137, b"9")]))
+        return self.raw(self.message(b"A", name, fields + [(1137, b"9")], sending))
 
     def read(self, limit: float = LONG) -> Received | None:
         """The next message; None where the connection has ended or nothing came within the limit.

@@ -289,7 +289,7 @@ def held(program: str, seed: int) -> tuple[str, int]:
     head, lines = day_of(seed)
     configuration = read_configuration("\n".join(head).encode())
     text = joined("\n".join(head).encode(), b"\n".join(lines))
-    run = subprocess.run([program, "day", "--frames"], input=text, capture_output=True, timeout=120)
+    run = subprocess.run([program, "day", "--frames"], input=text, capture_output=True, timeout=600)
     if run.returncode != 0:
         return "status %d: %s" % (run.returncode, run.stderr.decode()), 0
     wanted = sent_in(configuration, run.stdout)

@@ -20,7 +20,7 @@ from pathlib import Path
 from .page import Block, Checked, Page, is_indented
 from .vocabulary import Vocabulary
 
-LIMIT = 300  # seconds for a command: one that is not done by then hangs
+LIMIT = 900  # seconds for a command: one that is not done by then hangs
 PROGRAMS = {"rt", "rfq_venue", "mireseason-audit", "python3", "apt-get", "systemctl", "etcdctl",
             "openssl", "ctest", "cmake"}
 SCRIPT = re.compile(r"^[a-z][\w-]*(?:/[\w.-]+)+$")

@@ -45,7 +45,7 @@ NAMES = ("north", "south", "east", "west")
 USUAL_PACE = 0.1  # seconds that a message waits for an answer
 PACE = 0.4  # the same while something is damaged
 STILL = 2.0  # seconds without an entry at the end of a day: longer than the shortest deadline
-LOOKS = 5  # how often the end of a day is looked at until no deadline comes in between
+LOOKS = 30  # how often the end of a day is looked at until no deadline comes in between
 
 # Both addresses, and a heartbeat that finds a gateway that is gone before its cut is mended.
 SETTINGS = {"SocketConnectHost": GATEWAYS[0].address, "SocketConnectPort": str(PORT),
@@ -162,7 +162,7 @@ class Day:
         """The one that follows in front, so that it does not take over."""
         for gateway in (self.machine.following(), self.machine.speaking()):
             if gateway:
-                gateway.service.stop(20)
+                gateway.service.stop(PATIENCE)
 
     def start_gateways(self) -> None:
         for gateway in self.machine.gateways:
@@ -182,7 +182,7 @@ class Day:
                 seen, since = places, time.monotonic()
             return time.monotonic() - since > STILL
 
-        within(STILL + 30, still)
+        within(STILL + PATIENCE, still)
 
     @staticmethod
     def told_of(side: Side, fault: str) -> str:

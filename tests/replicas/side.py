@@ -14,7 +14,7 @@ from reach import ROOT
 from wait import until, within
 
 DICTIONARIES = (ROOT / "fix" / "FIXT11.xml", ROOT / "fix" / "MIRESEASON.xml")
-PATIENCE = 120.0  # seconds in which what is on its way comes
+PATIENCE = 420.0  # seconds in which what is on its way comes, on a machine that is busy
 LATE = "no clock line came"  # of a fault of the gateway's tests: databases may be away for longer
 
 

@@ -31,8 +31,8 @@ from wait import TooLong, until, within
 
 CAST = Cast.of(dealers=2, investors=1)
 NAMES = ("north", "south")
-START = 30.0  # seconds in which the gateway listens and ends, and firms log on
-LOOKS = 5  # how often the day is looked at until no deadline comes in between
+START = 180.0  # seconds in which the gateway listens and ends, and firms log on
+LOOKS = 30  # how often the day is looked at until no deadline comes in between
 SILENCE = 4.0  # seconds in which a refused Logon is not answered by another
 REST = """[log]
 sqlite = "{venue}.db"

@@ -1,9 +1,10 @@
 //! The driver of the program's commands: runs over an input that is given line by line.
+use crate::in_step::ran_in_step;
 use crate::inputs::Inputs;
 use crate::laws::{each, same};
 use crate::process::ended_process;
 use crate::runs::{Ended, first_lines, ran, words_of};
-use case_lines::{Call, CaseFault, Report, Running, Step, text_of_cases};
+use case_lines::{Call, CaseFault, Report, Running, Step, Words, text_of_cases};
 use std::alloc::Global;
 use std::marker::Sync;
 use std::sync::Wait;
@@ -62,6 +63,19 @@ impl Commands {
             .show_ends(call.alloc, first, last, &mut call.answer)
     }
 
+    /// `in_step WORDS`: the same where each line of steps is given once the answer of the one before
+    /// it was flushed.
+    fn show_in_step<H: Threads + Wait + Sync>(
+        &mut self,
+        rt: &H,
+        call: &mut Call<'_>,
+    ) -> Result<(), CaseFault> {
+        let words = words_of(call.alloc, call.words.rest())?;
+        let input = self.inputs.bytes.as_slice();
+        self.last = ran_in_step(rt, call.alloc, words.as_slice(), input);
+        self.last.show(call.alloc, &mut call.answer)
+    }
+
     /// `process WORDS`: the same of a process with these arguments, which may be any bytes.
     fn show_process<H: Threads + Wait + Sync>(
         &mut self,
@@ -97,6 +111,7 @@ impl Commands {
         match call.name {
             "run" => self.show(rt, call),
             "ends" => self.show_ends(rt, call),
+            "in_step" => self.show_in_step(rt, call),
             "process" => self.show_process(rt, call),
             "told" => self.told(call),
             "each" => each(rt, call, self.inputs.bytes.as_slice()),
@@ -136,12 +151,46 @@ fn take_step<H: Threads + Wait + Sync>(
     match step {
         Step::Nothing => {}
         Step::Begin => commands.begin(alloc),
-        Step::Call(line) => running.hear(made(rt, Call::of(alloc, line), commands)),
+        Step::Call(line) => running.hear(made(rt, alloc, line, commands)),
     }
 }
 
-/// What the program answers to a call, each word of which has to be read.
+/// What the program answers to the call that a line is.
 fn made<H: Threads + Wait + Sync>(
+    rt: &H,
+    alloc: Global,
+    line: &str,
+    commands: &mut Commands,
+) -> Result<String, CaseFault> {
+    if let Some(repeated) = line.strip_prefix("repeat ") {
+        return made_often(rt, alloc, repeated, commands);
+    }
+    made_once(rt, Call::of(alloc, line), commands)
+}
+
+/// `FROM TO CALL`: makes CALL once for each number from FROM to TO, which stands in it for `<n>`. It
+/// gives what the last one answers.
+fn made_often<H: Threads + Wait + Sync>(
+    rt: &H,
+    alloc: Global,
+    line: &str,
+    commands: &mut Commands,
+) -> Result<String, CaseFault> {
+    let mut words = Words::of(line);
+    let from = words.number()?;
+    let to = words.number()?;
+    let call = words.rest();
+    let mut last = String::new(alloc);
+    for n in from..=to {
+        let number = format!(in alloc; "{n}")?;
+        let call = call.replace(alloc, "<n>", number.as_str())?;
+        last = made_once(rt, Call::of(alloc, call.as_str()), commands)?;
+    }
+    Ok(last)
+}
+
+/// What the program answers to a call, each word of which has to be read.
+fn made_once<H: Threads + Wait + Sync>(
     rt: &H,
     mut call: Call<'_>,
     commands: &mut Commands,

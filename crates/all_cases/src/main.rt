@@ -4,6 +4,7 @@
 
 mod commands;
 mod in_row;
+mod in_step;
 mod inputs;
 mod laws;
 mod places;

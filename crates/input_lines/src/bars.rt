@@ -8,8 +8,8 @@ use std::simd::prelude::*;
 /// How many bytes are looked at together.
 const BLOCK: usize = 16;
 
-/// The bytes of a message, with a vertical bar for each SOH. They are copied at once, and the bars
-/// put into the copy.
+/// Puts the bytes of a message behind a text, with a vertical bar for each SOH: they are copied at
+/// once, and the bars put into the copy. It fails for memory alone.
 pub fn push_barred(text: &mut Vec<u8>, message: &[u8]) -> Result<(), Memory>
     ensures { OnOk result (text.new.items ≡ text.old.items ++ map spec.with_bar message.now) }
 {

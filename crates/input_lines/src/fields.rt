@@ -52,7 +52,7 @@ impl<'a> Field<'a> {
 const USUAL_FIELDS: usize = 16;
 
 /// The fields that vertical bars divide, one at the end allowed, or none where one of them is not
-/// of the form of a field.
+/// of the form of a field. It fails for memory alone.
 pub fn read_fields(alloc: Global, body: &[u8]) -> Result<Option<Vec<Field<'_>>>, Memory>
     ensures { IfOk result (λ fields. option_map (λ f. f.items) fields ≡ spec.said_fields body.now) }
 {

@@ -1,5 +1,5 @@
 //! What was heard of the firms, line by line.
-ghost use Rattle.std.specs.Prelude.{◌≡◌, ◌≢◌, ◌+◌, ◌++◌, List, ℕ, Some, Ok, Err, map};
+ghost use Rattle.std.specs.Prelude.{◌≡◌, ◌≢◌, ◌≤◌, ◌+◌, ◌++◌, List, ℕ, Some, Ok, Err, map};
 ghost use Rattle.std.specs.Prelude.{IfOk, IfErr, OnOk, OnErr};
 ghost use Rattle.std.specs.List.{concat};
 ghost use Rattle.fix_fields.specs.Envelope.{cut_behind, envelopes_of};
@@ -62,7 +62,7 @@ impl Model for Heard {
 }
 
 impl Heard {
-    /// Nothing of so many firms.
+    /// Nothing of so many firms. It fails for memory alone.
     pub fn nothing(alloc: Global, firms: usize) -> Result<Self, Memory>
         ensures { IfOk result (λ heard. heard ≡ spec.nothing_heard firms) }
     {
@@ -90,10 +90,14 @@ impl Heard {
         *number
     }
 
-    /// Counts a `say` line of a firm.
+    /// Counts a `say` line of a firm. It takes no memory. Where the line's number is 10^15 it is
+    /// refused, and then nothing was counted.
     pub(crate) fn count(&mut self, firm: u16) -> Result<(), Memory>
         ensures counts { OnOk result (self.new
             ≡ spec.with_number self.old firm (spec.number_for self.old (Some firm) + 1)) }
+        ensures full { OnErr result
+            (1000000000000000 ≤ spec.number_for self.old (Some firm)) }
+        ensures uncounted { OnErr result (self.new ≡ self.old) }
     {
         let Some(number) = self.numbers.get_mut(usize::from(firm)) else {
             return Ok(());

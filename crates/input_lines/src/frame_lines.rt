@@ -11,7 +11,8 @@ use quote_messages::Message;
 use std::alloc::{AllocError, Global};
 
 /// What `TIME FRAME` spells, or none where it is not of its form: the moment, and the bytes of
-/// FRAME, which is the rest of the line and not empty, with SOH for each vertical bar.
+/// FRAME, which is the rest of the line and not empty, with SOH for each vertical bar. It fails for
+/// memory alone.
 #[tactic(auto, unfolding(crate::specs::SayLine::received_of))]
 pub fn read_received(
     alloc: Global,

@@ -1,5 +1,5 @@
 //! What a line of steps spells, before its steps are put behind the others.
-ghost use Rattle.std.specs.Prelude.{◌≡◌, ◌+◌, ◌<◌, ◌++◌, length, replicate, OnOk};
+ghost use Rattle.std.specs.Prelude.{◌≡◌, ◌+◌, ◌<◌, ◌++◌, length, replicate, OnErr, OnOk};
 ghost use Rattle.step_replay.specs.declared.steps.Step.TheVariants as step;
 ghost use Rattle.venue_rows.specs.Rows.{values_of};
 ghost use Rattle.step_replay.specs.VenueRooms as rooms;
@@ -29,7 +29,8 @@ pub enum Spelled {
     Pieces(u16, Moment, Messages),
 }
 
-/// Puts the steps of a line behind those before it, and counts the line.
+/// Puts the steps of a line behind those before it, and counts the line. Where memory is refused,
+/// the line may have been counted, and some of its steps may stand behind the others.
 pub fn push_spelled(
     config: &VenueConfig,
     steps: &mut Vec<Step>,
@@ -45,9 +46,12 @@ pub fn push_spelled(
     Ok(())
 }
 
-/// Counts a line whose number was written for it.
+/// Counts a line whose number was written for it. It takes no memory. Where that number is 10^15 it
+/// is refused, as more memory than any machine has would be, and then nothing was counted.
 pub fn count_line(heard: &mut Heard, spelled: &Spelled) -> Result<(), Memory>
-    ensures { OnOk result (heard.new ≡ spec.counted spelled.now heard.old) }
+    ensures counts { OnOk result (heard.new ≡ spec.counted spelled.now heard.old) }
+    ensures full { OnErr result (spec.IsFull spelled.now heard.old) }
+    ensures uncounted { OnErr result (heard.new ≡ heard.old) }
 {
     let Spelled::Said(firm, _, _, true) = spelled else {
         return Ok(());
@@ -56,7 +60,7 @@ pub fn count_line(heard: &mut Heard, spelled: &Spelled) -> Result<(), Memory>
     Ok(())
 }
 
-/// Puts the steps of a line behind other steps.
+/// Puts the steps of a line behind other steps; where memory is refused, perhaps some of them.
 pub fn push_steps(
     config: &VenueConfig,
     steps: &mut Vec<Step>,

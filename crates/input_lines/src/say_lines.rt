@@ -43,7 +43,8 @@ impl<'a> Model for Said<'a> {
 }
 
 impl<'a> Said<'a> {
-    /// What `TRADER TIME TYPE BODY` spells, or none where it is not of its form.
+    /// What `TRADER TIME TYPE BODY` spells, or none where it is not of its form. It fails for
+    /// memory alone.
     #[tactic(auto, unfolding(crate::specs::SayLine::said_of))]
     pub fn read(alloc: Global, date: &Date, text: &'a [u8]) -> Result<Option<Self>, Memory>
         ensures { IfOk result (λ said. said ≡ spec.said_of date.now text.entry.now) }
@@ -84,7 +85,7 @@ impl<'a> Said<'a> {
 
     /// The message as this firm sends it, or none where its frame would be longer than 4,096
     /// bytes. The header, with this number in MsgSeqNum (34), is written but for the fields that
-    /// BODY has.
+    /// BODY has. It fails for memory alone.
     pub fn message(
         &self,
         alloc: Global,

@@ -20,7 +20,9 @@ use venue_rows::VenueConfig;
 /// How many turns a line asks for at most.
 pub const MOST_TURNS: u64 = 1_000;
 
-/// What a line spells, by its keyword.
+/// What a line spells, by its keyword, or its fault ([`ProgramFault::Form`],
+/// [`ProgramFault::UnknownFirm`], [`ProgramFault::UnknownRoom`] or [`ProgramFault::Stream`]);
+/// memory may be refused at any point. After a fault nothing was heard.
 pub fn read_line(
     alloc: Global,
     config: &VenueConfig,

@@ -28,7 +28,8 @@ pub fn write_text<W: Write>(out: &mut W, text: &[u8]) -> bool
     true
 }
 
-/// Prints a text as a whole.
+/// Prints a text as a whole, and flushes it. The fault is [`ProgramFault::Write`], where the writer
+/// gives an error or takes no byte; then a part of the text from its front was written.
 pub fn print_text<W: Write>(out: &mut W, text: &[u8]) -> Result<(), ProgramFault>
     ensures ok { OnOk result (Appends (W.contents out.old) (W.contents out.new) text.now) }
     ensures err { IfErr result (λ fault. fault ≡ ProgramFault.Write) }

@@ -15,7 +15,7 @@ use step_replay::Due;
 
 /// The lines of due text that spell a list, an item each: a message of the dealer's own as an
 /// `own` line, with a vertical bar for each SOH, or, where it has a vertical bar, a line feed or a
-/// carriage return, as a `hex` line; and times with milliseconds.
+/// carriage return, as a `hex` line; and times with milliseconds. It fails for memory alone.
 pub fn due_lines(alloc: Global, dues: &[Due]) -> Result<Vec<u8>, Memory>
     ensures { IfOk result (λ text. text.items ≡ spec.due_lines dues.now) }
 {

@@ -17,7 +17,7 @@ use fix_fields::Memory;
 use std::alloc::Global;
 
 /// How two days differ for the dealer whose due text was asked for of both, in three lines, as
-/// [`compare_text`](crate::compare_text) has them.
+/// [`compare_text`](crate::compare_text) has them. It fails for memory alone.
 pub fn compared_text(alloc: Global, one: KeptDay, other: KeptDay) -> Result<Vec<u8>, Memory>
     ensures { IfOk result (λ text. (name : List ℕ) (config other_config : Configuration)
         (taken other_taken : Taken) → Keeps (dues (Some name)) config taken one

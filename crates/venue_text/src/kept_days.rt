@@ -85,7 +85,7 @@ impl KeptDay {
         Ok(told.fault)
     }
 
-    /// What is asked for, at the end of the day.
+    /// What is asked for, at the end of the day. It fails for memory alone.
     pub fn into_text(self, alloc: Global) -> Result<Vec<u8>, Memory>
         ensures { IfOk result (λ text. (config : Configuration) (wanted : spec.Wanted)
             (taken : Taken) → spec.Keeps wanted config taken self

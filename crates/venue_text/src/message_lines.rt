@@ -16,7 +16,7 @@ use venue_rows::Name;
 const HEADER_FIELDS: usize = 5;
 
 /// The text of messages that a firm is sent, a line each: `FIRM N TIME TYPE BODY`, or `FIRM
-/// FRAME` with a vertical bar for each SOH.
+/// FRAME` with a vertical bar for each SOH. It fails for memory alone.
 pub fn messages_text(
     alloc: Global,
     with_frames: bool,

@@ -13,13 +13,14 @@ use std::sync::Wait;
 use std::test::Fail;
 use venue_rows::VenueConfig;
 
-// INV1 asks DLR2, which quotes and cancels; then the clock sweeps the room twice.
+// INV1 asks DLR2, which quotes and cancels; then the clock sweeps the room before its deadline, and at
+// it.
 const LINES: &str =
     "say INV1 T8 09:00:00 R 131=A|146=1|48=BONDA0000001|22=4|54=1|38=2000000|126=20250314-09:05:00|453=1|448=DLR2|447=D|452=35
 say DLR2 T2 09:00:10 S 117=a1|131=R1|48=BONDA0000001|22=4|133=99.5
 say DLR2 T2 09:00:20 Z 298=5|117=a1
+expire INV1 1 09:04:59
 expire INV1 1 09:05:00
-expire INV1 1 09:06:00
 ";
 
 // Where each of them stands, one behind the other: duties are done behind the message or the sweep
@@ -49,12 +50,12 @@ const STANDS: &[&str] = &[
     "after DLR2 Gone",
     "before CLOCK Expire",
     "after CLOCK Expire",
+    "before CLOCK Expire",
+    "after CLOCK Expire",
     "before CLOCK Close",
     "after CLOCK Close",
     "before CLOCK Tell",
     "after CLOCK Tell",
-    "before CLOCK Expire",
-    "after CLOCK Expire",
 ];
 
 /// How many words a venue has.
@@ -112,12 +113,29 @@ fn all_work<T: Wait + Abort + AllocGlobal>(
     Ok(())
 }
 
+/// The same for the day of [`LINES`].
+fn day_works<T: Wait + Abort + AllocGlobal>(rt: &T, gate: &Script) -> Result<(), Fail> {
+    let input = format!(in rt.alloc(); "{VENUE}{LINES}")?;
+    let arrivals = read_day(rt, input.as_str())?;
+    all_work(rt, arrivals, gate)?;
+    Ok(())
+}
+
 #[test]
 fn sessions_and_the_clock_do_all_duties(rt: HostRuntime) -> Result<(), Fail> {
     let gate = Script::new(STANDS);
-    let input = format!(in rt.alloc(); "{VENUE}{LINES}")?;
-    let arrivals = read_day(&rt, input.as_str())?;
-    all_work(&rt, arrivals, &gate)?;
+    day_works(&rt, &gate)?;
     assert!(rt; gate.is_done(), "each stands where it has to");
+    Ok(())
+}
+
+// A session or a clock to which memory is refused says so: where all of them end well, all is done.
+// `tests/refused_memory/run.sh` refuses each allocation in turn.
+#[test]
+fn refused_memory_is_never_passed_over(rt: HostRuntime) -> Result<(), Fail> {
+    let gate = Script::new(STANDS);
+    if day_works(&rt, &gate).is_ok() {
+        assert!(rt; gate.is_done(), "what ends well did not do all");
+    }
     Ok(())
 }

@@ -1,0 +1,170 @@
+// How a firm's session begins, and how it ends.
+#include "connection.h"
+#include "fields.h"
+#include "session.h"
+
+#include <cstdlib>
+#include <thread>
+
+namespace gateway {
+
+namespace {
+
+using Clock = std::chrono::steady_clock;
+
+// How long a new connection waits for the old one of its firm to be gone.
+constexpr auto old_connection = std::chrono::seconds(2);
+
+// The longest time between two heartbeats that a firm may ask for.
+constexpr int longest_heartbeat = 300;
+
+// Whether a message was sent about now. What is no moment is the engine's to refuse.
+bool is_of_now(const FIX::Header &header, int seconds) {
+    try {
+        FIX::SendingTime sent;
+        header.getField(sent);
+        return std::abs(FIX::UtcTimeStamp() - sent.getValue()) <= seconds;
+    } catch (const FIX::Exception &) {
+        return true;
+    }
+}
+
+} // namespace
+
+bool FirmSession::admit(Connection &connection, const std::string &bytes) {
+    FIX::Message logon;
+    if (!read(bytes, logon)) {
+        return false;
+    }
+    const std::string refusal = refusal_of_sender(logon, connection);
+    const Clock::time_point latest =
+        Clock::now() + (refusal.empty() ? old_connection : std::chrono::seconds(0));
+    while (!attach(connection)) {
+        if (Clock::now() >= latest || connection.is_shut()) {
+            events_.refused("second connection", connection.peer() + ": " + firm_);
+            connection.shut("the firm has a connection");
+            return false;
+        }
+        std::this_thread::sleep_for(std::chrono::milliseconds(20));
+    }
+    is_admitted_ = true;
+    refusal_ = refusal;
+    return true;
+}
+
+bool FirmSession::attach(Connection &connection) {
+    const std::lock_guard<std::mutex> lock(mutex_);
+    if (connection_ != nullptr) {
+        return false;
+    }
+    has_logged_on_ = false;
+    session_->logon();
+    session_->setResponder(&connection);
+    connection_ = &connection;
+    return true;
+}
+
+void FirmSession::detach(Connection &connection) {
+    // What the host does about it may wait for the log, under the engine's own lock: whoever would
+    // deliver at once is told that the session is at work.
+    const std::lock_guard<std::mutex> at_work(at_work_);
+    // Takes the connection away from the engine, under that lock, and tells onLogout().
+    session_->disconnect();
+    settle();
+    ahead_.clear();
+    const std::lock_guard<std::mutex> lock(mutex_);
+    if (connection_ == &connection) {
+        connection_ = nullptr;
+    }
+}
+
+void FirmSession::log_out(const std::string &reason) {
+    const std::lock_guard<std::mutex> lock(mutex_);
+    farewell_ = reason;
+    if (connection_ != nullptr) {
+        connection_->wake();
+    }
+}
+
+void FirmSession::take_logon(const FIX::Message &message) {
+    const std::string why = refusal_of(message);
+    if (why.empty()) {
+        next(message);
+    } else {
+        refuse(why);
+    }
+}
+
+std::string FirmSession::refusal_of(const FIX::Message &logon) {
+    if (session_->isLoggedOn()) {
+        return "logged on already";
+    }
+    // The first one's sender was looked at before.
+    const std::string refusal =
+        is_admitted_ ? refusal_ : refusal_of_sender(logon, own_connection());
+    is_admitted_ = false;
+    if (!refusal.empty()) {
+        return refusal;
+    }
+    // The engine would reset before it asks anybody.
+    if (text_in(logon, FIX::FIELD::ResetSeqNumFlag) == "Y" &&
+        (session_->getExpectedSenderNum() != 1 || session_->getExpectedTargetNum() != 1)) {
+        return "numbers are not reset within the day";
+    }
+    const int heartbeat = number_in(logon, FIX::FIELD::HeartBtInt);
+    if (heartbeat < 1 || heartbeat > longest_heartbeat) {
+        return "108 is not 1 to 300";
+    }
+    return refusal_of_header(logon.getHeader());
+}
+
+// What the engine would answer by a Logout of its own.
+std::string FirmSession::refusal_of_header(const FIX::Header &header) {
+    const int expected = session_->getExpectedTargetNum();
+    if (number_in(header, FIX::FIELD::MsgSeqNum) < expected) {
+        return "MsgSeqNum too low, expecting " + std::to_string(expected) + " but received " +
+               text_in(header, FIX::FIELD::MsgSeqNum);
+    }
+    return is_of_now(header, session_->getMaxLatency()) ? "" : "SendingTime accuracy problem";
+}
+
+std::string FirmSession::refusal_of_sender(const FIX::Message &logon,
+                                           const Connection &connection) {
+    LogonFacts facts;
+    facts.firm = firm_;
+    facts.username = text_in(logon, FIX::FIELD::Username);
+    facts.password = text_in(logon, FIX::FIELD::Password);
+    facts.over_tls = connection.over_tls();
+    facts.certificate = connection.certificate();
+    return host_.refusal_of(facts);
+}
+
+// A stock engine that misses messages counts a Logout in the place of the first of them, and never
+// asks for that one. So where it may miss one of the venue it is not told why.
+void FirmSession::refuse(const std::string &why) {
+    events_.refused("logon", firm_ + ": " + why);
+    if (store_.last_carried() <= had_) {
+        send_logout(why);
+    }
+    session_->disconnect();
+}
+
+// The same holds until it has said that it misses nothing.
+void FirmSession::bid_farewell(const std::string &reason) {
+    if (had_ < asked_at_) {
+        session_->disconnect();
+    } else {
+        session_->logout(reason);
+    }
+}
+
+void FirmSession::send_logout(const std::string &text) {
+    FIX::Message logout;
+    logout.getHeader().setField(FIX::MsgType(FIX::MsgType_Logout));
+    if (!text.empty()) {
+        logout.setField(FIX::Text(text));
+    }
+    session_->send(logout);
+}
+
+} // namespace gateway

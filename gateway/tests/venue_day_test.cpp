@@ -1,0 +1,140 @@
+// A venue's day whose process ends between the start of the gateway and the first session.
+//
+// usage: venue_day_test FOLDER
+#include "check.h"
+#include "password.h"
+#include "sqlite_statement.h"
+#include "venue_day.h"
+
+#include <chrono>
+#include <csignal>
+#include <filesystem>
+#include <fstream>
+#include <iostream>
+#include <thread>
+
+namespace gateway::tests {
+
+namespace {
+
+using namespace std::chrono_literals;
+
+// Answers each message of F, as the venue does. It puts its number down when it starts, and is slow
+// to begin from the second time on.
+constexpr const char *venue_text = R"sh(
+echo $$ >> "$1/starts"
+[ "$(wc -l < "$1/starts")" = 1 ] || sleep 1
+lines=0 given=0 begun=
+while IFS= read -r line; do
+    lines=$((lines + 1))
+    case $begun$line in
+    %%) begun=+ ;;
+    +hex*)
+        given=$((given + 1))
+        echo "F 8=FIXT.1.1|9=1|35=AI|49=VENUE|56=F|34=$given|52=20250314-09:00:00.000|297=9|10=0|"
+        echo "done $lines"
+        ;;
+    +*) echo "done $lines" ;;
+    esac
+done
+)sh";
+
+Config config_of(const std::filesystem::path &folder) {
+    std::filesystem::remove_all(folder);
+    std::filesystem::create_directories(folder);
+    std::ofstream(folder / "venue.sh") << venue_text;
+    Config config;
+    config.command = {"sh", (folder / "venue.sh").string(), folder.string()};
+    config.program = "/bin/sh";
+    config.configuration = "version = 1\n";
+    config.firms = {today(), {"F"}};
+    config.sqlite = folder / "day.db";
+    config.credentials["F"] = {"F", new_hash("x"), ""};
+    return config;
+}
+
+// A day of one message, whose answer left and was lost with the gateway.
+void put_message(const Config &config) {
+    Batch batch;
+    batch.entries.resize(2);
+    Entry &first = batch.entries[0];
+    Entry &second = batch.entries[1];
+    first.moment = second.moment = "00:00:00.000";
+    first.line = line_of({"unknown", Digest{}, config.configuration});
+    first.hash = hash_of(first);
+    second.place = 1;
+    second.firm = "F";
+    second.number = 2;
+    second.line = "hex F 00:00:00.000 00";
+    second.before = first.hash;
+    second.hash = hash_of(second);
+    open_sqlite(config.sqlite.string())->writer()->commit(batch);
+}
+
+std::vector<int> starts_of(const std::filesystem::path &folder) {
+    std::ifstream file(folder / "starts");
+    std::vector<int> starts;
+    for (int start = 0; file >> start;) {
+        starts.push_back(start);
+    }
+    return starts;
+}
+
+// Ends the venue's process, and returns once the next one has begun.
+void end_venue(const std::filesystem::path &folder) {
+    ::kill(starts_of(folder).at(0), SIGKILL);
+    const auto latest = std::chrono::steady_clock::now() + 60s;
+    while (starts_of(folder).size() < 2) {
+        check(std::chrono::steady_clock::now() < latest, "the venue is not started again");
+        std::this_thread::sleep_for(10ms);
+    }
+}
+
+class NoEvents final : public EngineEvents {
+  public:
+    void connection_opened(const std::string &) override {}
+    void connection_closed(const std::string &, const std::string &) override {}
+    void refused(const std::string &, const std::string &) override {}
+    void dropped(const std::string &, const std::string &) override {}
+    void session_event(const std::string &, const std::string &) override {}
+};
+
+// Whether the first message of the session carries the venue's first one.
+bool is_stored(const Config &config) {
+    const auto connection = sqlite::connect(config.sqlite.string(), SQLITE_OPEN_READONLY);
+    sqlite::Statement row(connection.get(),
+                          "SELECT sent FROM outgoing WHERE firm = 'F' AND number = 1");
+    return row.step() && row.number(0) == 1;
+}
+
+// What the log lacks has its number before any session may log on.
+void given_again_before_sessions(const std::filesystem::path &folder) {
+    const Config config = config_of(folder);
+    put_message(config);
+    Metrics metrics(0);
+    const auto events = std::make_shared<spdlog::logger>("none");
+    Status status(events);
+    NoEvents engine_events;
+    VenueDay day(config, metrics, status, events);
+    day.follow([] { return true; });
+    end_venue(folder);
+    Engine engine(config.engine, day.session_starts(), engine_events);
+    day.start(engine);
+    const bool stored = is_stored(config);
+    day.close();
+    check(stored, "what was sent before has no number yet");
+    check(!status.failure(), status.failure().value_or(""));
+}
+
+} // namespace
+
+} // namespace gateway::tests
+
+int main(int count, char **words) {
+    using namespace gateway::tests;
+    return run_with(count, words, 1, 1, "venue_day_test FOLDER", [](std::span<char *> given) {
+        // As the gateway does: the venue may end while it is fed.
+        std::signal(SIGPIPE, SIG_IGN);
+        given_again_before_sessions(std::filesystem::path(given[0]) / "venue_day_test");
+    });
+}

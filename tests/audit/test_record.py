@@ -1,0 +1,278 @@
+"""The record: entries and their chain, what sessions carried, seals and reports, against what
+gateway/ and docs/ say of them.
+"""
+
+import hashlib
+import unittest
+from pathlib import Path
+from typing import Any
+
+from common import folder, keys
+from samples import ACCEPTED, CONFIGURATION, OFFERED, REJECT, SHOWN, soh
+
+from mireseason_audit.chain import ChainReader, hash_of
+from mireseason_audit.check import Verdict, report
+from mireseason_audit.faults import Wrong
+from mireseason_audit.findings import Finding
+from mireseason_audit.frame import fault_of, fields_of, framed
+from mireseason_audit.plain_wire import carries
+from mireseason_audit.records import Entry, Outgoing, Sent, configured, day_of
+from mireseason_audit.seal import Sealed, compared, read_seal, write_seal
+from mireseason_audit.wire import WireReader, carried, header_fault, parts_of
+
+
+def entry(place: int, moment: str, line: bytes, before: bytes, **other: Any) -> Entry:
+    made = Entry(place, 0, moment, None, None, line, before, b"")._replace(**other)
+    return made._replace(hash=hash_of(made))
+
+
+SPOILT: list[tuple[str, Any]] = [  # a column of an entry, and what stands there
+    ("place", 99), ("term", -1), ("moment", "08:59:59.000"), ("firm", "NOBODY"), ("number", 0),
+    ("line", b"clock 09:00:00"), ("before", bytes(32)), ("hash", bytes(32)),
+]
+
+
+class Chains(unittest.TestCase):
+    def test_the_hash_is_that_of_the_schema(self) -> None:
+        """The text of gateway/schema.sql: BEFORE PLACE TERM MOMENT FIRM NUMBER LENGTH, a line
+        feed, the line.
+        """
+        line = b"hex DLR1 09:00:10.000 00"
+        made = Entry(7, 2, "09:00:10.000", "DLR1", 5, line, bytes(range(32)), b"")
+        text = bytes(range(32)).hex() + " 7 2 09:00:10.000 DLR1 5 %d\n" % len(line)
+        self.assertEqual(hash_of(made), hashlib.sha256(text.encode() + line).digest())
+        made = made._replace(firm=None, number=None)
+        text = text.replace("DLR1 5", "- -")
+        self.assertEqual(hash_of(made), hashlib.sha256(text.encode() + line).digest())
+
+    def found(self, *entries: Entry) -> list[str]:
+        reader = ChainReader(has_chain=True)
+        for one in entries:
+            reader.take(one)
+        return [finding.text for finding in reader.found.findings]
+
+    def test_whole_and_broken_chains(self) -> None:
+        first = entry(0, "09:00:00.000", b"", bytes(32))
+        second = entry(1, "09:00:01.000", b"clock 09:00:01.000", first.hash)
+        third = entry(2, "09:00:02.000", b"clock 09:00:02.000", second.hash)
+        self.assertEqual(self.found(first, second, third), [])
+        self.assertIn("entry 1 is missing: behind 0 comes 2", self.found(first, third))
+        self.assertIn("entry 0 is missing", self.found(second))
+        earlier = entry(2, "09:00:00.500", b"clock 09:00:00.500", second.hash)
+        self.assertEqual(len(self.found(first, second, earlier)), 1)
+        later = entry(1, "09:00:01.000", b"clock 09:00:01.000", first.hash, term=2)
+        older = entry(2, "09:00:02.000", b"clock 09:00:02.000", later.hash, term=1)
+        found = self.found(first, later, older)
+        self.assertEqual(found, ["its term 1 is before 2, that of entry 1"])
+        other = entry(2, "09:00:02.000", b"clock 09:00:03.000", second.hash)
+        self.assertEqual(len(self.found(first, second, other)), 1)
+        line = b"hex DLR1 09:00:02.000 00"
+        stranger = entry(2, "09:00:02.000", line, second.hash, firm="DLR2", number=3)
+        self.assertEqual(len(self.found(first, second, stranger)), 1)
+        foreign = entry(2, "09:00:02.000", b"clock 09:00:02.000", bytes(32))
+        self.assertEqual(len(self.found(first, second, foreign)), 1)
+
+    def test_lines_that_no_gateway_writes(self) -> None:
+        """Each is of the row's firm and moment, and follows on the entry before it."""
+        first = entry(0, "09:00:00.000", b"", bytes(32))
+        moment = "09:00:01.000"
+        for line, is_right in (
+            (b"hex DLR1 09:00:01.000 00", True),
+            (b"hex DLR1 09:00:01.000 00\nclock 09:00:01.000", False),
+            (b"in DLR1 09:00:01.000 8=FIXT.1.1|", False),
+            (b"piece DLR1 09:00:01.000 8", False),
+            (b"say DLR1 T1 09:00:01.000 S 117=a", False),
+        ):
+            second = entry(1, moment, line, first.hash, firm="DLR1", number=1)
+            found = self.found(first, second)
+            expected = [] if is_right else ["its line is none that a gateway writes"]
+            self.assertEqual(found, expected, line)
+            self.assertEqual(self.in_blocks([first, second], 2), expected, line)
+
+    def test_blocks_say_what_entries_one_by_one_say(self) -> None:
+        """Forty entries, one of them spoilt in each way: taken in blocks of any size."""
+        rows: list[Entry] = []
+        for place in range(40):
+            firm = None if place % 5 == 0 else "DLR%d" % (place % 3)
+            moment = "09:00:%02d.000" % place
+            text = "clock " + moment if firm is None else "hex %s %s 00" % (firm, moment)
+            line, before = text.encode(), rows[-1].hash if rows else bytes(32)
+            number = None if firm is None else place
+            rows.append(entry(place, moment, line, before, firm=firm, number=number))
+        self.assertEqual(self.in_blocks(rows, 7), [])
+        for at in range(2, 40):
+            for name, value in SPOILT:
+                spoilt = rows[at]._replace(**{name: value})
+                for made in (spoilt, spoilt._replace(hash=hash_of(spoilt))):
+                    changed = [*rows[:at], made, *rows[at + 1 :]]
+                    found = self.found(*changed)
+                    self.assertEqual(bool(found), made != rows[at], (at, name))
+                    for size in (1, 7, 64):
+                        self.assertEqual(self.in_blocks(changed, size), found, (at, name))
+
+    def in_blocks(self, rows: list[Entry], size: int) -> list[str]:
+        reader = ChainReader(has_chain=True)
+        for at in range(0, len(rows), size):
+            reader.take_rows(list(rows[at : at + size]))
+        return [finding.text for finding in reader.found.findings]
+
+    def test_the_day_of_entry_0(self) -> None:
+        digest = hashlib.sha256(CONFIGURATION).hexdigest().encode()
+        line = b"version v 1\nprogram 00\nconfiguration " + digest + b"\n%%\n" + CONFIGURATION
+        day = day_of(line)
+        self.assertEqual((day.version, day.date), ("v 1", "20250314"))
+        firms = [(firm.name, firm.kind) for firm in day.firms]
+        self.assertEqual(firms, [("DLR1", "dealer"), ("INV1", "investor")])
+        self.assertEqual(day.head, CONFIGURATION + b"%%\n")
+        parts = [line.replace(b"%%\n", b""), line.replace(digest, b"00")]
+        for wrong in (b"", line[1:], line + b" ", *parts):
+            self.assertRaises(Wrong, day_of, wrong)
+
+    def test_no_file_is_called_by_what_is_no_name(self) -> None:
+        """Files are called by the names of firms, and a log may have been written by anybody."""
+        for name in ("A", "ABCDEFG8"):
+            text = CONFIGURATION.replace(b"INV1", name.encode())
+            self.assertEqual(configured("", "", text).firms[1].name, name)
+        for name in ("", "../../x", "/tmp/x", "A/B", "a", "1A", "ABCDEFGH9", "A\\n", "A\\u0000"):
+            text = CONFIGURATION.replace(b"INV1", name.encode())
+            self.assertRaisesRegex(Wrong, "has a firm named", configured, "", "", text)
+        self.assertRaises(Wrong, configured, "", "", CONFIGURATION.replace(b'"INV1"', b"5"))
+
+
+class Wires(unittest.TestCase):
+    """The body on the wire: 1181 first; 60 in front of 537, 297 or 453, or last; 45 is the
+    session's.
+    """
+
+    def test_each_type(self) -> None:
+        for text, expected in (
+            (ACCEPTED, "|1181=2|131=R1|117=a1|60=20250314-09:00:10.000|297=0"),
+            (SHOWN, "|1181=1|131=R1|146=1|55=[N/A]|48=BONDA0000001|22=4|54=1|38=2000000"
+                    "|126=20250314-09:05:00.000|60=20250314-09:00:00.000|453=1|448=INV1|447=D"
+                    "|452=13"),
+            (REJECT, "|1181=6|45=9|371=50|372=Z|373=1|60=20250314-09:01:10.000"),
+            (OFFERED, "|1181=3|131=A|117=Q2|55=[N/A]|48=BONDA0000001|22=4|54=1|133=99.515625"
+                      "|135=2000000|62=20250314-09:04:00.000|60=20250314-09:00:20.000|537=1|453=1"
+                      "|448=DLR2|447=D|452=35"),
+        ):
+            parts = parts_of(soh(text))
+            assert parts is not None
+            self.assertEqual(carried(parts, 9), soh(expected))
+        self.assertIsNone(parts_of(b"8=FIXT.1.1\x01"))
+
+
+class Sessions(unittest.TestCase):
+    """A message that plainly carries a frame: no other byte of it may stand there."""
+
+    def test_each_changed_byte(self) -> None:
+        end = b"\x0156=DLR1"
+        for text in (ACCEPTED, SHOWN, REJECT):
+            frame = soh(text)
+            parts = parts_of(frame)
+            assert parts is not None
+            head = soh("35=%s|34=7|49=VENUE|52=20250314-09:00:10.001|56=DLR1")
+            body = head.replace(b"%s", parts.kind) + carried(parts, None) + b"\x01"
+            wire = framed(fields_of(body))
+            self.assertIsNone(fault_of(wire))
+            self.assertTrue(carries(wire, 7, frame, end))
+            self.assertFalse(carries(wire, 8, frame, end))
+            self.assertFalse(carries(wire, 7, frame, b"\x0156=DLR2"))
+            for at in range(len(wire)):
+                for other in (wire[at] ^ 1, 1, 0x7C):
+                    changed = wire[:at] + bytes([other]) + wire[at + 1 :]
+                    self.assertEqual(carries(changed, 7, frame, end), changed == wire, at)
+
+    def test_a_header_with_another_field(self) -> None:
+        """The length and the sum are those of what stands there."""
+        frame = soh(ACCEPTED)
+        parts = parts_of(frame)
+        assert parts is not None
+        sent, body = Sent("DLR1", 2, 9, frame), carried(parts, None) + b"\x01"
+        whole = "35=AI|34=1|49=VENUE|52=20250314-09:00:10.001|56=DLR1"
+        for head, is_right in (
+            (whole, True),
+            (whole.replace("|56=", "|115=X|56="), False),
+            (whole.replace("|52=", "|43=Y|52="), False),
+            (whole.replace("35=AI", "35=0").replace("|56=", "|35=AI|56="), False),
+            (whole + "|57=X", False),
+        ):
+            data = framed(fields_of(soh(head) + body))
+            reader = WireReader(iter([sent]), lambda place: None)
+            found = reader.take(Outgoing("DLR1", 1, 2, data))
+            self.assertEqual(found is None, is_right, head)
+            self.assertEqual(carries(data, 1, frame, b"\x0156=DLR1"), is_right, head)
+
+
+class OwnMessages(unittest.TestCase):
+    """What a session sends of itself carries nothing of the venue."""
+
+    def fault(self, kind: str, carries: bool = False) -> str | None:
+        text = "35=%s|34=7|49=VENUE|52=20250314-09:00:10.001|56=DLR1|131=R1|117=a1|297=0|"
+        return header_fault(framed(fields_of(soh(text % kind))), 7, "DLR1", carries)
+
+    def test_each_type(self) -> None:
+        for kind in "01234", "5A":
+            self.assertEqual([self.fault(one) for one in kind], [None] * len(kind))
+        for one in ("AI", "S", "R", "AJ", "AG", "8", "U", "", "00", "j", "AI|35=0"):
+            self.assertRegex(self.fault(one) or "", "none that a session sends of itself")
+            self.assertIsNone(self.fault(one, carries=True))
+
+
+class Reports(unittest.TestCase):
+    def test_nothing_in_a_log_writes_a_line_of_its_own(self) -> None:
+        forged = "X\nverdict: each firm was sent what the rules give, byte for byte\x1b[2J\u2028"
+        day = configured(forged, "", CONFIGURATION)
+        verdict = Verdict("day.db", day, True, "v 1\r", {"DLR1": 0, "INV1": 0}, set(), {})
+        verdict.findings = [Finding(forged, "its moment %s" % forged, 3)]
+        lines = report(verdict)
+        self.assertTrue(all(line.isprintable() for line in lines), lines)
+        verdicts = [line.partition(",")[0] for line in lines if line.startswith("verdict: ")]
+        self.assertEqual(verdicts, ["verdict: 1 thing is not as it should be"])
+        self.assertIn("X\\nverdict: each", lines[-2])
+        self.assertIn("\\x1b[2J\\u2028: entry 3: its moment X\\n", lines[-2])
+
+
+class Seals(unittest.TestCase):
+    """How a log ends, against its seal; each hundredth entry stands in it, and the last."""
+
+    def found(self, sealed: int, now: int) -> list[str]:
+        return [one.text for one in compared(self.seal(sealed), self.seal(now))]
+
+    def seal(self, last: int) -> Sealed:
+        hundredths = ["entry %d hash%d" % (place, place) for place in range(0, last + 1, 100)]
+        return Sealed((*hundredths, "last %d hash%d" % (last, last)))
+
+    def test_how_a_log_ends(self) -> None:
+        self.assertEqual(self.found(120, 120), [])
+        behind = "the log goes on to entry 234, behind entry %d, the last that was sealed"
+        self.assertEqual(self.found(200, 234), [behind % 200])
+        unknown = "; whether entries 101 to 120 are those is not known"
+        self.assertEqual(self.found(120, 234), [behind % 120 + unknown])
+        others = "from entry 101 to 120 they are not those that were sealed"
+        self.assertEqual(self.found(120, 110), [others + "; the log ends at entry 110"])
+
+    def test_each_changed_line(self) -> None:
+        """Whatever else a seal says than the log: it is told."""
+        days = ["%s day %s" % (word, word) for word in ("date", "version", "program")]
+        lines = ["title", *days, "configuration day c", "entry 0 a", "entry 100 b", "last 120 c"]
+        lines += ["sent DLR1 2 d", "session DLR1 3 e", "sent INV1 0 f", "session INV1 1 g"]
+        sealed = Sealed(tuple(lines))
+        self.assertEqual(list(compared(sealed, sealed)), [])
+        for at in range(len(lines)):
+            changes: list[list[str]] = [[lines[at] + "x"], [], [lines[at], lines[at]]]
+            for other in changes:
+                now = Sealed((*lines[:at], *other, *lines[at + 1 :]))
+                self.assertTrue(list(compared(sealed, now)), (at, other))
+                self.assertTrue(list(compared(now, sealed)), (at, other))
+
+    def test_a_version_in_two_lines(self) -> None:
+        """A line ends at a line feed alone, in a seal as in entry 0."""
+        what = Sealed(("mireseason-seal 1", "version day v\x0b1\u2028\r", "last 0 a"))
+        with folder() as name:
+            private, public = keys(Path(name))
+            write_seal(what, private, Path(name) / "seal")
+            self.assertEqual(read_seal(Path(name) / "seal", public), what)
+
+
+if __name__ == "__main__":
+    unittest.main()
