@@ -159,6 +159,10 @@ beside() {
         python3 tests/model/lawful.py "$program" 40 "$seed"
     form isolation 1800 python3 's/^seeds .*: \([0-9]*\) pairs with equal due lists.*/\1/p' \
         python3 tests/isolation/pairs.py "$program" 1000 "$seed" "$jobs"
+    form investors 1800 python3 's/^seeds .*: \([0-9]*\) pairs with equal lists.*/\1/p' \
+        python3 tests/isolation/investors.py "$program" 500 "$seed" "$jobs"
+    form views 1800 python3 's/^[0-9]* counted, \([0-9]*\) passed, 0 failed$/\1/p' \
+        python3 tests/model/investors.py threads 40 "$seed" "$program"
     form hostile 1800 python3 's/^\([0-9]*\) inputs from seed .*/\1/p' \
         python3 tests/hostile/inputs.py "$program" spoilt 1000 "$seed" "$jobs"
     build_gateway

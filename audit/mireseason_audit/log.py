@@ -43,6 +43,10 @@ class Log(Closing):
         """The last entry's place; -1 where there is none."""
 
     @abstractmethod
+    def hash_at(self, place: int) -> bytes:
+        """The hash of the entry at a place; empty where there is none."""
+
+    @abstractmethod
     def has_gaps(self) -> bool:
         """Whether the places are others than 0, 1, 2 and so on."""
 

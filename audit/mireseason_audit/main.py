@@ -24,7 +24,7 @@ from .frame import printable
 from .jobs import Files
 from .log import Source
 from .progress import Progress
-from .seal import Sealed, compared, read_seal, sealed, write_seal
+from .seal import KeptLog, Sealed, check_key, compared, read_seal, sealed, write_seal
 from .sqlite_log import SqliteSource
 from .venue import Venue
 from .work import SIGNALS, processors
@@ -153,7 +153,8 @@ def compared_with(work: Work, seal: Sealed | None, verdict: Verdict) -> Verdict:
     """The verdict with what the seal says."""
     if seal is not None:
         with work.source.open() as log:
-            found = list(compared(seal, sealed(log, verdict.day, verdict.chained)))
+            now = sealed(log, verdict.day, verdict.chained)
+            found = list(compared(seal, now, KeptLog(log)))
         verdict.findings += found
         verdict.seal = seal_words(verdict, found)
     return verdict
@@ -170,6 +171,7 @@ def seal_words(verdict: Verdict, found: list[Finding]) -> str:
 def do_seal(work: Work) -> int:
     if work.words.sent is not None:
         raise Unreadable("two files have no chain, so there is nothing to be sealed")
+    check_key(work.words.key)
     with work.source.open() as log:
         day, chained = log.day(), work.checker().chain(log)
         what = None if chained.findings else sealed(log, day, chained)
@@ -188,10 +190,18 @@ def do_page(work: Work) -> int:
     from .pages import Pager
 
     words, seal = work.words, seal_of(work)
+    if words.sign is not None:
+        check_key(words.sign)
     key = None if words.request is None else words.request - 1
     pager = Pager(work.checker(), words.dictionary, words.folder, work.folder, key)
     verdict, summary = pager.check()
-    pager.write(compared_with(work, seal, verdict), summary)
+    compared_with(work, seal, verdict)
+    obstacle = pager.obstacle(verdict, summary)
+    if obstacle is not None:
+        verdict.findings.append(obstacle)
+        print("\n".join(report(verdict)))
+        return 1
+    pager.write(verdict, summary)
     pager.sign(words.sign)
     print("\n".join(report(verdict)))
     print("%d requests: %s" % (len(summary.requests), words.folder / "index.html"))

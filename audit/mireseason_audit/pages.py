@@ -9,7 +9,8 @@ from .book import Book, Fault
 from .certificates import CertificateJob, second_for, seconds_for
 from .check import Checker, Result, Verdict, judged
 from .dictionary import read_dictionary
-from .faults import Unreadable, Wrong
+from .faults import Unreadable
+from .findings import Finding
 from .firm_pages import ENTRIES_A_PAGE, FirmJob, page_name
 from .reading import Reader
 from .progress import Step
@@ -60,7 +61,6 @@ class Pager:
 
     def write(self, verdict: Verdict, summary: Summary) -> None:
         """Writes all pages."""
-        self._check_pages(verdict, summary)
         for name in FOLDERS:
             (self.folder / name).mkdir()
         checker = self.checker
@@ -77,15 +77,15 @@ class Pager:
         checker.progress.end()
         checker.check_end(verdict)
 
-    def _check_pages(self, verdict: Verdict, summary: Summary) -> None:
-        """Whether what is asked can be written: a firm's pages are as many as the places need."""
+    def obstacle(self, verdict: Verdict, summary: Summary) -> Finding | None:
+        """Why no pages can be written: a firm's are as many as the places need."""
         if self.request is not None and self.request not in range(len(summary.requests)):
             text = "the day has no request %d: it has %d"
             raise Unreadable(text % (self.request + 1, len(summary.requests)))
-        most = MOST_PLACES_AN_ENTRY * (summary.entries + ENTRIES_A_PAGE)
-        if verdict.last_place > most:
-            text = "no pages are written: %s has %d entries, and a place %d"
-            raise Wrong(text % (verdict.source, summary.entries, verdict.last_place))
+        if verdict.last_place <= MOST_PLACES_AN_ENTRY * (summary.entries + ENTRIES_A_PAGE):
+            return None
+        text = "no pages are written of %d entries with places up to %d"
+        return Finding("entries", text % (summary.entries, verdict.last_place))
 
     def sign(self, key: Path | None) -> None:
         """The sums of all files, and the signature of these where there is a key."""

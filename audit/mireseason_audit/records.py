@@ -118,7 +118,7 @@ def configured(version: str, program: str, configuration: bytes) -> Day:
         firms = [Firm(str(row["name"]), True) for row in table.get("dealer", [])]
         firms += [Firm(str(row["name"]), False) for row in table.get("investor", [])]
         date = str(table["date"])
-    except (ValueError, KeyError, TypeError, AttributeError) as fault:
+    except (ValueError, KeyError, TypeError, AttributeError, RecursionError) as fault:
         raise Wrong("entry 0: the configuration can't be read: %s" % fault) from None
     for firm in firms:
         if not NAME.fullmatch(firm.name):

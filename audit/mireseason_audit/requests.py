@@ -11,9 +11,12 @@ from dataclasses import dataclass, field
 from typing import NamedTuple
 
 from .exchanges import Exchange, Told
-from .frame import text_of
+from .frame import Fields, text_of
 from .lines import Came
 from .reading import Reader, Words, moment_of
+
+
+PARTY_ID, PARTY_SOURCE, PARTY_ROLE = 448, 447, 452
 
 
 class Note(NamedTuple):
@@ -204,7 +207,6 @@ class Requests:
 def request_of(key: int, exchange: Exchange, came: Came) -> Request:
     """A request as its investor's message has it."""
     fields = came.fields
-    dealers = [value.decode("utf-8", "replace") for tag, value in fields if tag == 448]
     return Request(
         key,
         exchange.place,
@@ -216,5 +218,20 @@ def request_of(key: int, exchange: Exchange, came: Came) -> Request:
         text_of(fields, 54),
         text_of(fields, 38),
         moment_of(text_of(fields, 126)),
-        dealers,
+        dealers_of(fields),
     )
+
+
+def dealers_of(fields: Fields) -> list[str]:
+    """The dealers that a request names, in its order; its parties of other roles are ignored."""
+    parties: list[dict[int, bytes]] = []
+    for tag, value in fields:
+        if tag == PARTY_ID:
+            parties.append({})
+        if tag in (PARTY_ID, PARTY_SOURCE, PARTY_ROLE) and parties:
+            parties[-1][tag] = value
+    return [
+        party[PARTY_ID].decode("utf-8", "replace")
+        for party in parties
+        if (party.get(PARTY_SOURCE), party.get(PARTY_ROLE)) == (b"D", b"35")
+    ]

@@ -14,10 +14,12 @@ import tempfile
 from collections.abc import Iterable, Iterator
 from dataclasses import dataclass
 from pathlib import Path
+from typing import Protocol
 
 from .chain import Chained
 from .faults import Unreadable, Wrong
 from .findings import Finding
+from .frame import number_in
 from .log import Log
 from .progress import Step
 from .records import Day, Messages
@@ -102,23 +104,65 @@ def read_seal(path: Path, key: Path) -> Sealed:
     return Sealed(tuple(body.decode("utf-8", "replace").removesuffix("\n").split("\n")))
 
 
-def compared(seal: Sealed, now: Sealed) -> Iterator[Finding]:
+class Kept(Protocol):
+    """What of a log is asked where it has more than its seal."""
+
+    def hash_at(self, place: int) -> str:
+        """The hash of an entry."""
+
+    def first(self, word: str, firm: str, count: int) -> str:
+        """The first messages of a firm (`sent`), or of its session, as a seal has them."""
+
+
+@dataclass(frozen=True)
+class KeptLog:
+    """That of a log."""
+
+    log: Log
+
+    def hash_at(self, place: int) -> str:
+        return self.log.hash_at(place).hex()
+
+    def first(self, word: str, firm: str, count: int) -> str:
+        read = self.log.sent_blocks if word == "sent" else self.log.outgoing_blocks
+        return digest(first_of(read(firm), count))
+
+
+def first_of(blocks: Iterable[Messages], count: int) -> Iterator[Messages]:
+    """So many rows."""
+    for block in blocks:
+        if count > 0:
+            yield Messages(block.numbers[:count], block.others[:count], block.bytes[:count])
+        count -= len(block.numbers)
+
+
+def compared(seal: Sealed, now: Sealed, kept: Kept) -> Iterator[Finding]:
     """What a log is now, against what its seal says."""
     if seal != now:
-        found = [*compared_entries(seal, now), *compared_messages(seal, now)]
+        found = [*compared_entries(seal, now, kept), *compared_messages(seal, now, kept)]
         yield from found or [Finding("entries", "the log is not the one that was sealed")]
 
 
-def compared_messages(seal: Sealed, now: Sealed) -> Iterator[Finding]:
-    """The firms whose messages are not those that were sealed."""
+def compared_messages(seal: Sealed, now: Sealed, kept: Kept) -> Iterator[Finding]:
+    """The firms whose messages are not those that were sealed, or not those alone."""
     for word, whose in (("sent", "messages"), ("session", "messages of its session")):
         said, found = seal.values(word), now.values(word)
         for firm in sorted(said.keys() | found.keys()):
-            if said.get(firm) != found.get(firm):
-                yield Finding(firm, "its %s are not those that were sealed" % whose)
+            before, after = said.get(firm, ""), found.get(firm, "")
+            if before != after:
+                more = count_of(after) - count_of(before)
+                text = "its %s are not those that were sealed" % whose
+                if more > 0 and kept.first(word, firm, count_of(before)) == before:
+                    text = "its %s go on behind those that were sealed: %d more" % (whose, more)
+                yield Finding(firm, text)
 
 
-def compared_entries(seal: Sealed, now: Sealed) -> Iterator[Finding]:
+def count_of(value: str) -> int:
+    """How many messages there are, by a value of `sent` or `session`."""
+    return number_in(value.partition(" ")[0]) or 0
+
+
+def compared_entries(seal: Sealed, now: Sealed, kept: Kept) -> Iterator[Finding]:
     """The first entries that are not those that were sealed."""
     said, found = seal.values("entry"), now.values("entry")
     last_said, last_found = seal.values("last"), now.values("last")
@@ -130,6 +174,8 @@ def compared_entries(seal: Sealed, now: Sealed) -> Iterator[Finding]:
         whole = int(name) + 1
     if last_said != last_found:
         last, there = int(next(iter(last_said), "0")), int(next(iter(last_found), "0"))
+        if last < there and kept.hash_at(last) == last_said.get(str(last)):
+            whole = last + 1
         yield Finding("entries", at_the_end(whole, last, there), last)
     elif seal.lines[1:5] != now.lines[1:5]:
         yield Finding("entries", "the day is not the one that was sealed", 0)
@@ -142,9 +188,7 @@ def at_the_end(whole: int, last: int, there: int) -> str:
     if there == last:
         return between(whole, last)
     more = "the log goes on to entry %d, behind entry %d, the last that was sealed" % (there, last)
-    if whole > last:
-        return more
-    return more + "; whether entries %d to %d are those is not known" % (whole, last)
+    return more if whole > last else "%s; %s" % (between(whole, last), more)
 
 
 def between(first: int, last: int) -> str:
@@ -177,6 +221,11 @@ def sign(text: bytes, key: Path) -> bytes:
         file.write(text)
         file.flush()
         return openssl(["pkeyutl", "-sign", "-rawin", "-inkey", str(key), "-in", file.name])
+
+
+def check_key(key: Path) -> None:
+    """Whether there is a private key, before what it signs is read for minutes."""
+    openssl(["pkey", "-in", str(key), "-noout"])
 
 
 def verify(text: bytes, signature: bytes, key: Path) -> bool:

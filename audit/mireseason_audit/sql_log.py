@@ -97,6 +97,10 @@ class SqlLog(Log):
         ((place,),) = self.rows("SELECT max(place) FROM entry")
         return -1 if place is None else int(place)
 
+    def hash_at(self, place: int) -> bytes:
+        rows = self.rows("SELECT hash FROM entry WHERE place = ?", place)
+        return next((self.bytes_of(hash_) for hash_, in rows), b"")
+
     def has_gaps(self) -> bool:
         ((count, first, last),) = self.rows(EXTENT)
         return (first, last) != (0, count - 1)

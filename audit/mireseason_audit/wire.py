@@ -11,7 +11,7 @@ from collections.abc import Callable, Iterator
 from typing import NamedTuple
 
 from .findings import Finding
-from .frame import CHECKSUM_BYTES, fault_of
+from .frame import CHECKSUM_BYTES, fault_of, fields_of
 from .log import Log
 from .records import SOH, Outgoing, Sent
 
@@ -74,10 +74,10 @@ def header_fault(data: bytes, number: int, firm: str, carries: bool) -> str | No
     fault = fault_of(data)
     if fault is not None:
         return fault
-    head = data.partition(CARRIED)[0] + SOH
-    if b"\x0134=%d\x01" % number not in head:
+    firsts = fields_of(data).firsts
+    if firsts.get(34) != b"%d" % number:
         return "its 34 is another"
-    if b"\x0149=VENUE\x01" not in head or b"\x0156=%b\x01" % firm.encode() not in head:
+    if (firsts.get(49), firsts.get(56)) != (b"VENUE", firm.encode()):
         return "it is not of the venue for this firm"
     if not carries and CARRIED in data:
         return "it carries what the log does not say"

@@ -5,6 +5,7 @@ import multiprocessing
 import os
 import signal
 import sys
+import traceback
 from collections.abc import Callable, Collection, Iterable
 from dataclasses import dataclass, field
 from multiprocessing.connection import Connection, wait
@@ -159,6 +160,7 @@ def do_job(
     try:
         answers.send((True, job(step)))
     except Exception as fault:
+        fault.add_note(traceback.format_exc())  # where it was, which does not travel with it
         answers.send((False, fault))
     answers.close()
 

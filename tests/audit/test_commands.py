@@ -1,6 +1,7 @@
 """The commands, with their statuses: 0 where all is as it should be, 1 where it is not."""
 
 import base64
+import hashlib
 import os
 import re
 import sqlite3
@@ -8,9 +9,11 @@ import subprocess
 import unittest
 from contextlib import closing
 from pathlib import Path
+from random import Random
 
 from common import AUDIT, DAY, ROOT, LogCase, audit, folder, keys, openssl, venue_words
 from pages import read_page, rows_of, table_behind, walk
+from tamper import Tamperer, framed
 from witness import Witness
 
 
@@ -195,6 +198,36 @@ class Commands(LogCase):
         ran = audit("check", self.log, "--seal", other, "--key", public)
         self.assertEqual(ran.status, 0, ran.text)
 
+    def test_a_log_that_goes_on_behind_its_seal(self) -> None:
+        """Whether what was sealed is still there is told, and what is behind it."""
+        private, public = keys(self.place)
+        self.assertEqual(audit("seal", self.log, "--key", private).status, 0)
+        with closing(sqlite3.connect(self.log, isolation_level=None)) as connection:
+            ((hash_,),) = connection.execute("SELECT hash FROM entry WHERE place = 336")
+            line = b"clock 20:00:00.000"
+            text = hash_.hex() + " 337 0 20:00:00.000 - - %d\n" % len(line)
+            digest = hashlib.sha256(text.encode() + line).digest()
+            values = (337, 0, "20:00:00.000", None, None, line, hash_, digest)
+            connection.execute("INSERT INTO entry VALUES (?, ?, ?, ?, ?, ?, ?, ?)", values)
+        beat = Tamperer(self.log, Random(1))
+        ((count,),) = beat.rows("SELECT max(number) FROM outgoing WHERE firm = 'ALPHA'")
+        body = b"35=0|34=%d|49=VENUE|52=20261125-20:00:00.000|56=ALPHA|" % (count + 1)
+        beat.do("INSERT INTO outgoing VALUES ('ALPHA', ?, NULL, ?)", count + 1, framed(body))
+        ran = audit("check", self.log, "--key", public)
+        self.assertEqual((ran.status, ran.err), (1, ""))
+        told = [line for line in ran.out.splitlines() if "sealed" in line]
+        self.assertEqual(told, [
+            "entries: entry 336: the log goes on to entry 337, behind entry 336, the last that was"
+            " sealed",
+            "ALPHA: its messages of its session go on behind those that were sealed: 1 more",
+        ])
+        beat.do("UPDATE outgoing SET bytes = ? WHERE firm = 'ALPHA' AND number = 1", framed(
+            b"35=A|34=1|49=VENUE|52=20261125-08:00:00.001|56=ALPHA|98=0|108=30|1137=9|"
+        ))
+        beat.connection.close()
+        ran = audit("check", self.log, "--key", public)
+        self.assertIn("ALPHA: its messages of its session are not those that were sealed", ran.out)
+
     def test_the_signature_is_openssl_s(self) -> None:
         """Whoever has openssl alone verifies a seal: its last line is the signature of the
         others.
@@ -230,6 +263,17 @@ class Commands(LogCase):
         self.assertIn("as it was sealed", (pages / "index.html").read_text())
         self.assertEqual(audit("page", self.log, pages).status, 2)  # the folder is not empty
 
+    def test_a_key_that_is_none(self) -> None:
+        """It is looked at before the day is."""
+        _, public = keys(self.place)
+        pages = self.place / "pages"
+        for key in (self.place / "none.pem", public, self.log):
+            for words in (["page", self.log, pages, "--sign"], ["seal", self.log, "--key"]):
+                ran = audit(*words, key, venue=["/nowhere/venue"])
+                self.assertEqual((ran.status, ran.out), (2, ""))
+                self.assertIn("openssl pkey", ran.err)
+        self.assertFalse(pages.exists())
+
     def test_a_request_that_the_day_does_not_have(self) -> None:
         """The folder is still empty, so that it can be written into."""
         pages = self.place / "pages"
@@ -247,7 +291,9 @@ class Commands(LogCase):
         self.assertIn("entry 336 is missing: behind 335 comes 1000000000000000", ran.out)
         ran = audit("page", self.log, self.place / "pages")
         self.assertEqual((ran.status, ran.err), (1, ""))
-        self.assertIn("336 entries, and a place 1000000000000000", ran.out)
+        self.assertIn("entry 336 is missing: behind 335 comes 1000000000000000", ran.out)
+        text = "entries: no pages are written of 336 entries with places up to 1000000000000000"
+        self.assertIn(text, ran.out)
         self.assertEqual(list((self.place / "pages").iterdir()), [])
 
     def test_a_page_of_a_day_with_a_fault(self) -> None:

@@ -4,6 +4,7 @@ gateway/ and docs/ say of them.
 
 import hashlib
 import unittest
+from dataclasses import dataclass
 from pathlib import Path
 from typing import Any
 
@@ -16,8 +17,8 @@ from mireseason_audit.faults import Wrong
 from mireseason_audit.findings import Finding
 from mireseason_audit.frame import fault_of, fields_of, framed
 from mireseason_audit.plain_wire import carries
-from mireseason_audit.records import Entry, Outgoing, Sent, configured, day_of
-from mireseason_audit.seal import Sealed, compared, read_seal, write_seal
+from mireseason_audit.records import Entry, Messages, Outgoing, Sent, configured, day_of
+from mireseason_audit.seal import Sealed, compared, first_of, read_seal, write_seal
 from mireseason_audit.wire import WireReader, carried, header_fault, parts_of
 
 
@@ -137,6 +138,7 @@ class Chains(unittest.TestCase):
             text = CONFIGURATION.replace(b"INV1", name.encode())
             self.assertRaisesRegex(Wrong, "has a firm named", configured, "", "", text)
         self.assertRaises(Wrong, configured, "", "", CONFIGURATION.replace(b'"INV1"', b"5"))
+        self.assertRaises(Wrong, configured, "", "", CONFIGURATION + b"x = " + b"[" * 100_000)
 
 
 class Wires(unittest.TestCase):
@@ -213,6 +215,11 @@ class OwnMessages(unittest.TestCase):
     def test_each_type(self) -> None:
         for kind in "01234", "5A":
             self.assertEqual([self.fault(one) for one in kind], [None] * len(kind))
+        for one, text in (
+            ("0|34=8|34=7", "its 34 is another"), ("0|49=X", "it is not of the venue"),
+            ("0|56=DLR2", "it is not of the venue"),
+        ):
+            self.assertRegex(self.fault(one) or "", text)
         for one in ("AI", "S", "R", "AJ", "AG", "8", "U", "", "00", "j", "AI|35=0"):
             self.assertRegex(self.fault(one) or "", "none that a session sends of itself")
             self.assertIsNone(self.fault(one, carries=True))
@@ -232,11 +239,25 @@ class Reports(unittest.TestCase):
         self.assertIn("\\x1b[2J\\u2028: entry 3: its moment X\\n", lines[-2])
 
 
+@dataclass(frozen=True)
+class KeptTexts:
+    """A log of which some texts are kept, by what is asked."""
+
+    texts: dict[tuple[str, int], str]
+
+    def hash_at(self, place: int) -> str:
+        return self.texts.get(("hash", place), "")
+
+    def first(self, word: str, firm: str, count: int) -> str:
+        return self.texts.get((word + " " + firm, count), "")
+
+
 class Seals(unittest.TestCase):
     """How a log ends, against its seal; each hundredth entry stands in it, and the last."""
 
-    def found(self, sealed: int, now: int) -> list[str]:
-        return [one.text for one in compared(self.seal(sealed), self.seal(now))]
+    def found(self, sealed: int, now: int, kept: str = "") -> list[str]:
+        texts = KeptTexts({("hash", sealed): kept})
+        return [one.text for one in compared(self.seal(sealed), self.seal(now), texts)]
 
     def seal(self, last: int) -> Sealed:
         hundredths = ["entry %d hash%d" % (place, place) for place in range(0, last + 1, 100)]
@@ -246,10 +267,35 @@ class Seals(unittest.TestCase):
         self.assertEqual(self.found(120, 120), [])
         behind = "the log goes on to entry 234, behind entry %d, the last that was sealed"
         self.assertEqual(self.found(200, 234), [behind % 200])
-        unknown = "; whether entries 101 to 120 are those is not known"
-        self.assertEqual(self.found(120, 234), [behind % 120 + unknown])
+        self.assertEqual(self.found(120, 234, "hash120"), [behind % 120])
         others = "from entry 101 to 120 they are not those that were sealed"
+        self.assertEqual(self.found(120, 234, "another"), [others + "; " + behind % 120])
         self.assertEqual(self.found(120, 110), [others + "; the log ends at entry 110"])
+
+    def test_messages_that_go_on(self) -> None:
+        """Those that were sealed are still there, or not."""
+        for word, whose in (("sent", "messages"), ("session", "messages of its session")):
+            for before, after, kept, text in (
+                ("2 d", "5 e", "2 d", "go on behind those that were sealed: 3 more"),
+                ("0 d", "1 e", "0 d", "go on behind those that were sealed: 1 more"),
+                ("2 d", "5 e", "2 x", "are not those that were sealed"),
+                ("5 d", "2 e", "5 d", "are not those that were sealed"),
+                ("2 d", "2 e", "2 d", "are not those that were sealed"),
+            ):
+                seal, now = (Sealed(("%s DLR1 %s" % (word, one),)) for one in (before, after))
+                texts = KeptTexts({(word + " DLR1", int(before[0])): kept})
+                (found,) = compared(seal, now, texts)
+                self.assertEqual((found.where, found.text), ("DLR1", "its %s %s" % (whose, text)))
+
+    def test_the_first_messages(self) -> None:
+        blocks = [
+            Messages((1, 2), (3, None), (b"a", b"b")), Messages((3,), (4,), (b"c",)),
+            Messages((4, 5), (5, 6), (b"d", b"e")),
+        ]
+        rows = [row for block in blocks for row in zip(*block)]
+        for count in range(7):
+            taken = [row for block in first_of(blocks, count) for row in zip(*block)]
+            self.assertEqual(taken, rows[:count])
 
     def test_each_changed_line(self) -> None:
         """Whatever else a seal says than the log: it is told."""
@@ -257,13 +303,14 @@ class Seals(unittest.TestCase):
         lines = ["title", *days, "configuration day c", "entry 0 a", "entry 100 b", "last 120 c"]
         lines += ["sent DLR1 2 d", "session DLR1 3 e", "sent INV1 0 f", "session INV1 1 g"]
         sealed = Sealed(tuple(lines))
-        self.assertEqual(list(compared(sealed, sealed)), [])
+        kept = KeptTexts({})
+        self.assertEqual(list(compared(sealed, sealed, kept)), [])
         for at in range(len(lines)):
             changes: list[list[str]] = [[lines[at] + "x"], [], [lines[at], lines[at]]]
             for other in changes:
                 now = Sealed((*lines[:at], *other, *lines[at + 1 :]))
-                self.assertTrue(list(compared(sealed, now)), (at, other))
-                self.assertTrue(list(compared(now, sealed)), (at, other))
+                self.assertTrue(list(compared(sealed, now, kept)), (at, other))
+                self.assertTrue(list(compared(now, sealed, kept)), (at, other))
 
     def test_a_version_in_two_lines(self) -> None:
         """A line ends at a line feed alone, in a seal as in entry 0."""

@@ -121,6 +121,10 @@ class Hears:
         return self.pipe.read_text()
 
 
+def squared(number: int) -> Job[int]:
+    return lambda step: number * number
+
+
 class Bars(unittest.TestCase):
     def test_a_bar_on_a_terminal_and_nothing_elsewhere(self) -> None:
         for stream, shown in ((Terminal(), True), (io.StringIO(), False)):
@@ -137,7 +141,7 @@ class Bars(unittest.TestCase):
     def test_jobs_in_processes(self) -> None:
         """Results come in the order of the jobs; a fault of a process is raised here."""
         progress = Progress(io.StringIO())
-        jobs: list[Job[int]] = [lambda step, at=at: at * at for at in range(9)]
+        jobs = [squared(at) for at in range(9)]
         self.assertEqual(run_jobs(plan_of(jobs), 3, progress), [at * at for at in range(9)])
         self.assertEqual(run_jobs(plan_of([]), 3, progress), [])
 
@@ -149,7 +153,9 @@ class Bars(unittest.TestCase):
 
         failing: Plan[int] = plan_of([*jobs, fails])
         ending: Plan[int] = plan_of([ends])
-        self.assertRaisesRegex(Unreadable, "this", run_jobs, failing, 2, progress)
+        with self.assertRaisesRegex(Unreadable, "^this$") as caught:
+            run_jobs(failing, 2, progress)
+        self.assertIn("in fails\n", "".join(caught.exception.__notes__))
         self.assertRaisesRegex(Unreadable, "status 3", run_jobs, ending, 1, progress)
 
     def test_jobs_that_wait_for_others(self) -> None:

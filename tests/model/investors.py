@@ -1,7 +1,7 @@
 #!/usr/bin/env python3
 """Holds what is said of investors, and of dealers that hear nothing, against the model on days that are drawn.
 
-usage: investors.py views DAYS | silence PAIRS | apart PAIRS | channels 1  [FIRST_SEED]
+usage: investors.py views DAYS | silence PAIRS | apart PAIRS | channels 1 | threads DAYS  [FIRST_SEED [PROGRAM]]
 
 `views`: what an investor was sent is its view of what was due to it, on days drawn as for `compare.py`.
 `silence`: two days on which nobody hits, and which are one but for the steps of other dealers: what was
@@ -9,16 +9,20 @@ due to a dealer is one list in both. `apart`: two days whose steps come one by o
 one side of the venue: the list of each firm there is one in both, and so are its messages. A pair whose
 steps are the same counts for nothing. `channels`: why a side is more than two investors that ask no dealer
 in common, and why no duties of the clock may be left: in two small days of each kind the lists differ.
+`threads`: as `views`, on days that `PROGRAM day` ran on threads: the list is that of an order of their
+actions that gives what was printed, which is searched as `lawful.py` does it.
 """
 
 import sys
 from collections.abc import Callable
+from functools import partial
 
 sys.dont_write_bytecode = True
 
 from configuration import Configuration, read_configuration
 from days import Day, Draw
-from lines import StepReader
+from lawful import Search, Threads, message_of, ran
+from lines import LineFault, StepReader
 from live import LiveDay
 from prices import price_text
 from replay import Venue, investor_alone, seen_by
@@ -271,12 +275,54 @@ def channels(_seed: int) -> tuple[int, list[str]]:
     return 2, faults
 
 
+# ---------------------------------------------------------------- threads
+
+
+class Heard(Threads):
+    """A venue of threads that keeps what is due to its firms."""
+
+    def __init__(self, configuration: Configuration) -> None:
+        super().__init__(configuration)
+        self.due = {firm: [] for firm in range(len(self.desks))}
+
+
+class Found(Search):
+    """The search, which keeps the venue behind the order that it found."""
+
+    venue: Venue | None = None
+
+    def is_end(self, venue: Threads) -> bool:
+        ended = super().is_end(venue)
+        if ended:
+            self.venue = venue
+        return ended
+
+
+def threads(program: str, seed: int) -> tuple[int, list[str]]:
+    """How many messages the investors of a day on threads were sent, and those whose view differs."""
+    try:
+        configuration, inboxes, wanted = ran(program, seed)
+        search = Found(inboxes, wanted)
+        if not search.finds(Heard(configuration)):
+            return 0, ["no order of its actions gives these messages"]
+    except (ValueError, LineFault, RuntimeError) as fault:
+        return 0, [str(fault)]
+    faults, sent = [], 0
+    for firm in range(len(configuration.dealers), len(configuration.firms)):
+        desk = investor_alone(seen_by(configuration, firm), search.venue.due[firm])
+        sent += len(desk.sent)
+        if [message_of(fields) for fields in desk.sent] != wanted[firm]:
+            faults.append("the view of %s" % configuration.firms[firm].name.decode())
+    return sent, faults
+
+
 TRIALS: dict[str, Callable[[int], tuple[int, list[str]]]] = {"views": views, "silence": silence, "apart": apart, "channels": channels}
 
 
 def main() -> None:
-    trial, count = TRIALS[sys.argv[1]], int(sys.argv[2])
-    first = int(sys.argv[3]) if len(sys.argv) > 3 else 1
+    words = sys.argv[1:]
+    trial = partial(threads, words[3]) if words[0] == "threads" else TRIALS[words[0]]
+    count, first = int(words[1]), int(words[2]) if len(words) > 2 else 1
     found = failed = 0
     for seed in range(first, first + count):
         weight, faults = trial(seed)

@@ -31,6 +31,7 @@ from replay import CLOCK, Venue
 Actor = int | str
 Place = tuple[str, object]
 Step = tuple[Actor, tuple]
+Inboxes = dict[Actor, list[tuple]]
 
 MOST_ACTIONS = 2_000_000  # that are tried in the search for one day; a lawful day takes some hundreds
 
@@ -46,6 +47,10 @@ class Message(NamedTuple):
     body: tuple[tuple[int, bytes], ...]
 
 
+def message_of(fields: list[tuple[int, bytes]]) -> Message:
+    return Message(fields[0][1], fields[4][1], tuple(fields[5:]))
+
+
 class Sent:
     """In the place of a desk's list of messages: how many there were, and those of the last action."""
 
@@ -56,7 +61,7 @@ class Sent:
         return self.before + len(self.new)
 
     def append(self, fields: list[tuple[int, bytes]]) -> None:
-        self.new.append(Message(fields[0][1], fields[4][1], tuple(fields[5:])))
+        self.new.append(message_of(fields))
 
 
 class Unheard:
@@ -127,7 +132,7 @@ def place_of(actor: Actor, duty: tuple) -> Place:
 class Search:
     """The search for an order of a day's actions."""
 
-    inboxes: dict[Actor, list[tuple]]
+    inboxes: Inboxes
     wanted: list[list[Message]]
     tried: int = 0
 
@@ -263,9 +268,9 @@ def day_of(seed: int) -> tuple[list[str], list[bytes]]:
     return day.head, lines_of(day)
 
 
-def inboxes_of(configuration: Configuration, lines: list[bytes]) -> dict[Actor, list[tuple]]:
+def inboxes_of(configuration: Configuration, lines: list[bytes]) -> Inboxes:
     reader = StepReader(configuration)
-    inboxes: dict[Actor, list[tuple]] = {actor: [] for actor in [*range(len(configuration.firms)), CLOCK]}
+    inboxes: Inboxes = {actor: [] for actor in [*range(len(configuration.firms)), CLOCK]}
     for line in lines:
         for step in reader.steps(line):
             inboxes[CLOCK if step[0] == "expire" else step[1]].append(step)
@@ -280,20 +285,25 @@ def sent_in(configuration: Configuration, output: bytes) -> list[list[Message]]:
         fields, messages = read_frame(frame.replace(b"|", SOH)), wanted[configuration.firm(name)]
         if fields is None or fields[3] != (34, b"%d" % (len(messages) + 1)):
             raise ValueError(line.decode())
-        messages.append(Message(fields[0][1], fields[4][1], tuple(fields[5:])))
+        messages.append(message_of(fields))
     return wanted
 
 
-def held(program: str, seed: int) -> tuple[str, int]:
-    """What is wrong with the day of this seed, or nothing; and how many messages it had."""
+def ran(program: str, seed: int) -> tuple[Configuration, Inboxes, list[list[Message]]]:
+    """The day of this seed and what each firm was sent on it; ValueError where the program tells a fault."""
     head, lines = day_of(seed)
     configuration = read_configuration("\n".join(head).encode())
     text = joined("\n".join(head).encode(), b"\n".join(lines))
     run = subprocess.run([program, "day", "--frames"], input=text, capture_output=True, timeout=600)
     if run.returncode != 0:
-        return "status %d: %s" % (run.returncode, run.stderr.decode()), 0
-    wanted = sent_in(configuration, run.stdout)
-    search = Search(inboxes_of(configuration, lines), wanted)
+        raise ValueError("status %d: %s" % (run.returncode, run.stderr.decode()))
+    return configuration, inboxes_of(configuration, lines), sent_in(configuration, run.stdout)
+
+
+def held(program: str, seed: int) -> tuple[str, int]:
+    """What is wrong with the day of this seed, or nothing; and how many messages it had."""
+    configuration, inboxes, wanted = ran(program, seed)
+    search = Search(inboxes, wanted)
     try:
         found = search.finds(Threads(configuration))
     except RuntimeError as fault:

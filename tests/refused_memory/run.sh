@@ -153,4 +153,3 @@ for test in frames::a_refused_configuration_is_read_again frames::a_refused_fram
     texts::refused_steps_are_read_again words::refused_memory_is_asked_for_again; do
     refuse_in_test "memory::$test"
 done
-refuse_in_test days::actors::refused_memory_is_never_passed_over

@@ -113,29 +113,12 @@ fn all_work<T: Wait + Abort + AllocGlobal>(
     Ok(())
 }
 
-/// The same for the day of [`LINES`].
-fn day_works<T: Wait + Abort + AllocGlobal>(rt: &T, gate: &Script) -> Result<(), Fail> {
-    let input = format!(in rt.alloc(); "{VENUE}{LINES}")?;
-    let arrivals = read_day(rt, input.as_str())?;
-    all_work(rt, arrivals, gate)?;
-    Ok(())
-}
-
 #[test]
 fn sessions_and_the_clock_do_all_duties(rt: HostRuntime) -> Result<(), Fail> {
     let gate = Script::new(STANDS);
-    day_works(&rt, &gate)?;
+    let input = format!(in rt.alloc(); "{VENUE}{LINES}")?;
+    let arrivals = read_day(&rt, input.as_str())?;
+    all_work(&rt, arrivals, &gate)?;
     assert!(rt; gate.is_done(), "each stands where it has to");
-    Ok(())
-}
-
-// A session or a clock to which memory is refused says so: where all of them end well, all is done.
-// `tests/refused_memory/run.sh` refuses each allocation in turn.
-#[test]
-fn refused_memory_is_never_passed_over(rt: HostRuntime) -> Result<(), Fail> {
-    let gate = Script::new(STANDS);
-    if day_works(&rt, &gate).is_ok() {
-        assert!(rt; gate.is_done(), "what ends well did not do all");
-    }
     Ok(())
 }

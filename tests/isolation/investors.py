@@ -1,0 +1,90 @@
+#!/usr/bin/env python3
+"""Pairs of days that agree on what is due to one investor, and on nothing else.
+
+Two days of one story (investor_days.py) are drawn. Where by the second implementation one list was
+due to INV1 in both, `PROGRAM replay INV1` has to print the same bytes for both: those of the view of
+that list.
+
+usage: investors.py PROGRAM PAIRS [FIRST_SEED [PROCESSES]]
+"""
+
+import multiprocessing
+import random
+import subprocess
+import sys
+from typing import NamedTuple
+
+sys.dont_write_bytecode = True
+
+from investor_days import Day, Story
+from lines import message_line  # of tests/model, as investor_days has it
+from replay import investor_alone, seen_by
+
+
+class Compared(NamedTuple):
+    """A pair: whether its lists are one, the messages of INV1, the input, and what is wrong."""
+
+    seed: int
+    equal: bool
+    messages: int
+    size: int
+    fault: str
+
+
+def printed(program: str, day: Day) -> bytes:
+    """What the program prints of INV1; RuntimeError where it tells a fault."""
+    words = [program, "replay", "INV1", "--frames"]
+    run = subprocess.run(words, input=day.text().encode(), capture_output=True, timeout=120)
+    if run.returncode != 0:
+        raise RuntimeError("status %d: %s" % (run.returncode, run.stderr.decode()))
+    return run.stdout
+
+
+def viewed(day: Day) -> bytes:
+    """The view of INV1's list, as the program prints it."""
+    desk = investor_alone(seen_by(day.configuration, day.one), day.venue.due[day.one])
+    return b"".join(message_line(b"INV1", fields, True) + b"\n" for fields in desk.sent)
+
+
+def compared(work: tuple[str, int]) -> Compared:
+    program, seed = work
+    days = [Day(Story(random.Random(seed)), random.Random("%d/%d" % (seed, n))) for n in (1, 2)]
+    one, other = days
+    lists = [day.venue.due[day.one] for day in days]
+    seen = [seen_by(day.configuration, day.one) for day in days]
+    outs = [printed(program, day) for day in days]
+    fault = ""
+    if one.head == other.head or one.lines == other.lines:
+        fault = "the days are one"
+    elif seen[0] != seen[1]:
+        fault = "the markets differ"
+    elif lists[0] == lists[1] and outs[0] != outs[1]:
+        fault = "one list, and other messages"
+    elif outs != [viewed(day) for day in days]:
+        fault = "other messages than the view of the list"
+    size = sum(len(day.text()) for day in days)
+    return Compared(seed, lists[0] == lists[1], outs[0].count(b"\n"), size, fault)
+
+
+def main() -> None:
+    program, pairs = sys.argv[1], int(sys.argv[2])
+    first = int(sys.argv[3]) if len(sys.argv) > 3 else 1
+    processes = int(sys.argv[4]) if len(sys.argv) > 4 else 2
+    equal = other = messages = size = 0
+    with multiprocessing.Pool(processes) as pool:
+        work = ((program, seed) for seed in range(first, 2**62))
+        for pair in pool.imap(compared, work, 16):
+            if pair.fault:
+                sys.exit("seed %d: %s" % (pair.seed, pair.fault))
+            equal, other = equal + pair.equal, other + (not pair.equal)
+            messages, size = messages + pair.messages, size + pair.size
+            if equal == pairs:
+                pool.terminate()
+                break
+    said = first, pair.seed, equal, messages
+    print("seeds %d to %d: %d pairs with equal lists, 0 with other messages; %d messages;" % said)
+    print("%d more whose lists differ; %d MB of input" % (other, size // 1_000_000))
+
+
+if __name__ == "__main__":
+    main()
