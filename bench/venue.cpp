@@ -1,7 +1,8 @@
 // A venue's day of auctions: an investor asks two dealers, each quotes and quotes again in the place of its first quote, and
 // the investor hits the second dealer's last quote.
 //
-//     venue day AUCTIONS                   prints it, as a configuration and step lines for `replay`
+//     venue day AUCTIONS [in | hex]        prints it, as a configuration and step lines for `replay`: each message field by
+//                                          field, or its frame byte by byte or digit by digit
 //     venue parse AUCTIONS ROUNDS [SENT]   QuickFIX parses the frames of its messages, with its checks of length and sum, and
 //                                          those that the venue sent for them, where a file of them is given
 //     venue serve AUCTIONS ROUNDS SENT     QuickFIX parses the frames that come, and builds and writes those that were sent:
@@ -52,21 +53,40 @@ static std::vector<Sent> auction(int number, const std::string& bar) {
     return sent;
 }
 
-static void print(int auctions) {
+static std::string frame(const Sent& one) {
+    return framed("35=" + one.type + "\x01" "49=" + one.firm + "\x01" "56=VENUE\x01" "34=" + std::to_string(one.number) +
+                  "\x01" "52=20250314-09:00:10.000\x01" "50=" + one.trader + "\x01" + one.fields + "\x01");
+}
+
+static std::string digits_of(const std::string& bytes) {
+    std::string digits;
+    for (const char byte : bytes) {
+        digits += "0123456789abcdef"[(byte >> 4) & 15];
+        digits += "0123456789abcdef"[byte & 15];
+    }
+    return digits;
+}
+
+// A message as a line of steps: `say`, `in` or `hex`.
+static std::string line(const Sent& one, const std::string& how) {
+    const std::string behind = " " + one.firm + " ";
+    if (how == "say") return how + behind + one.trader + " 09:00:10 " + one.type + " " + one.fields;
+    std::string bytes = frame(one);
+    if (how == "hex") return how + behind + "09:00:10 " + digits_of(bytes);
+    std::replace(bytes.begin(), bytes.end(), '\x01', '|');
+    return how + behind + "09:00:10 " + bytes;
+}
+
+static void print(int auctions, const std::string& how) {
     std::printf("version = 1\ndate = \"20250314\"\n[[bond]]\nid = \"BONDA0000001\"\n");
     for (int dealer = 1; dealer <= 2; ++dealer)
         std::printf("[[dealer]]\nname = \"DLR%d\"\ntraders = [\"T%d\"]\nquotes = 4096\nexposure = 1000000000000\n", dealer, dealer);
     std::printf("[[investor]]\nname = \"INV1\"\ntraders = [\"T8\"]\nrequests = 1024\nopen = 1024\nquantity = 5000000\n%%%%\n");
     for (int number = 1; number <= auctions; ++number)
-        for (const Sent& one : auction(number, "|")) {
-            std::printf("say %s %s 09:00:10 %s %s\n", one.firm.c_str(), one.trader.c_str(), one.type.c_str(), one.fields.c_str());
+        for (const Sent& one : auction(number, how == "say" ? "|" : "\x01")) {
+            std::printf("%s\n", line(one, how).c_str());
             std::printf("turn %s %d\n", one.firm.c_str(), one.type == "S" ? 2 : 4);
         }
-}
-
-static std::string frame(const Sent& one) {
-    return framed("35=" + one.type + "\x01" "49=" + one.firm + "\x01" "56=VENUE\x01" "34=" + std::to_string(one.number) +
-                  "\x01" "52=20250314-09:00:10.000\x01" "50=" + one.trader + "\x01" + one.fields + "\x01");
 }
 
 // The frames that `replay --frames` printed: each behind the name of its firm and a space, with bars for SOH.
@@ -148,8 +168,8 @@ static int serve(int rounds, const std::vector<std::string>& come, const std::ve
 int main(int count, char** words) {
     const std::string what = count > 2 ? words[1] : "";
     const int auctions = count > 2 ? std::atoi(words[2]) : 0, rounds = count > 3 ? std::atoi(words[3]) : 0;
-    if (what == "day" && count == 3) {
-        print(auctions);
+    if (what == "day" && count <= 4) {
+        print(auctions, count == 4 ? words[3] : "say");
         return 0;
     }
     std::vector<std::string> frames;

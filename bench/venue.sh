@@ -2,8 +2,8 @@
 # Instructions and time a message of `replay` on days of 10 to 1,000 auctions, 22 steps each, from the line that is read to
 # the answers that are printed; of `live` on the same messages; and of QuickFIX, which parses the frames of the same messages,
 # or of these and of all that the venue sends for them, with its checks of length and sum, or parses the former and builds and
-# writes the latter; and messages a second of `live --marks` and of `replay` over pipes (pipes.py). Needs g++, python3,
-# libquickfix-dev, valgrind and rt.
+# writes the latter; of `replay` where the messages come as frames, byte by byte or digit by digit; and messages a second of
+# `live --marks` and of `replay` over pipes (pipes.py). Needs g++, python3, libquickfix-dev, valgrind and rt.
 #
 #     bench/venue.sh [PROGRAM]
 set -e
@@ -46,6 +46,10 @@ for auctions in 10 100 1000; do
     floor=$(each_round serve $auctions "$make/sent")
     echo "    QuickFIX's parse of these and its writing of those: $((floor / 1000)) thousand, replay $((day / 1000)) thousand," \
         "$((day * 100 / floor)) of 100; live $((live / messages)) a line, $((live * 100 / day)) of 100 of replay"
+done
+for how in in hex; do
+    "$make/venue" day 1000 $how > "$make/text"
+    echo "6000 messages as \`$how\` lines: replay $((($(instructions "$program" replay < "$make/text") - none) / 6000)) each"
 done
 "$make/venue" day 1000 > "$make/text"
 replayed() { "$program" replay < "$make/text"; }

@@ -26,7 +26,7 @@ tables stands one caller of the crate, as it is proved.
 
 # A function that calls each crate, from a crate above: where it stands, and its name.
 CALLERS = {
-    "fix_fields": ("quote_messages/src/arrivals.rt", "turn_of"),
+    "fix_fields": ("quote_messages/src/arrivals.rt", "receive_dealer"),
     "bond_prices": ("dealer_desk/src/rules.rt", "if_on_grid"),
     "venue_rows": ("input_lines/src/line_steps.rt", "push_sweeps"),
     "venue_config": ("input_lines/src/venue_parts.rt", "read_venue"),

@@ -68,6 +68,11 @@ impl DealerDesk {
         })
     }
 
+    /// What its memory comes from.
+    pub fn alloc(&self) -> Global {
+        self.alloc
+    }
+
     /// The verdict on bytes that come at this moment: what the session and the market make of them.
     /// It may be handed to [`DealerDesk::take_judged`] as long as nothing else comes to the desk,
     /// so that a message is read and judged once. The quote whose word it asks has a number from 1

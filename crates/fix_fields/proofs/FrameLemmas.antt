@@ -3,7 +3,7 @@ use Rattle.std.proofs.Common.{◌≡◌, ◌≢◌, ℕ, ◌+◌, ◌-◌, ◌%�
 use Rattle.std.proofs.Common.{leb, List, [], ◌∷◌, ◌++◌, length, take, drop, sum, sym, ap, ◌∙◌}
 use Rattle.std.proofs.Common.{subst, refl, arith, inl, inr, suc, zero, append_assoc, length-append}
 use Rattle.std.proofs.Common.{zero-add, Option, Some, None, Result, Ok, Err}
-use Rattle.std.specs.Prelude.{codes, MatchResult}
+use Rattle.std.specs.Prelude.{codes, is_some, MatchResult}
 use Rattle.std.specs.Bool.{Decides}
 use Rattle.std.specs.Result.{result_ok}
 use Rattle.std.specs.List.{AllByRecursion, list_all}
@@ -12,6 +12,7 @@ use Rattle.std.specs.Str.Parse.{AllDigits, digits_value}
 use Rattle.std.proofs.lemmas.Bool.{cases_lt, cases_Bool, false≢true}
 use Rattle.std.proofs.lemmas.Bool.Decides.{Decides-eqb, Decides-and, Decides-ltb, Decides-not}
 use Rattle.std.proofs.lemmas.Bool.Decides.{nat_tests}
+use Rattle.std.proofs.lemmas.List.{take_rest}
 use Rattle.std.proofs.lemmas.List.Prefix.{end_rest}
 use Rattle.std.proofs.lemmas.Slice.Eq.{bytes_eq-Decides}
 use Rattle.std.proofs.Math.Seq.{take-append_seam, drop-append-add}
@@ -20,15 +21,15 @@ use Rattle.fix_fields.specs.Frame.{IsFrame, start_text, front_text, end_text, fi
 use Rattle.fix_fields.specs.Frame.{fields_of, is_tag, is_value, is_field, are_body}
 use Rattle.fix_fields.specs.Frame.{are_length_digits, are_sum_digits, builds, length_digits_of}
 use Rattle.fix_fields.specs.Frame.{body_of, sum_digits_of, frame_of}
-use Rattle.fix_fields.specs.Scan.{IsEnd}
+use Rattle.fix_fields.specs.Scan.{IsEnd, IsBodyText}
 use Rattle.fix_fields.specs.Garbled.{IsCut, Passes, PassesBefore, IsFault}
 use Rattle.fix_fields.specs.declared.fault.Garbled.{Garbled}
 use Rattle.fix_fields.specs.declared.fault.Garbled.TheVariants.{TooLong, Start, Length}
 use Rattle.fix_fields.specs.declared.fault.Garbled.TheVariants.{Field as NoField, End, Sum}
 use Rattle.fix_fields.proofs.Digits.{tested}
 use Rattle.fix_fields.proofs.FieldLemmas.{place_of, place_behind, free_digits, fields_of-text}
-use Rattle.fix_fields.proofs.FieldLemmas.{AreBody-lawful}
-use Rattle.fix_fields.proofs.CutLemmas.{rest_of_cut, cut_once, end_once}
+use Rattle.fix_fields.proofs.FieldLemmas.{AreBody-lawful, is_body_text}
+use Rattle.fix_fields.proofs.CutLemmas.{rest_of_cut, cut_once, end_once, body_fits}
 
 -- a frame is cut by BodyLength
 pub cut_of_frame : (bytes : List ℕ) (fields : List Field) (is : IsFrame bytes fields)
@@ -323,3 +324,48 @@ sum_of_frame bytes digits body tail sum_digits fields cut end frame =
     let same = cut_once bytes _ _ _ _ _ _ cut (cut_of_frame bytes fields frame) in
     let own = end_once sum_digits frame.sum_digits (sym end.is ∙ same.tail_same) in
     rw (own, same.digits_same, same.body_same) frame.sum_value
+
+-- where the body of bytes that are a frame stands: behind the first SOH behind BodyLength's tag
+abbrev pub behind_length_of : List ℕ → List ℕ
+behind_length_of bytes = drop (place_of 1 (drop 13 bytes) + 1) (drop 13 bytes)
+
+abbrev pub body_in : List ℕ → List ℕ
+body_in bytes = take (length (behind_length_of bytes) - 7) (behind_length_of bytes)
+
+-- the same as it is cut off the front
+pub behind_cut : (bytes rest : List ℕ) (n : ℕ) → rest ≡ drop 13 bytes → n ≡ place_of 1 rest
+    → take (length rest - (n + 1)) (drop (n + 1) rest) ≡ behind_length_of bytes
+behind_cut bytes rest n rest_is n_is =
+    take_rest rest (n + 1) ∙ ap (λ k. drop (k + 1) rest) n_is ∙ ap (λ t. drop (place_of 1 t + 1) t) rest_is
+
+pub record HasBody (bytes : List ℕ) : Type 0 where
+  pub ended : place_of 1 (drop 13 bytes) < length (drop 13 bytes)
+  pub seven : 7 ≤ length (behind_length_of bytes)
+  pub body : IsBodyText (body_in bytes)
+  pub frame : frame_of bytes ≡ Some (fields_of (body_in bytes))
+
+body_stands : (bytes : List ℕ) (fields : List Field) → IsFrame bytes fields → HasBody bytes
+unfolding body_of
+body_stands bytes fields is =
+    let body = fields_text fields in
+    let ending = end_text is.sum_digits in
+    let behind = body ++ ending in
+    let three = is.sum_is.three in
+    let rest = rest_of_frame bytes fields is in
+    let place : place_of 1 (drop 13 bytes) ≡ length is.length_digits = rw rest (length_at is.length_digits behind is.length_is.all_digits) in
+    let after : behind_length_of bytes ≡ behind =
+    rw (rest, length_at is.length_digits behind is.length_is.all_digits) (drop-append-add is.length_digits (1 ∷ behind) 1) in
+    let own : body_in bytes ≡ body = body_of-frame bytes fields is in
+    let fits = body_fits bytes is.length_digits body ending (cut_of_frame bytes fields is) in
+    record {
+      ended = omega (arith, place, ap length rest, length-append is.length_digits (1 ∷ behind));
+      seven = omega (arith, ap length after, length-append body ending, length-append is.sum_digits (1 ∷ []));
+      body = subst IsBodyText (sym own) (is_body_text body fits (record { fields = fields; body = is.body; is = refl }));
+      frame = frame_of-frame bytes fields is ∙ ap Some (sym (ap fields_of own ∙ fields_of-text fields (AreBody-lawful fields is.body)));
+    }
+
+pub has_body : (bytes : List ℕ) → is_some (frame_of bytes) ≡ true → HasBody bytes
+has_body bytes some = go (frame_of bytes) refl some where
+  go : (o : Option (List Field)) → frame_of bytes ≡ o → is_some o ≡ true → HasBody bytes
+  go None is none = absurd (false≢true none)
+  go (Some fields) is found = body_stands bytes fields (is_frame_of bytes fields is)

@@ -1,5 +1,5 @@
 -- The field at the front of a text that begins with a lawful one.
-use Rattle.std.proofs.Common.{◌≡◌, ◌≢◌, ℕ, ◌+◌, ◌<◌, ◌≤◌, ◌==◌, true, false, List, [], ◌∷◌, length}
+use Rattle.std.proofs.Common.{◌≡◌, ◌≢◌, ℕ, ◌+◌, ◌<◌, ◌≤◌, true, List, [], ◌∷◌, length}
 use Rattle.std.proofs.Common.{take, drop, get_or, sym, ap, ◌∙◌, refl, arith, inl, inr}
 use Rattle.std.specs.Char.{is_ascii_digit}
 use Rattle.std.specs.List.{AllByRecursion}
@@ -7,8 +7,7 @@ use Rattle.std.specs.Str.Parse.{digits_value}
 use Rattle.std.proofs.lemmas.Bool.Decides.{nat_tests}
 use Rattle.std.proofs.lemmas.Bool.{cases_lt}
 use Rattle.std.proofs.lemmas.List.{get_or-take, length-take}
-use Rattle.std.proofs.lemmas.List.Sums.{prefix_len-le-length, prefix_len_passes, passes_at_first}
-use Rattle.std.proofs.lemmas.List.Sums.{fails_before_first}
+use Rattle.std.proofs.lemmas.List.Sums.{prefix_len-le-length, prefix_len_passes}
 use Rattle.fix_fields.specs.Frame.{Field, IsField, fields_text, pieces_of, fields_of}
 use Rattle.fix_fields.specs.Scan.{BeginsWithField, IsFieldsText}
 use Rattle.fix_fields.proofs.Digits.{small}
@@ -33,28 +32,6 @@ pub at_equals : (text : List ℕ) (n : ℕ) → n ≤ tag_len text → get_or te
 at_equals text n most equals =
     elim (cases_lt n (tag_len text)) [
       | inl less ↦ (let digit = tag_digit text n less in absurd (grind (arith, nat_tests)))
-      | inr all ↦ omega arith
-    ]
-
--- another byte stands in front of the first of its kind
-pub before_place : (c : ℕ) (xs : List ℕ) (n : ℕ) → place_of c xs < length xs → n ≤ place_of c xs → get_or xs n 0 ≢ c → n + 1 ≤ place_of c xs
-before_place c xs n inside most other =
-    elim (cases_lt n (place_of c xs)) [
-      | inl less ↦ omega arith
-      | inr all ↦
-          (let end : n ≡ place_of c xs = omega arith in
-          let passes = passes_at_first (λ x. x == c) xs 0 inside in
-          let here : get_or xs (place_of c xs) 0 ≡ c = grind (arith, nat_tests) in
-          absurd (other (ap (λ k. get_or xs k 0) end ∙ here)))
-    ]
-
-pub other_before : (c : ℕ) (xs : List ℕ) (n : ℕ) → n < place_of c xs → (get_or xs n 0 == c) ≡ false
-other_before c xs n less = fails_before_first (λ x. x == c) xs n 0 less
-
-pub at_place : (c : ℕ) (xs : List ℕ) (n : ℕ) → n ≤ place_of c xs → get_or xs n 0 ≡ c → n ≡ place_of c xs
-at_place c xs n most here =
-    elim (cases_lt n (place_of c xs)) [
-      | inl less ↦ (let fails = other_before c xs n less in absurd (grind (arith, nat_tests)))
       | inr all ↦ omega arith
     ]
 

@@ -1,8 +1,11 @@
 pub mod Digits
 pub mod FieldLemmas
+pub mod BlockLemmas
 pub mod LawfulLemmas
 pub mod CutLemmas
 pub mod FrameLemmas
+pub mod TagLemmas
+pub mod SumLemmas
 pub mod WriterLemmas
 pub mod FrontLemmas
 pub mod CuttingLemmas

@@ -1,6 +1,7 @@
 //! Frames that are read.
-ghost use Rattle.std.specs.Prelude.{◌≡◌, ℕ, ◌+◌, ◌<◌, ◌≤◌, ◌%◌, ◌↔◌, List, Ok, Err, length, sum};
+ghost use Rattle.std.specs.Prelude.{◌≡◌, ℕ, ◌+◌, ◌<◌, ◌≤◌, ◌↔◌, List, Ok, Err, length};
 ghost use Rattle.std.specs.Prelude.{MatchOption, MatchResult, IfOk, OnOk, IfSome, Some, None};
+ghost use Rattle.std.specs.Prelude.{IsTrue, is_some};
 ghost use Rattle.std.specs.Option.{option_copied};
 ghost use Rattle.std.specs.Result.{result_ok};
 ghost use Rattle.std.specs.Str.Parse.{digits_value};
@@ -11,7 +12,8 @@ ghost use Rattle.fix_fields.specs.Scan.{IsEnd};
 
 use crate::fault::Garbled;
 use crate::limits::{MOST_BODY, MOST_FRAME};
-use crate::scan::{SOH, first_field, is_body, leading_number};
+use crate::scan::{SOH, first_field, is_body, leading_number, len_before_soh};
+use crate::sums::checksum;
 use std::marker::Model;
 
 /// The bytes that each frame begins with: BeginString (8), and the tag of BodyLength (9).
@@ -91,6 +93,16 @@ impl<'a> Model for Fields<'a> {
 
 impl<'a> Fields<'a> {
     ghost use Rattle.std.specs.Prelude.{◌≡◌};
+    ghost use Rattle.std.specs.List.{AllByRecursion};
+    ghost use Rattle.fix_fields.specs.Frame.{IsField, fields_text};
+
+    /// The bytes of these fields as they were read: SOH ends each.
+    pub fn as_bytes(&self) -> &'a [u8]
+        ensures text { result.now ≡ fields_text self.now }
+        ensures lawful { AllByRecursion IsField self.now }
+    {
+        self.rest
+    }
 
     /// The same fields once more, to be gone through apart.
     pub fn again(&self) -> Self
@@ -109,6 +121,7 @@ impl<'a> Iterator for Fields<'a> {
 
     ghost remaining = { item_count (λ rest. rest) };
 
+    #[inline(always)]
     fn next(&mut self) -> Option<(u32, &'a [u8])> {
         if self.rest.is_empty() {
             return None;
@@ -164,17 +177,6 @@ pub(crate) fn sum_of_end(tail: &[u8]) -> Option<u32>
     Some(sum)
 }
 
-/// The sum of bytes, modulo 256.
-pub(crate) fn checksum(bytes: &[u8]) -> u8
-    ensures { result ≡ sum bytes.now % 256 }
-{
-    let mut sum: u8 = 0;
-    for byte in bytes {
-        sum = sum.wrapping_add(*byte);
-    }
-    sum
-}
-
 /// Reads the frame that bytes are. Each fault comes where its check is the first, in the order of
 /// [`Garbled`], that the bytes do not pass. It takes no memory: the frame borrows the bytes.
 pub fn read_frame(bytes: &[u8]) -> Result<Frame<'_>, Garbled>
@@ -188,6 +190,20 @@ pub fn read_frame(bytes: &[u8]) -> Result<Frame<'_>, Garbled>
     ensures exact { result_ok result ≡ frame_of bytes.now }
 {
     read(bytes)
+}
+
+/// The frame of bytes that are known to be one, as those of a message that was written: its body is
+/// found, and nothing is tested again. It takes no memory.
+pub fn known_frame(bytes: &[u8]) -> Frame<'_>
+    requires { IsTrue (is_some (frame_of bytes.now)) }
+    ensures { frame_of bytes.now ≡ Some result }
+{
+    let rest = &bytes[START.len()..];
+    let digits = len_before_soh(rest);
+    let behind = &rest[digits + 1..];
+    let end = behind.len() - END_LEN;
+    let body = &behind[..end];
+    Frame { body }
 }
 
 /// The frame that bytes are, or the first check that they do not pass.

@@ -22,7 +22,8 @@
 //!
 //! - [`read_frame`] reads exactly the frames, and gives the fields that a frame was built from. No
 //!   bytes are a frame of two lists of fields. Other bytes have one fault, the first in the order
-//!   of [`Garbled`]. Reading takes no memory and copies nothing.
+//!   of [`Garbled`]. Reading takes no memory and copies nothing. [`known_frame`] gives the frame of
+//!   bytes that are known to be one, and tests nothing.
 //! - [`Frame::get`] is the value of the first field with a tag, [`Frame::times`] how many have it,
 //!   and [`Frame::fields`] goes over all of them in order.
 //! - What [`FrameWriter::finish`] returns is the frame of the fields that were written, with the
@@ -31,7 +32,7 @@
 //!   tells how much still fits. A call whose memory is refused leaves the writer as it was.
 //! - [`read_moment`] reads exactly the two spellings of a moment of its date, and tells what is no
 //!   spelling at all from what is one of another date. What [`moment_text`] returns is read back;
-//!   [`time_text`] is its part behind the date.
+//!   [`moment_bytes`] are its bytes, and [`time_text`] is its part behind the date.
 //!
 //! Not promised: that memory is there; calendar arithmetic, since a [`Date`] is any month from 01
 //! to 12 with any day from 01 to 31.
@@ -51,17 +52,18 @@ mod moments;
 mod scan;
 mod stream_laws;
 mod streams;
+mod sums;
 mod writer;
 
 pub use dates::Date;
 pub use fault::{Garbled, MomentFault, StreamFault};
-pub use frames::{Fields, Frame, read_frame};
+pub use frames::{Fields, Frame, known_frame, read_frame};
 pub use laws::{
     decimal_len_is_the_length, frame_of_is_the_reading, frames_have_one_reading,
     moment_of_is_the_reading,
 };
 pub use limits::{MOST_BODY, MOST_FRAME};
-pub use moments::{Moment, moment_text, read_moment, time_text};
+pub use moments::{Moment, moment_bytes, moment_text, read_moment, time_text};
 pub use stream_laws::{
     envelopes_of_is_the_cutting, frames_are_cut, pieces_make_no_difference,
     stream_faults_are_for_ever,

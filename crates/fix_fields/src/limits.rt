@@ -9,3 +9,6 @@ pub const MOST_BODY: usize = 4_071;
 
 /// How many milliseconds a day has.
 pub const A_DAY: u32 = 86_400_000;
+
+/// How many bytes are looked at together.
+pub(crate) const BLOCK: usize = 16;

@@ -2,6 +2,7 @@
 ghost use Rattle.std.specs.Prelude.{◌≡◌, ◌≢◌, ◌↔◌, ℕ, ◌+◌, ◌-◌, ◌*◌, ◌<◌, ◌≤◌, List, Ok, Err};
 ghost use Rattle.std.specs.Prelude.{◌∷◌, ◌++◌, length, take, drop, slice_index, SomeIff};
 ghost use Rattle.std.specs.Prelude.{MatchOption};
+ghost use Rattle.std.specs.Str.{IsUtf8};
 ghost use Rattle.fix_fields.specs.Frame.{IsValue};
 ghost use Rattle.fix_fields.specs.UtcTimestamp.{UtcTimestamp, moment_of, timestamp_text};
 ghost use Rattle.fix_fields.specs.UtcTimestamp.{two_digits};
@@ -159,16 +160,26 @@ pub fn moment_text(date: &Date, moment: Moment) -> ArrayString<21>
     ensures read_back { moment_of date.now result.bytes ≡ Ok moment }
     ensures value { IsValue result.bytes }
 {
-    let d = date.digits();
-    let t = time_bytes(moment);
-    let bytes = [
-        d[0], d[1], d[2], d[3], d[4], d[5], d[6], d[7], b'-', t[0], t[1], t[2], t[3], t[4], t[5],
-        t[6], t[7], t[8], t[9], t[10], t[11],
-    ];
+    let bytes = moment_bytes(date, moment);
     let Ok(text) = ArrayString::from_byte_string(&bytes) else {
         unreachable!();
     };
     text
+}
+
+/// The bytes of [`moment_text`], for a field of a frame.
+pub fn moment_bytes(date: &Date, moment: Moment) -> [u8; 21]
+    ensures text { result ≡ timestamp_text date.now moment }
+    ensures read_back { moment_of date.now result ≡ Ok moment }
+    ensures value { IsValue result }
+    ensures utf8 { IsUtf8 result }
+{
+    let d = date.digits();
+    let t = time_bytes(moment);
+    [
+        d[0], d[1], d[2], d[3], d[4], d[5], d[6], d[7], b'-', t[0], t[1], t[2], t[3], t[4], t[5],
+        t[6], t[7], t[8], t[9], t[10], t[11],
+    ]
 }
 
 /// The time of day of a moment, `HH:MM:SS.sss`: always with milliseconds. It is what stands behind

@@ -1,13 +1,15 @@
 //! The parts of a field, found at the front of a text.
-ghost use Rattle.std.specs.Prelude.{◌≡◌, ◌++◌, ◌==◌, ◌<◌, ◌≤◌, ◌↔◌, take, length, IsTrue};
+ghost use Rattle.std.specs.Prelude.{◌≡◌, ◌+◌, ◌++◌, ◌==◌, ◌<◌, ◌≤◌, ◌↔◌, take, length, IsTrue};
 ghost use Rattle.std.specs.Prelude.{MatchOption};
 ghost use Rattle.std.specs.List.{prefix_len, position_or_len};
 ghost use Rattle.std.specs.Char.{is_ascii_digit};
+ghost use Rattle.std.specs.Simd.Lanes.{chunk};
 ghost use Rattle.std.specs.Str.Parse.{digits_value};
 ghost use Rattle.fix_fields.specs.Frame.{IsField, field_text};
 ghost use Rattle.fix_fields.specs.Scan.{BeginsWithField, HoldsFields, HoldsBody};
 
-use memchr::memchr;
+use crate::limits::BLOCK;
+use std::simd::prelude::*;
 
 /// SOH, the byte that ends each field.
 pub(crate) const SOH: u8 = 1;
@@ -31,36 +33,53 @@ pub(crate) fn leading_number(text: &[u8], most: usize) -> (u32, usize)
     (value, count)
 }
 
-/// How many bytes of a value are looked at one by one, before a vector search pays.
-const NEAR: usize = 16;
-
-/// How many bytes stand before the first SOH, or all where there is none. Most values are short, so
-/// the first bytes are looked at one by one.
+/// How many bytes stand before the first SOH, or all where there is none.
 #[inline(always)]
 pub(crate) fn value_len(text: &[u8]) -> usize
     ensures fits { result ≤ length text.now }
     ensures place { result ≡ position_or_len (λ byte. byte == 1) text.now }
 {
     let mut len = 0;
-    while len < NEAR && len < text.len() {
+    while text.len() - len >= BLOCK {
+        let before = len_in_block(text, len);
+        if before != BLOCK {
+            return len + before;
+        }
+        len += BLOCK;
+    }
+    len + short_value_len(&text[len..])
+}
+
+/// How many bytes of the block at a place stand before its first SOH: all where there is none.
+#[inline(always)]
+fn len_in_block(text: &[u8], at: usize) -> usize
+    requires { at + BLOCK ≤ length text.now }
+    ensures few { result ≤ BLOCK }
+    ensures place { result ≡ position_or_len (λ byte. byte == 1) (chunk at 16 text.now) }
+{
+    let found = u8x16::from_slice(&text[at..])
+        .simd_eq(u8x16::splat(SOH))
+        .to_bitmask();
+    if found == 0 {
+        return BLOCK;
+    }
+    found.trailing_zeros() as usize
+}
+
+/// How many bytes stand before the first SOH, byte by byte: of the last ones, which are no block.
+#[inline(never)]
+fn short_value_len(text: &[u8]) -> usize
+    ensures fits { result ≤ length text.now }
+    ensures place { result ≡ position_or_len (λ byte. byte == 1) text.now }
+{
+    let mut len = 0;
+    while len < text.len() {
         if text[len] == SOH {
             return len;
         }
         len += 1;
     }
-    len + long_value_len(&text[len..])
-}
-
-/// The same by a vector search.
-#[inline(never)]
-fn long_value_len(text: &[u8]) -> usize
-    ensures fits { result ≤ length text.now }
-    ensures place { result ≡ position_or_len (λ byte. byte == 1) text.now }
-{
-    match memchr(SOH, text) {
-        Some(len) => len,
-        None => text.len(),
-    }
+    len
 }
 
 /// The tag and the value of the field at the front of a text, and what stands behind it.
@@ -106,22 +125,14 @@ fn lawful_tag(text: &[u8]) -> (u32, usize)
     (value, count)
 }
 
-/// How many bytes stand before the first SOH of a text that has one: as [`value_len`] finds it, but
-/// no byte is compared with the end.
+/// How many bytes stand before the first SOH of a text that has one.
 #[inline(always)]
-fn len_before_soh(text: &[u8]) -> usize
+pub(crate) fn len_before_soh(text: &[u8]) -> usize
     requires { position_or_len (λ byte. byte == 1) text.now < length text.now }
     ensures inside { result < length text.now }
     ensures place { result ≡ position_or_len (λ byte. byte == 1) text.now }
 {
-    let mut len = 0;
-    while len < NEAR {
-        if text[len] == SOH {
-            return len;
-        }
-        len += 1;
-    }
-    len + long_value_len(&text[len..])
+    value_len(text)
 }
 
 /// The tag and the value of the field that a text begins with, and what stands behind it. The field

@@ -1,15 +1,16 @@
 //! Frames that are written.
 ghost use Rattle.std.specs.Prelude.{◌≡◌, ◌+◌, ◌<◌, ◌≤◌, ◌↔◌, [], ◌∷◌, ◌++◌, length, decimal};
-ghost use Rattle.std.specs.Prelude.{IsTrue, IfOk, OnOk, OnErr, Some};
+ghost use Rattle.std.specs.Prelude.{IsTrue, IfOk, OnOk, OnErr, Some, vec_len, vec_capacity};
 ghost use Rattle.fix_fields.specs.Frame as spec;
 ghost use Rattle.fix_fields.specs.Frame.{Field, IsTag, IsValue, IsFrame, field_len, left_of};
 ghost use Rattle.fix_fields.specs.Frame.{field_text, frame_text, frame_of};
 ghost use Rattle.fix_fields.specs.Scan.{text_around};
 
 use crate::Memory;
-use crate::frames::{END_LEN, START, checksum};
+use crate::frames::{END_LEN, START};
 use crate::limits::MOST_BODY;
 use crate::scan::{SOH, value_len};
+use crate::sums::checksum;
 use itoa::{Buffer, write_digits};
 use std::alloc::Global;
 use std::marker::Model;
@@ -61,6 +62,7 @@ impl FrameWriter {
     /// Adds a field behind the others. The tag is lawful ([`is_tag`]), the value has no SOH
     /// ([`is_value`]), and the field fits into what is left ([`fits`]). The one error is that
     /// memory is refused; the frame is then as before.
+    #[inline(always)]
     pub fn text(&mut self, tag: u32, value: &[u8]) -> Result<(), Memory>
         requires tag { IsTag tag }
         requires value { IsValue value.now }
@@ -77,6 +79,7 @@ impl FrameWriter {
     /// Adds a field whose value is a number in decimal, without leading zeros. Tag, room and error
     /// are as for [`FrameWriter::text`]; [`decimal_len`] tells how many digits a number has, at
     /// most 20.
+    #[inline(always)]
     pub fn number(&mut self, tag: u32, value: u64) -> Result<(), Memory>
         requires tag { IsTag tag }
         requires room { field_len tag (spec.decimal_len value) ≤ left_of self.old }
@@ -153,19 +156,100 @@ pub fn decimal_len(n: u64) -> usize
     buffer.format(n).len()
 }
 
-/// Puts a field at the end of a body. Its tag and the equals sign have at most 11 bytes.
+/// Puts a field at the end of a body. Its tag and the equals sign have at most 11 bytes. It is
+/// inlined, as what it calls is, so that a tag which the caller writes as a number is a text once
+/// the program is built.
+#[inline(always)]
 fn push_field(body: &mut Vec<u8>, tag: u32, value: &[u8]) -> Result<(), Memory>
     requires { length value.now ≤ MOST_BODY }
     ensures ok { OnOk result (body.new.items ≡ body.old.items ++ field_text (tag, value.now)) }
     ensures err { OnErr result (body.new.items ≡ body.old.items) }
 {
-    let mut tag_text = [b'='; 11];
-    let start = write_digits(u64::from(tag), &mut tag_text, 10);
-    let front = &tag_text[start..];
-    body.reserve(front.len() + value.len() + 1)?;
-    body.extend_from_slice(front)?;
+    body.reserve(value.len() + 12)?;
+    push_tag(body, tag)?;
     body.extend_from_slice(value)?;
-    body.push(SOH)?;
+    body.push_reserved(SOH);
+    Ok(())
+}
+
+/// Puts a tag and the equals sign at the end of a body that has room for them. Most tags have two
+/// or three digits, and only a longer one is formatted.
+#[inline(always)]
+#[tactic(auto, using(crate::proofs::TagLemmas::decimal_of_one, crate::proofs::TagLemmas::decimal_of_two, crate::proofs::TagLemmas::decimal_of_three))]
+fn push_tag(body: &mut Vec<u8>, tag: u32) -> Result<(), Memory>
+    requires { vec_len body.old + 11 ≤ vec_capacity body.old }
+    ensures ok { OnOk result (body.new.items ≡ body.old.items ++ (decimal tag ++ 61 ∷ [])) }
+    ensures few { OnOk result (vec_len body.new ≤ vec_len body.old + 11) }
+    ensures capacity { OnOk result (vec_capacity body.old ≤ vec_capacity body.new) }
+    ensures err { OnErr result (body.new.items ≡ body.old.items) }
+{
+    let above = tag / 10;
+    let ones = b'0' + (tag % 10) as u8;
+    let tens = b'0' + (above % 10) as u8;
+    if tag < 10 {
+        push_two(body, ones, b'=');
+        return Ok(());
+    }
+    if tag < 100 {
+        push_three(body, tens, ones, b'=');
+        return Ok(());
+    }
+    if tag < 1_000 {
+        let hundreds = b'0' + (above / 10) as u8;
+        push_four(body, hundreds, tens, ones, b'=');
+        return Ok(());
+    }
+    push_long_tag(body, tag)?;
+    Ok(())
+}
+
+/// Puts two bytes at the end of a body that has room for them.
+#[inline(always)]
+fn push_two(body: &mut Vec<u8>, first: u8, second: u8)
+    requires { vec_len body.old + 2 ≤ vec_capacity body.old }
+    ensures items { body.new.items ≡ body.old.items ++ first ∷ second ∷ [] }
+    ensures len { vec_len body.new ≡ vec_len body.old + 2 }
+    ensures capacity { vec_capacity body.new ≡ vec_capacity body.old }
+{
+    body.push_reserved(first);
+    body.push_reserved(second);
+}
+
+/// The same of three.
+#[inline(always)]
+fn push_three(body: &mut Vec<u8>, first: u8, second: u8, third: u8)
+    requires { vec_len body.old + 3 ≤ vec_capacity body.old }
+    ensures items { body.new.items ≡ body.old.items ++ first ∷ second ∷ third ∷ [] }
+    ensures len { vec_len body.new ≡ vec_len body.old + 3 }
+    ensures capacity { vec_capacity body.new ≡ vec_capacity body.old }
+{
+    body.push_reserved(first);
+    push_two(body, second, third);
+}
+
+/// The same of four.
+#[inline(always)]
+fn push_four(body: &mut Vec<u8>, first: u8, second: u8, third: u8, fourth: u8)
+    requires { vec_len body.old + 4 ≤ vec_capacity body.old }
+    ensures items { body.new.items ≡ body.old.items ++ first ∷ second ∷ third ∷ fourth ∷ [] }
+    ensures len { vec_len body.new ≡ vec_len body.old + 4 }
+    ensures capacity { vec_capacity body.new ≡ vec_capacity body.old }
+{
+    body.push_reserved(first);
+    push_three(body, second, third, fourth);
+}
+
+/// The same of a tag of any length.
+#[inline(never)]
+fn push_long_tag(body: &mut Vec<u8>, tag: u32) -> Result<(), Memory>
+    ensures ok { OnOk result (body.new.items ≡ body.old.items ++ (decimal tag ++ 61 ∷ [])) }
+    ensures few { OnOk result (vec_len body.new ≤ vec_len body.old + 11) }
+    ensures capacity { OnOk result (vec_capacity body.old ≤ vec_capacity body.new) }
+    ensures err { OnErr result (body.new.items ≡ body.old.items) }
+{
+    let mut text = [b'='; 11];
+    let start = write_digits(u64::from(tag), &mut text, 10);
+    body.extend_from_slice(&text[start..])?;
     Ok(())
 }
 

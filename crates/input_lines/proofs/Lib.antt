@@ -1,3 +1,4 @@
+pub mod BarLemmas
 pub mod CutLemmas
 pub mod PartLemmas
 pub mod SayLemmas

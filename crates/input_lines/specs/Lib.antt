@@ -1,3 +1,4 @@
+pub mod BarLaws
 pub mod DueLines
 pub mod DueText
 pub mod Faults

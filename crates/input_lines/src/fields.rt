@@ -49,7 +49,7 @@ impl<'a> Field<'a> {
 }
 
 /// How many fields a usual BODY has at most: for so many there is room from the first on.
-const USUAL_FIELDS: usize = 8;
+const USUAL_FIELDS: usize = 16;
 
 /// The fields that vertical bars divide, one at the end allowed, or none where one of them is not
 /// of the form of a field. It fails for memory alone.
@@ -107,7 +107,7 @@ fn begins_with_zero(text: &[u8]) -> bool
 }
 
 /// Whether a value has no SOH.
-fn is_plain_value(value: &[u8]) -> bool
+pub(crate) fn is_plain_value(value: &[u8]) -> bool
     ensures { result ≡ spec.is_plain_value value.now }
 {
     value.iter().all(|c| *c != 1)

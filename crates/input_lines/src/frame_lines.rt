@@ -1,5 +1,5 @@
 //! A message that comes byte by byte, `TIME FRAME`, or digit by digit, `TIME HEX`.
-ghost use Rattle.std.specs.Prelude.{◌≡◌, ◌++◌, map, IfOk, OnOk};
+ghost use Rattle.std.specs.Prelude.{◌≡◌, map, IfOk};
 ghost use Rattle.std.specs.Result.{result_ok};
 ghost use Rattle.hex.specs.Hex.{decode_of};
 ghost use Rattle.input_lines.specs.SayLine as spec;
@@ -51,17 +51,6 @@ fn soh_for_bar(c: u8) -> u8
         return 1;
     }
     c
-}
-
-/// Puts the bytes of a message behind a text, with a vertical bar for each SOH. It fails for memory
-/// alone, and then some of them may stand there.
-pub fn push_barred(text: &mut Vec<u8>, message: &[u8]) -> Result<(), Memory>
-    ensures { OnOk result (text.new.items ≡ text.old.items ++ map spec.with_bar message.now) }
-{
-    for byte in message {
-        text.push(if *byte == 1 { b'|' } else { *byte })?;
-    }
-    Ok(())
 }
 
 /// What `TIME HEX` spells, or none where it is not of its form: the moment, and the bytes that the

@@ -36,6 +36,7 @@
 //! No call has a condition but those that say so; each returns, and only memory can be refused.
 #![tactic(auto)]
 
+mod bars;
 mod dealer_line;
 mod due_items;
 mod due_text;
@@ -53,11 +54,12 @@ mod step_lines;
 mod step_text;
 mod venue_parts;
 
+pub use bars::push_barred;
 pub use due_text::{DueText, read_due_text};
 pub use faults::{ProgramFault, UnkeptDay, UnwovenDay, fault_line};
 pub use fields::{Field, read_fields};
 pub use firm_streams::Heard;
-pub use frame_lines::{push_barred, read_received};
+pub use frame_lines::read_received;
 pub use line_steps::{Spelled, count_line, push_spelled, push_steps};
 pub use lines::{MOST_INPUT, Parts, SpokenLines, has_divider, is_skipped, one_past};
 pub use parts::{cut_part, read_side, read_time, same_text};

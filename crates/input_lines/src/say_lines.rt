@@ -5,11 +5,11 @@ ghost use Rattle.fix_fields.specs.Frame.{IsValue};
 ghost use Rattle.input_lines.specs.SayLine.{with_bar};
 ghost use Rattle.input_lines.specs.SayLine as spec;
 
-use crate::fields::{Field, read_fields};
-use crate::frame_lines::push_barred;
+use crate::bars::push_barred;
+use crate::fields::{Field, is_plain_value, read_fields};
 use crate::parts::{cut_part, read_time};
 use crate::say_frames::{begun_frame, finished, has_tag, with_all, with_header_field};
-use fix_fields::{Date, Memory, Moment, moment_text};
+use fix_fields::{Date, Memory, Moment, moment_bytes};
 use itoa::Buffer;
 use quote_messages::Message;
 use std::alloc::Global;
@@ -101,7 +101,8 @@ impl<'a> Said<'a> {
     }
 
     /// The message as a firm with this word as its name would send it, with a vertical bar for each
-    /// SOH in the word.
+    /// SOH in the word. A word without one is not copied.
+    #[tactic(auto, using(crate::proofs::BarLemmas::barred_plain, crate::proofs::TagLemmas::value_is_plain))]
     pub(crate) fn message_by(
         &self,
         alloc: Global,
@@ -112,6 +113,10 @@ impl<'a> Said<'a> {
         ensures { IfOk result (λ message.
             message ≡ spec.said_message date.now (map with_bar word.now) number self.now) }
     {
+        if is_plain_value(word) {
+            let message = self.framed(alloc, date, word, number)?;
+            return Ok(message);
+        }
         let word = with_bars(alloc, word)?;
         let message = self.framed(alloc, date, word.as_slice(), number)?;
         Ok(message)
@@ -132,12 +137,12 @@ impl<'a> Said<'a> {
     {
         let mut buffer = Buffer::new();
         let digits = buffer.format(number).as_bytes();
-        let time = moment_text(date, self.moment);
+        let time = moment_bytes(date, self.moment);
         let typed = begun_frame(alloc, self.msg_type)?;
         let sender = with_header_field(typed, &self.fields, 49, firm)?;
         let target = with_header_field(sender, &self.fields, 56, b"VENUE")?;
         let numbered = with_header_field(target, &self.fields, 34, digits)?;
-        let timed = with_header_field(numbered, &self.fields, 52, time.as_bytes())?;
+        let timed = with_header_field(numbered, &self.fields, 52, &time)?;
         let header = with_header_field(timed, &self.fields, 50, self.trader)?;
         let whole = with_all(header, &self.fields)?;
         let message = finished(whole)?;

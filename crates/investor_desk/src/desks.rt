@@ -73,6 +73,11 @@ impl InvestorDesk {
         })
     }
 
+    /// What its memory comes from.
+    pub fn alloc(&self) -> Global {
+        self.alloc
+    }
+
     /// Takes a message of the investor's own, whatever its bytes are, and gives what is left to be
     /// done in the room of its request. After an error the desk is as before.
     pub fn take(&mut self, moment: Moment, bytes: &[u8]) -> Result<Option<Duty>, Memory>

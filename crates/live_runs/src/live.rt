@@ -11,6 +11,7 @@ ghost use Rattle.live_runs.specs.Written.{GainsPart};
 
 use crate::line_forms::LineForm;
 use crate::output::{print_text, report};
+use fix_fields::Memory;
 use input_lines::{MOST_INPUT, ProgramFault, same_text};
 use std::alloc::Global;
 use std::io::{Read, Write};
@@ -22,6 +23,9 @@ pub const MOST_LINES: usize = 1_000_000_000_000_000;
 
 /// How many bytes are read at once.
 const CHUNK: usize = 16_384;
+
+/// How many bytes a line has room for at first: most lines have no more.
+const USUAL_LINE: usize = 160;
 
 /// How far a run has come.
 #[derive(Drop)]
@@ -226,7 +230,20 @@ fn put(line: &mut Vec<u8>, byte: u8) -> Result<(), ProgramFault>
     if line.len() >= MOST_INPUT {
         return Err(ProgramFault::Input);
     }
+    make_room(line)?;
     line.push(byte)?;
+    Ok(())
+}
+
+/// Before its first byte a line gets room for a usual one.
+#[inline(always)]
+fn make_room(line: &mut Vec<u8>) -> Result<(), Memory>
+    ensures { line.new.items ≡ line.old.items }
+{
+    if !line.is_empty() {
+        return Ok(());
+    }
+    line.reserve(USUAL_LINE)?;
     Ok(())
 }
 

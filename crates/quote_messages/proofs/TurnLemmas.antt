@@ -1,11 +1,10 @@
--- What becomes of bytes, by whether it is their turn.
+-- What becomes of a message, by whether it is its turn.
 use Rattle.std.proofs.Common.{◌≡◌, ℕ, Bool, true, false, cond, List, Option, Some, None, refl}
 use Rattle.std.specs.Prelude.{◌==◌, Result}
 use Rattle.std.specs.Str.Parse.{digits_value}
 use Rattle.fix_fields.specs.Frame.{Field}
-use Rattle.quote_messages.specs.Arrivals.{framed, numbered, in_sequence, sequence_number, reject_of}
-use Rattle.quote_messages.specs.Arrivals.{out_of_sequence}
-use Rattle.quote_messages.specs.Turns.{turn_by, turn_of}
+use Rattle.quote_messages.specs.Arrivals.{numbered, in_sequence, reject_of, out_of_sequence}
+use Rattle.quote_messages.specs.Turns.{turn_by}
 use Rattle.quote_messages.specs.declared.arrivals.Arrival.{Arrival}
 use Rattle.quote_messages.specs.declared.arrivals.Arrival.TheVariants as arrival
 use Rattle.quote_messages.specs.declared.arrivals.Turn.{Turn}
@@ -13,23 +12,18 @@ use Rattle.quote_messages.specs.declared.arrivals.Turn.TheVariants as turn
 use Rattle.quote_messages.specs.declared.session_faults.SessionFault.{SessionFault}
 
 -- what becomes of a message by its turn
-abbrev pub by_turn : {Message : Type 0} → (List Field → Result Message SessionFault) → Turn → Arrival Message
-by_turn verdict turn.Dropped = arrival.Dropped
-by_turn verdict (turn.OutOfSequence reject) = arrival.OutOfSequence reject
-by_turn verdict (turn.InSequence fields number) = in_sequence fields number (verdict fields)
+abbrev pub by_turn : {Message : Type 0} → List Field → Result Message SessionFault → Turn → Arrival Message
+by_turn fields verdict turn.Dropped = arrival.Dropped
+by_turn fields verdict (turn.OutOfSequence reject) = arrival.OutOfSequence reject
+by_turn fields verdict (turn.InSequence number) = in_sequence fields number verdict
 
-by_test : {Message : Type 0} (verdict : List Field → Result Message SessionFault) (fields : List Field) (number : List ℕ) (is : Bool)
-    → cond is (in_sequence fields number (verdict fields)) (arrival.OutOfSequence (reject_of fields number out_of_sequence))
-    ≡ by_turn verdict (cond is (turn.InSequence fields number) (turn.OutOfSequence (reject_of fields number out_of_sequence)))
-by_test verdict fields number true = refl
-by_test verdict fields number false = refl
+by_test : {Message : Type 0} (fields : List Field) (number : List ℕ) (verdict : Result Message SessionFault) (is : Bool)
+    → cond is (in_sequence fields number verdict) (arrival.OutOfSequence (reject_of fields number out_of_sequence))
+    ≡ by_turn fields verdict (cond is (turn.InSequence number) (turn.OutOfSequence (reject_of fields number out_of_sequence)))
+by_test fields number verdict true = refl
+by_test fields number verdict false = refl
 
-by_number : {Message : Type 0} (verdict : List Field → Result Message SessionFault) (expected : ℕ) (fields : List Field) (number : Option (List ℕ))
-    → numbered expected fields number (verdict fields) ≡ by_turn verdict (turn_by expected fields number)
-by_number verdict expected fields None = refl
-by_number verdict expected fields (Some number) = by_test verdict fields number (digits_value 10 number == expected)
-
-pub framed_by_turn : {Message : Type 0} (verdict : List Field → Result Message SessionFault) (expected : ℕ) (frame : Option (List Field))
-    → framed verdict expected frame ≡ by_turn verdict (turn_of expected frame)
-framed_by_turn verdict expected None = refl
-framed_by_turn verdict expected (Some fields) = by_number verdict expected fields (sequence_number fields)
+pub by_number : {Message : Type 0} (expected : ℕ) (fields : List Field) (number : Option (List ℕ)) (verdict : Result Message SessionFault)
+    → numbered expected fields number verdict ≡ by_turn fields verdict (turn_by expected fields number)
+by_number expected fields None verdict = refl
+by_number expected fields (Some number) verdict = by_test fields number verdict (digits_value 10 number == expected)

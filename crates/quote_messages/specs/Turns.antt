@@ -7,15 +7,14 @@ use Rattle.quote_messages.specs.declared.arrivals.Turn.{Turn}
 use Rattle.quote_messages.specs.declared.arrivals.Turn.TheVariants.{Dropped, OutOfSequence}
 use Rattle.quote_messages.specs.declared.arrivals.Turn.TheVariants.{InSequence}
 
--- the turn of a frame with this MsgSeqNum, or without a readable one
+-- the turn of a message with this MsgSeqNum, or without a readable one
 abbrev pub turn_by : ℕ → List Field → Option (List ℕ) → Turn
 turn_by expected fields None = Dropped
 turn_by expected fields (Some number) =
     if digits_value 10 number == expected
-    then InSequence fields number
+    then InSequence number
     else OutOfSequence (reject_of fields number out_of_sequence)
 
--- the turn of bytes, by the fields of their frame
-abbrev pub turn_of : ℕ → Option (List Field) → Turn
-turn_of expected None = Dropped
-turn_of expected (Some fields) = turn_by expected fields (sequence_number fields)
+-- the turn of a message, by its fields
+abbrev pub turn_of : ℕ → List Field → Turn
+turn_of expected fields = turn_by expected fields (sequence_number fields)

@@ -1,12 +1,14 @@
 //! What the session makes of bytes that came from a firm.
 ghost use Rattle.std.specs.Prelude.{◌≡◌, ◌+◌, ◌<◌, ◌^◌, option_and_then};
-ghost use Rattle.fix_fields.specs.Frame.{frame_of, value_of};
+ghost use Rattle.fix_fields.specs.Frame.{value_of};
 ghost use Rattle.venue_rows.specs.Texts.{text_if};
 ghost use Rattle.quote_messages.specs.Texts.{is_msg_type};
 ghost use Rattle.quote_messages.specs.Arrivals as spec;
 ghost use Rattle.quote_messages.specs.Turns as turns;
 ghost use Rattle.quote_messages.specs.Arrivals.{dealer_arrival, investor_arrival, sequence_number};
-ghost use Rattle.quote_messages.specs.Arrivals.{reject_of, out_of_sequence};
+ghost use Rattle.quote_messages.specs.Arrivals.{numbered, reject_of, out_of_sequence};
+ghost use Rattle.quote_messages.specs.SessionChecks.{dealer_session_verdict};
+ghost use Rattle.quote_messages.specs.SessionChecks.{investor_session_verdict};
 
 use crate::dealer_checks::judge_dealer;
 use crate::investor_checks::judge_investor;
@@ -33,7 +35,7 @@ pub enum Arrival<'a, M: Drop> {
 }
 
 /// What becomes of bytes that came from a dealer, whose next expected MsgSeqNum (34) is this.
-#[tactic(auto, using(crate::proofs::TurnLemmas::framed_by_turn), unfolding(crate::specs::Arrivals::dealer_arrival))]
+#[tactic(auto, unfolding(crate::specs::Arrivals::dealer_arrival))]
 pub fn receive_dealer<'a>(
     date: &Date,
     row: &DealerRow,
@@ -42,17 +44,37 @@ pub fn receive_dealer<'a>(
 ) -> Arrival<'a, DealerMessage<'a>>
     ensures exact { result ≡ dealer_arrival date.now row.now expected bytes.now }
 {
-    match turn_of(expected, bytes) {
+    let Ok(frame) = read_frame(bytes) else {
+        return Arrival::Dropped;
+    };
+    let message = FieldSlots::of(&frame);
+    let arrival = framed_dealer(date, row, expected, &message);
+    arrival
+}
+
+/// The same of a frame whose fields were gone over.
+#[inline(always)]
+#[tactic(auto, using(crate::proofs::TurnLemmas::by_number))]
+fn framed_dealer<'a>(
+    date: &Date,
+    row: &DealerRow,
+    expected: u64,
+    message: &FieldSlots<'a>,
+) -> Arrival<'a, DealerMessage<'a>>
+    ensures { result ≡ numbered expected message.now (sequence_number message.now)
+        (dealer_session_verdict date.now row.now message.now) }
+{
+    match turn_of(expected, message) {
         Turn::Dropped => Arrival::Dropped,
         Turn::OutOfSequence(reject) => Arrival::OutOfSequence(reject),
-        Turn::InSequence(message, number) => {
-            in_sequence(&message, number, judge_dealer(date, row, &message))
+        Turn::InSequence(number) => {
+            in_sequence(message, number, judge_dealer(date, row, message))
         }
     }
 }
 
 /// What becomes of bytes that came from an investor, whose next expected MsgSeqNum (34) is this.
-#[tactic(auto, using(crate::proofs::TurnLemmas::framed_by_turn), unfolding(crate::specs::Arrivals::investor_arrival))]
+#[tactic(auto, unfolding(crate::specs::Arrivals::investor_arrival))]
 pub fn receive_investor<'a>(
     date: &Date,
     row: &InvestorRow,
@@ -61,42 +83,58 @@ pub fn receive_investor<'a>(
 ) -> Arrival<'a, InvestorMessage<'a>>
     ensures exact { result ≡ investor_arrival date.now row.now expected bytes.now }
 {
-    match turn_of(expected, bytes) {
+    let Ok(frame) = read_frame(bytes) else {
+        return Arrival::Dropped;
+    };
+    let message = FieldSlots::of(&frame);
+    let arrival = framed_investor(date, row, expected, &message);
+    arrival
+}
+
+/// The same of a frame whose fields were gone over.
+#[inline(always)]
+#[tactic(auto, using(crate::proofs::TurnLemmas::by_number))]
+fn framed_investor<'a>(
+    date: &Date,
+    row: &InvestorRow,
+    expected: u64,
+    message: &FieldSlots<'a>,
+) -> Arrival<'a, InvestorMessage<'a>>
+    ensures { result ≡ numbered expected message.now (sequence_number message.now)
+        (investor_session_verdict date.now row.now message.now) }
+{
+    match turn_of(expected, message) {
         Turn::Dropped => Arrival::Dropped,
         Turn::OutOfSequence(reject) => Arrival::OutOfSequence(reject),
-        Turn::InSequence(message, number) => {
-            in_sequence(&message, number, judge_investor(date, row, &message))
+        Turn::InSequence(number) => {
+            in_sequence(message, number, judge_investor(date, row, message))
         }
     }
 }
 
-/// Whether it is the turn of bytes that came: a frame with the expected MsgSeqNum (34).
+/// Whether it is the turn of a message that came: it has the expected MsgSeqNum (34).
 #[derive(Drop)]
 pub(crate) enum Turn<'a> {
-    /// The bytes are no frame, or have no readable MsgSeqNum.
+    /// The message has no readable MsgSeqNum.
     Dropped,
     /// MsgSeqNum is not the expected one.
     OutOfSequence(Reject<'a>),
-    /// The message, and its MsgSeqNum.
-    InSequence(FieldSlots<'a>, SeqNum<'a>),
+    /// It is the message's turn, by this MsgSeqNum.
+    InSequence(SeqNum<'a>),
 }
 
-/// Whether it is the turn of bytes, where this MsgSeqNum (34) is expected.
+/// Whether it is the turn of a message, where this MsgSeqNum (34) is expected.
 #[inline(always)]
-fn turn_of<'a>(expected: u64, bytes: &'a [u8]) -> Turn<'a>
-    ensures { result ≡ turns.turn_of expected (frame_of bytes.now) }
+fn turn_of<'a>(expected: u64, message: &FieldSlots<'a>) -> Turn<'a>
+    ensures { result ≡ turns.turn_of expected message.now }
 {
-    let Ok(frame) = read_frame(bytes) else {
-        return Turn::Dropped;
-    };
-    let message = FieldSlots::of(&frame);
-    let Some(number) = sequence_number(&message) else {
+    let Some(number) = sequence_number(message) else {
         return Turn::Dropped;
     };
     if number.get() != expected {
-        return Turn::OutOfSequence(reject_of(&message, number, out_of_sequence()));
+        return Turn::OutOfSequence(reject_of(message, number, out_of_sequence()));
     }
-    Turn::InSequence(message, number)
+    Turn::InSequence(number)
 }
 
 /// What becomes of a message in its turn: it met a session fault, or says this.

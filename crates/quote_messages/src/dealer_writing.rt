@@ -11,7 +11,7 @@ use crate::field_writing::{
     notice_name, price_tag, price_value, put_answer, put_bond, put_party, request_name,
 };
 use crate::{CancelStatus, Close, ClosingNotice, Id, QuoteRejectReason, Request};
-use fix_fields::{Date, FrameWriter, Memory, moment_text};
+use fix_fields::{Date, FrameWriter, Memory, moment_bytes};
 
 /// The fields of a QuoteRequest to a dealer.
 pub(crate) fn put_request(
@@ -29,7 +29,7 @@ pub(crate) fn put_request(
     put_bond(writer, ask.bond)?;
     writer.number(54, ask.side.code())?;
     writer.number(38, ask.quantity.get())?;
-    writer.text(126, moment_text(date, ask.deadline).as_bytes())?;
+    writer.text(126, &moment_bytes(date, ask.deadline))?;
     put_party(writer, &ask.investor, b"13")?;
     Ok(())
 }

@@ -12,7 +12,7 @@ use crate::field_writing::{
 };
 use crate::{HitRefusal, Id, PassStatus, Quantity, RequestRejectReason, ShownQuote, Side};
 use bond_prices::Ticks;
-use fix_fields::{Date, FrameWriter, Memory, Moment, moment_text};
+use fix_fields::{Date, FrameWriter, Memory, Moment, moment_bytes};
 use venue_rows::Name;
 
 /// QuoteReqID (131) and QuoteStatus (297) of a report on a request.
@@ -103,7 +103,7 @@ fn put_valid_until(
     let Some(until) = until else {
         return Ok(());
     };
-    writer.text(62, moment_text(date, until).as_bytes())?;
+    writer.text(62, &moment_bytes(date, until))?;
     Ok(())
 }
 

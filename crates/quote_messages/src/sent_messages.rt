@@ -2,7 +2,7 @@
 ghost use Rattle.std.specs.Prelude.{◌≡◌, ◌≤◌, ℕ, List, Some, length, IsTrue, is_some};
 ghost use Rattle.fix_fields.specs.Frame.{frame_of};
 
-use fix_fields::{Frame, read_frame};
+use fix_fields::{Frame, known_frame};
 use std::marker::Model;
 
 /// A message that the venue sends: its bytes are a frame. A contract sees the list of them.
@@ -28,11 +28,11 @@ impl SentMessage {
         SentMessage { bytes }
     }
 
-    /// The frame that the bytes are: it is read without fail.
+    /// The frame that the bytes are. It is not tested again.
     pub fn frame(&self) -> Frame<'_>
         ensures { frame_of self.now ≡ Some result }
     {
-        read_frame(self.bytes.as_slice()).unwrap()
+        known_frame(self.bytes.as_slice())
     }
 
     /// The bytes.

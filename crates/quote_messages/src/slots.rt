@@ -68,6 +68,8 @@ impl<'a> Model for FieldSlots<'a> {
 
 impl<'a> FieldSlots<'a> {
     /// The fields of a frame, gone over once.
+    // Inlined, as the next function is, so that the slots are filled where they stay.
+    #[inline(always)]
     pub(crate) fn of(frame: &Frame<'a>) -> Self
         ensures { result ≡ frame.now }
     {
@@ -95,6 +97,7 @@ impl<'a> FieldSlots<'a> {
 }
 
 /// The slots of fields.
+#[inline(always)]
 fn filled(fields: Fields<'_>) -> [Slot<'_>; SLOTS]
     ensures { AreFilled result fields.entry }
 {

@@ -13,7 +13,7 @@ use crate::investor_writing::{
     put_request_status, put_shown_quote, put_unknown_hit,
 };
 use crate::{Head, OutMessage, SentMessage};
-use fix_fields::{Date, FrameWriter, Memory, moment_text};
+use fix_fields::{Date, FrameWriter, Memory, moment_bytes};
 use std::alloc::Global;
 
 /// The message to a firm, the frame of its fields. It fails only for memory.
@@ -85,6 +85,6 @@ fn header(alloc: Global, msg_type: &[u8], head: &Head) -> Result<FrameWriter, Me
     writer.text(49, b"VENUE")?;
     writer.text(56, head.firm.as_bytes())?;
     writer.number(34, head.number)?;
-    writer.text(52, moment_text(&head.date, head.moment).as_bytes())?;
+    writer.text(52, &moment_bytes(&head.date, head.moment))?;
     Ok(writer)
 }

@@ -62,6 +62,11 @@ impl Room {
         }
     }
 
+    /// What its memory comes from.
+    pub fn alloc(&self) -> Global {
+        *self.events.allocator()
+    }
+
     /// Opens a vacant room for a request (QuoteRequest 35=R) of these dealers, named by their
     /// numbers among the firms. It fails for memory alone, and then the room is as before.
     pub fn open(&mut self, ask: Ask, dealers: AskedDealers) -> Result<(), Memory>

@@ -3,6 +3,7 @@ ghost use Rattle.std.specs.Prelude.{◌≡◌, [], None};
 
 use market_terms::Duty;
 use quote_word::Settled;
+use std::alloc::Global;
 use venue_steps::Duties;
 
 /// What an action left: the duties that follow, and the word that it asked, with its answer.
@@ -21,10 +22,10 @@ impl Done {
     }
 
     /// An action at a place that the venue does not have.
-    pub(crate) fn nothing() -> Self
+    pub(crate) fn nothing(alloc: Global) -> Self
         ensures duties { result.duties.items ≡ [] }
         ensures unasked { result.word ≡ None }
     {
-        Done::unasked(Duties::new())
+        Done::unasked(Duties::new(alloc))
     }
 }

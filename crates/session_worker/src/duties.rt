@@ -25,7 +25,7 @@ impl<J: Naming> SharedVenue<J> {
         requires { acting.now.board.now ≡ J.board }
     {
         let Some(arrival) = placed(&self.config, acting.by, duty) else {
-            return Ok(Done::nothing());
+            return Ok(Done::nothing(self.alloc));
         };
         let done = self.bring(rt, acting, arrival)?;
         Ok(done)
@@ -42,7 +42,7 @@ impl<J: Naming> SharedVenue<J> {
         requires { acting.now.board.now ≡ J.board }
     {
         let Some(arrival) = swept(&self.config, room, moment) else {
-            return Ok(Done::nothing());
+            return Ok(Done::nothing(self.alloc));
         };
         let done = self.bring(rt, acting, arrival)?;
         Ok(done)
@@ -81,7 +81,7 @@ impl<J: Naming> SharedVenue<J> {
         what: ForDealer,
     ) -> Result<Done, Memory> {
         let Some(mut desk) = self.lock_dealer(rt, firm) else {
-            return Ok(Done::nothing());
+            return Ok(Done::nothing(self.alloc));
         };
         let done = desk.bring(action, firm, what)?;
         Ok(done)
@@ -99,7 +99,7 @@ impl<J: Naming> SharedVenue<J> {
         requires { acting.now.board.now ≡ J.board }
     {
         let Some(mut desk) = self.lock_dealer(rt, firm) else {
-            return Ok(Done::nothing());
+            return Ok(Done::nothing(self.alloc));
         };
         let done = desk.drop_next(acting, firm, last, moment)?;
         Ok(done)
@@ -114,7 +114,7 @@ impl<J: Naming> SharedVenue<J> {
         what: ForInvestor,
     ) -> Result<Done, Memory> {
         let Some(mut desk) = self.lock_investor(rt, firm) else {
-            return Ok(Done::nothing());
+            return Ok(Done::nothing(self.alloc));
         };
         let done = desk.bring(action, firm, what)?;
         Ok(done)
@@ -129,7 +129,7 @@ impl<J: Naming> SharedVenue<J> {
         what: ForRoom,
     ) -> Result<Done, Memory> {
         let Some(mut room) = self.lock_room(rt, at) else {
-            return Ok(Done::nothing());
+            return Ok(Done::nothing(self.alloc));
         };
         let done = room.bring(action, at, what)?;
         Ok(done)
@@ -148,7 +148,7 @@ impl<J: Naming> SharedVenue<J> {
         requires { acting.now.board.now ≡ J.board }
     {
         let Some(mut room) = self.lock_room(rt, at) else {
-            return Ok(Done::nothing());
+            return Ok(Done::nothing(self.alloc));
         };
         let done = room.hit(acting, at, response, word, moment)?;
         Ok(done)
@@ -165,7 +165,7 @@ impl<J: Naming> SharedVenue<J> {
         requires { acting.now.board.now ≡ J.board }
     {
         let Actor::Firm(firm) = acting.by else {
-            return Ok(Done::nothing());
+            return Ok(Done::nothing(self.alloc));
         };
         let Some(mut desk) = self.lock_dealer(rt, firm) else {
             let done = self.investor_says(rt, acting, firm, moment, bytes)?;
@@ -187,7 +187,7 @@ impl<J: Naming> SharedVenue<J> {
         requires { acting.now.by ≡ actor.Firm firm }
     {
         let Some(mut desk) = self.lock_investor(rt, firm) else {
-            return Ok(Done::nothing());
+            return Ok(Done::nothing(self.alloc));
         };
         let action = (acting.by, acting.number);
         let done = desk.own(action, moment, bytes)?;

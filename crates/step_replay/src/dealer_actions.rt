@@ -18,7 +18,7 @@ impl Floor {
             self.old self.new duties.items) }
     {
         let Some(place) = self.dealers.get_mut(usize::from(dealer)) else {
-            return Ok(Duties::new());
+            return Ok(self.nothing());
         };
         let duties = bring_to_dealer(&mut place.desk, what)?;
         Ok(duties)
@@ -38,7 +38,7 @@ impl Floor {
     {
         what_is_asked_is_of_the_day();
         let Some(place) = self.dealers.get_mut(usize::from(dealer)) else {
-            return Ok(Duties::new());
+            return Ok(self.nothing());
         };
         let first = place.first_word;
         let duties = own_dealer(&mut place.desk, &mut self.words, first, moment, bytes)?;
@@ -59,7 +59,7 @@ impl Floor {
     {
         what_is_asked_is_of_the_day();
         let Some(place) = self.dealers.get_mut(usize::from(dealer)) else {
-            return Ok(Duties::new());
+            return Ok(self.nothing());
         };
         let first = place.first_word;
         let duties = do_drop(&mut place.desk, &mut self.words, first, last, moment)?;

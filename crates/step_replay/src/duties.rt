@@ -17,7 +17,7 @@ pub(crate) fn act(floor: &mut Floor, by: Actor, duty: Duty) -> Result<Duties, Me
         floor.old floor.new duties.items) }
 {
     let Some(arrival) = placed(&floor.config, by, duty) else {
-        return Ok(Duties::new());
+        return Ok(floor.nothing());
     };
     let duties = bring(floor, arrival)?;
     Ok(duties)
@@ -30,13 +30,15 @@ pub(crate) fn sweep(floor: &mut Floor, room: RoomRef, moment: Moment) -> Result<
         floor.old floor.new duties.items) }
 {
     let Some(arrival) = swept(&floor.config, room, moment) else {
-        return Ok(Duties::new());
+        return Ok(floor.nothing());
     };
     let duties = bring(floor, arrival)?;
     Ok(duties)
 }
 
 /// What comes to a place is brought to it.
+// Inlined, so that what comes is not moved once more.
+#[inline(always)]
 fn bring(floor: &mut Floor, arrival: Arrival) -> Result<Duties, Memory>
     ensures { IfOk result (λ duties. ActsOnce
         (λ config facts. coming.arrival_effect config facts arrival)

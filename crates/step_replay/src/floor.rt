@@ -1,9 +1,12 @@
 //! The places of a venue while it replays a day: the desks, the rooms and the words.
+ghost use Rattle.std.specs.Prelude.{◌≡◌, []};
+
 use dealer_desk::DealerDesk;
 use investor_desk::InvestorDesk;
 use quote_word::PlainWords;
 use request_room::Room;
 use venue_rows::VenueConfig;
+use venue_steps::Duties;
 
 /// The place of a dealer.
 #[derive(Drop)]
@@ -47,4 +50,13 @@ pub(crate) struct Floor {
     pub(crate) words: PlainWords,
     /// The number of the dealer whose quote has a word, for each word.
     pub(crate) owners: Vec<u16>,
+}
+
+impl Floor {
+    /// No duties.
+    pub(crate) fn nothing(&self) -> Duties
+        ensures { result.items ≡ [] }
+    {
+        Duties::new(*self.dealers.allocator())
+    }
 }

@@ -25,7 +25,7 @@ impl Floor {
             self.old self.new duties.items) }
     {
         let Some((investor, index)) = self.room_place(room) else {
-            return Ok(Duties::new());
+            return Ok(self.nothing());
         };
         let place = &mut self.investors[investor].rooms[index];
         let duties = do_hit(place, &mut self.words, room, response, word, moment)?;

@@ -36,10 +36,10 @@ impl Floor {
             self.old self.new duties.items) }
     {
         let Some(at) = place_of(firm, self.dealers.len()) else {
-            return Ok(Duties::new());
+            return Ok(self.nothing());
         };
         let Some(place) = self.investors.get_mut(at) else {
-            return Ok(Duties::new());
+            return Ok(self.nothing());
         };
         let duties = own_investor(&mut place.desk, moment, bytes)?;
         Ok(duties)
@@ -53,10 +53,10 @@ impl Floor {
             self.old self.new duties.items) }
     {
         let Some(at) = place_of(firm, self.dealers.len()) else {
-            return Ok(Duties::new());
+            return Ok(self.nothing());
         };
         let Some(place) = self.investors.get_mut(at) else {
-            return Ok(Duties::new());
+            return Ok(self.nothing());
         };
         let duties = bring_to_investor(&mut place.desk, what)?;
         Ok(duties)

@@ -31,7 +31,7 @@ impl Floor {
             self.old self.new duties.items) }
     {
         let Some((investor, index)) = self.room_place(room) else {
-            return Ok(Duties::new());
+            return Ok(self.nothing());
         };
         let place = &mut self.investors[investor].rooms[index];
         let duties = bring_to_room(place, room, what)?;

@@ -2,7 +2,7 @@
 ghost use Rattle.std.specs.Prelude.{◌≡◌, ℕ, List, Some, IsTrue, is_some, IfOk};
 ghost use Rattle.fix_fields.specs.Frame.{frame_of};
 
-use fix_fields::{Frame, Memory, read_frame};
+use fix_fields::{Frame, Memory, known_frame};
 use quote_messages::SentMessage;
 use std::alloc::Global;
 use std::marker::Model;
@@ -50,10 +50,10 @@ impl SentTo {
         self.bytes.as_slice()
     }
 
-    /// The frame that the bytes are: it is read without fail.
+    /// The frame that the bytes are. It is not tested again.
     pub fn frame(&self) -> Frame<'_>
         ensures { frame_of self.now.1 ≡ Some result }
     {
-        read_frame(self.bytes.as_slice()).unwrap()
+        known_frame(self.bytes.as_slice())
     }
 }

@@ -12,6 +12,8 @@ use market_terms::{Duty, Offer, ResponseRef, RoomRef};
 use venue_rows::VenueConfig;
 
 /// Where a duty of an actor is done, and what comes to that place. It takes no memory.
+// Inlined, so that a duty is not moved for it.
+#[inline(always)]
 pub fn placed(config: &VenueConfig, by: Actor, duty: Duty) -> Option<Arrival>
     ensures { result ≡ spec.placed config.now by duty }
 {

@@ -1,5 +1,6 @@
 //! The steps at a dealer's desk.
-ghost use Rattle.std.specs.Prelude.{◌≡◌, ◌≤◌, [], ◌++◌, length, IfOk, OnOk, OnErr};
+ghost use Rattle.std.specs.Prelude.{◌≡◌, ◌<◌, ◌≤◌, ◌+◌, [], ◌++◌, IfOk, OnOk, OnErr};
+ghost use Rattle.std.specs.Prelude.{vec_len, vec_capacity};
 ghost use Rattle.std.specs.Option.{option_to_list};
 ghost use Rattle.dealer_desk.specs.DealerOutput.{number_in, rooms_at, with_notice_in};
 ghost use Rattle.venue_steps.specs.DealerSteps as spec;
@@ -40,10 +41,11 @@ pub fn own_dealer<W: Words>(
     let verdict = desk.judge(moment, bytes);
     let word = word_of_asked(first_word, verdict.word_asked());
     let Some(answer) = ask(words, word, Settled::Withdrawn) else {
-        return Ok(Duties::new());
+        return Ok(Duties::new(desk.alloc()));
     };
+    let duties = Duties::with_capacity(desk.alloc(), 1)?;
     let duty = desk.take_judged(moment, bytes, verdict, answer)?;
-    Ok(with_duty(Duties::new(), duty))
+    Ok(with_duty(duties, duty))
 }
 
 /// The next quote of a cancel of all is dropped, of those up to `last`, at the desk of a dealer
@@ -73,10 +75,11 @@ pub fn do_drop<W: Words>(
 {
     let word = word_of_asked(first_word, desk.question_drop(last));
     let Some(answer) = ask(words, word, Settled::Withdrawn) else {
-        return Ok(Duties::new());
+        return Ok(Duties::new(desk.alloc()));
     };
+    let duties = Duties::with_capacity(desk.alloc(), 2)?;
     let (unpost, further) = desk.drop_one(last, moment, answer)?;
-    Ok(with_duty(with_duty(Duties::new(), unpost), further))
+    Ok(with_duty(with_duty(duties, unpost), further))
 }
 
 /// A dealer is shown a request. A room is shown once: where it was shown before, nothing changes.
@@ -92,10 +95,10 @@ pub fn do_show(
     ensures err { OnErr result (desk.new ≡ desk.old) }
 {
     if desk.was_shown(room) {
-        return Ok(Duties::new());
+        return Ok(Duties::new(desk.alloc()));
     }
     desk.show(room, ask, moment)?;
-    Ok(Duties::new())
+    Ok(Duties::new(desk.alloc()))
 }
 
 /// A dealer is told how the request of a room ended for it, once: where the room was not shown to
@@ -113,17 +116,19 @@ pub fn do_tell(
     ensures err { OnErr result (desk.new ≡ desk.old) }
 {
     desk.tell(room, close, moment)?;
-    Ok(Duties::new())
+    Ok(Duties::new(desk.alloc()))
 }
 
-/// Puts a duty behind the others, where there is one.
+/// Puts a duty behind the others, where there is one: there is room for it.
 pub(crate) fn with_duty(mut duties: Duties, duty: Option<Duty>) -> Duties
-    requires { length duties.items ≤ 1 }
-    ensures { result.items ≡ duties.items ++ option_to_list duty }
+    requires { vec_len duties < vec_capacity duties }
+    ensures items { result.items ≡ duties.items ++ option_to_list duty }
+    ensures more { vec_len result ≤ vec_len duties + 1 }
+    ensures room { vec_capacity result ≡ vec_capacity duties }
 {
     let Some(duty) = duty else {
         return duties;
     };
-    duties.push(duty);
+    duties.push_reserved(duty);
     duties
 }

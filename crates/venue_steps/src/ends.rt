@@ -1,6 +1,6 @@
 //! The steps that may end a room.
 ghost use Rattle.std.specs.Prelude.{◌≡◌, ◌≤◌, ◌∷◌, [], ◌++◌, length, IfOk, OnOk, OnErr};
-ghost use Rattle.std.specs.Prelude.{if◌then◌else◌};
+ghost use Rattle.std.specs.Prelude.{if◌then◌else◌, vec_capacity};
 ghost use Rattle.request_room.specs.Book.{room_after};
 ghost use Rattle.request_room.specs.declared.events.RoomEvent.TheVariants as event;
 ghost use Rattle.venue_steps.specs.RoomSteps as spec;
@@ -12,6 +12,9 @@ use fix_fields::{Memory, Moment};
 use market_terms::{Close, Duty, HitRefusal, Reply, ResponseRef, RoomRef};
 use quote_word::{Settled, Words};
 use request_room::{End, EndKind, Room};
+
+/// How many duties a step leaves at most.
+const MOST_DUTIES: usize = 9;
 
 /// The investor hits the quote with this word. Where no check of the room refuses it, the word is
 /// lifted where it is open, and a lifted word awards the request. What follows is the answer to the
@@ -42,8 +45,9 @@ pub fn do_hit<W: Words>(
 {
     let asked = word_of_hit(room, word, moment);
     let Some(answer) = ask(words, asked, Settled::Lifted) else {
-        return Ok(Duties::new());
+        return Ok(Duties::new(room.alloc()));
     };
+    let duties = room_for_told(room)?;
     let reply = room.hit(word, moment, answer)?;
     let answered = Duty::Answer {
         room: at,
@@ -51,7 +55,7 @@ pub fn do_hit<W: Words>(
         reply,
         moment,
     };
-    Ok(with_told(answered, is_award(reply), room, at, moment))
+    Ok(with_told(duties, answered, is_award(reply), room, at, moment))
 }
 
 /// The word that a hit asks, where no check of the room refuses it before.
@@ -87,6 +91,7 @@ pub fn do_pass(
         spec.duties_of_pass (room_after room.old) at response moment) }
     ensures err { OnErr result (room.new ≡ room.old) }
 {
+    let duties = room_for_told(room)?;
     let passed = room.pass(moment)?;
     let answered = Duty::Answer {
         room: at,
@@ -94,7 +99,7 @@ pub fn do_pass(
         reply: reply_to_pass(passed),
         moment,
     };
-    Ok(with_told(answered, passed, room, at, moment))
+    Ok(with_told(duties, answered, passed, room, at, moment))
 }
 
 /// What the investor is answered to a pass.
@@ -116,21 +121,40 @@ pub fn do_expire(room: &mut Room, at: RoomRef, moment: Moment) -> Result<Duties,
         spec.duties_of_expire (room_after room.old) at moment) }
     ensures err { OnErr result (room.new ≡ room.old) }
 {
+    let duties = room_for_told(room)?;
     let ended = room.expire(moment)?;
     if !ended {
-        return Ok(Duties::new());
+        return Ok(duties);
     }
     let closed = Duty::Close { room: at, moment };
-    Ok(with_told(closed, true, room, at, moment))
+    Ok(with_told(duties, closed, true, room, at, moment))
+}
+
+/// An empty list with room for a duty and, where the room ends, for those that tell each named
+/// dealer so.
+fn room_for_told(room: &Room) -> Result<Duties, Memory>
+    ensures none { IfOk result (λ duties. duties.items ≡ []) }
+    ensures room { IfOk result (λ duties. MOST_DUTIES ≤ vec_capacity duties) }
+{
+    let duties = Duties::with_capacity(room.alloc(), MOST_DUTIES)?;
+    Ok(duties)
 }
 
 /// A duty and, where the room has just ended, those that tell each named dealer so.
-fn with_told(first: Duty, ended: bool, room: &Room, at: RoomRef, moment: Moment) -> Duties
+fn with_told(
+    mut duties: Duties,
+    first: Duty,
+    ended: bool,
+    room: &Room,
+    at: RoomRef,
+    moment: Moment,
+) -> Duties
+    requires none { duties.items ≡ [] }
+    requires room { MOST_DUTIES ≤ vec_capacity duties }
     ensures { result.items ≡ first ∷ (if ended
         then spec.told_of_end (room_after room.now) at moment else []) }
 {
-    let mut duties = Duties::new();
-    duties.push(first);
+    duties.push_reserved(first);
     if !ended {
         return duties;
     }
@@ -148,11 +172,12 @@ fn with_told(first: Duty, ended: bool, room: &Room, at: RoomRef, moment: Moment)
 fn tell_each(duties: &mut Duties, at: RoomRef, end: &End, dealers: &[u16], moment: Moment)
     requires one { length duties.old.items ≤ 1 }
     requires few { length dealers.now ≤ 8 }
+    requires room { MOST_DUTIES ≤ vec_capacity duties.old }
     ensures { duties.new.items
         ≡ duties.old.items ++ spec.told_to_each at end.now dealers.now moment }
 {
     for dealer in dealers {
-        duties.push(Duty::Tell {
+        duties.push_reserved(Duty::Tell {
             dealer: *dealer,
             room: at,
             close: close_for(end, *dealer),

@@ -20,8 +20,9 @@ pub fn own_investor(desk: &mut InvestorDesk, moment: Moment, bytes: &[u8]) -> Re
         ≡ spec.duties_of_own desk.old moment bytes.now) }
     ensures err { OnErr result (desk.new ≡ desk.old) }
 {
+    let duties = Duties::with_capacity(desk.alloc(), 1)?;
     let duty = desk.take(moment, bytes)?;
-    Ok(with_duty(Duties::new(), duty))
+    Ok(with_duty(duties, duty))
 }
 
 /// The investor is shown a quote on its request with this number, by the next of its own quote
@@ -40,10 +41,10 @@ pub fn do_relay(
     ensures err { OnErr result (desk.new ≡ desk.old) }
 {
     if !desk.knows(request, None) {
-        return Ok(Duties::new());
+        return Ok(Duties::new(desk.alloc()));
     }
     desk.quote_came(request, offer, moment)?;
-    Ok(Duties::new())
+    Ok(Duties::new(desk.alloc()))
 }
 
 /// The investor is told that the quote with this word on its request with this number is gone.
@@ -60,10 +61,10 @@ pub fn do_gone(
     ensures err { OnErr result (desk.new ≡ desk.old) }
 {
     if !desk.knows(request, None) {
-        return Ok(Duties::new());
+        return Ok(Duties::new(desk.alloc()));
     }
     desk.quote_gone(request, word, moment)?;
-    Ok(Duties::new())
+    Ok(Duties::new(desk.alloc()))
 }
 
 /// The investor is told that a dealer declined its request with this number. Where the request was
@@ -81,10 +82,10 @@ pub fn do_declined(
     ensures err { OnErr result (desk.new ≡ desk.old) }
 {
     if !desk.knows(request, None) {
-        return Ok(Duties::new());
+        return Ok(Duties::new(desk.alloc()));
     }
     desk.dealer_declined(request, dealer, moment)?;
-    Ok(Duties::new())
+    Ok(Duties::new(desk.alloc()))
 }
 
 /// The investor is answered to a hit or a pass of its request with this number, as the room
@@ -104,10 +105,10 @@ pub fn do_answer(
     ensures err { OnErr result (desk.new ≡ desk.old) }
 {
     if !may_answer(desk, request, response.k, reply) {
-        return Ok(Duties::new());
+        return Ok(Duties::new(desk.alloc()));
     }
     desk.answered(request, response, reply, moment)?;
-    Ok(Duties::new())
+    Ok(Duties::new(desk.alloc()))
 }
 
 /// Whether a desk knows a request and the quote, where one was hit, and the reply answers such a
@@ -175,8 +176,8 @@ pub fn do_close(desk: &mut InvestorDesk, request: u32, moment: Moment) -> Result
     ensures err { OnErr result (desk.new ≡ desk.old) }
 {
     if !desk.knows(request, None) {
-        return Ok(Duties::new());
+        return Ok(Duties::new(desk.alloc()));
     }
     desk.closed(request, moment)?;
-    Ok(Duties::new())
+    Ok(Duties::new(desk.alloc()))
 }

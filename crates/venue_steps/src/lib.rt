@@ -44,5 +44,6 @@ pub use investors::{do_answer, do_close, do_declined, do_gone, do_relay, own_inv
 pub use rooms::{do_decline, do_open, do_post, do_ready, do_unpost};
 
 /// The duties that follow from a step, in their order: at most 9, those of a hit that awards a
-/// request of eight dealers.
-pub type Duties = arrayvec::ArrayVec<market_terms::Duty, 9>;
+/// request of eight dealers. Room for them is made before the step changes its place, so that a
+/// step whose memory is refused changes nothing.
+pub type Duties = Vec<market_terms::Duty>;

@@ -1,5 +1,5 @@
 //! The steps in a room before it ends.
-ghost use Rattle.std.specs.Prelude.{◌≡◌, [], IfOk, OnOk, OnErr};
+ghost use Rattle.std.specs.Prelude.{◌≡◌, ◌<◌, [], IfOk, OnOk, OnErr, vec_len, vec_capacity};
 ghost use Rattle.request_room.specs.RoomFacts.{hears, is_opening};
 ghost use Rattle.request_room.specs.Book.{room_after};
 ghost use Rattle.request_room.specs.declared.events.RoomEvent.TheVariants as event;
@@ -9,6 +9,7 @@ use crate::Duties;
 use fix_fields::{Memory, Moment};
 use market_terms::{Ask, AskedDealers, Duty, Offer, RoomRef};
 use request_room::Room;
+use std::alloc::Global;
 
 /// The room of an accepted request is opened. Each named dealer is shown the request, in the
 /// request's order, and then the room is made ready. Where the room is not vacant nothing changes.
@@ -26,28 +27,36 @@ pub fn do_open(
     ensures err { OnErr result (room.new ≡ room.old) }
 {
     if !room.is_vacant() {
-        return Ok(Duties::new());
+        return Ok(Duties::new(room.alloc()));
     }
-    let duties = shown_then_ready(at, &ask, &dealers, moment);
+    let duties = shown_then_ready(room.alloc(), at, &ask, &dealers, moment)?;
     room.open(ask, dealers)?;
     Ok(duties)
 }
 
 /// What an opening leaves.
-fn shown_then_ready(at: RoomRef, ask: &Ask, dealers: &AskedDealers, moment: Moment) -> Duties
-    ensures { result.items ≡ spec.shown_then_ready at ask.now dealers.now moment }
+fn shown_then_ready(
+    alloc: Global,
+    at: RoomRef,
+    ask: &Ask,
+    dealers: &AskedDealers,
+    moment: Moment,
+) -> Result<Duties, Memory>
+    ensures { IfOk result (λ duties.
+        duties.items ≡ spec.shown_then_ready at ask.now dealers.now moment) }
 {
-    let mut duties = Duties::new();
-    for dealer in dealers.as_slice() {
+    let named = dealers.as_slice();
+    let mut duties = Duties::with_capacity(alloc, named.len() + 1)?;
+    for dealer in named {
         duties.push(Duty::Show {
             dealer: *dealer,
             room: at,
             ask: ask.copy(),
             moment,
-        });
+        })?;
     }
-    duties.push(Duty::Ready { room: at, moment });
-    duties
+    duties.push(Duty::Ready { room: at, moment })?;
+    Ok(duties)
 }
 
 /// Each named dealer was shown the request: an opening room is open from now on. Elsewhere nothing
@@ -59,10 +68,10 @@ pub fn do_ready(room: &mut Room) -> Result<Duties, Memory>
     ensures err { OnErr result (room.new ≡ room.old) }
 {
     if !room.is_opening() {
-        return Ok(Duties::new());
+        return Ok(Duties::new(room.alloc()));
     }
     room.ready()?;
-    Ok(Duties::new())
+    Ok(Duties::new(room.alloc()))
 }
 
 /// A quote of a dealer, by its number among the firms, is posted in the room of its request, and
@@ -83,15 +92,16 @@ pub fn do_post(
     ensures err { OnErr result (room.new ≡ room.old) }
 {
     if !hears_dealer(room, dealer) {
-        return Ok(Duties::new());
+        return Ok(Duties::new(room.alloc()));
     }
+    let duties = Duties::with_capacity(room.alloc(), 1)?;
     let posted = room.post(dealer, offer.word, offer.price, offer.valid_until)?;
     let relay = Duty::Relay {
         room: at,
         offer,
         moment,
     };
-    Ok(where_so(posted, relay))
+    Ok(where_so(duties, posted, relay))
 }
 
 /// A withdrawn quote of a dealer is taken out of the room of its request, and the investor is told
@@ -112,15 +122,16 @@ pub fn do_unpost(
     ensures err { OnErr result (room.new ≡ room.old) }
 {
     if !hears_dealer(room, dealer) {
-        return Ok(Duties::new());
+        return Ok(Duties::new(room.alloc()));
     }
+    let duties = Duties::with_capacity(room.alloc(), 1)?;
     let taken = room.unpost(dealer, word)?;
     let gone = Duty::Gone {
         room: at,
         word,
         moment,
     };
-    Ok(where_so(taken, gone))
+    Ok(where_so(duties, taken, gone))
 }
 
 /// A decline of a dealer is noted in the room of its request, and the investor is told so where
@@ -140,11 +151,12 @@ pub fn do_decline(
     ensures err { OnErr result (room.new ≡ room.old) }
 {
     if !hears_dealer(room, dealer) {
-        return Ok(Duties::new());
+        return Ok(Duties::new(room.alloc()));
     }
+    let duties = Duties::with_capacity(room.alloc(), 1)?;
     let noted = room.decline(dealer)?;
     let declined = Duty::Declined { room: at, moment };
-    Ok(where_so(noted, declined))
+    Ok(where_so(duties, noted, declined))
 }
 
 /// Whether a room hears a dealer.
@@ -154,13 +166,15 @@ fn hears_dealer(room: &Room, dealer: u16) -> bool
     room.is_vacant() || room.named(dealer)
 }
 
-/// One duty, where it follows.
-fn where_so(follows: bool, duty: Duty) -> Duties
+/// One duty, where it follows, in a list with room for it.
+fn where_so(mut duties: Duties, follows: bool, duty: Duty) -> Duties
+    requires none { duties.items ≡ [] }
+    requires room { vec_len duties < vec_capacity duties }
     ensures { result.items ≡ spec.where_follows follows duty }
 {
-    let mut duties = Duties::new();
-    if follows {
-        duties.push(duty);
+    if !follows {
+        return duties;
     }
+    duties.push_reserved(duty);
     duties
 }

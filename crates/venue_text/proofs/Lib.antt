@@ -1,5 +1,6 @@
 pub mod ArrivalLemmas
 pub mod AskedLemmas
+pub mod BarLemmas
 pub mod CompareLemmas
 pub mod DayLemmas
 pub mod DueLemmas

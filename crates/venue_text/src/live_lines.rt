@@ -24,6 +24,9 @@ use std::alloc::{AllocError, Global};
 use step_replay::{LiveVenue, SentTo, Step};
 use venue_rows::VenueConfig;
 
+/// How many bytes the text of a line has room for at first: most lines need no more.
+const USUAL_ANSWER: usize = 512;
+
 /// What a line brings.
 #[derive(Drop)]
 pub struct LineTold {
@@ -123,7 +126,7 @@ impl LiveDay {
             told.now.fault) }
     {
         let Some(fault) = &told.fault else {
-            let mut text = Vec::new(alloc);
+            let mut text = Vec::with_capacity(alloc, USUAL_ANSWER)?;
             let messages = told.messages.as_slice();
             push_sent(&mut text, self.form.frames, &self.config, messages)?;
             push_done_mark(&mut text, self.form, line, self.venue.next_deadline())?;

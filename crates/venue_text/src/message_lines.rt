@@ -6,7 +6,6 @@ ghost use Rattle.venue_text.specs.MessageLines as spec;
 use arrayvec::ArrayVec;
 use fix_fields::{Fields, Memory};
 use input_lines::push_barred;
-use itoa::Buffer;
 use quote_messages::SentMessage;
 use std::alloc::Global;
 use step_replay::SentTo;
@@ -109,7 +108,7 @@ fn push_fields_line(text: &mut Vec<u8>, firm: &Name, fields: Fields<'_>) -> Resu
     let header = header_of(&mut fields);
     text.extend_from_slice(firm.as_bytes())?;
     push_header(text, header.as_slice())?;
-    push_fields(text, fields)?;
+    push_fields(text, &fields)?;
     text.push(b'\n')?;
     Ok(())
 }
@@ -166,19 +165,18 @@ pub(crate) fn time_of_day(timestamp: &[u8]) -> &[u8]
     &timestamp[9..]
 }
 
-/// Fields, a space before the first one and a vertical bar before each other.
-fn push_fields(text: &mut Vec<u8>, fields: Fields<'_>) -> Result<(), Memory>
+/// Fields, a space before the first one and a vertical bar before each other: they are shown as
+/// they stand in the frame, but for the SOH behind each.
+#[tactic(auto, using(crate::proofs::BarLemmas::shown_none))]
+fn push_fields(text: &mut Vec<u8>, fields: &Fields<'_>) -> Result<(), Memory>
     ensures { OnOk result (text.new.items
-        ≡ text.old.items ++ spec.fields_text_behind 32 fields.entry) }
+        ≡ text.old.items ++ spec.fields_text_behind 32 fields.now) }
 {
-    let mut divider = b' ';
-    for (tag, value) in fields {
-        let mut digits = Buffer::new();
-        text.push(divider)?;
-        text.extend_from_slice(digits.format(tag).as_bytes())?;
-        text.push(b'=')?;
-        text.extend_from_slice(value)?;
-        divider = b'|';
+    let bytes = fields.as_bytes();
+    if bytes.is_empty() {
+        return Ok(());
     }
+    text.push(b' ')?;
+    push_barred(text, &bytes[..bytes.len() - 1])?;
     Ok(())
 }

@@ -410,7 +410,7 @@ fn does_at_investor(
             do_answer(desk, *n, &response(rt, id, *quote), *reply, moment)
         }
         Step::Close(n) => do_close(desk, *n, moment),
-        _ => Ok(Duties::new()),
+        _ => Ok(Duties::new(desk.alloc())),
     }
 }
 

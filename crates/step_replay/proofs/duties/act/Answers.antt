@@ -9,7 +9,7 @@ returns-in_default c =
     nothing_comes (λ config facts. duty_effect config facts c.args.by c.args.duty)
     (λ config. placed config c.args.by c.args.duty)
     (λ config facts. duty_comes config facts c.args.by c.args.duty) c.args.floor.now
-    c.new.result.items c.in_default.ensures c.new.ensures
+    c.nothing.result.items c.in_default.ensures c.nothing.ensures
 
 pub returns : goal.returns
 returns c =

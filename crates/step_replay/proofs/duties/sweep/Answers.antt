@@ -9,7 +9,7 @@ returns-in_default c =
     nothing_comes (λ config facts. sweep_effect config facts c.args.room c.args.moment)
     (λ config. swept config c.args.room c.args.moment)
     (λ config facts. sweep_comes config facts c.args.room c.args.moment) c.args.floor.now
-    c.new.result.items c.in_default.ensures c.new.ensures
+    c.nothing.result.items c.in_default.ensures c.nothing.ensures
 
 pub returns : goal.returns
 returns c =

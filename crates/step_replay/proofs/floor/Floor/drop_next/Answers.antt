@@ -9,7 +9,7 @@ use Rattle.step_replay.proofs.floor.Floor.drop_next.Goals as goal
 pub returns-in_default : goal.returns-in_default
 returns-in_default c config facts stands =
     let action = dropped_by config facts c.args.last c.args.moment in
-    leaving config facts _ _ c.new.result.items [] c.new.ensures
+    leaving config facts _ _ c.nothing.result.items [] c.nothing.ensures
     (by_number config facts c.from.result c.args.dealer action _ [] c.from.ensures
     (no_dealer_does config facts c.args.self.now c.from.result action stands
     (not_lent c.args.self.now.dealers.items c.from.result c.in_default.ensures.item.3)))

@@ -7,7 +7,7 @@ use Rattle.step_replay.proofs.floor.Floor.hit.Goals as goal
 pub returns-in_default : goal.returns-in_default
 returns-in_default c config facts stands one =
     no_room_hit config facts c.args.self.now c.args.room c.args.response c.args.word c.args.moment
-    c.new.result.items stands (sym c.in_default.ensures) c.new.ensures
+    c.nothing.result.items stands (sym c.in_default.ensures) c.nothing.ensures
 
 pub index_mut-requires : goal.index_mut-requires
 index_mut-requires c =

@@ -12,8 +12,8 @@ returns-in_default-get_mut c config facts stands =
     let count : c.len.result ≡ length c.args.self.now.dealers.items = search rules in
     let is = placed c.args.self.now c.args.firm c.in-Some.at c.len.result count
     c.in-Some.ensures in
-    leaving config facts _ _ c.new-in_default-get_mut.result.items []
-    c.new-in_default-get_mut.ensures
+    leaving config facts _ _ c.nothing-in_default-get_mut.result.items []
+    c.nothing-in_default-get_mut.ensures
     (no_investor_does config facts c.args.self.now c.args.firm c.in-Some.at
     (said_by_investor facts c.args.moment c.args.bytes.now) stands is
     (not_lent c.args.self.now.investors.items c.in-Some.at

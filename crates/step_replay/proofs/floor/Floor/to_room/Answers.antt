@@ -7,7 +7,7 @@ use Rattle.step_replay.proofs.floor.Floor.to_room.Goals as goal
 pub returns-in_default : goal.returns-in_default
 returns-in_default c config facts stands =
     no_room_does config facts c.args.self.now c.args.room c.args.what _ stands
-    (sym c.in_default.ensures) c.new.ensures
+    (sym c.in_default.ensures) c.nothing.ensures
 
 pub index_mut-requires : goal.index_mut-requires
 index_mut-requires c =

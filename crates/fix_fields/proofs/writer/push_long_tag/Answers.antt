@@ -1,6 +1,6 @@
 use Rattle.std.proofs.Common.{◌≡◌, arith, lit<}
 use Rattle.std.proofs.lemmas.Fmt.{length-decimal-le}
-use Rattle.fix_fields.proofs.writer.push_field.Goals as goal
+use Rattle.fix_fields.proofs.writer.push_long_tag.Goals as goal
 
 pub write_digits-start-requires : goal.write_digits-start-requires
 write_digits-start-requires c =
