@@ -21,13 +21,13 @@ use step_replay::actions_do_what_comes_by_the_table;
 /// In a day that is replayed, the desk to which all came has the book of its investor's trail. It
 /// does nothing.
 pub fn desks_send_their_view()
-    ensures events { (market : InvestorMarket) (events : List InvestorEvent)
+    ensures by_events { (market : InvestorMarket) (events : List InvestorEvent)
         → investor_output market events
         ≡ desk_view (seen_at market) (event_dues market events) }
-    ensures comings { (market : InvestorMarket) (came : List Coming)
+    ensures by_comings { (market : InvestorMarket) (came : List Coming)
         → investor_output market (desk_by market came).events
         ≡ investor_view (seen_at market) (dues_from (no_events market) came) }
-    ensures books { (config : Configuration) (steps : List Step) (investor : ℕ)
+    ensures by_trail { (config : Configuration) (steps : List Step) (investor : ℕ)
         (row : InvestorRow) → investor_numbered config investor ≡ Some row
         → book_at (desk_by (market_of config investor row) (comings config investor steps))
         ≡ book_by (of_investor investor (audit_trail config steps).facts) }

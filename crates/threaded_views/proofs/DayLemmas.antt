@@ -19,6 +19,14 @@ use Rattle.session_worker.specs.KeptDays.{InvestorKeeps, InvestorsKeep}
 use Rattle.threaded_views.specs.DayViews.{EventsFit, investor_dues_of, investor_sent_on}
 use Rattle.threaded_views.proofs.FitLemmas.{ComingsSend, EventsSend, event_views_are_one}
 
+-- Tests of numbers.
+
+is_at_most : (one other : ℕ) → nat_le one other ≡ true → one ≤ other
+is_at_most one other test = grind (arith, nat_tests)
+
+is_not_below : (one other : ℕ) → other ≤ one → nat_lt one other ≡ false
+is_not_below one other behind = grind (arith, nat_tests)
+
 -- The number of an investor.
 
 -- its place among the investors, by the row that is found
@@ -32,8 +40,7 @@ behind_dealers : (config : Configuration) (number : ℕ) (row : InvestorRow)
     → investor_numbered config number ≡ Some row → length config.dealers ≤ number
 behind_dealers config number row is =
     let found = row_found config number row (nat_le (length config.dealers) number) is in
-    let test : nat_le (length config.dealers) number ≡ true = found.0 in
-    grind (arith, nat_tests)
+    is_at_most (length config.dealers) number found.0
 
 -- an investor is a firm of the venue
 pub is_firm : (config : Configuration) (number : ℕ) (row : InvestorRow)
@@ -74,9 +81,9 @@ module _ (config : Configuration) (day : RecordedDay) (investor : ℕ) (row : In
   lists_are : length day.dealers ≡ length config.dealers
       → investor_in day investor ≡ slice_get day.investors place
   lists_are lengths =
-      let behind : length config.dealers ≤ investor =
-      behind_dealers config investor row is_investor in
-      let test : nat_lt investor (length config.dealers) ≡ false = grind (arith, nat_tests) in
+      let test : nat_lt investor (length config.dealers) ≡ false =
+      is_not_below investor (length config.dealers)
+      (behind_dealers config investor row is_investor) in
       ap (λ (n : ℕ). unless (nat_lt investor n) (slice_get day.investors (investor - n))) lengths
       ∙ ap (λ (b : Bool). unless b (slice_get day.investors place)) test
 

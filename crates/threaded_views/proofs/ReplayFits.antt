@@ -47,6 +47,9 @@ abbrev pub fits_if : InvestorBook → Option Coming → Bool
 fits_if book None = true
 fits_if book (Some came) = fits book came
 
+same_number : (one other : ℕ) → (one == other) ≡ true → one ≡ other
+same_number one other same = grind (arith, nat_tests)
+
 -- One duty.
 
 module _ (config : Configuration) (number : ℕ) (row : InvestorRow)
@@ -115,7 +118,7 @@ module _ (config : Configuration) (number : ℕ) (row : InvestorRow)
   knows_it : (room : RoomRef) (quote : Option ℕ) → is_known config facts room quote ≡ true
       → (room.investor == number) ≡ true → knows book room.n quote ≡ true
   knows_it room quote known same =
-      let here : room.investor ≡ number = grind (arith, nat_tests) in
+      let here : room.investor ≡ number = same_number room.investor number same in
       subst (λ (found : Option InvestorMarket).
       holds_for found (is_known_to facts room.n quote) ≡ true)
       (ap (market_for config) here ∙ ap (option_map (market_of config number)) is_investor) known

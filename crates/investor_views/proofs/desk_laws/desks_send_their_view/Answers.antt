@@ -6,14 +6,14 @@ use Rattle.investor_views.proofs.DeskLemmas.{book_is}
 use Rattle.investor_views.proofs.ViewLemmas.{events_send, sends_its_view}
 use Rattle.investor_views.proofs.desk_laws.desks_send_their_view.Goals as goal
 
-pub returns-clause-events : goal.returns-clause-events
-returns-clause-events c market events = events_send market events
+pub returns-clause-by_events : goal.returns-clause-by_events
+returns-clause-by_events c market events = events_send market events
 
-pub returns-clause-comings : goal.returns-clause-comings
-returns-clause-comings c market came = sends_its_view market came
+pub returns-clause-by_comings : goal.returns-clause-by_comings
+returns-clause-by_comings c market came = sends_its_view market came
 
-pub returns-clause-books : goal.returns-clause-books
-returns-clause-books c config steps investor row is =
+pub returns-clause-by_trail : goal.returns-clause-by_trail
+returns-clause-by_trail c config steps investor row is =
     let duties = c.actions_do_what_comes_by_the_table.ensures.duties in
     let sweeps = c.actions_do_what_comes_by_the_table.ensures.sweeps in
     let market = market_of config investor row in

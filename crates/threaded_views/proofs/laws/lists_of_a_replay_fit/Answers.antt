@@ -17,6 +17,6 @@ returns c config steps investor row here =
     subst (λ (found : Option InvestorMarket). desk_view (seen_by config row) (dues_where found came)
     ≡ investor_view (seen_by config row) (dues_where found came))
     (sym (market_is config investor row here))
-    (views_are_one (market_of config investor row) desks.events desks.comings came
-    (replay_fits c.steps_meet_their_tests.ensures.duties desks.books config investor row here
+    (views_are_one (market_of config investor row) desks.by_events desks.by_comings came
+    (replay_fits c.steps_meet_their_tests.ensures.duties desks.by_trail config investor row here
     steps))
