@@ -1,4 +1,4 @@
-use Rattle.std.proofs.Common.{◌∙◌, Option, List, Some, ap, sym}
+use Rattle.std.proofs.Common.{◌∙◌, Some, ap, sym}
 use Rattle.std.specs.Option.{option_map}
 use Rattle.investor_views.specs.DeskView.{desk_view}
 use Rattle.investor_views.specs.InvestorDues.{due_to_investor}
