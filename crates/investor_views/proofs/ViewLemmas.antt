@@ -2,7 +2,7 @@
 use Rattle.std.proofs.Common.{◌≡◌, ℕ, ◌+◌, Bool, true, false, List, [], ◌∷◌, ◌++◌, map, fold}
 use Rattle.std.proofs.Common.{length}
 use Rattle.std.proofs.Common.{refl, ap, sym, subst, ◌∙◌, arith, ◌&&◌, None}
-use Rattle.std.proofs.lemmas.List.{map-append}
+use Rattle.std.proofs.lemmas.List.{append-nil, append_assoc, map-append}
 use Rattle.quote_messages.specs.declared.out_messages.OutMessage.{OutMessage}
 use Rattle.investor_desk.specs.InvestorFacts.{InvestorFact, InvestorBook, book_of, knows, offers_of}
 use Rattle.investor_desk.specs.InvestorRules.{InvestorMarket}
@@ -17,6 +17,7 @@ use Rattle.venue_steps.specs.InvestorSteps.{answers, where_so}
 use Rattle.venue_places.specs.Brought.{investor_with}
 use Rattle.venue_places.specs.declared.arrivals.ForInvestor.TheVariants as to_investor
 use Rattle.investor_views.specs.Comings.{Coming, Own, For, after_coming, desk_by}
+use Rattle.investor_views.specs.DeskView.{coming_of, event_dues, event_dues_from, with_item}
 use Rattle.investor_views.specs.InvestorDues.{due_by, dues_from, number_of, quote_meant}
 use Rattle.investor_views.specs.InvestorView.{after_due, coming_by, offer_due, sent_at}
 use Rattle.investor_views.proofs.DeskLemmas.{desk_push}
@@ -206,6 +207,40 @@ module _ (market : InvestorMarket) where
         (knows book request None) (knows (renamed_book book) request None)
         (knows_same book request None))
 
+    -- an event that came, and the item in its place, each as it stands
+    event_sees : (more : InvestorEvent)
+        → Sees (with_event desk more) (with_item view (due_by (book_at desk) (coming_of more)))
+    unfolding with_item due_by coming_by
+    event_sees (event.Own moment bytes) =
+        one_more (event.Own moment bytes) (event.Own moment bytes) refl
+        (own_answers market stood moment bytes)
+    event_sees (event.QuoteCame request offer moment) =
+        by_books (λ here there. Sees (with_event desk (event.QuoteCame request offer moment))
+        (with_event view (event.QuoteCame request
+        (offer_due there offer.dealer offer.price offer.valid_until) moment)))
+        (one_more (event.QuoteCame request offer moment)
+        (event.QuoteCame request
+        (offer_due (renamed_book book) offer.dealer offer.price offer.valid_until) moment) refl
+        (came_answers market stood request offer moment))
+    event_sees (event.QuoteGone request word moment) =
+        by_books (λ here there. Sees (with_event desk (event.QuoteGone request word moment))
+        (with_event view (event.QuoteGone request
+        (number_of (quote_meant here request word)) moment)))
+        (one_more (event.QuoteGone request word moment)
+        (event.QuoteGone request (number_of (quote_meant book request word)) moment) refl
+        (gone_answers market stood request word before.numbered_are moment))
+    event_sees (event.DealerDeclined request dealer moment) =
+        one_more (event.DealerDeclined request dealer moment)
+        (event.DealerDeclined request dealer moment) refl
+        (declined_answers market stood request dealer moment)
+    event_sees (event.Answered request response reply moment) =
+        one_more (event.Answered request response reply moment)
+        (event.Answered request response reply moment) refl
+        (answered_answers market stood request response reply moment)
+    event_sees (event.Closed request moment) =
+        one_more (event.Closed request moment) (event.Closed request moment) refl
+        (expired_answers market stood request moment)
+
   comings_see : (desk view : DeskEvents) (came : List Coming) → Sees desk view
       → Sees (fold after_coming desk came) (fold after_due view (dues_from desk came))
   comings_see desk view [] before = before
@@ -222,4 +257,37 @@ module _ (market : InvestorMarket) where
       let view =
       fold after_due (no_events (unnumbered market)) (dues_from (no_events market) came) in
       sym seen.sent_are
+      ∙ ap (λ (m : InvestorMarket). investor_output m view.events) (sym seen.view_market)
+
+  -- The same of events, each taken as it stands.
+
+  events_see : (desk view : DeskEvents) (events : List InvestorEvent) → Sees desk view
+      → Sees (fold with_event desk events) (fold with_item view (event_dues_from desk events))
+  events_see desk view [] before = before
+  events_see desk view (first ∷ later) before =
+      events_see (with_event desk first)
+      (with_item view (due_by (book_at desk) (coming_of first))) later
+      (event_sees desk view before first)
+
+  -- the desk to which these events came
+  abbrev desk_with : List InvestorEvent → DeskEvents
+  desk_with events = record { market = market; events = events }
+
+  all_events : (before events : List InvestorEvent)
+      → fold with_event (desk_with before) events ≡ desk_with (before ++ events)
+  all_events before [] = ap desk_with (sym (append-nil before))
+  all_events before (first ∷ later) =
+      all_events (before ++ first ∷ []) later
+      ∙ ap desk_with (append_assoc before (first ∷ []) later)
+
+  -- so what a desk sends for events is the desk view of what was due by them
+  pub events_send : (events : List InvestorEvent)
+      → investor_output market events
+      ≡ sent_at (fold with_item (no_events (unnumbered market)) (event_dues market events))
+  events_send events =
+      let seen = events_see (no_events market) (no_events (unnumbered market)) events start_sees in
+      let view =
+      fold with_item (no_events (unnumbered market)) (event_dues market events) in
+      ap (λ (desk : DeskEvents). (desk_after market desk.events).sent) (sym (all_events [] events))
+      ∙ sym seen.sent_are
       ∙ ap (λ (m : InvestorMarket). investor_output m view.events) (sym seen.view_market)

@@ -1,3 +1,4 @@
 pub mod Comings
+pub mod DeskView
 pub mod InvestorDues
 pub mod InvestorView

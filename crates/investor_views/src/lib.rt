@@ -16,11 +16,15 @@
 //!   was due to it, sent it the same bytes.
 //! - [`investors_are_given_their_view`]: so is what a replay gives of an investor's day, and what a
 //!   venue tells it that answers as steps come.
+//! - [`desks_send_their_view`]: of any events at a desk, whatever brought them, what it sends is the
+//!   *desk view* of what was due by them, which takes each item as it stands.
 #![tactic(auto)]
 
+mod desk_laws;
 mod dues;
 mod laws;
 
+pub use desk_laws::desks_send_their_view;
 pub use dues::InvestorDue;
 pub use laws::{
     investors_are_given_their_view, investors_are_isolated, investors_are_sent_their_view,
