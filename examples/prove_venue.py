@@ -185,10 +185,10 @@ class Prover:
         ready = [name for name in self.waiting if self.proved.issuperset(self.crates[name])]
         for name in ready[: self.jobs - len(self.running)]:
             self.waiting.remove(name)
-            # A crate seldom fills all processors, and two nearly always do: more take one each, but
-            # for the one for which most waits.
+            # A crate seldom fills all processors, and two nearly always do: more take half of them
+            # each, but for the one for which most waits.
             is_first = name == self.left[0]
-            jobs = self.jobs if is_first or len(self.running) < 2 else 1
+            jobs = self.jobs if is_first or len(self.running) < 2 else max(1, self.jobs // 2)
             copy = Copy(name, below(self.crates, name), self.place)
             self.running.append(begin(copy, jobs, 0 if is_first else BEHIND))
 

@@ -37,18 +37,18 @@ module _ (side : ℕ → Bool) (config : Configuration) (own : Bool) where
   outcome award b = if b then Ok award else Err refusal.Withdrawn
 
   -- what a hit lifts, where no check refuses it, is a quote of its side
-  lifts_on : (found : Option QuoteRef) (refused : Option HitRefusal) (answer : Option Settled)
+  lifts_on : (found : Option QuoteRef) (refused : Option HitRefusal) (settlement : Option Settled)
       (award : End) → (refused ≡ None → OwnerOn side own found)
-      → Every StandsOn (lifting found (hit_settled refused answer award))
-  lifts_on None (Some refused) answer award on = tt
-  lifts_on None None answer award on = by_lift (is_lift answer)
+      → Every StandsOn (lifting found (hit_settled refused settlement award))
+  lifts_on None (Some refused) settlement award on = tt
+  lifts_on None None settlement award on = by_lift (is_lift settlement)
     where
       by_lift : (b : Bool) → Every StandsOn
           (lifting None (outcome award b))
       by_lift true = tt
       by_lift false = tt
-  lifts_on (Some quote) (Some refused) answer award on = tt
-  lifts_on (Some quote) None answer award on = by_lift (is_lift answer)
+  lifts_on (Some quote) (Some refused) settlement award on = tt
+  lifts_on (Some quote) None settlement award on = by_lift (is_lift settlement)
     where
       by_lift : (b : Bool) → Every StandsOn
           (lifting (Some quote) (outcome award b))
@@ -56,25 +56,25 @@ module _ (side : ℕ → Bool) (config : Configuration) (own : Bool) where
       by_lift false = tt
 
   module _ (facts : List Fact) (on : FactsOn side config facts) where
-    hit_on : (at : RoomRef) (word moment : ℕ) (answer : Option Settled)
+    hit_on : (at : RoomRef) (word moment : ℕ) (settlement : Option Settled)
         → side at.investor ≡ own
         → Every StandsOn (lifting (quote_with_word config word)
-        (hit_settled (hit_refusal (of_room at facts) word moment) answer
+        (hit_settled (hit_refusal (of_room at facts) word moment) settlement
         (award_of (of_room at facts) word))
-        ++ map (InRoom at) (event_facts (of_room at facts) (at_room.Hit word moment answer)))
-    hit_on at word moment answer is =
+        ++ map (InRoom at) (event_facts (of_room at facts) (at_room.Hit word moment settlement)))
+    hit_on at word moment settlement is =
         every_both StandsOn
         (lifting (quote_with_word config word)
-        (hit_settled (hit_refusal (of_room at facts) word moment) answer
+        (hit_settled (hit_refusal (of_room at facts) word moment) settlement
         (award_of (of_room at facts) word)))
-        (map (InRoom at) (event_facts (of_room at facts) (at_room.Hit word moment answer)))
-        (lifts_on (quote_with_word config word) (hit_refusal (of_room at facts) word moment) answer
+        (map (InRoom at) (event_facts (of_room at facts) (at_room.Hit word moment settlement)))
+        (lifts_on (quote_with_word config word) (hit_refusal (of_room at facts) word moment) settlement
         (award_of (of_room at facts) word)
         (word_on side config own (of_room at facts)
         (subst (λ (b : Bool). Every (HappenedOn side config b) (of_room at facts)) is
         (room_on side config at facts on)) word moment))
         (every_map StandsOn (InRoom at) (λ fact. is)
-        (event_facts (of_room at facts) (at_room.Hit word moment answer)))
+        (event_facts (of_room at facts) (at_room.Hit word moment settlement)))
 
     kind_on : (desk : Option ℕ) (room : Option RoomRef) (effect : Effect) → DeskOn side own desk
         → RoomOn side own room → IsAction config facts desk room effect → AddsOn effect

@@ -12,8 +12,8 @@ use Rattle.venue_places.specs.Placed.{at_investor, declined, declines, drops, in
 use Rattle.venue_places.specs.Placed.{posted, unposted, where_so}
 use Rattle.venue_places.specs.declared.actors.Actor.{Actor}
 use Rattle.venue_places.specs.declared.actors.Actor.TheVariants as actor
-use Rattle.venue_places.specs.declared.arrivals.Arrival.{Arrival}
-use Rattle.venue_places.specs.declared.arrivals.Arrival.TheVariants as arrival
+use Rattle.venue_places.specs.declared.arrivals.Placement.{Placement}
+use Rattle.venue_places.specs.declared.arrivals.Placement.TheVariants as arrival
 use Rattle.venue_places.specs.declared.arrivals.ForDealer.TheVariants as to_dealer
 use Rattle.venue_places.specs.declared.arrivals.ForInvestor.{ForInvestor}
 use Rattle.venue_places.specs.declared.arrivals.ForInvestor.TheVariants as to_investor
@@ -36,20 +36,20 @@ use Rattle.apart_laws.proofs.ThereFacts.{not_one}
 
 module _ (side : ℕ → Bool) (number : ℕ) (here : side number ≡ true) where
   -- nothing comes to its desk
-  abbrev ComesElsewhere : Option Arrival → Type 0
+  abbrev ComesElsewhere : Option Placement → Type 0
   ComesElsewhere coming = at_desk_of number coming ≡ None
 
-  where_elsewhere : (b : Bool) (coming : Arrival) → ComesElsewhere (Some coming)
+  where_elsewhere : (b : Bool) (coming : Placement) → ComesElsewhere (Some coming)
       → ComesElsewhere (where_so b coming)
   where_elsewhere true coming is = is
   where_elsewhere false coming is = refl
 
-  if_elsewhere : (b : Bool) (coming : Option Arrival) → ComesElsewhere coming
+  if_elsewhere : (b : Bool) (coming : Option Placement) → ComesElsewhere coming
       → ComesElsewhere (if b then coming else None)
   if_elsewhere true coming is = is
   if_elsewhere false coming is = refl
 
-  act_elsewhere : (act : Dealer → Option Arrival) → ((dealer : Dealer) → ComesElsewhere (act dealer))
+  act_elsewhere : (act : Dealer → Option Placement) → ((dealer : Dealer) → ComesElsewhere (act dealer))
       → (found : Option Dealer) → ComesElsewhere (option_and_then act found)
   act_elsewhere act each None = refl
   act_elsewhere act each (Some dealer) = each dealer

@@ -156,38 +156,38 @@ module _ (side : ℕ → Bool) (config : Configuration) (own : Bool) (by : Actor
     room_there : (request : ℕ) → IfFound RoomThere (room_of rooms request)
     room_there request = get_found RoomThere rooms there (request - 1)
 
-    unpost_on : (quote request moment : ℕ) (answer : Option Settled)
-        → AreOn side config own by (option_to_list (if is_withdrawn answer
+    unpost_on : (quote request moment : ℕ) (settlement : Option Settled)
+        → AreOn side config own by (option_to_list (if is_withdrawn settlement
         then option_map (λ room. duty.Unpost room quote moment) (room_of rooms request) else None))
-    unpost_on quote request moment answer =
+    unpost_on quote request moment settlement =
         placed_on (λ room. duty.Unpost room quote moment)
         (λ room is. record { desk_on = tt; room_on = is; named_on = tt })
-        (is_withdrawn answer) (room_of rooms request) (room_there request)
+        (is_withdrawn settlement) (room_of rooms request) (room_there request)
 
-    pub verdict_on : (moment : ℕ) (v : DealerVerdict) (answer : Option Settled) → QuotesOn v
-        → AreOn side config own by (option_to_list (verdict_duty rooms moment v answer))
-    verdict_on moment verdict.Dropped answer on = tt
-    verdict_on moment (verdict.OutOfSequence reject) answer on = tt
-    verdict_on moment (verdict.Rejected reject) answer on = tt
-    verdict_on moment (verdict.Refused message) answer on = tt
-    verdict_on moment (verdict.QuoteAccepted request id quote replaced) answer on =
+    pub verdict_on : (moment : ℕ) (v : DealerVerdict) (settlement : Option Settled) → QuotesOn v
+        → AreOn side config own by (option_to_list (verdict_duty rooms moment v settlement))
+    verdict_on moment verdict.Dropped settlement on = tt
+    verdict_on moment (verdict.OutOfSequence reject) settlement on = tt
+    verdict_on moment (verdict.Rejected reject) settlement on = tt
+    verdict_on moment (verdict.Refused message) settlement on = tt
+    verdict_on moment (verdict.QuoteAccepted request id quote replaced) settlement on =
         placed_on (post_of quote)
         (λ room is. record { desk_on = tt; room_on = is; named_on = on })
-        (goes_through replaced answer) (room_of rooms quote.request) (room_there quote.request)
-    verdict_on moment (verdict.CancelAccepted id quote request) answer on =
-        unpost_on quote request moment answer
-    verdict_on moment (verdict.DropsFollow last) answer on =
+        (goes_through replaced settlement) (room_of rooms quote.request) (room_there quote.request)
+    verdict_on moment (verdict.CancelAccepted id quote request) settlement on =
+        unpost_on quote request moment settlement
+    verdict_on moment (verdict.DropsFollow last) settlement on =
         (record { desk_on = acts; room_on = tt; named_on = tt }, tt)
-    verdict_on moment (verdict.DeclineAccepted request number) answer on =
+    verdict_on moment (verdict.DeclineAccepted request number) settlement on =
         placed_on (λ room. duty.Decline room moment)
         (λ room is. record { desk_on = tt; room_on = is; named_on = tt })
         true (room_of rooms number) (room_there number)
 
-    pub dropped_on : (moment : ℕ) (answer : Option Settled) (found : Option StandingQuote)
-        → AreOn side config own by (option_to_list (unpost_dropped rooms moment answer found))
-    dropped_on moment answer None = tt
-    dropped_on moment answer (Some own_quote) =
-        unpost_on own_quote.quote.number own_quote.quote.request moment answer
+    pub dropped_on : (moment : ℕ) (settlement : Option Settled) (found : Option StandingQuote)
+        → AreOn side config own by (option_to_list (unpost_dropped rooms moment settlement found))
+    dropped_on moment settlement None = tt
+    dropped_on moment settlement (Some own_quote) =
+        unpost_on own_quote.quote.number own_quote.quote.request moment settlement
 
     pub further_on : (book : DealerBook) (last moment : ℕ)
         → AreOn side config own by (option_to_list (further_drop book last moment))

@@ -17,8 +17,8 @@ use Rattle.venue_steps.specs.RoomSteps.{duties_of_expire}
 use Rattle.step_replay.specs.VenueFacts.{Fact}
 use Rattle.step_replay.specs.Actions.{dealer_at, dealer_of}
 use Rattle.step_replay.specs.Actions.{acting_dealer, done_by, done_for}
-use Rattle.step_replay.specs.Actions.{said_by_dealer}
-use Rattle.step_replay.specs.Actions.{said_by_investor}
+use Rattle.step_replay.specs.Actions.{received_by_dealer}
+use Rattle.step_replay.specs.Actions.{received_by_investor}
 use Rattle.step_replay.specs.Actions.{duty_effect, sweep_effect, message_effect}
 use Rattle.venue_places.specs.declared.actors.Actor.{Actor}
 use Rattle.venue_places.specs.declared.actors.Actor.TheVariants as actor
@@ -90,11 +90,11 @@ module _ (side : ℕ → Bool) (config : Configuration) (facts : List Fact) wher
     where
       either : (b : Bool)
           → (if b
-          then done_by (dealer_at config firm) (said_by_dealer config facts moment bytes)
-          else done_for (market_for config firm) (said_by_investor facts moment bytes))
+          then done_by (dealer_at config firm) (received_by_dealer config facts moment bytes)
+          else done_for (market_for config firm) (received_by_investor facts moment bytes))
           ≡ (if b
-          then done_by (dealer_at config firm) (said_by_dealer config (here side config facts) moment bytes)
-          else done_for (market_for config firm) (said_by_investor (here side config facts) moment bytes))
+          then done_by (dealer_at config firm) (received_by_dealer config (here side config facts) moment bytes)
+          else done_for (market_for config firm) (received_by_investor (here side config facts) moment bytes))
       either true =
           numbered_same config firm _ _
           (λ row. said_same side config facts (dealer_of firm row) is moment bytes)

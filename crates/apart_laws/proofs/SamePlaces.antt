@@ -29,7 +29,7 @@ use Rattle.request_room.specs.RoomFacts.{RoomFact, hears}
 use Rattle.request_room.specs.Book.{event_facts, hit_outcome, hit_refusal, word_or}
 use Rattle.request_room.specs.declared.events.RoomEvent.{RoomEvent}
 use Rattle.request_room.specs.declared.events.RoomEvent.TheVariants as at_room
-use Rattle.venue_steps.specs.InvestorSteps.{answers}
+use Rattle.venue_steps.specs.InvestorSteps.{replies_to}
 use Rattle.venue_steps.specs.RoomSteps.{duties_of_post, duties_of_unpost}
 use Rattle.venue_steps.specs.RoomSteps.{duties_of_decline, duties_of_hit}
 use Rattle.venue_steps.specs.RoomSteps.{hit_word, word_asked_by}
@@ -43,9 +43,9 @@ use Rattle.step_replay.specs.VenueFacts.{Fact, AtDealer, AtInvestor, InRoom, of_
 use Rattle.step_replay.specs.Actions.{Effect, Dealer, QuoteRef, nothing, dealer_at, dealer_of}
 use Rattle.step_replay.specs.Actions.{done_by, done_for, shown_to, told_of, told_to}
 use Rattle.step_replay.specs.Actions.{dropped_by, where_known, words_of, word_for, has_word_for}
-use Rattle.step_replay.specs.Actions.{offer_of, answer_of, left_by, said_by_dealer, answer_to_drop}
+use Rattle.step_replay.specs.Actions.{offer_of, settlement_of, left_by, received_by_dealer, answer_to_drop}
 use Rattle.step_replay.specs.Actions.{drop_at, posted_by, unposted_by, declined_by, answered_by}
-use Rattle.step_replay.specs.Actions.{said_by_investor, answer_to_hit, quote_asked, quote_with_word}
+use Rattle.step_replay.specs.Actions.{received_by_investor, answer_to_hit, quote_asked, quote_with_word}
 use Rattle.step_replay.specs.Actions.{lifting, hit_in}
 use Rattle.apart_laws.proofs.There.{OwnerOn, HappenedOn, FactsOn}
 use Rattle.apart_laws.proofs.ThereFacts.{known, dealer_same, room_same, investor_same, room_on}
@@ -143,15 +143,15 @@ module _ (side : ℕ → Bool) (config : Configuration) (facts : List Fact) wher
         else nothing) (sym (dealer_same side facts dealer.number is))
 
     pub said_same : (moment : ℕ) (bytes : List ℕ)
-        → said_by_dealer config facts moment bytes dealer
-        ≡ said_by_dealer config here moment bytes dealer
+        → received_by_dealer config facts moment bytes dealer
+        ≡ received_by_dealer config here moment bytes dealer
     said_same moment bytes =
         ap (λ (trail : List DealerEntry).
         let v = dealer_verdict config.date dealer.row (book_by trail) moment bytes in
         if has_word (words_of config) (option_map (word_for config dealer) (word_asked v))
         then record {
           facts = map (AtDealer dealer.number) (entries_of config.date dealer.row trail
-              (at_desk.Own moment bytes (answer_of trail v)));
+              (at_desk.Received moment bytes (settlement_of trail v)));
           duties = left_by trail moment v;
         }
         else nothing) (sym (dealer_same side facts dealer.number is))
@@ -218,15 +218,15 @@ module _ (side : ℕ → Bool) (config : Configuration) (facts : List Fact) wher
             (subst (λ (own : Bool). Every (HappenedOn side config own) (of_room room facts)) is
             (room_on side config room facts on)) word moment none)
 
-    -- a hit by the facts of its room and the answer of the word
+    -- a hit by the facts of its room and the settlement of the word
     abbrev hit_by : ResponseRef → ℕ → ℕ → List RoomFact → Option Settled → Effect
-    hit_by response word moment l answer =
+    hit_by response word moment l settlement =
         if has_room config room.investor room.n
         && has_word (words_of config) (hit_word l word moment)
         then record {
-          facts = lifting (quote_with_word config word) (hit_outcome l word moment answer)
-              ++ map (InRoom room) (event_facts l (at_room.Hit word moment answer));
-          duties = duties_of_hit l room response word moment true answer;
+          facts = lifting (quote_with_word config word) (hit_outcome l word moment settlement)
+              ++ map (InRoom room) (event_facts l (at_room.Hit word moment settlement));
+          duties = duties_of_hit l room response word moment true settlement;
         }
         else nothing
 
@@ -263,17 +263,17 @@ module _ (side : ℕ → Bool) (config : Configuration) (facts : List Fact) wher
       → answered_by facts room response reply moment market
       ≡ answered_by here room response reply moment market
   answered_same market is room response reply moment =
-      ap (λ (e : Effect). if answers response.k reply then e else nothing)
+      ap (λ (e : Effect). if replies_to response.k reply then e else nothing)
       (known_same market is room.n response.k
       (at_investor.Answered room.n response reply moment))
 
   pub asks_same : (market : InvestorMarket) → side market.firm ≡ true → (moment : ℕ)
       (bytes : List ℕ)
-      → said_by_investor facts moment bytes market ≡ said_by_investor here moment bytes market
+      → received_by_investor facts moment bytes market ≡ received_by_investor here moment bytes market
   asks_same market is moment bytes =
       ap (λ (l : List InvestorEntry). record {
         facts = map (AtInvestor market.firm)
-            (investor_trail.entries_of market l (at_investor.Own moment bytes));
+            (investor_trail.entries_of market l (at_investor.Received moment bytes));
         duties = option_to_list (investor_output.verdict_duty market moment
             (investor_verdict market (investor_trail.book_by l) moment bytes));
       }) (sym (investor_same side facts market.firm is))

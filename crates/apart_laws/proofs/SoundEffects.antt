@@ -18,7 +18,7 @@ use Rattle.investor_desk.specs.declared.events.InvestorEvent.TheVariants as at_i
 use Rattle.request_room.specs.RoomFacts.{hears, takes_quotes}
 use Rattle.request_room.specs.Book.{event_facts, hit_outcome, may_unpost}
 use Rattle.request_room.specs.declared.events.RoomEvent.TheVariants as at_room
-use Rattle.venue_steps.specs.InvestorSteps.{answers}
+use Rattle.venue_steps.specs.InvestorSteps.{replies_to}
 use Rattle.venue_steps.specs.RoomSteps.{duties_of_decline, duties_of_expire, duties_of_open}
 use Rattle.venue_steps.specs.RoomSteps.{duties_of_pass, duties_of_post, duties_of_unpost, hit_word}
 use Rattle.venue_steps.specs.Words.{has_word}
@@ -69,23 +69,23 @@ module _ (side : ℕ → Bool) (config : Configuration) (facts : List Fact)
         if_sound side config own by
         (has_room config room.investor room.n
         && has_word (words_of config) (hit_word (of_room room facts) word moment))
-        (hit_with config facts room response word moment answer)
+        (hit_with config facts room response word moment settlement)
         (record {
           facts_on = every_both (FactOn side config)
               (lifting (quote_with_word config word)
-              (hit_outcome (of_room room facts) word moment answer))
+              (hit_outcome (of_room room facts) word moment settlement))
               (map (InRoom room)
-              (event_facts (of_room room facts) (at_room.Hit word moment answer)))
+              (event_facts (of_room room facts) (at_room.Hit word moment settlement)))
               (lifting_on side config (quote_with_word config word)
-              (hit_outcome (of_room room facts) word moment answer))
-              (in_room_on side config facts room (at_room.Hit word moment answer) tt);
+              (hit_outcome (of_room room facts) word moment settlement))
+              (in_room_on side config facts room (at_room.Hit word moment settlement) tt);
           duties_on = left.hit_on side config own by room is (of_room room facts)
               (happened room is) response moment
-              (hit_outcome (of_room room facts) word moment answer);
+              (hit_outcome (of_room room facts) word moment settlement);
         })
       where
-        answer : Option Settled
-        answer = option_map (answer_to_hit facts)
+        settlement : Option Settled
+        settlement = option_map (answer_to_hit facts)
             (quote_asked config (hit_word (of_room room facts) word moment))
 
     -- the rooms of a dealer of this side
@@ -203,7 +203,7 @@ module _ (side : ℕ → Bool) (config : Configuration) (facts : List Fact)
     duty_sound by (duty.Answer room response reply moment) is =
         market_sound side config own by room.investor
         (answered_by facts room response reply moment)
-        (λ row. if_sound side config own by (answers response.k reply)
+        (λ row. if_sound side config own by (replies_to response.k reply)
         (where_known facts room.n response.k
         (at_investor.Answered room.n response reply moment) (market_of config room.investor row))
         (known_sound side config own by facts room.n response.k

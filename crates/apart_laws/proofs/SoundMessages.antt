@@ -13,12 +13,12 @@ use Rattle.dealer_desk.specs.declared.verdicts.DealerVerdict.TheVariants as verd
 use Rattle.investor_desk.specs.InvestorRules.{investor_verdict}
 use Rattle.investor_desk.specs.InvestorOutput.{market_for, market_of}
 use Rattle.investor_desk.specs.declared.events.InvestorEvent.TheVariants as at_investor
-use Rattle.step_replay.specs.Actions.{answer_of}
+use Rattle.step_replay.specs.Actions.{settlement_of}
 use Rattle.step_replay.specs.Actions.{dealer_at, dealer_of}
 use Rattle.step_replay.specs.Actions.{done_by, done_for}
 use Rattle.step_replay.specs.Actions.{left_by, left_by_investor}
 use Rattle.step_replay.specs.Actions.{message_effect}
-use Rattle.step_replay.specs.Actions.{said_by_dealer, said_by_investor}
+use Rattle.step_replay.specs.Actions.{received_by_dealer, received_by_investor}
 use Rattle.step_replay.specs.DealerTrail.{book_by, rooms_by}
 use Rattle.step_replay.specs.InvestorTrail as investor_trail
 use Rattle.step_replay.specs.VenueFacts.{Fact, of_dealer, of_investor}
@@ -55,46 +55,46 @@ module _ (side : ℕ → Bool) (config : Configuration) (facts : List Fact)
   unfolding message_effect
   message_sound firm moment bytes = either (is_some (dealer_numbered config firm))
     where
-      dealer_says : (row : DealerRow) → dealer_numbered config firm ≡ Some row
+      dealer_receives : (row : DealerRow) → dealer_numbered config firm ≡ Some row
           → IsSound side config (side firm) (actor.Firm firm)
-          (said_by_dealer config facts moment bytes (dealer_of firm row))
-      dealer_says row found =
+          (received_by_dealer config facts moment bytes (dealer_of firm row))
+      dealer_receives row found =
           let trail = of_dealer firm facts in
           let v = dealer_verdict config.date row (book_by trail) moment bytes in
           if_sound side config (side firm) (actor.Firm firm) _ _
           (desk_sound side config (side firm) (actor.Firm firm) facts (dealer_of firm row)
-          (at_desk.Own moment bytes (answer_of trail v)) (left_by trail moment v) tt
+          (at_desk.Received moment bytes (settlement_of trail v)) (left_by trail moment v) tt
           (left.verdict_on side config (side firm) (actor.Firm firm) (rooms_by trail)
-          (dealer_rooms side config facts on (side firm) (actor.Firm firm) firm refl) refl moment v (answer_of trail v)
+          (dealer_rooms side config facts on (side firm) (actor.Firm firm) firm refl) refl moment v (settlement_of trail v)
           (accepts_own firm row found v
           (verdict_of_day row (book_by trail) config.date moment bytes))))
 
       asker_says : (found : Option InvestorRow)
           → list_any (asks_across side) (done_for (option_map (market_of config firm) found)
-          (said_by_investor facts moment bytes)).duties ≡ false
+          (received_by_investor facts moment bytes)).duties ≡ false
           → IsSound side config (side firm) (actor.Firm firm)
           (done_for (option_map (market_of config firm) found)
-          (said_by_investor facts moment bytes))
+          (received_by_investor facts moment bytes))
       asker_says None none = nothing_sound side config (side firm) (actor.Firm firm)
       asker_says (Some row) none =
           let market = market_of config firm row in
           let book = investor_trail.book_by (of_investor firm facts) in
           asker_sound side config (side firm) (actor.Firm firm) facts market
-          (at_investor.Own moment bytes) (left_by_investor facts moment bytes market)
+          (at_investor.Received moment bytes) (left_by_investor facts moment bytes market)
           (left.asker_on side config (side firm) (actor.Firm firm) market moment
           (investor_verdict market book moment bytes) refl
           (verdict_few market book moment bytes) none)
 
       either : (b : Bool)
           → list_any (asks_across side) (if b
-          then done_by (dealer_at config firm) (said_by_dealer config facts moment bytes)
-          else done_for (market_for config firm) (said_by_investor facts moment bytes)).duties
+          then done_by (dealer_at config firm) (received_by_dealer config facts moment bytes)
+          else done_for (market_for config firm) (received_by_investor facts moment bytes)).duties
           ≡ false
           → IsSound side config (side firm) (actor.Firm firm)
           (if b
-          then done_by (dealer_at config firm) (said_by_dealer config facts moment bytes)
-          else done_for (market_for config firm) (said_by_investor facts moment bytes))
+          then done_by (dealer_at config firm) (received_by_dealer config facts moment bytes)
+          else done_for (market_for config firm) (received_by_investor facts moment bytes))
       either true none =
           numbered_sound side config (side firm) (actor.Firm firm) firm
-          (said_by_dealer config facts moment bytes) dealer_says
+          (received_by_dealer config facts moment bytes) dealer_receives
       either false none = asker_says (investor_numbered config firm) none

@@ -96,8 +96,8 @@ module _ (side : ℕ → Bool) (config : Configuration) where
       happened_if b (may_unpost facts dealer word) (Unposted dealer word) tt
   event_on b facts (at_room.Decline dealer) on =
       happened_if b (takes_quotes facts) (Noted dealer) tt
-  event_on b facts (at_room.Hit word moment answer) on =
-      ended_on b (hit_outcome facts word moment answer) moment
+  event_on b facts (at_room.Hit word moment settlement) on =
+      ended_on b (hit_outcome facts word moment settlement) moment
   event_on b facts (at_room.Pass moment) on =
       happened_if b (is_open facts) (Ended passed moment) tt
   event_on b facts (at_room.Expire moment) on =

@@ -12,7 +12,7 @@ use Rattle.dealer_desk.specs.DealerOutput.{is_same_room}
 use Rattle.request_room.specs.RoomFacts.{RoomFact, Opened, Readied, Posted, Unposted, Noted, Ended}
 use Rattle.request_room.specs.RoomFacts.{request_of}
 use Rattle.request_room.specs.Book.{book_of, hit_checks, hit_refusal, quote_meant, takes_out}
-use Rattle.request_room.specs.declared.quotes.StandingQuote.{StandingQuote}
+use Rattle.request_room.specs.declared.quotes.PostedQuote.{PostedQuote}
 use Rattle.venue_steps.specs.RoomSteps.{dealers_of}
 use Rattle.step_replay.specs.Actions.{quote_with_word}
 use Rattle.step_replay.specs.DealerTrail as dealer_trail
@@ -180,7 +180,7 @@ module _ (side : ℕ → Bool) (config : Configuration) where
     asked_on (Ended end moment ∷ later) on = asked_on later on.1
 
     -- the quotes in its book
-    abbrev QuoteOn : StandingQuote → Type 0
+    abbrev QuoteOn : PostedQuote → Type 0
     QuoteOn quote = OwnerOn side own (quote_with_word config quote.word)
 
     book_on : (facts : List RoomFact) → Every (HappenedOn side config own) facts
@@ -207,11 +207,11 @@ module _ (side : ℕ → Bool) (config : Configuration) where
     word_on facts on word moment none =
         by_found (quote_meant (book_of facts) word)
         (none_holds (hit_checks facts word moment) none).1.1.0
-        (find_found QuoteOn (λ (quote : StandingQuote). quote.word == word) (book_of facts)
+        (find_found QuoteOn (λ (quote : PostedQuote). quote.word == word) (book_of facts)
         (book_on facts on))
       where
-        by_found : (found : Option StandingQuote) → is_none found ≡ false
-            → IfFound (Passes QuoteOn (λ (quote : StandingQuote). quote.word == word)) found
+        by_found : (found : Option PostedQuote) → is_none found ≡ false
+            → IfFound (Passes QuoteOn (λ (quote : PostedQuote). quote.word == word)) found
             → OwnerOn side own (quote_with_word config word)
         by_found None meant is = cc
         by_found (Some quote) meant is =

@@ -90,7 +90,7 @@ module _ (row : DealerRow) (book : DealerBook) where
   cancel_found id (Some own) = cancel_plain id own (first_refusal (cancel_checks own))
 
   cancel_some : (id : Option (List ℕ)) (b : Bool)
-      → AcceptsOfDay row (if b then verdict.Refused (out.CancelAnswer id status.Unknown)
+      → AcceptsOfDay row (if b then verdict.Refused (out.CancelReport id status.Unknown)
       else verdict.DropsFollow (quotes_accepted book))
   cancel_some id true = tt
   cancel_some id false = tt

@@ -1,5 +1,6 @@
 //! Why a call can't be made.
-use std::alloc::{AllocError, AllocFailed};
+use fix_fields::Memory;
+use std::alloc::AllocFailed;
 
 /// Why a call of a case can't be made, or a file of cases can't be run.
 #[derive(Clone, Copy, Debug, PartialEq, Eq)]
@@ -26,8 +27,8 @@ impl CaseFault {
     }
 }
 
-impl From<AllocError> for CaseFault {
-    fn from(_error: AllocError) -> CaseFault {
+impl From<Memory> for CaseFault {
+    fn from(_error: Memory) -> CaseFault {
         CaseFault::Memory
     }
 }

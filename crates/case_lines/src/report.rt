@@ -1,6 +1,7 @@
 //! What came of files of cases.
 use crate::faults::CaseFault;
-use std::alloc::{AllocError, Global};
+use fix_fields::Memory;
+use std::alloc::Global;
 
 /// How many cases have passed and failed, and a text that says what failed, and where.
 #[derive(Drop)]
@@ -25,7 +26,7 @@ impl Report {
     }
 
     /// The cases that come next are those of this file.
-    pub fn begin_file(&mut self, name: &str) -> Result<(), AllocError> {
+    pub fn begin_file(&mut self, name: &str) -> Result<(), Memory> {
         self.file = String::from_str(self.alloc, name)?;
         Ok(())
     }
@@ -51,7 +52,7 @@ impl Report {
     }
 
     /// The file can't be run, or not from this line on.
-    pub fn refuse(&mut self, line: &str, why: &str) -> Result<(), AllocError> {
+    pub fn refuse(&mut self, line: &str, why: &str) -> Result<(), Memory> {
         self.failed = self.failed.saturating_add(1);
         let file = self.file.as_str();
         let told = format!(in self.alloc; "{file}: {why}: {line}\n")?;
@@ -59,7 +60,7 @@ impl Report {
     }
 
     /// A call of a case could not be made.
-    pub fn fault(&mut self, case: &str, call: &str, fault: CaseFault) -> Result<(), AllocError> {
+    pub fn fault(&mut self, case: &str, call: &str, fault: CaseFault) -> Result<(), Memory> {
         let word = fault.word();
         let told = format!(in self.alloc; "could not be made: {word}\n")?;
         self.tell(case, call, told.as_str())
@@ -72,13 +73,13 @@ impl Report {
         call: &str,
         wanted: &str,
         came: &str,
-    ) -> Result<(), AllocError> {
+    ) -> Result<(), Memory> {
         let told = format!(in self.alloc; "wanted\n{wanted}came\n{came}\n")?;
         self.tell(case, call, told.as_str())
     }
 
     /// A case has failed at a call.
-    fn tell(&mut self, case: &str, call: &str, told: &str) -> Result<(), AllocError> {
+    fn tell(&mut self, case: &str, call: &str, told: &str) -> Result<(), Memory> {
         self.failed = self.failed.saturating_add(1);
         let file = self.file.as_str();
         let text = format!(in self.alloc; "{file}: case {case}: {call}\n{told}")?;

@@ -21,7 +21,7 @@ use Rattle.clap.specs.Walk.{trailing, walked}
 use Rattle.clap.proofs.OnLiterals.{clap_on_literals}
 use Rattle.clap.proofs.WalkLemmas.{walk_stopped}
 use Rattle.command_arguments.specs.Arguments.{Line, arguments_fault, asked_by, command_of, commands, flag_rule, flags_in, given, is_among, line_app, line_of, named_command}
-use Rattle.command_arguments.specs.Arguments.{plain_in, venue_app, word_rules}
+use Rattle.command_arguments.specs.Arguments.{plain_in, venue_app, argument_rules}
 use Rattle.command_arguments.specs.declared.command.Flags.{Flags}
 use Rattle.command_arguments.proofs.TableEnds.{AreRead, Ends, Reads, are_lawful, ends, leaf_kinds, leaf_rows}
 use Rattle.command_arguments.proofs.TableRows.{firm, rules_are, rules_of}
@@ -45,9 +45,9 @@ leaf_shape l = shape l.name (rules_of l.flags l.words)
 
 leaf_is : (l : Line) → leaf l ≡ leaf_shape l
 leaf_is l =
-    ap (λ (a : App). built_leaf (inherited above a.top)) (ruled (new_app l.name) (map flag_rule l.flags ++ word_rules l.words))
-    ∙ ap (λ rs. shape l.name (filled_from 1 rs)) (append_assoc (map flag_rule l.flags) (word_rules l.words) (help_rule ∷ []))
-    ∙ ap (shape l.name) (rules_are l.flags (word_rules l.words ++ help_rule ∷ []))
+    ap (λ (a : App). built_leaf (inherited above a.top)) (ruled (new_app l.name) (map flag_rule l.flags ++ argument_rules l.words))
+    ∙ ap (λ rs. shape l.name (filled_from 1 rs)) (append_assoc (map flag_rule l.flags) (argument_rules l.words) (help_rule ∷ []))
+    ∙ ap (shape l.name) (rules_are l.flags (argument_rules l.words ++ help_rule ∷ []))
 
 leaves_are : (lines : List Line) → map leaf lines ≡ map leaf_shape lines
 leaves_are [] = refl
@@ -133,7 +133,7 @@ start = walk_at (before []) false
 stopped_none : (name : Text) (seen rest : List Text) → walk_fault top_shape names (record start { stopped = Some (name, seen) }) rest ≡ []
 unfolding walk_fault walked
 stopped_none name seen [] = refl
-stopped_none name seen (word ∷ rest) = stopped_none name (seen ++ word ∷ []) rest
+stopped_none name seen (argument ∷ rest) = stopped_none name (seen ++ argument ∷ []) rest
 
 -- what is wrong at the top, by what is behind the name
 abbrev whole : Kinds → Walk → Kinds
@@ -144,38 +144,38 @@ whole behind w =
     (or_else (defaults_fault (settled top_rules w.held).rows top_rules) (check_fault top_shape (finished top_rules w.held) (is_some (entered (built venue_app) w.stopped))))))
 
 -- the first word is a command's name
-module _ (word : Text) (rest : List Text) (l : Line) (found : line_of word commands ≡ Some l) (is : IsNamed word l) where
-  name_met : find (answers_to word) names ≡ Some (label l)
-  name_met = by_name label (answers_to word) ((codes "help", []) ∷ []) word (λ m. or_none (bytes_eq m.name word)) commands
-      ∙ ap (λ o. option_map_or (λ m. Some (label m)) o (find (answers_to word) ((codes "help", []) ∷ []))) found
+module _ (argument : Text) (rest : List Text) (l : Line) (found : line_of argument commands ≡ Some l) (is : IsNamed argument l) where
+  name_met : find (answers_to argument) names ≡ Some (label l)
+  name_met = by_name label (answers_to argument) ((codes "help", []) ∷ []) argument (λ m. or_none (bytes_eq m.name argument)) commands
+      ∙ ap (λ o. option_map_or (λ m. Some (label m)) o (find (answers_to argument) ((codes "help", []) ∷ []))) found
 
-  leaf_met : find (λ s. answers_to word (label_of s)) (built venue_app).subs ≡ Some (leaf_shape l)
-  leaf_met = ap (find (λ s. answers_to word (label_of s))) subs_are
-      ∙ by_name leaf_shape (λ s. answers_to word (label_of s)) (help_leaf ∷ []) word (λ m. or_none (bytes_eq m.name word)) commands
-      ∙ ap (λ o. option_map_or (λ m. Some (leaf_shape m)) o (find (λ s. answers_to word (label_of s)) (help_leaf ∷ []))) found
+  leaf_met : find (λ s. answers_to argument (label_of s)) (built venue_app).subs ≡ Some (leaf_shape l)
+  leaf_met = ap (find (λ s. answers_to argument (label_of s))) subs_are
+      ∙ by_name leaf_shape (λ s. answers_to argument (label_of s)) (help_leaf ∷ []) argument (λ m. or_none (bytes_eq m.name argument)) commands
+      ∙ ap (λ o. option_map_or (λ m. Some (leaf_shape m)) o (find (λ s. answers_to argument (label_of s)) (help_leaf ∷ []))) found
 
   abbrev stopped : Walk
-  stopped = record start { stopped = Some (word, rest) }
+  stopped = record start { stopped = Some (argument, rest) }
 
-  first_walk : walked top_rules names start word ≡ record start { stopped = Some (word, []) }
+  first_walk : walked top_rules names start argument ≡ record start { stopped = Some (argument, []) }
   unfolding walked
   first_walk =
-      ap (λ (o : Option (Text × List Text)). let met = subcommand_or_other top_rules (option_map (λ s. s.0) o) idle 1 word nothing_held in
-      after_step top_rules word start met.0 met.1) name_met
+      ap (λ (o : Option (Text × List Text)). let met = subcommand_or_other top_rules (option_map (λ s. s.0) o) idle 1 argument nothing_held in
+      after_step top_rules argument start met.0 met.1) name_met
       ∙ ap (λ (n : Text). record start { stopped = Some (n, []) }) is.name_is
 
-  first_fault : turn_fault top_shape names start word ≡ []
+  first_fault : turn_fault top_shape names start argument ≡ []
   first_fault =
-      ap (λ (o : Option (Text × List Text)). let met = subcommand_or_other top_rules (option_map (λ s. s.0) o) idle 1 word nothing_held in
-      or_else (other_fault top_shape (option_map (λ s. s.0) o) word nothing_held) (step_fault top_shape 1 met.0 met.1)) name_met
+      ap (λ (o : Option (Text × List Text)). let met = subcommand_or_other top_rules (option_map (λ s. s.0) o) idle 1 argument nothing_held in
+      or_else (other_fault top_shape (option_map (λ s. s.0) o) argument nothing_held) (step_fault top_shape 1 met.0 met.1)) name_met
       ∙ ap (λ b. or_else (if b && true then kind.DisplayHelp ∷ kind.InvalidSubcommand ∷ [] else []) []) is.no_help
 
-  whole_walk : fold (walked top_rules names) start (word ∷ rest) ≡ stopped
-  whole_walk = ap (λ (w : Walk). fold (walked top_rules names) w rest) first_walk ∙ sym (walk_stopped top_rules names start word [] rest)
+  whole_walk : fold (walked top_rules names) start (argument ∷ rest) ≡ stopped
+  whole_walk = ap (λ (w : Walk). fold (walked top_rules names) w rest) first_walk ∙ sym (walk_stopped top_rules names start argument [] rest)
 
-  whole_fault : walk_fault top_shape names start (word ∷ rest) ≡ []
+  whole_fault : walk_fault top_shape names start (argument ∷ rest) ≡ []
   unfolding walk_fault
-  whole_fault = ap₂ (λ (ks : Kinds) (w : Walk). or_else ks (walk_fault top_shape names w rest)) first_fault first_walk ∙ stopped_none word [] rest
+  whole_fault = ap₂ (λ (ks : Kinds) (w : Walk). or_else ks (walk_fault top_shape names w rest)) first_fault first_walk ∙ stopped_none argument [] rest
 
   -- what is wrong, by the command that is found
   abbrev found_fault : Option Shape → Kinds
@@ -185,11 +185,11 @@ module _ (word : Text) (rest : List Text) (l : Line) (found : line_of word comma
       (or_else (defaults_fault (settled top_rules nothing_held).rows top_rules)
       (check_fault top_shape (finished top_rules nothing_held) (is_some (option_map (λ s. rows_at s rest) o)))))
 
-  named_fault : arguments_fault (word ∷ rest) ≡ leaf_kinds l.flags l.words l.name rest start
+  named_fault : arguments_fault (argument ∷ rest) ≡ leaf_kinds l.flags l.words l.name rest start
   unfolding arguments_fault clap_on_literals
   named_fault = ap₂ whole whole_fault whole_walk ∙ ap found_fault leaf_met ∙ or_nothing (leaf_kinds l.flags l.words l.name rest start)
 
-  named_rows : subcommand_of venue_app (word ∷ rest) ≡ Some (l.name, leaf_rows l.flags l.words rest start)
+  named_rows : subcommand_of venue_app (argument ∷ rest) ≡ Some (l.name, leaf_rows l.flags l.words rest start)
   named_rows =
       ap (λ (w : Walk). entered (built venue_app) w.stopped) whole_walk ∙ ap (λ o. option_map (λ s. rows_at s rest) o) leaf_met
 
@@ -214,66 +214,66 @@ above_short false false rest next e = never kind.UnknownArgument [] e
 above_short false true rest next e = never kind.DisplayVersion [] e
 above_short true b rest next e = never kind.DisplayHelp [] e
 
-above_char : (word flags : Text) (k : ℕ) (x : Option ℕ)
+above_char : (argument flags : Text) (k : ℕ) (x : Option ℕ)
     → (let met = bundle_step top_rules x flags 0 plain nothing_held (bundle_met top_rules k) in
-    let after = after_flag top_rules idle word met.0 met.1 in
+    let after = after_flag top_rules idle argument met.0 met.1 in
     or_else (bundle_step_fault top_rules false x flags 0 nothing_held (flags_fault top_rules false k)) (step_fault top_shape 1 after.0 after.1)) ≡ [] → ⊥
-above_char word flags k None e = never kind.UnknownArgument (kind.InvalidSubcommand ∷ []) e
-above_char word flags k (Some x) e = above_short (104 == x) (86 == x) _ _ (neither _ _ e).0
+above_char argument flags k None e = never kind.UnknownArgument (kind.InvalidSubcommand ∷ []) e
+above_char argument flags k (Some x) e = above_short (104 == x) (86 == x) _ _ (neither _ _ e).0
 
-above_bundle : (word flags : Text) (n : ℕ)
+above_bundle : (argument flags : Text) (n : ℕ)
     → (let met = bundle_met top_rules n flags 0 plain nothing_held in
-    let after = after_flag top_rules idle word met.0 met.1 in
+    let after = after_flag top_rules idle argument met.0 met.1 in
     or_else (flags_fault top_rules false n flags 0 nothing_held) (step_fault top_shape 1 after.0 after.1)) ≡ [] → ⊥
 unfolding bundle_met flags_fault
-above_bundle word flags zero e = never kind.UnknownArgument (kind.InvalidSubcommand ∷ []) e
-above_bundle word flags (suc k) e = above_char word flags k (slice_get (chars flags) 0) e
+above_bundle argument flags zero e = never kind.UnknownArgument (kind.InvalidSubcommand ∷ []) e
+above_bundle argument flags (suc k) e = above_char argument flags k (slice_get (chars flags) 0) e
 
-above_rest : (word : Text) (q : Option Text)
-    → (let met = short_or_plain top_rules idle word q nothing_held in
+above_rest : (argument : Text) (q : Option Text)
+    → (let met = short_or_plain top_rules idle argument q nothing_held in
     or_else (option_map_or (λ flags. flags_fault top_rules false (length flags) flags 0 nothing_held) q []) (step_fault top_shape 1 met.0 met.1)) ≡ [] → ⊥
-above_rest word None e = never kind.UnknownArgument (kind.InvalidSubcommand ∷ []) e
-above_rest word (Some flags) e = above_bundle word flags (length flags) e
+above_rest argument None e = never kind.UnknownArgument (kind.InvalidSubcommand ∷ []) e
+above_rest argument (Some flags) e = above_bundle argument flags (length flags) e
 
-above_word : (word : Text) (o : Option (Text × Option Text))
-    → (let met = long_or_other top_rules idle word o nothing_held in
-    or_else (flag_word_fault top_rules false o word nothing_held) (step_fault top_shape 1 met.0 met.1)) ≡ [] → ⊥
-above_word word (Some p) e = above_long p.1 (bytes_eq (codes "help") p.0) (bytes_eq (codes "version") p.0) (neither _ _ e).0
-above_word word None e = above_rest word (short_of word) e
+above_word : (argument : Text) (o : Option (Text × Option Text))
+    → (let met = long_or_other top_rules idle argument o nothing_held in
+    or_else (flag_word_fault top_rules false o argument nothing_held) (step_fault top_shape 1 met.0 met.1)) ≡ [] → ⊥
+above_word argument (Some p) e = above_long p.1 (bytes_eq (codes "help") p.0) (bytes_eq (codes "version") p.0) (neither _ _ e).0
+above_word argument None e = above_rest argument (short_of argument) e
 
-above_dashes : (word : Text) (b : Bool)
-    → (let met = if b then (nothing_held, trailing 1) else long_or_other top_rules idle word (long_of word) nothing_held in
-    or_else (if b then [] else flag_word_fault top_rules false (long_of word) word nothing_held) (step_fault top_shape 1 met.0 met.1)) ≡ []
+above_dashes : (argument : Text) (b : Bool)
+    → (let met = if b then (nothing_held, trailing 1) else long_or_other top_rules idle argument (long_of argument) nothing_held in
+    or_else (if b then [] else flag_word_fault top_rules false (long_of argument) argument nothing_held) (step_fault top_shape 1 met.0 met.1)) ≡ []
     → b ≡ true
-above_dashes word true e = refl
-above_dashes word false e = absurd (above_word word (long_of word) e)
+above_dashes argument true e = refl
+above_dashes argument false e = absurd (above_word argument (long_of argument) e)
 
 -- what is wrong with a first word, by the subcommand that it names
 abbrev first_kinds : Text → Option (Text × List Text) → Kinds
-first_kinds word o =
-    let met = subcommand_or_other top_rules (option_map (λ s. s.0) o) idle 1 word nothing_held in
-    or_else (other_fault top_shape (option_map (λ s. s.0) o) word nothing_held) (step_fault top_shape 1 met.0 met.1)
+first_kinds argument o =
+    let met = subcommand_or_other top_rules (option_map (λ s. s.0) o) idle 1 argument nothing_held in
+    or_else (other_fault top_shape (option_map (λ s. s.0) o) argument nothing_held) (step_fault top_shape 1 met.0 met.1)
 
-only_dashes : (word : Text) (b : Bool) → first_kinds word (cond (b || false) (Some (codes "help", [])) None) ≡ [] → word ≡ codes "--"
-only_dashes word true e = absurd (never kind.DisplayHelp (kind.InvalidSubcommand ∷ []) e)
-only_dashes word false e = (bytes_eq-Decides word (codes "--")).0 (above_dashes word (bytes_eq word (codes "--")) e)
+only_dashes : (argument : Text) (b : Bool) → first_kinds argument (cond (b || false) (Some (codes "help", [])) None) ≡ [] → argument ≡ codes "--"
+only_dashes argument true e = absurd (never kind.DisplayHelp (kind.InvalidSubcommand ∷ []) e)
+only_dashes argument false e = (bytes_eq-Decides argument (codes "--")).0 (above_dashes argument (bytes_eq argument (codes "--")) e)
 
 first_dashes : (rest : List Text) → arguments_fault (codes "--" ∷ rest) ≡ [] → ⊥
 unfolding clap_on_literals arguments_fault
 first_dashes [] e = never kind.MissingSubcommand [] e
-first_dashes (word ∷ rest) e = never kind.UnknownArgument (kind.InvalidSubcommand ∷ []) e
+first_dashes (argument ∷ rest) e = never kind.UnknownArgument (kind.InvalidSubcommand ∷ []) e
 
-first_none : (word : Text) (rest : List Text) → arguments_fault (word ∷ rest) ≡ [] → turn_fault top_shape names start word ≡ []
+first_none : (argument : Text) (rest : List Text) → arguments_fault (argument ∷ rest) ≡ [] → turn_fault top_shape names start argument ≡ []
 unfolding arguments_fault walk_fault
-first_none word rest e = (neither _ _ (neither _ _ e).0).0
+first_none argument rest e = (neither _ _ (neither _ _ e).0).0
 
 -- where nothing is wrong, the first word is a command's name
-pub unnamed : (word : Text) (rest : List Text) → line_of word commands ≡ None → arguments_fault (word ∷ rest) ≡ [] → ⊥
-unnamed word rest lost e =
-    let met : find (answers_to word) names ≡ cond (bytes_eq (codes "help") word || false) (Some (codes "help", [])) None =
-    by_name label (answers_to word) ((codes "help", []) ∷ []) word (λ m. or_none (bytes_eq m.name word)) commands
-    ∙ ap (λ o. option_map_or (λ m. Some (label m)) o (find (answers_to word) ((codes "help", []) ∷ []))) lost in
-    let dashes = only_dashes word (bytes_eq (codes "help") word) (ap (first_kinds word) (sym met) ∙ first_none word rest e) in
+pub unnamed : (argument : Text) (rest : List Text) → line_of argument commands ≡ None → arguments_fault (argument ∷ rest) ≡ [] → ⊥
+unnamed argument rest lost e =
+    let met : find (answers_to argument) names ≡ cond (bytes_eq (codes "help") argument || false) (Some (codes "help", [])) None =
+    by_name label (answers_to argument) ((codes "help", []) ∷ []) argument (λ m. or_none (bytes_eq m.name argument)) commands
+    ∙ ap (λ o. option_map_or (λ m. Some (label m)) o (find (answers_to argument) ((codes "help", []) ∷ []))) lost in
+    let dashes = only_dashes argument (bytes_eq (codes "help") argument) (ap (first_kinds argument) (sym met) ∙ first_none argument rest e) in
     first_dashes rest (subst (λ (w : Text). arguments_fault (w ∷ rest) ≡ []) dashes e)
 
 -- ---- which arguments are a command
@@ -291,21 +291,21 @@ none_wrong own words given flags kinds rows true is e = (λ none. refl, λ yes. 
 none_wrong own words given flags kinds rows false is e = (λ none. absurd (e.0 is none), λ yes. absurd (false≢true yes))
 
 abbrev Law : Text → List Text → Option Line → Type 0
-Law word rest o =
-    (arguments_fault (word ∷ rest) ≡ []) ↔ (is_some (option_and_then (asked_by (plain_in rest) (flags_in rest)) o) ≡ true)
+Law argument rest o =
+    (arguments_fault (argument ∷ rest) ≡ []) ↔ (is_some (option_and_then (asked_by (plain_in rest) (flags_in rest)) o) ≡ true)
 
-law_by : (word : Text) (rest : List Text) (o : Option Line) → line_of word commands ≡ o → Law word rest o
-law_by word rest None lost = (λ e. absurd (unnamed word rest lost e), λ e. absurd (false≢true e))
-law_by word rest (Some l) found =
-    let is = is_named word commands l lines_are_lawful found in
+law_by : (argument : Text) (rest : List Text) (o : Option Line) → line_of argument commands ≡ o → Law argument rest o
+law_by argument rest None lost = (λ e. absurd (unnamed argument rest lost e), λ e. absurd (false≢true e))
+law_by argument rest (Some l) found =
+    let is = is_named argument commands l lines_are_lawful found in
     let lawful = are_lawful l.flags l.words (plain_in rest) (flags_in rest) in
-    let none = none_wrong l.flags l.words _ _ _ _ lawful refl (named_ends word rest l found is) in
+    let none = none_wrong l.flags l.words _ _ _ _ lawful refl (named_ends argument rest l found is) in
     let some = some_lawful lawful (l.asks (slice_get (plain_in rest) 0) (given (flags_in rest))) in
-    (λ e. some.0 (none.0 (sym (named_fault word rest l found is) ∙ e)), λ e. named_fault word rest l found is ∙ none.1 (some.1 e))
+    (λ e. some.0 (none.0 (sym (named_fault argument rest l found is) ∙ e)), λ e. named_fault argument rest l found is ∙ none.1 (some.1 e))
 
-pub lawful_arguments : (word : Text) (rest : List Text)
-    → (arguments_fault (word ∷ rest) ≡ []) ↔ (is_some (command_of (word ∷ rest)) ≡ true)
-lawful_arguments word rest = law_by word rest (line_of word commands) refl
+pub lawful_arguments : (argument : Text) (rest : List Text)
+    → (arguments_fault (argument ∷ rest) ≡ []) ↔ (is_some (command_of (argument ∷ rest)) ≡ true)
+lawful_arguments argument rest = law_by argument rest (line_of argument commands) refl
 
 -- ---- what was found for a command
 
@@ -343,32 +343,32 @@ same_flags words given_flags rows flags read found =
 -- each command of a table asks for what its name does
 abbrev AskByName : List Line → Type 0
 AskByName [] = Unit {0}
-AskByName (l ∷ lines) = ((word : Option Text) (flags : Flags) → l.asks word flags ≡ named_command l.name word flags) × AskByName lines
+AskByName (l ∷ lines) = ((argument : Option Text) (flags : Flags) → l.asks argument flags ≡ named_command l.name argument flags) × AskByName lines
 
-asks_by_name : (name : Text) (lines : List Line) (l : Line) → AskByName lines → line_of name lines ≡ Some l → (word : Option Text) (flags : Flags)
-    → l.asks word flags ≡ named_command l.name word flags
-asks_by_name name [] l all found word flags = cc
-asks_by_name name (first ∷ lines) l all found word flags =
-    go (bytes_eq first.name name) found (λ others. asks_by_name name lines l all.1 others word flags)
+asks_by_name : (name : Text) (lines : List Line) (l : Line) → AskByName lines → line_of name lines ≡ Some l → (argument : Option Text) (flags : Flags)
+    → l.asks argument flags ≡ named_command l.name argument flags
+asks_by_name name [] l all found argument flags = cc
+asks_by_name name (first ∷ lines) l all found argument flags =
+    go (bytes_eq first.name name) found (λ others. asks_by_name name lines l all.1 others argument flags)
   where
-    go : (b : Bool) → cond b (Some first) (line_of name lines) ≡ Some l → (line_of name lines ≡ Some l → l.asks word flags ≡ named_command l.name word flags)
-        → l.asks word flags ≡ named_command l.name word flags
+    go : (b : Bool) → cond b (Some first) (line_of name lines) ≡ Some l → (line_of name lines ≡ Some l → l.asks argument flags ≡ named_command l.name argument flags)
+        → l.asks argument flags ≡ named_command l.name argument flags
     go true is others =
-        subst (λ (m : Line). m.asks word flags ≡ named_command m.name word flags) (ap (λ o. unwrap_or o l) is) (all.0 word flags)
+        subst (λ (m : Line). m.asks argument flags ≡ named_command m.name argument flags) (ap (λ o. unwrap_or o l) is) (all.0 argument flags)
     go false is others = others is
 
 commands_ask : AskByName commands
 commands_ask = (
-  λ word flags. refl,
+  λ argument flags. refl,
   (
-    λ word flags. refl,
+    λ argument flags. refl,
     (
-      λ word flags. refl,
+      λ argument flags. refl,
       (
-        λ word flags. refl,
+        λ argument flags. refl,
         (
-          λ word flags. refl,
-          (λ word flags. refl, (λ word flags. refl, (λ word flags. refl, tt))),
+          λ argument flags. refl,
+          (λ argument flags. refl, (λ argument flags. refl, (λ argument flags. refl, tt))),
         ),
       ),
     ),
@@ -379,24 +379,24 @@ commands_ask = (
 abbrev pub IsAsked : List Text → Text → List Row → Flags → Type 0
 IsAsked arguments name rows flags = command_of arguments ≡ Some (named_command name (first_of firm rows) flags)
 
-asked_by_rows : (word : Text) (rest : List Text) (o : Option Line) → line_of word commands ≡ o → arguments_fault (word ∷ rest) ≡ []
-    → (met : Text × List Row) → subcommand_of venue_app (word ∷ rest) ≡ Some met → (flags : Flags) → AreFound flags met.1
-    → IsAsked (word ∷ rest) met.0 met.1 flags
-asked_by_rows word rest None lost none met met_is flags found = absurd (unnamed word rest lost none)
-asked_by_rows word rest (Some l) named none met met_is flags found =
-    let is = is_named word commands l lines_are_lawful named in
+asked_by_rows : (argument : Text) (rest : List Text) (o : Option Line) → line_of argument commands ≡ o → arguments_fault (argument ∷ rest) ≡ []
+    → (met : Text × List Row) → subcommand_of venue_app (argument ∷ rest) ≡ Some met → (flags : Flags) → AreFound flags met.1
+    → IsAsked (argument ∷ rest) met.0 met.1 flags
+asked_by_rows argument rest None lost none met met_is flags found = absurd (unnamed argument rest lost none)
+asked_by_rows argument rest (Some l) named none met met_is flags found =
+    let is = is_named argument commands l lines_are_lawful named in
     let lawful = are_lawful l.flags l.words (plain_in rest) (flags_in rest) in
-    let ends_is = named_ends word rest l named is in
-    let lawful_is = (none_wrong l.flags l.words _ _ _ _ lawful refl ends_is).0 (sym (named_fault word rest l named is) ∙ none) in
+    let ends_is = named_ends argument rest l named is in
+    let lawful_is = (none_wrong l.flags l.words _ _ _ _ lawful refl ends_is).0 (sym (named_fault argument rest l named is) ∙ none) in
     let read = (ends_is.1 lawful_is).1 in
     let same : (l.name, leaf_rows l.flags l.words rest start) ≡ met =
-    ap (λ (o : Option (Text × List Row)). unwrap_or o met) (sym (named_rows word rest l named is) ∙ met_is) in
-    subst (λ (m : Text × List Row). AreFound flags m.1 → IsAsked (word ∷ rest) m.0 m.1 flags) same
+    ap (λ (o : Option (Text × List Row)). unwrap_or o met) (sym (named_rows argument rest l named is) ∙ met_is) in
+    subst (λ (m : Text × List Row). AreFound flags m.1 → IsAsked (argument ∷ rest) m.0 m.1 flags) same
     (λ these.
     ap (option_and_then (asked_by (plain_in rest) (flags_in rest))) named
     ∙ ap (λ b. if b then Some (l.asks (slice_get (plain_in rest) 0) (given (flags_in rest))) else None) lawful_is
-    ∙ ap₂ (λ w f. Some (l.asks w f)) (sym read.word) (sym (same_flags (plain_in rest) (flags_in rest) _ flags read these))
-    ∙ ap (λ c. Some c) (asks_by_name word commands l commands_ask named _ flags)) found
+    ∙ ap₂ (λ w f. Some (l.asks w f)) (sym read.argument) (sym (same_flags (plain_in rest) (flags_in rest) _ flags read these))
+    ∙ ap (λ c. Some c) (asks_by_name argument commands l commands_ask named _ flags)) found
 
 pub arguments_read : {A : Type 0} (text : A → Text) (arguments : List A) → 0 < length arguments → arguments_fault (map text arguments) ≡ []
     → (met : Text × List Row) → subcommand_of venue_app (map text arguments) ≡ Some met → (flags : Flags) → AreFound flags met.1

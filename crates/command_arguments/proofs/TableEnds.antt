@@ -44,7 +44,7 @@ Reads text given =
 
 -- the word and the flags are found
 pub record AreRead (words flags : List Text) (rows : List Row) : Type 0 where
-  pub word : first_of firm rows ≡ slice_get words 0
+  pub argument : first_of firm rows ≡ slice_get words 0
   pub flag : (name : Text) → bytes_eq firm name ≡ false → Reads (one_of name rows) (is_among (spelled name) flags)
 
 abbrev pub are_lawful : List Text → Words → List Text → List Text → Bool
@@ -60,13 +60,13 @@ Ends own words given flags kinds rows =
 
 at_firm : (s : Spot) → is_among firm (given_at s) ≡ false → row_at firm (settled_at s) ≡ option_map word_row (slice_get (words_at s) 0)
 at_firm (before names) clear = at_flag firm names ∙ ap (λ b. cond b (Some (flag_row firm)) None) clear
-at_firm (waits names word) clear =
-    find-append (λ (r : Row). bytes_eq r.id firm) (map flag_row names) (word_row word ∷ [])
-    ∙ ap (λ o. option_or o (Some (word_row word))) (at_flag firm names ∙ ap (λ b. cond b (Some (flag_row firm)) None) clear)
-at_firm (behind names word more) clear =
+at_firm (waits names argument) clear =
+    find-append (λ (r : Row). bytes_eq r.id firm) (map flag_row names) (word_row argument ∷ [])
+    ∙ ap (λ o. option_or o (Some (word_row argument))) (at_flag firm names ∙ ap (λ b. cond b (Some (flag_row firm)) None) clear)
+at_firm (behind names argument more) clear =
     let parts = both_false _ _ (sym (list_any-append (λ other. bytes_eq other firm) names more) ∙ clear) in
-    find-append (λ (r : Row). bytes_eq r.id firm) (map flag_row names) (word_row word ∷ map flag_row more)
-    ∙ ap (λ o. option_or o (Some (word_row word))) (at_flag firm names ∙ ap (λ b. cond b (Some (flag_row firm)) None) parts.0)
+    find-append (λ (r : Row). bytes_eq r.id firm) (map flag_row names) (word_row argument ∷ map flag_row more)
+    ∙ ap (λ o. option_or o (Some (word_row argument))) (at_flag firm names ∙ ap (λ b. cond b (Some (flag_row firm)) None) parts.0)
 
 joined : (a b : Bool) (r : Row) → option_or (cond a (Some r) None) (cond b (Some r) None) ≡ cond (a || b) (Some r) None
 joined true b r = refl
@@ -74,13 +74,13 @@ joined false b r = refl
 
 at_name : (s : Spot) (name : Text) → bytes_eq firm name ≡ false → row_at name (settled_at s) ≡ cond (is_among name (given_at s)) (Some (flag_row name)) None
 at_name (before names) name apart = at_flag name names
-at_name (waits names word) name apart =
-    find-append (λ (r : Row). bytes_eq r.id name) (map flag_row names) (word_row word ∷ [])
-    ∙ ap₂ (λ o b. option_or o (cond b (Some (word_row word)) None)) (at_flag name names) apart
+at_name (waits names argument) name apart =
+    find-append (λ (r : Row). bytes_eq r.id name) (map flag_row names) (word_row argument ∷ [])
+    ∙ ap₂ (λ o b. option_or o (cond b (Some (word_row argument)) None)) (at_flag name names) apart
     ∙ joined (is_among name names) false (flag_row name) ∙ ap (λ b. cond b (Some (flag_row name)) None) (or_none (is_among name names))
-at_name (behind names word more) name apart =
-    find-append (λ (r : Row). bytes_eq r.id name) (map flag_row names) (word_row word ∷ map flag_row more)
-    ∙ ap₂ (λ o b. option_or o (cond b (Some (word_row word)) (row_at name (map flag_row more)))) (at_flag name names) apart
+at_name (behind names argument more) name apart =
+    find-append (λ (r : Row). bytes_eq r.id name) (map flag_row names) (word_row argument ∷ map flag_row more)
+    ∙ ap₂ (λ o b. option_or o (cond b (Some (word_row argument)) (row_at name (map flag_row more)))) (at_flag name names) apart
     ∙ ap (λ o. option_or (cond (is_among name names) (Some (flag_row name)) None) o) (at_flag name more)
     ∙ joined (is_among name names) (is_among name more) (flag_row name)
     ∙ ap (λ b. cond b (Some (flag_row name)) None) (sym (list_any-append (λ other. bytes_eq other name) names more))
@@ -101,23 +101,23 @@ option_or_none (Some x) = refl
 
 given_by : (o : Option Text) → option_map_or (λ (r : Row). explicit_source r.source) (option_map word_row o) false ≡ is_some o
 given_by None = refl
-given_by (Some word) = refl
+given_by (Some argument) = refl
 
 word_by : (o : Option Text) → option_and_then (λ (r : Row). slice_get r.values 0) (option_map word_row o) ≡ o
 word_by None = refl
-word_by (Some word) = refl
+word_by (Some argument) = refl
 
 wanted : (own : List Text) (words : Words) (s : Spot) → Fits own words s
     → are_words words (words_at s) ≡ not (lacks_word words (is_some (slice_get (words_at s) 0)))
 wanted own no_word (before names) fit = refl
-wanted own no_word (waits names word) fit = absurd fit.placed
-wanted own no_word (behind names word more) fit = absurd fit.placed
+wanted own no_word (waits names argument) fit = absurd fit.placed
+wanted own no_word (behind names argument more) fit = absurd fit.placed
 wanted own one_or_none (before names) fit = refl
-wanted own one_or_none (waits names word) fit = refl
-wanted own one_or_none (behind names word more) fit = refl
+wanted own one_or_none (waits names argument) fit = refl
+wanted own one_or_none (behind names argument more) fit = refl
 wanted own one_word (before names) fit = refl
-wanted own one_word (waits names word) fit = refl
-wanted own one_word (behind names word more) fit = refl
+wanted own one_word (waits names argument) fit = refl
+wanted own one_word (behind names argument more) fit = refl
 
 by_lack : (own : List Text) (words : Words) (given flags : List Text) (kinds : Kinds) (rows : List Row) (lacking : Bool)
     → are_lawful own words given flags ≡ not lacking → kinds ≡ missing lacking → AreRead given flags rows → Ends own words given flags kinds rows
@@ -145,7 +145,7 @@ ended own words name s names fit =
     (ap₂ (λ a b. a && b) (wanted own words s fit) fit.allowed ∙ and_true lacking)
     (ap₂ or_else settled_too.1 (ap₂ or_else (no_default_fault own words (settled rules (held_at s)).rows) checked))
     (record {
-      word = ap (first_of firm) rows_are ∙ ap (option_and_then (λ (r : Row). slice_get r.values 0)) word_is ∙ word_by (slice_get (words_at s) 0);
+      argument = ap (first_of firm) rows_are ∙ ap (option_and_then (λ (r : Row). slice_get r.values 0)) word_is ∙ word_by (slice_get (words_at s) 0);
       flag = λ flag apart. subst (λ rs. Reads (one_of flag rs) (is_among (spelled flag) (map spelled (given_at s)))) (sym rows_are)
           (subst (λ o. Reads (option_and_then row_text o) (is_among (spelled flag) (map spelled (given_at s)))) (sym (at_default own flag (settled_at s)))
           (subst (λ o. Reads (option_and_then row_text (option_or o (cond (is_among flag own) (Some (default_row flag)) None)))
@@ -205,8 +205,8 @@ left_by is_dash is_a_flag dash a_flag other = if is_dash then dash else (if is_a
 
 same_words : (s : Spot) (name : Text) → words_at (with_flag s name) ≡ words_at s
 same_words (before names) name = refl
-same_words (waits names word) name = refl
-same_words (behind names word more) name = refl
+same_words (waits names argument) name = refl
+same_words (behind names argument more) name = refl
 
 nothing_left : (own : List Text) (words : Words) (name : Text) (s : Spot) (t : Bool)
     → Ends own words (words_at s) (map spelled (given_at s)) (leaf_kinds own words name [] (walk_at s t)) (leaf_rows own words [] (walk_at s t))
@@ -220,37 +220,37 @@ pub ends : (own : List Text) (words : Words) (name : Text) (rest : List Text) (s
     → EndsFrom own words name rest s t
 unfolding walk_fault
 ends own words name [] s t names fit = nothing_left own words name s t (ended own words name s names fit)
-ends own words name (word ∷ rest) s true names fit = elim (trailing_turn own words name s word fit) [
+ends own words name (argument ∷ rest) s true names fit = elim (trailing_turn own words name s argument fit) [
   | inl bad ↦ failed own words _ _ _ _ (λ e. bad.0 (neither _ _ (neither _ _ e).0).0) (and_left _ _ (bad.1 rest))
   | inr is ↦ moved own words name rest _ _ _ _ _ _ (walk_at is.0 true) is.1 is.2
-      (ap (λ ws. ws ++ rest) is.4 ∙ append_assoc (words_at s) (word ∷ []) rest)
+      (ap (λ ws. ws ++ rest) is.4 ∙ append_assoc (words_at s) (argument ∷ []) rest)
       (ap (λ names. map spelled names ++ []) is.5)
       (ends own words name rest is.0 true names is.3)
 ]
-ends own words name (word ∷ rest) s false names fit = elim (open_turn own words name s word names fit) [
+ends own words name (argument ∷ rest) s false names fit = elim (open_turn own words name s argument names fit) [
   | inl is ↦ moved own words name rest _ _ _ _ _ _ (walk_at s true) is.1 is.2
-      (ap (λ b. words_at s ++ left_by b (is_flag word) rest (plain_in rest) (word ∷ plain_in rest)) (sym is.0))
-      (ap (λ b. map spelled (given_at s) ++ left_by b (is_flag word) [] (word ∷ flags_in rest) (flags_in rest)) (sym is.0))
+      (ap (λ b. words_at s ++ left_by b (is_flag argument) rest (plain_in rest) (argument ∷ plain_in rest)) (sym is.0))
+      (ap (λ b. map spelled (given_at s) ++ left_by b (is_flag argument) [] (argument ∷ flags_in rest) (flags_in rest)) (sym is.0))
       (ends own words name rest s true names fit)
   | inr (inl (dash, a_flag, inl bad)) ↦ failed own words _ _ _ _ (λ e. bad.0 (neither _ _ (neither _ _ e).0).0)
-      (and_right _ _ (ap₂ (λ b c. are_flags (map spelled own) (map spelled (given_at s) ++ left_by b c [] (word ∷ flags_in rest) (flags_in rest))) dash a_flag
+      (and_right _ _ (ap₂ (λ b c. are_flags (map spelled own) (map spelled (given_at s) ++ left_by b c [] (argument ∷ flags_in rest) (flags_in rest))) dash a_flag
       ∙ bad.1 (flags_in rest)))
   | inr (inl (dash, a_flag, inr is)) ↦ moved own words name rest _ _ _ _ _ _ (walk_at (with_flag s is.0) false) is.2 is.3
       (ap (λ ws. ws ++ plain_in rest) (same_words s is.0)
-      ∙ ap₂ (λ b c. words_at s ++ left_by b c rest (plain_in rest) (word ∷ plain_in rest)) (sym dash) (sym a_flag))
+      ∙ ap₂ (λ b c. words_at s ++ left_by b c rest (plain_in rest) (argument ∷ plain_in rest)) (sym dash) (sym a_flag))
       (ap (λ names. map spelled names ++ flags_in rest) (given_more s is.0)
       ∙ ap (λ flags. flags ++ flags_in rest) (map-append spelled (given_at s) (is.0 ∷ []))
       ∙ append_assoc (map spelled (given_at s)) (spelled is.0 ∷ []) (flags_in rest)
       ∙ ap (λ (w : Text). map spelled (given_at s) ++ w ∷ flags_in rest) (sym is.1)
-      ∙ ap₂ (λ b c. map spelled (given_at s) ++ left_by b c [] (word ∷ flags_in rest) (flags_in rest)) (sym dash) (sym a_flag))
+      ∙ ap₂ (λ b c. map spelled (given_at s) ++ left_by b c [] (argument ∷ flags_in rest) (flags_in rest)) (sym dash) (sym a_flag))
       (ends own words name rest (with_flag s is.0) false names is.4)
   | inr (inr (dash, no_flag, inl bad)) ↦ failed own words _ _ _ _ (λ e. bad.0 (neither _ _ (neither _ _ e).0).0)
-      (and_left _ _ (ap₂ (λ b c. are_words words (words_at s ++ left_by b c rest (plain_in rest) (word ∷ plain_in rest))) dash no_flag
+      (and_left _ _ (ap₂ (λ b c. are_words words (words_at s ++ left_by b c rest (plain_in rest) (argument ∷ plain_in rest))) dash no_flag
       ∙ bad.1 (plain_in rest)))
   | inr (inr (dash, no_flag, inr is)) ↦ moved own words name rest _ _ _ _ _ _ (walk_at is.0 false) is.1 is.2
-      (ap (λ ws. ws ++ plain_in rest) is.4 ∙ append_assoc (words_at s) (word ∷ []) (plain_in rest)
-      ∙ ap₂ (λ b c. words_at s ++ left_by b c rest (plain_in rest) (word ∷ plain_in rest)) (sym dash) (sym no_flag))
+      (ap (λ ws. ws ++ plain_in rest) is.4 ∙ append_assoc (words_at s) (argument ∷ []) (plain_in rest)
+      ∙ ap₂ (λ b c. words_at s ++ left_by b c rest (plain_in rest) (argument ∷ plain_in rest)) (sym dash) (sym no_flag))
       (ap (λ names. map spelled names ++ flags_in rest) is.5
-      ∙ ap₂ (λ b c. map spelled (given_at s) ++ left_by b c [] (word ∷ flags_in rest) (flags_in rest)) (sym dash) (sym no_flag))
+      ∙ ap₂ (λ b c. map spelled (given_at s) ++ left_by b c [] (argument ∷ flags_in rest) (flags_in rest)) (sym dash) (sym no_flag))
       (ends own words name rest is.0 false names is.3)
 ]

@@ -20,7 +20,7 @@ use Rattle.clap.specs.Simple.{filled, filled_from, help_rule, with_index}
 use Rattle.clap.specs.Takes.{is_given}
 use Rattle.clap.specs.Walk.{Row, Rule, Text, arg_by_id, arg_by_index, arg_by_long, arg_by_short, at_row}
 use Rattle.clap.specs.Walk.{has_row, more_values, with_default, with_values, without}
-use Rattle.command_arguments.specs.Arguments.{Words, flag_rule, is_among, no_word, one_or_none, one_word, word_rule, word_rules}
+use Rattle.command_arguments.specs.Arguments.{Words, flag_rule, is_among, no_word, one_or_none, one_word, argument_rule, argument_rules}
 use Rattle.command_arguments.proofs.WordLemmas.{both_false}
 
 -- ---- the rules of a command that is built
@@ -29,7 +29,7 @@ abbrev pub built_flag : Text → Rule
 built_flag name = with_index 1 (filled (flag_rule name))
 
 abbrev pub behind_flags : Words → List Rule
-behind_flags words = filled_from 1 (word_rules words ++ help_rule ∷ [])
+behind_flags words = filled_from 1 (argument_rules words ++ help_rule ∷ [])
 
 abbrev pub rules_of : List Text → Words → List Rule
 rules_of own words = map built_flag own ++ behind_flags words
@@ -85,7 +85,7 @@ abbrev pub default_row : Text → Row
 default_row name = row_by DefaultValue name (codes "false")
 
 abbrev pub word_row : Text → Row
-word_row word = row_by CommandLine firm word
+word_row argument = row_by CommandLine firm argument
 
 abbrev pub row_at : Text → List Row → Option Row
 row_at id rows = find (λ r. bytes_eq r.id id) rows
@@ -215,9 +215,9 @@ others_fault : (words : Words) (rows : List Row) → defaults_fault rows (behind
 unfolding defaults_fault
 others_fault no_word rows = ap (λ ks. or_else ks []) (either_none (has_row (codes "help") rows) _)
 others_fault one_or_none rows =
-    ap₂ or_else (either_none (has_row firm rows) _) (ap (λ ks. or_else ks []) (either_none (has_row (codes "help") (with_default rows (filled (word_rule false)))) _))
+    ap₂ or_else (either_none (has_row firm rows) _) (ap (λ ks. or_else ks []) (either_none (has_row (codes "help") (with_default rows (filled (argument_rule false)))) _))
 others_fault one_word rows =
-    ap₂ or_else (either_none (has_row firm rows) _) (ap (λ ks. or_else ks []) (either_none (has_row (codes "help") (with_default rows (filled (word_rule true)))) _))
+    ap₂ or_else (either_none (has_row firm rows) _) (ap (λ ks. or_else ks []) (either_none (has_row (codes "help") (with_default rows (filled (argument_rule true)))) _))
 
 pub no_default_fault : (own : List Text) (words : Words) (rows : List Row) → defaults_fault rows (rules_of own words) ≡ []
 unfolding defaults_fault

@@ -21,7 +21,7 @@ use Rattle.clap.specs.Walk.{Held, Row, Rule, Text, Walk, after_flag, after_step,
 use Rattle.clap.specs.Walk.{bundle_met, bundle_step, has_row, idle, long_met, long_or_other, plain, reacted, settled, short_or_plain}
 use Rattle.clap.specs.Walk.{to_positional, trailing, used_by_id, value, walked}
 use Rattle.command_arguments.specs.Arguments.{Words, are_flags, are_words, is_among, is_dashes, is_flag, no_word, one_or_none}
-use Rattle.command_arguments.specs.Arguments.{one_word, spelled, venue_app, word_rule}
+use Rattle.command_arguments.specs.Arguments.{one_word, spelled, venue_app, argument_rule}
 use Rattle.command_arguments.proofs.TableRows.{behind_flags, built_flag, by_id, by_index, by_long, by_short, firm, flag_row, has_flag}
 use Rattle.command_arguments.proofs.TableRows.{one_used, rules_of, word_row}
 use Rattle.command_arguments.proofs.WordLemmas.{IsLong, IsPlain, IsShort, both_false, neither, never, word_form}
@@ -45,43 +45,43 @@ pub data Spot : Type 0 where
 -- the names of the flags that were given, and the word
 abbrev pub given_at : Spot → List Text
 given_at (before names) = names
-given_at (waits names word) = names
-given_at (behind names word more) = names ++ more
+given_at (waits names argument) = names
+given_at (behind names argument more) = names ++ more
 
 abbrev pub words_at : Spot → List Text
 words_at (before names) = []
-words_at (waits names word) = word ∷ []
-words_at (behind names word more) = word ∷ []
+words_at (waits names argument) = argument ∷ []
+words_at (behind names argument more) = argument ∷ []
 
 -- one flag more
 abbrev pub with_flag : Spot → Text → Spot
 with_flag (before names) name = before (names ++ name ∷ [])
-with_flag (waits names word) name = behind names word (name ∷ [])
-with_flag (behind names word more) name = behind names word (more ++ name ∷ [])
+with_flag (waits names argument) name = behind names argument (name ∷ [])
+with_flag (behind names argument more) name = behind names argument (more ++ name ∷ [])
 
 abbrev rows_at : Spot → List Row
 rows_at (before names) = map flag_row names
-rows_at (waits names word) = map flag_row names
-rows_at (behind names word more) = map flag_row names ++ word_row word ∷ map flag_row more
+rows_at (waits names argument) = map flag_row names
+rows_at (behind names argument more) = map flag_row names ++ word_row argument ∷ map flag_row more
 
 -- the rows where nothing is pending any more
 abbrev pub settled_at : Spot → List Row
 settled_at (before names) = map flag_row names
-settled_at (waits names word) = map flag_row names ++ word_row word ∷ []
-settled_at (behind names word more) = map flag_row names ++ word_row word ∷ map flag_row more
+settled_at (waits names argument) = map flag_row names ++ word_row argument ∷ []
+settled_at (behind names argument more) = map flag_row names ++ word_row argument ∷ map flag_row more
 
 abbrev pending_at : Spot → Option (Text × List Text)
 pending_at (before names) = None
-pending_at (waits names word) = Some (firm, word ∷ [])
-pending_at (behind names word more) = None
+pending_at (waits names argument) = Some (firm, argument ∷ [])
+pending_at (behind names argument more) = None
 
 abbrev pub held_at : Spot → Held
 held_at s = record { rows = rows_at s; pending = pending_at s; skip = 0 }
 
 abbrev position_at : Spot → ℕ
 position_at (before names) = 1
-position_at (waits names word) = 2
-position_at (behind names word more) = 2
+position_at (waits names argument) = 2
+position_at (behind names argument more) = 2
 
 abbrev pub walk_at : Spot → Bool → Walk
 walk_at s t = record { held = held_at s; waiting = idle; position = position_at s; is_trailing = t; stopped = None }
@@ -89,8 +89,8 @@ walk_at s t = record { held = held_at s; waiting = idle; position = position_at 
 -- a command of no word stands before it
 abbrev IsPlaced : Words → Spot → Type 0
 IsPlaced no_word (before names) = Unit {0}
-IsPlaced no_word (waits names word) = ⊥
-IsPlaced no_word (behind names word more) = ⊥
+IsPlaced no_word (waits names argument) = ⊥
+IsPlaced no_word (behind names argument more) = ⊥
 IsPlaced one_or_none s = Unit {0}
 IsPlaced one_word s = Unit {0}
 
@@ -154,7 +154,7 @@ among_spelled name (first ∷ names) = ap (λ b. bytes_eq first name || b) (amon
 -- ---- what is pending
 
 abbrev built_word : Bool → Rule
-built_word required = with_index 1 (filled (word_rule required))
+built_word required = with_index 1 (filled (argument_rule required))
 
 abbrev settled_held : Spot → Held
 settled_held s = record { rows = settled_at s; pending = None; skip = 0 }
@@ -162,79 +162,79 @@ settled_held s = record { rows = settled_at s; pending = None; skip = 0 }
 abbrev IsSettled : List Rule → Spot → Type 0
 IsSettled rules s = (settled rules (held_at s) ≡ settled_held s) × (settle_fault rules false (held_at s) ≡ [])
 
-word_settled : (rules : List Rule) (required : Bool) (names : List Text) (word : Text) → arg_by_id rules firm ≡ Some (built_word required)
-    → is_among firm names ≡ false → IsSettled rules (waits names word)
-word_settled rules required names word found clear =
+word_settled : (rules : List Rule) (required : Bool) (names : List Text) (argument : Text) → arg_by_id rules firm ≡ Some (built_word required)
+    → is_among firm names ≡ false → IsSettled rules (waits names argument)
+word_settled rules required names argument found clear =
     let none = has_flag firm names ∙ clear in (
-      ap (λ o. record (settled_held (waits names word)) { rows = used_by_id o (word ∷ []) (map flag_row names) }) found
-          ∙ ap (λ rows. record (settled_held (waits names word)) { rows = rows }) (one_used firm AsWritten CommandLine (word ∷ []) (map flag_row names) none),
-      ap (λ o. option_map_or (λ a. use_fault false a (word ∷ []) (map flag_row names)) o []) found
+      ap (λ o. record (settled_held (waits names argument)) { rows = used_by_id o (argument ∷ []) (map flag_row names) }) found
+          ∙ ap (λ rows. record (settled_held (waits names argument)) { rows = rows }) (one_used firm AsWritten CommandLine (argument ∷ []) (map flag_row names) none),
+      ap (λ o. option_map_or (λ a. use_fault false a (argument ∷ []) (map flag_row names)) o []) found
           ∙ ap (λ b. or_else (if b && true then kind.ArgumentConflict ∷ [] else []) []) none,
     )
 
 pub settled_is : (own : List Text) (words : Words) (s : Spot) → is_among firm own ≡ false → Fits own words s → IsSettled (rules_of own words) s
 settled_is own words (before names) none fit = (refl, refl)
-settled_is own words (behind names word more) none fit = (refl, refl)
-settled_is own no_word (waits names word) none fit = absurd fit.placed
-settled_is own one_or_none (waits names word) none fit = word_settled (rules_of own one_or_none) false names word (by_id own _ firm none) fit.clear
-settled_is own one_word (waits names word) none fit = word_settled (rules_of own one_word) true names word (by_id own _ firm none) fit.clear
+settled_is own words (behind names argument more) none fit = (refl, refl)
+settled_is own no_word (waits names argument) none fit = absurd fit.placed
+settled_is own one_or_none (waits names argument) none fit = word_settled (rules_of own one_or_none) false names argument (by_id own _ firm none) fit.clear
+settled_is own one_word (waits names argument) none fit = word_settled (rules_of own one_word) true names argument (by_id own _ firm none) fit.clear
 
 -- ---- a plain word
 
 -- the words of a command that stands somewhere, with one more and any others
 abbrev IsWordTurn : List Text → Words → Spot → Bool → Text → Kinds → Walk → Type 0
-IsWordTurn own words s t word kinds walk =
-    ((kinds ≡ [] → ⊥) × ((rest : List Text) → are_words words (words_at s ++ word ∷ rest) ≡ false))
-    ⊎ ((next : Spot) × (kinds ≡ []) × (walk ≡ walk_at next t) × Fits own words next × (words_at next ≡ words_at s ++ word ∷ [])
+IsWordTurn own words s t argument kinds walk =
+    ((kinds ≡ [] → ⊥) × ((rest : List Text) → are_words words (words_at s ++ argument ∷ rest) ≡ false))
+    ⊎ ((next : Spot) × (kinds ≡ []) × (walk ≡ walk_at next t) × Fits own words next × (words_at next ≡ words_at s ++ argument ∷ [])
     × (given_at next ≡ given_at s))
 
 abbrev PlainBy : List Text → Words → Text → Spot → Bool → Text → Option Rule → Type 0
-PlainBy own words name s t word o =
+PlainBy own words name s t argument o =
     let rules = rules_of own words in
-    IsWordTurn own words s t word (option_map_or (λ a. positional_fault rules false a (held_at s)) o (stray_fault (shape name rules)))
-    (to_positional rules o word (walk_at s t) (held_at s))
+    IsWordTurn own words s t argument (option_map_or (λ a. positional_fault rules false a (held_at s)) o (stray_fault (shape name rules)))
+    (to_positional rules o argument (walk_at s t) (held_at s))
 
 too_many : (words : Words) (first second : Text) (rest : List Text) → are_words words (first ∷ second ∷ rest) ≡ false
 too_many no_word first second rest = refl
 too_many one_or_none first second rest = refl
 too_many one_word first second rest = refl
 
-no_words : (word : Text) (rest : List Text) → are_words no_word (word ∷ rest) ≡ false
-no_words word [] = refl
-no_words word (more ∷ rest) = refl
+no_words : (argument : Text) (rest : List Text) → are_words no_word (argument ∷ rest) ≡ false
+no_words argument [] = refl
+no_words argument (more ∷ rest) = refl
 
-plain_by : (own : List Text) (words : Words) (name : Text) (s : Spot) (t : Bool) (word : Text) → Fits own words s
-    → PlainBy own words name s t word (arg_by_index (behind_flags words) (position_at s))
-plain_by own no_word name (before names) t word fit = inl (λ e. never kind.UnknownArgument [] e, λ rest. no_words word rest)
-plain_by own no_word name (waits names v) t word fit = absurd fit.placed
-plain_by own no_word name (behind names v more) t word fit = absurd fit.placed
-plain_by own one_or_none name (before names) true word fit =
-    inr (waits names word, refl, refl, record { placed = tt; allowed = fit.allowed; clear = fit.clear }, refl, refl)
-plain_by own one_or_none name (before names) false word fit =
-    inr (waits names word, refl, refl, record { placed = tt; allowed = fit.allowed; clear = fit.clear }, refl, refl)
-plain_by own one_or_none name (waits names v) t word fit = inl (λ e. never kind.UnknownArgument [] e, λ rest. too_many one_or_none v word rest)
-plain_by own one_or_none name (behind names v more) t word fit = inl (λ e. never kind.UnknownArgument [] e, λ rest. too_many one_or_none v word rest)
-plain_by own one_word name (before names) true word fit =
-    inr (waits names word, refl, refl, record { placed = tt; allowed = fit.allowed; clear = fit.clear }, refl, refl)
-plain_by own one_word name (before names) false word fit =
-    inr (waits names word, refl, refl, record { placed = tt; allowed = fit.allowed; clear = fit.clear }, refl, refl)
-plain_by own one_word name (waits names v) t word fit = inl (λ e. never kind.UnknownArgument [] e, λ rest. too_many one_word v word rest)
-plain_by own one_word name (behind names v more) t word fit = inl (λ e. never kind.UnknownArgument [] e, λ rest. too_many one_word v word rest)
+plain_by : (own : List Text) (words : Words) (name : Text) (s : Spot) (t : Bool) (argument : Text) → Fits own words s
+    → PlainBy own words name s t argument (arg_by_index (behind_flags words) (position_at s))
+plain_by own no_word name (before names) t argument fit = inl (λ e. never kind.UnknownArgument [] e, λ rest. no_words argument rest)
+plain_by own no_word name (waits names v) t argument fit = absurd fit.placed
+plain_by own no_word name (behind names v more) t argument fit = absurd fit.placed
+plain_by own one_or_none name (before names) true argument fit =
+    inr (waits names argument, refl, refl, record { placed = tt; allowed = fit.allowed; clear = fit.clear }, refl, refl)
+plain_by own one_or_none name (before names) false argument fit =
+    inr (waits names argument, refl, refl, record { placed = tt; allowed = fit.allowed; clear = fit.clear }, refl, refl)
+plain_by own one_or_none name (waits names v) t argument fit = inl (λ e. never kind.UnknownArgument [] e, λ rest. too_many one_or_none v argument rest)
+plain_by own one_or_none name (behind names v more) t argument fit = inl (λ e. never kind.UnknownArgument [] e, λ rest. too_many one_or_none v argument rest)
+plain_by own one_word name (before names) true argument fit =
+    inr (waits names argument, refl, refl, record { placed = tt; allowed = fit.allowed; clear = fit.clear }, refl, refl)
+plain_by own one_word name (before names) false argument fit =
+    inr (waits names argument, refl, refl, record { placed = tt; allowed = fit.allowed; clear = fit.clear }, refl, refl)
+plain_by own one_word name (waits names v) t argument fit = inl (λ e. never kind.UnknownArgument [] e, λ rest. too_many one_word v argument rest)
+plain_by own one_word name (behind names v more) t argument fit = inl (λ e. never kind.UnknownArgument [] e, λ rest. too_many one_word v argument rest)
 
-pub plain_turn : (own : List Text) (words : Words) (name : Text) (s : Spot) (t : Bool) (word : Text) → Fits own words s
+pub plain_turn : (own : List Text) (words : Words) (name : Text) (s : Spot) (t : Bool) (argument : Text) → Fits own words s
     → (let rules = rules_of own words in
-    IsWordTurn own words s t word (step_fault (shape name rules) (position_at s) (held_at s) value)
-    (after_step rules word (walk_at s t) (held_at s) value))
-plain_turn own words name s t word fit =
-    subst (PlainBy own words name s t word) (sym (by_index own (behind_flags words) (position_at s))) (plain_by own words name s t word fit)
+    IsWordTurn own words s t argument (step_fault (shape name rules) (position_at s) (held_at s) value)
+    (after_step rules argument (walk_at s t) (held_at s) value))
+plain_turn own words name s t argument fit =
+    subst (PlainBy own words name s t argument) (sym (by_index own (behind_flags words) (position_at s))) (plain_by own words name s t argument fit)
 
 -- ---- a long flag
 
 -- the flags of a command that stands somewhere, with one more and any others
 abbrev IsFlagTurn : List Text → Words → Spot → Text → Kinds → Walk → Type 0
-IsFlagTurn own words s word kinds walk =
-    ((kinds ≡ [] → ⊥) × ((rest : List Text) → are_flags (map spelled own) (map spelled (given_at s) ++ word ∷ rest) ≡ false))
-    ⊎ ((name : Text) × (word ≡ spelled name) × (kinds ≡ []) × (walk ≡ walk_at (with_flag s name) false) × Fits own words (with_flag s name))
+IsFlagTurn own words s argument kinds walk =
+    ((kinds ≡ [] → ⊥) × ((rest : List Text) → are_flags (map spelled own) (map spelled (given_at s) ++ argument ∷ rest) ≡ false))
+    ⊎ ((name : Text) × (argument ≡ spelled name) × (kinds ≡ []) × (walk ≡ walk_at (with_flag s name) false) × Fits own words (with_flag s name))
 
 abbrev built_help : Rule
 built_help = with_index 1 (filled help_rule)
@@ -246,24 +246,24 @@ long_behind one_word name = refl
 
 -- what a word that is a long flag comes to, by the rule that is found for its name
 abbrev long_kinds : List Text → Words → Text → Spot → Text → Option Text → Option Rule → Kinds
-long_kinds own words name s word v o =
+long_kinds own words name s argument v o =
     let rules = rules_of own words in
     let flag = long_met rules o v (held_at s) in
-    let met = after_flag rules idle word flag.0 flag.1 in
+    let met = after_flag rules idle argument flag.0 flag.1 in
     or_else (long_fault rules false o v (held_at s)) (step_fault (shape name rules) (position_at s) met.0 met.1)
 
 abbrev long_walk : List Text → Words → Spot → Text → Option Text → Option Rule → Walk
-long_walk own words s word v o =
+long_walk own words s argument v o =
     let rules = rules_of own words in
     let flag = long_met rules o v (held_at s) in
-    let met = after_flag rules idle word flag.0 flag.1 in
-    after_step rules word (walk_at s false) met.0 met.1
+    let met = after_flag rules idle argument flag.0 flag.1 in
+    after_step rules argument (walk_at s false) met.0 met.1
 
-help_alone : (own : List Text) (words : Words) (name : Text) (s : Spot) (word : Text) (v : Option Text) (b : Bool)
-    → long_kinds own words name s word v (cond (b || false) (Some built_help) None) ≡ [] → ⊥
-help_alone own words name s word v false e = never kind.UnknownArgument [] e
-help_alone own words name s word (Some x) true e = never kind.TooManyValues [] e
-help_alone own words name s word None true e = never kind.DisplayHelp [] (neither _ _ (neither _ _ e).0).1
+help_alone : (own : List Text) (words : Words) (name : Text) (s : Spot) (argument : Text) (v : Option Text) (b : Bool)
+    → long_kinds own words name s argument v (cond (b || false) (Some built_help) None) ≡ [] → ⊥
+help_alone own words name s argument v false e = never kind.UnknownArgument [] e
+help_alone own words name s argument (Some x) true e = never kind.TooManyValues [] e
+help_alone own words name s argument None true e = never kind.DisplayHelp [] (neither _ _ (neither _ _ e).0).1
 
 -- a name among others is not one that isn't
 not_other : (name other : Text) (names : List Text) → is_among name names ≡ true → is_among other names ≡ false → bytes_eq name other ≡ false
@@ -278,39 +278,39 @@ or_none false = refl
 
 had_flag : (s : Spot) (name : Text) → bytes_eq firm name ≡ false → has_row name (settled_at s) ≡ is_among name (given_at s)
 had_flag (before names) name apart = has_flag name names
-had_flag (waits names word) name apart =
-    list_any-append (λ (r : Row). bytes_eq r.id name) (map flag_row names) (word_row word ∷ [])
+had_flag (waits names argument) name apart =
+    list_any-append (λ (r : Row). bytes_eq r.id name) (map flag_row names) (word_row argument ∷ [])
     ∙ ap₂ (λ a b. a || (b || false)) (has_flag name names) apart ∙ or_none _
-had_flag (behind names word more) name apart =
-    list_any-append (λ (r : Row). bytes_eq r.id name) (map flag_row names) (word_row word ∷ map flag_row more)
+had_flag (behind names argument more) name apart =
+    list_any-append (λ (r : Row). bytes_eq r.id name) (map flag_row names) (word_row argument ∷ map flag_row more)
     ∙ ap₂ (λ a b. a || b) (has_flag name names) (ap (λ b. b || has_row name (map flag_row more)) apart ∙ has_flag name more)
     ∙ sym (list_any-append (λ other. bytes_eq other name) names more)
 
 pub given_more : (s : Spot) (name : Text) → given_at (with_flag s name) ≡ given_at s ++ name ∷ []
 given_more (before names) name = refl
-given_more (waits names word) name = refl
-given_more (behind names word more) name = sym (append_assoc names more (name ∷ []))
+given_more (waits names argument) name = refl
+given_more (behind names argument more) name = sym (append_assoc names more (name ∷ []))
 
 rows_more : (s : Spot) (name : Text) → settled_at s ++ flag_row name ∷ [] ≡ rows_at (with_flag s name)
 rows_more (before names) name = sym (map-append flag_row names (name ∷ []))
-rows_more (waits names word) name = append_assoc (map flag_row names) (word_row word ∷ []) (flag_row name ∷ [])
-rows_more (behind names word more) name =
-    append_assoc (map flag_row names) (word_row word ∷ map flag_row more) (flag_row name ∷ [])
-    ∙ ap (λ (rows : List Row). map flag_row names ++ word_row word ∷ rows) (sym (map-append flag_row more (name ∷ [])))
+rows_more (waits names argument) name = append_assoc (map flag_row names) (word_row argument ∷ []) (flag_row name ∷ [])
+rows_more (behind names argument more) name =
+    append_assoc (map flag_row names) (word_row argument ∷ map flag_row more) (flag_row name ∷ [])
+    ∙ ap (λ (rows : List Row). map flag_row names ++ word_row argument ∷ rows) (sym (map-append flag_row more (name ∷ [])))
 
 placed_more : (words : Words) (s : Spot) (name : Text) → IsPlaced words s → IsPlaced words (with_flag s name)
 placed_more no_word (before names) name placed = tt
-placed_more no_word (waits names word) name placed = absurd placed
-placed_more no_word (behind names word more) name placed = absurd placed
+placed_more no_word (waits names argument) name placed = absurd placed
+placed_more no_word (behind names argument more) name placed = absurd placed
 placed_more one_or_none s name placed = tt
 placed_more one_word s name placed = tt
 
 walk_more : (s : Spot) (name : Text) (rows : List Row) → rows ≡ rows_at (with_flag s name)
     → ◌≡◌ {A = Walk} (record (walk_at s false) { held = record { rows = rows; pending = None; skip = 0 }; waiting = idle }) (walk_at (with_flag s name) false)
 walk_more (before names) name rows is = ap (λ (rs : List Row). record (walk_at (before names) false) { held = record { rows = rs; pending = None; skip = 0 } }) is
-walk_more (waits names word) name rows is = ap (λ (rs : List Row). record (walk_at (waits names word) false) { held = record { rows = rs; pending = None; skip = 0 } }) is
-walk_more (behind names word more) name rows is =
-    ap (λ (rs : List Row). record (walk_at (behind names word more) false) { held = record { rows = rs; pending = None; skip = 0 } }) is
+walk_more (waits names argument) name rows is = ap (λ (rs : List Row). record (walk_at (waits names argument) false) { held = record { rows = rs; pending = None; skip = 0 } }) is
+walk_more (behind names argument more) name rows is =
+    ap (λ (rs : List Row). record (walk_at (behind names argument more) false) { held = record { rows = rs; pending = None; skip = 0 } }) is
 
 fits_more : (own : List Text) (words : Words) (s : Spot) (name : Text) → is_among firm own ≡ false → Fits own words s → is_among name own ≡ true
     → is_among name (given_at s) ≡ false → Fits own words (with_flag s name)
@@ -359,12 +359,12 @@ pub record AreNames (own : List Text) : Type 0 where
   pub no_firm : is_among firm own ≡ false
   pub no_help : is_among (codes "help") own ≡ false
 
-long_among : (word : Text) (p : Text × Option Text) (names : List Text) → IsLong word p → list_all (λ name. not (has_byte 61 name)) names ≡ true
-    → is_among word (map spelled names) ≡ (is_among p.0 names && not (is_some p.1))
-long_among word p [] is bare = refl
-long_among word p (name ∷ names) is bare =
+long_among : (argument : Text) (p : Text × Option Text) (names : List Text) → IsLong argument p → list_all (λ name. not (has_byte 61 name)) names ≡ true
+    → is_among argument (map spelled names) ≡ (is_among p.0 names && not (is_some p.1))
+long_among argument p [] is bare = refl
+long_among argument p (name ∷ names) is bare =
     let parts = and_parts (not (has_byte 61 name)) _ bare in
-    ap₂ (λ a b. a || b) (is.3 name (not-true _ parts.0)) (long_among word p names is parts.1) ∙ joined (bytes_eq name p.0) (is_among p.0 names) (not (is_some p.1))
+    ap₂ (λ a b. a || b) (is.3 name (not-true _ parts.0)) (long_among argument p names is parts.1) ∙ joined (bytes_eq name p.0) (is_among p.0 names) (not (is_some p.1))
   where
     joined : (a b v : Bool) → ((a && v) || (b && v)) ≡ ((a || b) && v)
     joined true b true = refl
@@ -383,33 +383,33 @@ plain_name name (first ∷ names) bare is = by (bytes_eq first name) refl is (pl
     by false same there others = others there
 
 abbrev LongBy : List Text → Words → Text → Spot → Text → Option Text → Option Rule → Type 0
-LongBy own words name s word v o = IsFlagTurn own words s word (long_kinds own words name s word v o) (long_walk own words s word v o)
+LongBy own words name s argument v o = IsFlagTurn own words s argument (long_kinds own words name s argument v o) (long_walk own words s argument v o)
 
-long_case : (own : List Text) (words : Words) (name : Text) (s : Spot) (word flag : Text) (v : Option Text) (b : Bool) → AreNames own → Fits own words s
-    → IsLong word (flag, v) → is_among flag own ≡ b → LongBy own words name s word v (cond b (Some (built_flag flag)) (arg_by_long (behind_flags words) flag))
-long_case own words name s word flag v false names fit is other =
-    subst (LongBy own words name s word v) (sym (long_behind words flag))
+long_case : (own : List Text) (words : Words) (name : Text) (s : Spot) (argument flag : Text) (v : Option Text) (b : Bool) → AreNames own → Fits own words s
+    → IsLong argument (flag, v) → is_among flag own ≡ b → LongBy own words name s argument v (cond b (Some (built_flag flag)) (arg_by_long (behind_flags words) flag))
+long_case own words name s argument flag v false names fit is other =
+    subst (LongBy own words name s argument v) (sym (long_behind words flag))
     (inl (
-      λ e. help_alone own words name s word v (bytes_eq (codes "help") flag) e,
-      λ rest. wrong_flag (map spelled own) (map spelled (given_at s)) rest word
-          (inl (long_among word (flag, v) own is names.plain ∙ ap (λ b. b && not (is_some v)) other)),
+      λ e. help_alone own words name s argument v (bytes_eq (codes "help") flag) e,
+      λ rest. wrong_flag (map spelled own) (map spelled (given_at s)) rest argument
+          (inl (long_among argument (flag, v) own is names.plain ∙ ap (λ b. b && not (is_some v)) other)),
     ))
-long_case own words name s word flag (Some x) true names fit is own_is = inl (
+long_case own words name s argument flag (Some x) true names fit is own_is = inl (
   λ e. never kind.TooManyValues [] e,
-  λ rest. wrong_flag (map spelled own) (map spelled (given_at s)) rest word
-      (inl (long_among word (flag, Some x) own is names.plain ∙ ap (λ b. b && false) own_is)),
+  λ rest. wrong_flag (map spelled own) (map spelled (given_at s)) rest argument
+      (inl (long_among argument (flag, Some x) own is names.plain ∙ ap (λ b. b && false) own_is)),
 )
-long_case own words name s word flag None true names fit is own_is =
-    let spelling : spelled flag ≡ word =
-    (bytes_eq-Decides (spelled flag) word).0 (is.3 flag (plain_name flag own names.plain own_is) ∙ ap (λ b. b && true) ((bytes_eq-Decides flag flag).1 refl)) in
+long_case own words name s argument flag None true names fit is own_is =
+    let spelling : spelled flag ≡ argument =
+    (bytes_eq-Decides (spelled flag) argument).0 (is.3 flag (plain_name flag own names.plain own_is) ∙ ap (λ b. b && true) ((bytes_eq-Decides flag flag).1 refl)) in
     subst (λ w. LongBy own words name s w None (Some (built_flag flag))) spelling
     (own_turn own words name s flag (is_among flag (given_at s)) names.no_firm fit own_is refl)
 
-long_turn : (own : List Text) (words : Words) (name : Text) (s : Spot) (word : Text) (p : Text × Option Text) → AreNames own → Fits own words s → IsLong word p
-    → LongBy own words name s word p.1 (arg_by_long (rules_of own words) p.0)
-long_turn own words name s word p names fit is =
-    subst (LongBy own words name s word p.1) (sym (by_long own (behind_flags words) p.0))
-    (long_case own words name s word p.0 p.1 (is_among p.0 own) names fit is refl)
+long_turn : (own : List Text) (words : Words) (name : Text) (s : Spot) (argument : Text) (p : Text × Option Text) → AreNames own → Fits own words s → IsLong argument p
+    → LongBy own words name s argument p.1 (arg_by_long (rules_of own words) p.0)
+long_turn own words name s argument p names fit is =
+    subst (LongBy own words name s argument p.1) (sym (by_long own (behind_flags words) p.0))
+    (long_case own words name s argument p.0 p.1 (is_among p.0 own) names fit is refl)
 
 -- ---- a bundle of short flags, by its first letter
 
@@ -429,122 +429,122 @@ short_any rules o b rest h again is e = short_alone rules b rest h again (subst 
 
 -- what a bundle comes to, by its first letter
 abbrev ShortTurn : List Text → Words → Spot → Text → Option ℕ → Kinds → Walk → Type 0
-ShortTurn own words s word (Some letter) kinds walk = kinds ≡ [] → ⊥
-ShortTurn own words s word None kinds walk = IsWordTurn own words s false word kinds walk
+ShortTurn own words s argument (Some letter) kinds walk = kinds ≡ [] → ⊥
+ShortTurn own words s argument None kinds walk = IsWordTurn own words s false argument kinds walk
 
 abbrev CharIs : List Text → Words → Text → Spot → Text → Text → ℕ → Option ℕ → Type 0
-CharIs own words name s word flags k x =
+CharIs own words name s argument flags k x =
     let rules = rules_of own words in
     let flag = bundle_step rules x flags 0 plain (held_at s) (bundle_met rules k) in
-    let met = after_flag rules idle word flag.0 flag.1 in
-    ShortTurn own words s word x
+    let met = after_flag rules idle argument flag.0 flag.1 in
+    ShortTurn own words s argument x
     (or_else (bundle_step_fault rules false x flags 0 (held_at s) (flags_fault rules false k)) (step_fault (shape name rules) (position_at s) met.0 met.1))
-    (after_step rules word (walk_at s false) met.0 met.1)
+    (after_step rules argument (walk_at s false) met.0 met.1)
 
-char_turn : (own : List Text) (words : Words) (name : Text) (s : Spot) (word flags : Text) (k : ℕ) (x : Option ℕ) → Fits own words s
-    → CharIs own words name s word flags k x
-char_turn own words name s word flags k None fit = plain_turn own words name s false word fit
-char_turn own words name s word flags k (Some x) fit = λ e.
+char_turn : (own : List Text) (words : Words) (name : Text) (s : Spot) (argument flags : Text) (k : ℕ) (x : Option ℕ) → Fits own words s
+    → CharIs own words name s argument flags k x
+char_turn own words name s argument flags k None fit = plain_turn own words name s false argument fit
+char_turn own words name s argument flags k (Some x) fit = λ e.
     short_any (rules_of own words) (arg_by_short (rules_of own words) x) (104 == x) _ _ _ (by_short own (behind_flags words) x ∙ short_behind words x)
     (neither _ _ e).0
 
 abbrev BundleIs : List Text → Words → Text → Spot → Text → Text → ℕ → Type 0
-BundleIs own words name s word flags n =
+BundleIs own words name s argument flags n =
     let rules = rules_of own words in
     let flag = bundle_met rules n flags 0 plain (held_at s) in
-    let met = after_flag rules idle word flag.0 flag.1 in
-    ShortTurn own words s word (slice_get (chars flags) 0)
+    let met = after_flag rules idle argument flag.0 flag.1 in
+    ShortTurn own words s argument (slice_get (chars flags) 0)
     (or_else (flags_fault rules false n flags 0 (held_at s)) (step_fault (shape name rules) (position_at s) met.0 met.1))
-    (after_step rules word (walk_at s false) met.0 met.1)
+    (after_step rules argument (walk_at s false) met.0 met.1)
 
-bundle_turn : (own : List Text) (words : Words) (name : Text) (s : Spot) (word flags : Text) (n : ℕ) → 0 < n → Fits own words s
-    → BundleIs own words name s word flags n
+bundle_turn : (own : List Text) (words : Words) (name : Text) (s : Spot) (argument flags : Text) (n : ℕ) → 0 < n → Fits own words s
+    → BundleIs own words name s argument flags n
 unfolding bundle_met flags_fault
-bundle_turn own words name s word flags zero some fit = absurd (omega arith)
-bundle_turn own words name s word flags (suc k) some fit = char_turn own words name s word flags k (slice_get (chars flags) 0) fit
+bundle_turn own words name s argument flags zero some fit = absurd (omega arith)
+bundle_turn own words name s argument flags (suc k) some fit = char_turn own words name s argument flags k (slice_get (chars flags) 0) fit
 
 -- ---- a word, by what it looks like
 
 -- what a word comes to
 abbrev pub IsTurn : List Text → Words → Spot → Text → Kinds → Walk → Type 0
-IsTurn own words s word kinds walk =
-    ((is_dashes word ≡ true) × (kinds ≡ []) × (walk ≡ walk_at s true))
-    ⊎ (((is_dashes word ≡ false) × (is_flag word ≡ true) × IsFlagTurn own words s word kinds walk)
-    ⊎ ((is_dashes word ≡ false) × (is_flag word ≡ false) × IsWordTurn own words s false word kinds walk))
+IsTurn own words s argument kinds walk =
+    ((is_dashes argument ≡ true) × (kinds ≡ []) × (walk ≡ walk_at s true))
+    ⊎ (((is_dashes argument ≡ false) × (is_flag argument ≡ true) × IsFlagTurn own words s argument kinds walk)
+    ⊎ ((is_dashes argument ≡ false) × (is_flag argument ≡ false) × IsWordTurn own words s false argument kinds walk))
 
 abbrev TurnBy : List Text → Words → Text → Spot → Text → Bool → Option (Text × Option Text) → Type 0
-TurnBy own words name s word b o =
+TurnBy own words name s argument b o =
     let rules = rules_of own words in
-    let met = if b then (held_at s, trailing (position_at s)) else long_or_other rules idle word o (held_at s) in
-    IsTurn own words s word
-    (or_else (if b then [] else flag_word_fault rules false o word (held_at s)) (step_fault (shape name rules) (position_at s) met.0 met.1))
-    (after_step rules word (walk_at s false) met.0 met.1)
+    let met = if b then (held_at s, trailing (position_at s)) else long_or_other rules idle argument o (held_at s) in
+    IsTurn own words s argument
+    (or_else (if b then [] else flag_word_fault rules false o argument (held_at s)) (step_fault (shape name rules) (position_at s) met.0 met.1))
+    (after_step rules argument (walk_at s false) met.0 met.1)
 
 -- the same of a word that is no long flag
 abbrev ShortBy : List Text → Words → Text → Spot → Text → Option Text → Type 0
-ShortBy own words name s word q =
+ShortBy own words name s argument q =
     let rules = rules_of own words in
-    let met = short_or_plain rules idle word q (held_at s) in
-    IsTurn own words s word
+    let met = short_or_plain rules idle argument q (held_at s) in
+    IsTurn own words s argument
     (or_else (option_map_or (λ flags. flags_fault rules false (length flags) flags 0 (held_at s)) q []) (step_fault (shape name rules) (position_at s) met.0 met.1))
-    (after_step rules word (walk_at s false) met.0 met.1)
+    (after_step rules argument (walk_at s false) met.0 met.1)
 
-module _ (own : List Text) (words : Words) (name : Text) (s : Spot) (word : Text) (names : AreNames own) (fit : Fits own words s) where
+module _ (own : List Text) (words : Words) (name : Text) (s : Spot) (argument : Text) (names : AreNames own) (fit : Fits own words s) where
   abbrev WordIs : Type 0
-  WordIs = TurnBy own words name s word (is_dashes word) (long_of word)
+  WordIs = TurnBy own words name s argument (is_dashes argument) (long_of argument)
 
-  flag_turn : (p : Text × Option Text) → IsLong word p → WordIs
+  flag_turn : (p : Text × Option Text) → IsLong argument p → WordIs
   flag_turn p is =
-      subst (λ b. TurnBy own words name s word b (long_of word)) (sym is.1)
-      (subst (TurnBy own words name s word false) (sym is.0) (inr (inl (is.1, is.2, long_turn own words name s word p names fit is))))
+      subst (λ b. TurnBy own words name s argument b (long_of argument)) (sym is.1)
+      (subst (TurnBy own words name s argument false) (sym is.0) (inr (inl (is.1, is.2, long_turn own words name s argument p names fit is))))
 
   -- a bundle of no letter is no flag
-  by_letter : (flags : Text) (x : Option ℕ) (kinds : Kinds) (walk : Walk) → IsShort word flags → slice_get (chars flags) 0 ≡ x
-      → ShortTurn own words s word x kinds walk → IsTurn own words s word kinds walk
+  by_letter : (flags : Text) (x : Option ℕ) (kinds : Kinds) (walk : Walk) → IsShort argument flags → slice_get (chars flags) 0 ≡ x
+      → ShortTurn own words s argument x kinds walk → IsTurn own words s argument kinds walk
   by_letter flags None kinds walk is none turn = inr (inr (is.3, is.4 ∙ ap is_some none, turn))
   by_letter flags (Some x) kinds walk is some turn = inr (inl (
     is.3,
     is.4 ∙ ap is_some some,
-    inl (turn, λ rest. wrong_flag (map spelled own) (map spelled (given_at s)) rest word (inl (never_among own))),
+    inl (turn, λ rest. wrong_flag (map spelled own) (map spelled (given_at s)) rest argument (inl (never_among own))),
   ))
     where
-      never_among : (list : List Text) → is_among word (map spelled list) ≡ false
+      never_among : (list : List Text) → is_among argument (map spelled list) ≡ false
       never_among [] = refl
-      never_among (n ∷ list) = ap (λ b. b || is_among word (map spelled list)) (is.5 n) ∙ never_among list
+      never_among (n ∷ list) = ap (λ b. b || is_among argument (map spelled list)) (is.5 n) ∙ never_among list
 
-  bundled_turn : (flags : Text) → IsShort word flags → WordIs
+  bundled_turn : (flags : Text) → IsShort argument flags → WordIs
   bundled_turn flags is =
-      subst (λ b. TurnBy own words name s word b (long_of word)) (sym is.3)
-      (subst (TurnBy own words name s word false) (sym is.1)
-      (subst (ShortBy own words name s word) (sym is.2)
-      (by_letter flags (slice_get (chars flags) 0) _ _ is refl (bundle_turn own words name s word flags (length flags) is.0 fit))))
+      subst (λ b. TurnBy own words name s argument b (long_of argument)) (sym is.3)
+      (subst (TurnBy own words name s argument false) (sym is.1)
+      (subst (ShortBy own words name s argument) (sym is.2)
+      (by_letter flags (slice_get (chars flags) 0) _ _ is refl (bundle_turn own words name s argument flags (length flags) is.0 fit))))
 
-  other_turn : IsPlain word → WordIs
+  other_turn : IsPlain argument → WordIs
   other_turn is =
-      subst (λ b. TurnBy own words name s word b (long_of word)) (sym is.2)
-      (subst (TurnBy own words name s word false) (sym is.0)
-      (subst (ShortBy own words name s word) (sym is.1) (inr (inr (is.2, is.3, plain_turn own words name s false word fit)))))
+      subst (λ b. TurnBy own words name s argument b (long_of argument)) (sym is.2)
+      (subst (TurnBy own words name s argument false) (sym is.0)
+      (subst (ShortBy own words name s argument) (sym is.1) (inr (inr (is.2, is.3, plain_turn own words name s false argument fit)))))
 
-  dashes_turn : is_dashes word ≡ true → WordIs
-  dashes_turn is = subst (λ b. TurnBy own words name s word b (long_of word)) (sym is) (inl (is, refl, refl))
+  dashes_turn : is_dashes argument ≡ true → WordIs
+  dashes_turn is = subst (λ b. TurnBy own words name s argument b (long_of argument)) (sym is) (inl (is, refl, refl))
 
   pub word_turn : WordIs
-  word_turn = elim (word_form word) [
-    | inl is ↦ dashes_turn ((bytes_eq-Decides word (codes "--")).1 is)
+  word_turn = elim (word_form argument) [
+    | inl is ↦ dashes_turn ((bytes_eq-Decides argument (codes "--")).1 is)
     | inr (inl is) ↦ flag_turn is.0 is.1
     | inr (inr (inl is)) ↦ bundled_turn is.0 is.1
     | inr (inr (inr is)) ↦ other_turn is
   ]
 
 -- a word behind `--` is none of these, and another is what it looks like
-pub open_turn : (own : List Text) (words : Words) (name : Text) (s : Spot) (word : Text) → AreNames own → Fits own words s
+pub open_turn : (own : List Text) (words : Words) (name : Text) (s : Spot) (argument : Text) → AreNames own → Fits own words s
     → (let rules = rules_of own words in
-    IsTurn own words s word (turn_fault (shape name rules) [] (walk_at s false) word) (walked rules [] (walk_at s false) word))
+    IsTurn own words s argument (turn_fault (shape name rules) [] (walk_at s false) argument) (walked rules [] (walk_at s false) argument))
 unfolding walked
-open_turn own words name s word names fit = word_turn own words name s word names fit
+open_turn own words name s argument names fit = word_turn own words name s argument names fit
 
-pub trailing_turn : (own : List Text) (words : Words) (name : Text) (s : Spot) (word : Text) → Fits own words s
+pub trailing_turn : (own : List Text) (words : Words) (name : Text) (s : Spot) (argument : Text) → Fits own words s
     → (let rules = rules_of own words in
-    IsWordTurn own words s true word (turn_fault (shape name rules) [] (walk_at s true) word) (walked rules [] (walk_at s true) word))
+    IsWordTurn own words s true argument (turn_fault (shape name rules) [] (walk_at s true) argument) (walked rules [] (walk_at s true) argument))
 unfolding walked
-trailing_turn own words name s word fit = plain_turn own words name s true word fit
+trailing_turn own words name s argument fit = plain_turn own words name s true argument fit

@@ -82,22 +82,22 @@ name_is (m ∷ ms) (x ∷ xs) plain =
 -- ---- the form of a word
 
 abbrev pub IsLong : Text → Text × Option Text → Type 0
-IsLong word p = (long_of word ≡ Some p) × (is_dashes word ≡ false) × (is_flag word ≡ true)
-    × ((n : Text) → has_byte 61 n ≡ false → bytes_eq (spelled n) word ≡ (bytes_eq n p.0 && not (is_some p.1)))
+IsLong argument p = (long_of argument ≡ Some p) × (is_dashes argument ≡ false) × (is_flag argument ≡ true)
+    × ((n : Text) → has_byte 61 n ≡ false → bytes_eq (spelled n) argument ≡ (bytes_eq n p.0 && not (is_some p.1)))
 
 abbrev pub IsShort : Text → Text → Type 0
-IsShort word flags = (0 < length flags) × (long_of word ≡ None) × (short_of word ≡ Some flags) × (is_dashes word ≡ false)
-    × (is_flag word ≡ is_some (slice_get (chars flags) 0)) × ((n : Text) → bytes_eq (spelled n) word ≡ false)
+IsShort argument flags = (0 < length flags) × (long_of argument ≡ None) × (short_of argument ≡ Some flags) × (is_dashes argument ≡ false)
+    × (is_flag argument ≡ is_some (slice_get (chars flags) 0)) × ((n : Text) → bytes_eq (spelled n) argument ≡ false)
 
 abbrev pub IsPlain : Text → Type 0
-IsPlain word = (long_of word ≡ None) × (short_of word ≡ None) × (is_dashes word ≡ false) × (is_flag word ≡ false)
+IsPlain argument = (long_of argument ≡ None) × (short_of argument ≡ None) × (is_dashes argument ≡ false) × (is_flag argument ≡ false)
 
 -- `--`, a long flag, a bundle of short ones, or none of these
 abbrev pub HasForm : Text → Type 0
-HasForm word = (word ≡ codes "--")
-    ⊎ (((p : Text × Option Text) × IsLong word p)
-    ⊎ (((flags : Text) × IsShort word flags)
-    ⊎ IsPlain word))
+HasForm argument = (argument ≡ codes "--")
+    ⊎ (((p : Text × Option Text) × IsLong argument p)
+    ⊎ (((flags : Text) × IsShort argument flags)
+    ⊎ IsPlain argument))
 
 not_same : (a b : Text) → (a ≡ b → ⊥) → bytes_eq a b ≡ false
 not_same a b other = false_from_ne_true (bytes_eq a b) (λ is. other ((bytes_eq-Decides a b).0 is))
@@ -160,7 +160,7 @@ behind_hyphen (y ∷ ys) = go (y == 45) refl
     go true is = subst (λ (x : ℕ). HasForm (45 ∷ x ∷ ys)) (sym (eqb-true y 45 is)) (behind_hyphens ys)
     go false is = inr (inr (inl (y ∷ ys, one_hyphen y ys is)))
 
-pub word_form : (word : Text) → HasForm word
+pub word_form : (argument : Text) → HasForm argument
 word_form [] = inr (inr (inr (refl, refl, refl, refl)))
 word_form (x ∷ rest) = go (x == 45) refl
   where

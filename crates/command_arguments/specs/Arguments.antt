@@ -17,11 +17,11 @@ use Rattle.venue_text.specs.KeptDays as kept_days
 use Rattle.venue_text.specs.KeptDays.{Wanted, dues, messages}
 use Rattle.venue_text.specs.declared.live_form.LiveForm.{LiveForm}
 use Rattle.command_arguments.specs.declared.command.Flags.{Flags}
-use Rattle.command_arguments.specs.declared.command.Told.{Told}
-use Rattle.command_arguments.specs.declared.command.Told.TheVariants as told
+use Rattle.command_arguments.specs.declared.command.Response.{Response}
+use Rattle.command_arguments.specs.declared.command.Response.TheVariants as response
 use Rattle.command_arguments.specs.declared.command.VenueCommand.{VenueCommand}
 use Rattle.command_arguments.specs.declared.table.CommandLine.{CommandLine}
-use Rattle.command_arguments.specs.declared.table.WordLine.{WordLine}
+use Rattle.command_arguments.specs.declared.table.ArgumentLine.{ArgumentLine}
 use Rattle.command_arguments.specs.declared.command.VenueCommand.TheVariants as rust
 
 -- What a command asks for.
@@ -50,7 +50,7 @@ pub data Command : Type 0 where
 
 -- a word behind which no word is a flag
 abbrev pub is_dashes : Text → Bool
-is_dashes word = bytes_eq word (codes "--")
+is_dashes argument = bytes_eq argument (codes "--")
 
 -- a word that is read as flags: a hyphen, and at least one character behind it
 abbrev pub is_flag : Text → Bool
@@ -60,16 +60,16 @@ is_flag (first ∷ rest) = first == 45 && is_some (slice_get (chars rest) 0)
 -- the flags among the words
 abbrev pub flags_in : List Text → List Text
 flags_in [] = []
-flags_in (word ∷ rest) =
-    if is_dashes word then []
-    else (if is_flag word then word ∷ flags_in rest else flags_in rest)
+flags_in (argument ∷ rest) =
+    if is_dashes argument then []
+    else (if is_flag argument then argument ∷ flags_in rest else flags_in rest)
 
 -- the other words
 abbrev pub plain_in : List Text → List Text
 plain_in [] = []
-plain_in (word ∷ rest) =
-    if is_dashes word then rest
-    else (if is_flag word then plain_in rest else word ∷ plain_in rest)
+plain_in (argument ∷ rest) =
+    if is_dashes argument then rest
+    else (if is_flag argument then plain_in rest else argument ∷ plain_in rest)
 
 -- a text is one of these
 abbrev pub is_among : Text → List Text → Bool
@@ -105,10 +105,10 @@ abbrev pub are_words : Words → List Text → Bool
 are_words no_word [] = true
 are_words one_or_none [] = true
 are_words one_word [] = false
-are_words no_word (word ∷ []) = false
-are_words one_or_none (word ∷ []) = true
-are_words one_word (word ∷ []) = true
-are_words words (word ∷ more ∷ rest) = false
+are_words no_word (argument ∷ []) = false
+are_words one_or_none (argument ∷ []) = true
+are_words one_word (argument ∷ []) = true
+are_words words (argument ∷ more ∷ rest) = false
 
 -- The table of the commands: a command's name, the names of its flags, how many words it takes, and
 -- what it asks for by its word and by the flags that are given.
@@ -133,8 +133,8 @@ live_flag = codes "live"
 
 -- a replay, a due text, a comparison and a blotter, by the flags
 abbrev pub replay_by : Option Text → Flags → Command
-replay_by word flags =
-    if flags.live then kept (messages word flags.frames) else replay word flags.frames
+replay_by argument flags =
+    if flags.live then kept (messages argument flags.frames) else replay argument flags.frames
 
 abbrev pub due_by : Option Text → Flags → Command
 due_by dealer flags = if flags.live then kept (dues dealer) else due dealer
@@ -154,18 +154,19 @@ line name flags words asks = record { name = name; flags = flags; words = words;
 
 abbrev pub commands : List Line
 commands =
-    line (codes "alone") (frames_flag ∷ []) no_word (λ word flags. alone flags.frames)
+    line (codes "alone") (frames_flag ∷ []) no_word (λ argument flags. alone flags.frames)
     ∷ line (codes "replay") (frames_flag ∷ live_flag ∷ []) one_or_none replay_by
     ∷ line (codes "day") (frames_flag ∷ woven_flag ∷ []) no_word
-    (λ word flags. day flags.frames flags.woven)
+    (λ argument flags. day flags.frames flags.woven)
     ∷ line (codes "due") (live_flag ∷ []) one_word
-    (λ word flags. due_by (Some (unwrap_or word [])) flags)
-    ∷ line (codes "dues") (live_flag ∷ []) no_word (λ word flags. due_by None flags)
+    (λ argument flags. due_by (Some (unwrap_or argument [])) flags)
+    ∷ line (codes "dues") (live_flag ∷ []) no_word (λ argument flags. due_by None flags)
     ∷ line (codes "compare") (live_flag ∷ []) one_word
-    (λ word flags. compare_by (unwrap_or word []) flags)
+    (λ argument flags. compare_by (unwrap_or argument []) flags)
     ∷ line (codes "blotter") (live_flag ∷ []) one_word
-    (λ word flags. blotter_by (unwrap_or word []) flags)
-    ∷ line (codes "live") (frames_flag ∷ marks_flag ∷ []) no_word (λ word flags. live (form_by flags))
+    (λ argument flags. blotter_by (unwrap_or argument []) flags)
+    ∷ line (codes "live") (frames_flag ∷ marks_flag ∷ []) no_word
+    (λ argument flags. live (form_by flags))
     ∷ []
 
 -- the line of a name
@@ -185,7 +186,7 @@ command_of [] = Some (alone false)
 command_of (name ∷ rest) =
     option_and_then (asked_by (plain_in rest) (flags_in rest)) (line_of name commands)
 
--- a command by its name, the word that was found for it, and the flags that were
+-- a command by its name, the argument that was found for it, and the flags that were
 abbrev pub named_command : Text → Option Text → Flags → Command
 named_command name firm flags =
     if bytes_eq name (codes "alone") then alone flags.frames
@@ -200,11 +201,11 @@ named_command name firm flags =
 -- the command of the code's type
 abbrev pub meant : VenueCommand → Command
 meant (rust.Alone frames) = alone frames
-meant (rust.Replay firm frames) = replay (option_map (λ word. word.now) firm) frames
+meant (rust.Replay firm frames) = replay (option_map (λ argument. argument.now) firm) frames
 meant (rust.Kept wanted) = kept (kept_days.meant wanted)
 meant (rust.Day frames woven) = day frames woven
 meant (rust.Live form) = live form
-meant (rust.Due dealer) = due (option_map (λ word. word.now) dealer)
+meant (rust.Due dealer) = due (option_map (λ argument. argument.now) dealer)
 meant (rust.Compare dealer) = compare dealer.now
 meant (rust.Compared dealer) = compared dealer.now
 meant (rust.Blotter firm) = blotter firm.now
@@ -215,19 +216,19 @@ meant (rust.Blotter firm) = blotter firm.now
 abbrev pub flag_rule : Text → Rule
 flag_rule name = record (new_rule name) { long = Some name; action = Some SetTrue }
 
--- the word that names a firm
-abbrev pub word_rule : Bool → Rule
-word_rule required = record (new_rule (codes "firm")) { value_names = 1; required = required }
+-- the argument that names a firm
+abbrev pub argument_rule : Bool → Rule
+argument_rule required = record (new_rule (codes "firm")) { value_names = 1; required = required }
 
-abbrev pub word_rules : Words → List Rule
-word_rules no_word = []
-word_rules one_or_none = word_rule false ∷ []
-word_rules one_word = word_rule true ∷ []
+abbrev pub argument_rules : Words → List Rule
+argument_rules no_word = []
+argument_rules one_or_none = argument_rule false ∷ []
+argument_rules one_word = argument_rule true ∷ []
 
 -- a command of this name, with these flags and words
 abbrev pub leaf_app : Text → List Text → Words → App
 leaf_app name flags words =
-    fold with_rule (new_app name) (map flag_rule flags ++ word_rules words)
+    fold with_rule (new_app name) (map flag_rule flags ++ argument_rules words)
 
 -- a command of the table
 abbrev pub line_app : Line → App
@@ -235,12 +236,12 @@ line_app l = leaf_app l.name l.flags l.words
 
 -- how many words a command of the code's table takes, the command itself, and a program with such
 -- commands more
-abbrev pub words_of : Option WordLine → Words
-words_of None = no_word
-words_of (Some word) = if word.required then one_word else one_or_none
+abbrev pub arguments_of : Option ArgumentLine → Words
+arguments_of None = no_word
+arguments_of (Some argument) = if argument.required then one_word else one_or_none
 
 abbrev pub told_app : CommandLine → App
-told_app l = leaf_app l.name.now (map (λ flag. flag.name.now) l.flags.now) (words_of l.word)
+told_app l = leaf_app l.name.now (map (λ flag. flag.name.now) l.flags.now) (arguments_of l.argument)
 
 abbrev pub with_told : App → List CommandLine → App
 with_told app lines = fold (λ app l. with_subcommand app (told_app l).top) app lines
@@ -292,7 +293,7 @@ abbrev pub may_be_mistake : Kinds → Bool
 may_be_mistake kinds = list_any is_mistake kinds
 
 -- what is told of an error of a kind: a text that is not empty, unless memory was refused
-abbrev pub IsToldOf : ErrorKind → Told → Type 0
-IsToldOf k (told.Help text) = (is_help k ≡ true) × (0 < length (string_bytes text))
-IsToldOf k (told.Wrong text) = (is_mistake k ≡ true) × (0 < length (string_bytes text))
-IsToldOf k told.Memory = Unit {0}
+abbrev pub IsResponseTo : ErrorKind → Response → Type 0
+IsResponseTo k (response.Help text) = (is_help k ≡ true) × (0 < length (string_bytes text))
+IsResponseTo k (response.Wrong text) = (is_mistake k ≡ true) × (0 < length (string_bytes text))
+IsResponseTo k response.Memory = Unit {0}

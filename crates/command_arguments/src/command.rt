@@ -5,7 +5,7 @@ ghost use Rattle.clap.specs.Words.{App, HasKind, kind_of, rule_of};
 ghost use Rattle.command_arguments.specs.Arguments as spec;
 
 use crate::help::{ABOUT, READS, VERSION};
-use crate::table::{COMMANDS, CommandLine, FlagLine, WordLine};
+use crate::table::{ArgumentLine, COMMANDS, CommandLine, FlagLine};
 use clap::error::ErrorKind;
 use clap::{Arg, ArgAction, Command, Error};
 use fix_fields::Memory;
@@ -67,7 +67,7 @@ pub enum VenueCommand<'a> {
 
 /// What is told of arguments that are not those of a command.
 #[derive(Drop)]
-pub enum Told {
+pub enum Response {
     /// They ask for this help, or for the version.
     Help(String),
     /// They are wrong, and this says why.
@@ -118,10 +118,10 @@ pub fn read_command<'a, S: AsStr>(
     Ok(command)
 }
 
-/// The command with this name, by the word that was found for it and the flags that were.
+/// The command with this name, by the argument that was found for it and the flags that were.
 fn command_named<'a>(name: &str, firm: Option<&'a str>, flags: Flags) -> VenueCommand<'a>
     ensures { spec.meant result
-        ≡ spec.named_command name.now (option_map (λ word. word.now) firm.entry) flags }
+        ≡ spec.named_command name.now (option_map (λ argument. argument.now) firm.entry) flags }
 {
     if name == "alone" {
         return VenueCommand::Alone {
@@ -142,25 +142,26 @@ fn command_named<'a>(name: &str, firm: Option<&'a str>, flags: Flags) -> VenueCo
             form: form_by(flags),
         };
     }
-    let word = firm.unwrap_or("");
+    let argument = firm.unwrap_or("");
     if name == "due" {
-        return due_by(Some(word), flags);
+        return due_by(Some(argument), flags);
     }
     if name == "dues" {
         return due_by(None, flags);
     }
     if name == "compare" {
-        return compare_by(word, flags);
+        return compare_by(argument, flags);
     }
-    blotter_by(word, flags)
+    blotter_by(argument, flags)
 }
 
 /// A due text, by the flags that are given.
 fn due_by<'a>(dealer: Option<&'a str>, flags: Flags) -> VenueCommand<'a>
-    ensures { spec.meant result ≡ spec.due_by (option_map (λ word. word.now) dealer.entry) flags }
+    ensures { spec.meant result ≡ spec.due_by
+        (option_map (λ argument. argument.now) dealer.entry) flags }
 {
     if flags.live {
-        return VenueCommand::Kept(Wanted::Due(word_bytes(dealer)));
+        return VenueCommand::Kept(Wanted::Due(argument_bytes(dealer)));
     }
     VenueCommand::Due { dealer }
 }
@@ -187,10 +188,11 @@ fn blotter_by<'a>(firm: &'a str, flags: Flags) -> VenueCommand<'a>
 
 /// A replay, by the flags that are given.
 fn replay_by<'a>(firm: Option<&'a str>, flags: Flags) -> VenueCommand<'a>
-    ensures { spec.meant result ≡ spec.replay_by (option_map (λ word. word.now) firm.entry) flags }
+    ensures { spec.meant result ≡ spec.replay_by
+        (option_map (λ argument. argument.now) firm.entry) flags }
 {
     if flags.live {
-        return VenueCommand::Kept(Wanted::Messages(word_bytes(firm), flags.frames));
+        return VenueCommand::Kept(Wanted::Messages(argument_bytes(firm), flags.frames));
     }
     VenueCommand::Replay {
         firm,
@@ -208,14 +210,15 @@ fn form_by(flags: Flags) -> LiveForm
     }
 }
 
-/// The bytes of a word, where there is one.
-pub fn word_bytes(word: Option<&str>) -> Option<&[u8]>
-    ensures { option_map (λ bytes. bytes.now) result ≡ option_map (λ text. text.now) word.entry }
+/// The bytes of an argument, where there is one.
+pub fn argument_bytes(argument: Option<&str>) -> Option<&[u8]>
+    ensures { option_map (λ bytes. bytes.now) result
+        ≡ option_map (λ text. text.now) argument.entry }
 {
-    let Some(word) = word else {
+    let Some(argument) = argument else {
         return None;
     };
-    Some(word.as_bytes())
+    Some(argument.as_bytes())
 }
 
 /// A command of the table.
@@ -228,10 +231,10 @@ fn line_command<'a>(alloc: Global, line: &CommandLine) -> Result<Command<'a>, Me
     for flag in line.flags {
         command = command.arg(flag_arg(alloc, flag))?;
     }
-    let Some(word) = &line.word else {
+    let Some(argument) = &line.argument else {
         return Ok(command);
     };
-    command.arg(word_arg(alloc, word))
+    command.arg(clap_argument(alloc, argument))
 }
 
 /// A flag.
@@ -245,15 +248,15 @@ fn flag_arg<'a>(alloc: Global, flag: &FlagLine) -> Arg<'a>
         .help(flag.help)
 }
 
-/// The word that names a firm.
-fn word_arg<'a>(alloc: Global, word: &WordLine) -> Arg<'a>
-    ensures rule { rule_of result ≡ spec.word_rule word.now.required }
+/// The argument that names a firm.
+fn clap_argument<'a>(alloc: Global, argument: &ArgumentLine) -> Arg<'a>
+    ensures rule { rule_of result ≡ spec.argument_rule argument.now.required }
     ensures own { result.global ≡ false }
 {
     Arg::new(alloc, "firm")
-        .value_name(word.shown)
-        .required(word.required)
-        .help(word.help)
+        .value_name(argument.shown)
+        .required(argument.required)
+        .help(argument.help)
 }
 
 /// The program without its commands.
@@ -294,20 +297,20 @@ fn with_commands<'a>(
 }
 
 /// What an error of the arguments is to tell.
-pub fn told_by(alloc: Global, error: &Error) -> Told
-    ensures { spec.IsToldOf (kind_of error.now) result }
+pub fn response_to(alloc: Global, error: &Error) -> Response
+    ensures { spec.IsResponseTo (kind_of error.now) result }
 {
     let Ok(text) = error.to_string(alloc) else {
-        return Told::Memory;
+        return Response::Memory;
     };
     // Clap promises nothing of a text that was made while memory was refused.
     if text.is_empty() {
-        return Told::Memory;
+        return Response::Memory;
     }
     match error.kind() {
-        ErrorKind::OutOfMemory => Told::Memory,
-        ErrorKind::DisplayHelp | ErrorKind::DisplayVersion => Told::Help(text),
-        _ => Told::Wrong(text),
+        ErrorKind::OutOfMemory => Response::Memory,
+        ErrorKind::DisplayHelp | ErrorKind::DisplayVersion => Response::Help(text),
+        _ => Response::Wrong(text),
     }
 }
 

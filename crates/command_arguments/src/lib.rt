@@ -10,7 +10,7 @@
 //!
 //! - [`read_command`]: arguments that are those of a command give it (`command_of` of
 //!   `specs/Arguments`), all others one of the errors that they have (`arguments_fault`).
-//! - [`told_by`] says whether an error asks for help, and gives its text.
+//! - [`response_to`] says whether an error asks for help, and gives its text.
 //! - [`these_arguments_are_commands`] and [`arguments_have_these_faults`] say which arguments are
 //!   those of a command, and what is wrong with some others.
 #![tactic(auto)]
@@ -20,6 +20,6 @@ mod help;
 mod table;
 
 pub use command::{
-    Told, VenueCommand, arguments_have_these_faults, read_command, these_arguments_are_commands,
-    told_by, word_bytes,
+    Response, VenueCommand, argument_bytes, arguments_have_these_faults, read_command, response_to,
+    these_arguments_are_commands,
 };

@@ -14,8 +14,8 @@ pub(crate) struct CommandLine {
     pub(crate) input: &'static str,
     /// Its flags.
     pub(crate) flags: &'static [FlagLine],
-    /// Its word, where it takes one.
-    pub(crate) word: Option<WordLine>,
+    /// Its argument, where it takes one.
+    pub(crate) argument: Option<ArgumentLine>,
 }
 
 /// A flag of a command.
@@ -26,8 +26,8 @@ pub(crate) struct FlagLine {
     pub(crate) help: &'static str,
 }
 
-/// The word of a command, which names a firm.
-pub(crate) struct WordLine {
+/// The argument of a command, which names a firm.
+pub(crate) struct ArgumentLine {
     /// How the help calls it.
     pub(crate) shown: &'static str,
     /// Whether it has to be there.
@@ -56,19 +56,19 @@ const WITH_MARKS: FlagLine = FlagLine {
     help: MARKS,
 };
 
-const OF_DEALER: WordLine = WordLine {
+const OF_DEALER: ArgumentLine = ArgumentLine {
     shown: "DEALER",
     required: true,
     help: DEALER,
 };
 
-const OF_FIRM: WordLine = WordLine {
+const OF_FIRM: ArgumentLine = ArgumentLine {
     shown: "FIRM",
     required: true,
     help: FIRM,
 };
 
-const OF_ANY_FIRM: WordLine = WordLine {
+const OF_ANY_FIRM: ArgumentLine = ArgumentLine {
     shown: "FIRM",
     required: false,
     help: FIRM,
@@ -81,55 +81,55 @@ pub(crate) const COMMANDS: [CommandLine; 8] = [
         about: ALONE,
         input: DUE_TEXT,
         flags: &[WITH_FRAMES],
-        word: None,
+        argument: None,
     },
     CommandLine {
         name: "replay",
         about: REPLAY,
         input: DAY,
         flags: &[WITH_FRAMES, WITH_LIVE],
-        word: Some(OF_ANY_FIRM),
+        argument: Some(OF_ANY_FIRM),
     },
     CommandLine {
         name: "day",
         about: THREADED,
         input: THREADS,
         flags: &[WITH_FRAMES, WITH_WOVEN],
-        word: None,
+        argument: None,
     },
     CommandLine {
         name: "due",
         about: DUE,
         input: DAY,
         flags: &[WITH_LIVE],
-        word: Some(OF_DEALER),
+        argument: Some(OF_DEALER),
     },
     CommandLine {
         name: "dues",
         about: DUES,
         input: DAY,
         flags: &[WITH_LIVE],
-        word: None,
+        argument: None,
     },
     CommandLine {
         name: "compare",
         about: COMPARE,
         input: DAYS,
         flags: &[WITH_LIVE],
-        word: Some(OF_DEALER),
+        argument: Some(OF_DEALER),
     },
     CommandLine {
         name: "blotter",
         about: BLOTTER,
         input: DAY,
         flags: &[WITH_LIVE],
-        word: Some(OF_FIRM),
+        argument: Some(OF_FIRM),
     },
     CommandLine {
         name: "live",
         about: LIVE,
         input: LIVE_DAY,
         flags: &[WITH_FRAMES, WITH_MARKS],
-        word: None,
+        argument: None,
     },
 ];

@@ -28,13 +28,13 @@ pub(crate) fn event_in(call: &mut Call<'_>) -> Result<DealerEvent, CaseFault> {
 /// `TIME ANSWER BODY`.
 fn own_in(alloc: Global, words: &mut Words<'_>) -> Result<DealerEvent, CaseFault> {
     let moment = words.moment()?;
-    let answer = answer_in(words)?;
+    let settlement = settlement_in(words)?;
     let body = piped_bytes_of(alloc, words.rest())?;
     let message = Message::new(frame_of(alloc, body.as_slice())?);
-    Ok(DealerEvent::Own {
+    Ok(DealerEvent::Received {
         moment,
         message,
-        answer,
+        settlement,
     })
 }
 
@@ -78,16 +78,16 @@ fn closed_in(words: &mut Words<'_>) -> Result<DealerEvent, CaseFault> {
 fn drop_in(words: &mut Words<'_>) -> Result<DealerEvent, CaseFault> {
     let last = words.short_number()?;
     let moment = words.moment()?;
-    let answer = answer_in(words)?;
+    let settlement = settlement_in(words)?;
     Ok(DealerEvent::Drop {
         last,
         moment,
-        answer,
+        settlement,
     })
 }
 
-/// The answer of a word, or `-` where none was asked.
-fn answer_in(words: &mut Words<'_>) -> Result<Option<Settled>, CaseFault> {
+/// The settlement of a word, or `-` where none was asked.
+fn settlement_in(words: &mut Words<'_>) -> Result<Option<Settled>, CaseFault> {
     match words.word()? {
         "-" => Ok(None),
         word => Ok(Some(settled_named(word)?)),

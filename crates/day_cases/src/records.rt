@@ -174,7 +174,7 @@ impl Records {
         Ok(())
     }
 
-    /// `action ACTOR KIND TIME`, and the word and its answer.
+    /// `action ACTOR KIND TIME`, and the word and its settlement.
     fn put_action(&mut self, words: &mut Words<'_>) -> Result<(), CaseFault> {
         let by = actor_in(words)?;
         let kind = kind_in(words)?;
@@ -355,7 +355,7 @@ fn put_weave_fault(
     }
 }
 
-/// The word that an action asked, and its answer, where the call goes on.
+/// The word that an action asked, and its settlement, where the call goes on.
 fn word_in(words: &mut Words<'_>) -> Result<Option<(u32, quote_word::Settled)>, CaseFault> {
     if words.is_at_end() {
         return Ok(None);

@@ -207,7 +207,7 @@ fn take_steps(
 ) -> Result<(), CaseFault> {
     let config = venue.config()?;
     for step in venue.steps.as_slice() {
-        match live.take(alloc, config, step) {
+        match live.step(alloc, config, step) {
             Ok(told) => put_told(alloc, answer, told.as_slice())?,
             Err(fault) => put_replay_fault(alloc, answer, fault)?,
         }

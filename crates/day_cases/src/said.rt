@@ -2,7 +2,7 @@
 use crate::answers::{put, put_bytes, put_time};
 use crate::texts::day;
 use case_lines::{Call, CaseFault, bytes_of, push_text};
-use input_lines::{Said, read_fields, read_received};
+use input_lines::{SayLine, read_fields, read_received};
 use std::alloc::Global;
 use venue_rows::Name;
 
@@ -32,7 +32,7 @@ pub(crate) fn tell_said(call: &mut Call<'_>) -> Result<(), CaseFault> {
     let alloc = call.alloc;
     let text = bytes_of(alloc, call.words.rest())?;
     let answer = &mut call.answer;
-    let said = Said::read(alloc, &date, text.as_slice())?;
+    let said = SayLine::read(alloc, &date, text.as_slice())?;
     let Some(said) = &said else {
         return put(answer, "none");
     };
@@ -45,7 +45,7 @@ pub(crate) fn tell_said(call: &mut Call<'_>) -> Result<(), CaseFault> {
 }
 
 /// The moment, and whether a BODY has its number.
-fn put_moment(said: &Said<'_>, answer: &mut String) -> Result<(), CaseFault> {
+fn put_moment(said: &SayLine<'_>, answer: &mut String) -> Result<(), CaseFault> {
     put_time(answer, said.moment())?;
     let numbered = if said.is_numbered() {
         "numbered"

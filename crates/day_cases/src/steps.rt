@@ -1,6 +1,6 @@
 //! Steps that lines spell.
 use case_lines::CaseFault;
-use input_lines::{MOST_INPUT, ProgramFault, SpokenLines, read_steps};
+use input_lines::{MOST_INPUT, NumberedLines, ProgramFault, read_steps};
 use std::alloc::Global;
 use step_replay::Step;
 use venue_rows::VenueConfig;
@@ -15,7 +15,7 @@ pub(crate) fn put_spelled(
     if lines.len() > MOST_INPUT {
         return Err(CaseFault::Condition);
     }
-    match read_steps(alloc, config, SpokenLines::new(lines)) {
+    match read_steps(alloc, config, NumberedLines::new(lines)) {
         Ok(more) => {
             put_all(steps, more)?;
             Ok(None)

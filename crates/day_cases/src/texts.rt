@@ -5,7 +5,7 @@ use crate::told::told_fault;
 use case_lines::{Call, CaseFault, Place, Words, bytes_of};
 use fix_fields::Date;
 use input_lines::{
-    DayParts, MOST_INPUT, Parts, ProgramFault, SpokenLines, asked_dealer, asked_firm, cut_part,
+    DayParts, MOST_INPUT, NumberedLines, Parts, ProgramFault, asked_dealer, asked_firm, cut_part,
     day_parts, firm_of, has_divider, one_past, read_side, read_steps, read_time, read_venue,
     same_text, two_days_parts,
 };
@@ -97,7 +97,7 @@ impl Texts {
         if input.len() > MOST_INPUT {
             return Err(CaseFault::Condition);
         }
-        for (number, line) in SpokenLines::new(input) {
+        for (number, line) in NumberedLines::new(input) {
             let front = format!(in alloc; "{number} ")?;
             answer.push_str(front.as_str())?;
             put_text(answer, line)?;

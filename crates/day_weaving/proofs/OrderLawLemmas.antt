@@ -317,7 +317,7 @@ module _ (day : RecordedDay) (slots : List Slot) (named : AreNamedOnce day)
           ∙ ap (λ (w : Option (ℕ × Settled)). option_map_or (λ (one : ℕ × Settled).
           (one.0 == asked.word) && is_as_wished asked.granted.kind one.1) w false)
           asked.one_asked.word_is
-          ∙ ap (λ (b : Bool). b && is_as_wished asked.granted.kind asked.one_asked.answer)
+          ∙ ap (λ (b : Bool). b && is_as_wished asked.granted.kind asked.one_asked.settlement)
           (eq-eqb asked.word asked.word refl)
           ∙ asked.one_asked.wished_is
 
@@ -329,7 +329,7 @@ module _ (day : RecordedDay) (slots : List Slot) (named : AreNamedOnce day)
           ∙ ap (λ (w : Option (ℕ × Settled)). option_map_or (λ (one : ℕ × Settled).
           (one.0 == asked.word) && not (is_as_wished asked.refused.kind one.1)) w false)
           asked.other_asked.word_is
-          ∙ ap (λ (b : Bool). b && not (is_as_wished asked.refused.kind asked.other_asked.answer))
+          ∙ ap (λ (b : Bool). b && not (is_as_wished asked.refused.kind asked.other_asked.settlement))
           (eq-eqb asked.word asked.word refl)
           ∙ ap (λ (b : Bool). not b) asked.other_asked.wished_is
 
@@ -342,17 +342,17 @@ module _ (day : RecordedDay) (slots : List Slot) (named : AreNamedOnce day)
           sym asked.one_is ∙ ap (action_in day) (sym stands.is_it
           ∙ ap (λ (s : Slot). s.action) slot ∙ stands_too.is_it) ∙ asked.other_is in
           let same_action : asked.granted ≡ asked.refused = cc in
-          let left : ℕ × Settled = (asked.word, asked.one_asked.answer) in
-          let right : ℕ × Settled = (asked.word, asked.other_asked.answer) in
+          let left : ℕ × Settled = (asked.word, asked.one_asked.settlement) in
+          let right : ℕ × Settled = (asked.word, asked.other_asked.settlement) in
           let answers : Some left ≡ Some right =
           sym asked.one_asked.word_is ∙ ap (λ (a : Action). a.word) same_action
           ∙ asked.other_asked.word_is in
           let pair : left ≡ right = cc in
-          let answer : asked.one_asked.answer ≡ asked.other_asked.answer =
+          let settlement : asked.one_asked.settlement ≡ asked.other_asked.settlement =
           ap (λ (asked_one : ℕ × Settled). asked_one.1) pair in
           let clash : true ≡ false = sym asked.one_asked.wished_is
-          ∙ ap (λ (a : Action). is_as_wished a.kind asked.one_asked.answer) same_action
-          ∙ ap (is_as_wished asked.refused.kind) answer ∙ asked.other_asked.wished_is in
+          ∙ ap (λ (a : Action). is_as_wished a.kind asked.one_asked.settlement) same_action
+          ∙ ap (is_as_wished asked.refused.kind) settlement ∙ asked.other_asked.wished_is in
           absurd cc
 
       by_test : (b : Bool) → nat_lt place later ≡ b → place < later

@@ -143,7 +143,7 @@ granted_asks action word granted = by_word action.word refl
         (one.0 == word) && is_as_wished action.kind one.1) w false) (sym is) ∙ granted) in
         let same : asked.0 ≡ word = grind (arith, nat_tests, parts.0) in
         record {
-          answer = asked.1;
+          settlement = asked.1;
           word_is = is ∙ ap (λ (n : ℕ). Some (n, asked.1)) same;
           wished_is = parts.1;
         }
@@ -169,7 +169,7 @@ refused_asks action word refused = by_word action.word refl
         (one.0 == word) && not (is_as_wished action.kind one.1)) w false) (sym is) ∙ refused) in
         let same : asked.0 ≡ word = grind (arith, nat_tests, parts.0) in
         record {
-          answer = asked.1;
+          settlement = asked.1;
           word_is = is ∙ ap (λ (n : ℕ). Some (n, asked.1)) same;
           wished_is = not_true (is_as_wished action.kind asked.1) parts.1;
         }

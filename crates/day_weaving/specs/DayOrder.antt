@@ -35,9 +35,9 @@ is_as_wished other settled.Withdrawn = true
 
 -- an action asked this word, and whether it was answered as it wished is this
 pub record Asked (word : ℕ) (wished : Bool) (action : Action) : Type 0 where
-  pub answer : Settled
-  pub word_is : action.word ≡ Some (word, answer)
-  pub wished_is : is_as_wished action.kind answer ≡ wished
+  pub settlement : Settled
+  pub word_is : action.word ≡ Some (word, settlement)
+  pub wished_is : is_as_wished action.kind settlement ≡ wished
 
 -- Directly before.
 

@@ -43,12 +43,12 @@ pub(crate) fn action_at(day: &DayRecord, site: Site, spot: usize) -> Option<&(Ac
 
 /// Whether an action of a kind is answered as it wishes: a message and a drop wish to withdraw a
 /// quote, and a hit to lift it.
-pub(crate) fn is_as_wished(kind: Kind, answer: Settled) -> bool
-    ensures { result ≡ spec.is_as_wished kind answer }
+pub(crate) fn is_as_wished(kind: Kind, settlement: Settled) -> bool
+    ensures { result ≡ spec.is_as_wished kind settlement }
 {
     match kind {
-        Kind::Hit => answer.is_lifted(),
-        _ => answer.is_withdrawn(),
+        Kind::Hit => settlement.is_lifted(),
+        _ => settlement.is_withdrawn(),
     }
 }
 
@@ -56,8 +56,8 @@ pub(crate) fn is_as_wished(kind: Kind, answer: Settled) -> bool
 pub(crate) fn granted_word(action: &Action) -> Option<u64>
     ensures { (word : ℕ) → spec.grants word action.now ≡ sought.is_word result word }
 {
-    let (word, answer) = action.word?;
-    if !is_as_wished(action.kind, answer) {
+    let (word, settlement) = action.word?;
+    if !is_as_wished(action.kind, settlement) {
         return None;
     }
     Some(u64::from(word))
@@ -67,8 +67,8 @@ pub(crate) fn granted_word(action: &Action) -> Option<u64>
 pub(crate) fn refused_word(action: &Action) -> Option<u64>
     ensures { (word : ℕ) → spec.refuses word action.now ≡ sought.is_word result word }
 {
-    let (word, answer) = action.word?;
-    if is_as_wished(action.kind, answer) {
+    let (word, settlement) = action.word?;
+    if is_as_wished(action.kind, settlement) {
         return None;
     }
     Some(u64::from(word))

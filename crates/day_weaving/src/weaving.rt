@@ -15,7 +15,7 @@ use crate::weave_plan::{Slot, firms_of};
 use crate::woven_steps::steps_of;
 use fix_fields::Memory;
 use recorded_days::DayRecord;
-use std::alloc::{AllocError, AllocFailed, Global};
+use std::alloc::{AllocFailed, Global};
 use step_replay::{Actor, ReplayFault, Step, World, run};
 use venue_rows::VenueConfig;
 
@@ -37,10 +37,10 @@ pub enum WeaveFault {
     Memory,
 }
 
-impl From<AllocError> for WeaveFault {
+impl From<Memory> for WeaveFault {
     ghost from_gives = { λ _ fault. fault ≡ Memory };
 
-    fn from(_error: AllocError) -> WeaveFault {
+    fn from(_error: Memory) -> WeaveFault {
         WeaveFault::Memory
     }
 }
@@ -107,7 +107,7 @@ fn replayed(alloc: Global, config: &VenueConfig, steps: &[Step]) -> Result<World
         Ok(world) => Ok(world),
         Err(fault) => {
             prove!(matches!(&fault, ReplayFault::Memory));
-            Err(AllocError)
+            Err(Memory)
         }
     }
 }

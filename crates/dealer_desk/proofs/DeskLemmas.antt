@@ -41,16 +41,16 @@ facts_push date row events event = ap (λ (d : DeskState). d.facts) (desk_after_
 
 -- What the facts of an event keep.
 
-verdict_stands : (row : DealerRow) (book : DealerBook) (given : DealerVerdict) (answer : Option Settled) → StandsIn row book → Holds row book given → StandsIn row (fold book_after book (verdict_facts given answer))
-verdict_stands row book (verdict.QuoteAccepted request id quote None) answer stands holds = accepted_stands row book quote holds stands
+verdict_stands : (row : DealerRow) (book : DealerBook) (given : DealerVerdict) (settlement : Option Settled) → StandsIn row book → Holds row book given → StandsIn row (fold book_after book (verdict_facts given settlement))
+verdict_stands row book (verdict.QuoteAccepted request id quote None) settlement stands holds = accepted_stands row book quote holds stands
 verdict_stands row book (verdict.QuoteAccepted request id quote (Some replaced)) (Some settled.Withdrawn) stands holds = replaced_stands row book quote replaced by.Replacement holds stands
 verdict_stands row book (verdict.QuoteAccepted request id quote (Some replaced)) (Some settled.Lifted) stands holds = late_stands row book replaced stands
 verdict_stands row book (verdict.QuoteAccepted request id quote (Some replaced)) None stands holds = stands
 verdict_stands row book (verdict.CancelAccepted id quote request) (Some settled.Withdrawn) stands holds = withdrawn_stands row book quote by.Cancel stands
 verdict_stands row book (verdict.CancelAccepted id quote request) (Some settled.Lifted) stands holds = late_stands row book quote stands
 verdict_stands row book (verdict.CancelAccepted id quote request) None stands holds = stands
-verdict_stands row book (verdict.DeclineAccepted request number) answer stands holds = declined_stands row book number stands
-verdict_stands row book other answer stands holds = stands
+verdict_stands row book (verdict.DeclineAccepted request number) settlement stands holds = declined_stands row book number stands
+verdict_stands row book other settlement stands holds = stands
 
 -- a verdict holds of a book whatever the number of messages that came
 pub holds_used : (row : DealerRow) (book : DealerBook) (used : ℕ) (given : DealerVerdict) → Holds row book given → Holds row (record book { used = used }) given
@@ -59,31 +59,31 @@ holds_used row book used (verdict.CancelAccepted id quote request) holds = holds
 holds_used row book used (verdict.DeclineAccepted request number) holds = holds
 holds_used row book used other holds = tt
 
-own_stands : (row : DealerRow) (book : DealerBook) (moment : ℕ) (bytes : List ℕ) (used : Bool) (given : DealerVerdict) (answer : Option Settled) → StandsIn row book → Holds row book given
-    → StandsIn row (fold book_after (book_after book (Came moment bytes used)) (verdict_facts given answer))
-own_stands row book moment bytes used given answer stands holds =
-    subst (λ (b : DealerBook). StandsIn row (fold book_after b (verdict_facts given answer))) (sym (came_book book moment bytes used))
-    (verdict_stands row (record book { used = cond used (book.used + 1) book.used }) given answer stands (holds_used row book (cond used (book.used + 1) book.used) given holds))
+own_stands : (row : DealerRow) (book : DealerBook) (moment : ℕ) (bytes : List ℕ) (used : Bool) (given : DealerVerdict) (settlement : Option Settled) → StandsIn row book → Holds row book given
+    → StandsIn row (fold book_after (book_after book (Came moment bytes used)) (verdict_facts given settlement))
+own_stands row book moment bytes used given settlement stands holds =
+    subst (λ (b : DealerBook). StandsIn row (fold book_after b (verdict_facts given settlement))) (sym (came_book book moment bytes used))
+    (verdict_stands row (record book { used = cond used (book.used + 1) book.used }) given settlement stands (holds_used row book (cond used (book.used + 1) book.used) given holds))
 
 told_if : (row : DealerRow) (book : DealerBook) (b : Bool) (request : ℕ) (close : Close) (moment : ℕ) → StandsIn row book → StandsIn row (fold book_after book (cond b (Told request close moment ∷ []) []))
 told_if row book true request close moment stands = told_stands row book request close moment stands
 told_if row book false request close moment stands = stands
 
-settled_stands : (row : DealerRow) (book : DealerBook) (asked : Option ℕ) (how : Withdrawal) (answer : Option Settled) → StandsIn row book → StandsIn row (fold book_after book (settled_facts asked how answer))
-settled_stands row book None how answer stands = stands
+settled_stands : (row : DealerRow) (book : DealerBook) (asked : Option ℕ) (how : Withdrawal) (settlement : Option Settled) → StandsIn row book → StandsIn row (fold book_after book (settled_facts asked how settlement))
+settled_stands row book None how settlement stands = stands
 settled_stands row book (Some quote) how (Some settled.Withdrawn) stands = withdrawn_stands row book quote how stands
 settled_stands row book (Some quote) how (Some settled.Lifted) stands = late_stands row book quote stands
 settled_stands row book (Some quote) how None stands = stands
 
 pub event_stands : (date : List ℕ) (row : DealerRow) (book : DealerBook) (came : DealerEvent) → StandsIn row book → StandsIn row (fold book_after book (event_facts date row book came))
 unfolding event_facts
-event_stands date row book (event.Own moment bytes answer) stands =
+event_stands date row book (event.Received moment bytes settlement) stands =
     let given = dealer_verdict date row book moment bytes in
-    own_stands row book moment bytes (uses_number given) given answer stands (verdict_holds date row book moment bytes stands)
+    own_stands row book moment bytes (uses_number given) given settlement stands (verdict_holds date row book moment bytes stands)
 event_stands date row book (event.Shown room ask moment) stands = shown_stands row book ask moment stands
 event_stands date row book (event.Told request close moment) stands = told_if row book (is_some (closable book request)) request close moment stands
-event_stands date row book (event.Drop last moment answer) stands =
-    settled_stands row (book_after book (Dropped last moment)) (number_to_drop book last) by.Cancel answer (dropped_stands row book last moment stands)
+event_stands date row book (event.Drop last moment settlement) stands =
+    settled_stands row (book_after book (Dropped last moment)) (number_to_drop book last) by.Cancel settlement (dropped_stands row book last moment stands)
 
 -- How many messages used up a number and how many notices were sent: at most one an event.
 
@@ -109,38 +109,38 @@ facts_count book (fact ∷ facts) =
     let rest = facts_count (book_after book fact) facts in
     rw (sum_by-cons weight fact facts) (omega arith)
 
-verdict_weight : (given : DealerVerdict) (answer : Option Settled) → sum_by weight (verdict_facts given answer) ≡ 0
-verdict_weight (verdict.QuoteAccepted request id quote None) answer = refl
+verdict_weight : (given : DealerVerdict) (settlement : Option Settled) → sum_by weight (verdict_facts given settlement) ≡ 0
+verdict_weight (verdict.QuoteAccepted request id quote None) settlement = refl
 verdict_weight (verdict.QuoteAccepted request id quote (Some replaced)) (Some settled.Withdrawn) = refl
 verdict_weight (verdict.QuoteAccepted request id quote (Some replaced)) (Some settled.Lifted) = refl
 verdict_weight (verdict.QuoteAccepted request id quote (Some replaced)) None = refl
 verdict_weight (verdict.CancelAccepted id quote request) (Some settled.Withdrawn) = refl
 verdict_weight (verdict.CancelAccepted id quote request) (Some settled.Lifted) = refl
 verdict_weight (verdict.CancelAccepted id quote request) None = refl
-verdict_weight (verdict.DeclineAccepted request number) answer = refl
-verdict_weight other answer = refl
+verdict_weight (verdict.DeclineAccepted request number) settlement = refl
+verdict_weight other settlement = refl
 
 told_weight : (b : Bool) (request : ℕ) (close : Close) (moment : ℕ) → sum_by weight (cond b (Told request close moment ∷ []) []) ≤ 1
 told_weight true request close moment = omega arith
 told_weight false request close moment = omega arith
 
-settled_weight : (asked : Option ℕ) (how : Withdrawal) (answer : Option Settled) → sum_by weight (settled_facts asked how answer) ≡ 0
-settled_weight None how answer = refl
+settled_weight : (asked : Option ℕ) (how : Withdrawal) (settlement : Option Settled) → sum_by weight (settled_facts asked how settlement) ≡ 0
+settled_weight None how settlement = refl
 settled_weight (Some quote) how (Some settled.Withdrawn) = refl
 settled_weight (Some quote) how (Some settled.Lifted) = refl
 settled_weight (Some quote) how None = refl
 
 event_weight : (date : List ℕ) (row : DealerRow) (book : DealerBook) (came : DealerEvent) → sum_by weight (event_facts date row book came) ≤ 1
 unfolding event_facts
-event_weight date row book (event.Own moment bytes answer) =
+event_weight date row book (event.Received moment bytes settlement) =
     let given = dealer_verdict date row book moment bytes in
-    let none = verdict_weight given answer in
-    rw (sum_by-cons weight (Came moment bytes (uses_number given)) (verdict_facts given answer)) (omega arith)
+    let none = verdict_weight given settlement in
+    rw (sum_by-cons weight (Came moment bytes (uses_number given)) (verdict_facts given settlement)) (omega arith)
 event_weight date row book (event.Shown room ask moment) = omega arith
 event_weight date row book (event.Told request close moment) = told_weight (is_some (closable book request)) request close moment
-event_weight date row book (event.Drop last moment answer) =
-    let none = settled_weight (number_to_drop book last) by.Cancel answer in
-    rw (sum_by-cons weight (Dropped last moment) (settled_facts (number_to_drop book last) by.Cancel answer)) (omega arith)
+event_weight date row book (event.Drop last moment settlement) =
+    let none = settled_weight (number_to_drop book last) by.Cancel settlement in
+    rw (sum_by-cons weight (Dropped last moment) (settled_facts (number_to_drop book last) by.Cancel settlement)) (omega arith)
 
 -- As many rooms as requests.
 
@@ -166,36 +166,36 @@ facts_show book (fact ∷ facts) =
     let rest = facts_show (book_after book fact) facts in
     rw (sum_by-cons shows fact facts) (omega arith)
 
-verdict_shows : (given : DealerVerdict) (answer : Option Settled) → sum_by shows (verdict_facts given answer) ≡ 0
-verdict_shows (verdict.QuoteAccepted request id quote None) answer = refl
+verdict_shows : (given : DealerVerdict) (settlement : Option Settled) → sum_by shows (verdict_facts given settlement) ≡ 0
+verdict_shows (verdict.QuoteAccepted request id quote None) settlement = refl
 verdict_shows (verdict.QuoteAccepted request id quote (Some replaced)) (Some settled.Withdrawn) = refl
 verdict_shows (verdict.QuoteAccepted request id quote (Some replaced)) (Some settled.Lifted) = refl
 verdict_shows (verdict.QuoteAccepted request id quote (Some replaced)) None = refl
 verdict_shows (verdict.CancelAccepted id quote request) (Some settled.Withdrawn) = refl
 verdict_shows (verdict.CancelAccepted id quote request) (Some settled.Lifted) = refl
 verdict_shows (verdict.CancelAccepted id quote request) None = refl
-verdict_shows (verdict.DeclineAccepted request number) answer = refl
-verdict_shows other answer = refl
+verdict_shows (verdict.DeclineAccepted request number) settlement = refl
+verdict_shows other settlement = refl
 
 told_shows : (b : Bool) (request : ℕ) (close : Close) (moment : ℕ) → sum_by shows (cond b (Told request close moment ∷ []) []) ≡ 0
 told_shows true request close moment = refl
 told_shows false request close moment = refl
 
-settled_shows : (asked : Option ℕ) (how : Withdrawal) (answer : Option Settled) → sum_by shows (settled_facts asked how answer) ≡ 0
-settled_shows None how answer = refl
+settled_shows : (asked : Option ℕ) (how : Withdrawal) (settlement : Option Settled) → sum_by shows (settled_facts asked how settlement) ≡ 0
+settled_shows None how settlement = refl
 settled_shows (Some quote) how (Some settled.Withdrawn) = refl
 settled_shows (Some quote) how (Some settled.Lifted) = refl
 settled_shows (Some quote) how None = refl
 
 event_shows : (date : List ℕ) (row : DealerRow) (book : DealerBook) (came : DealerEvent) → sum_by shows (event_facts date row book came) ≡ length (rooms_of (came ∷ []))
 unfolding event_facts
-event_shows date row book (event.Own moment bytes answer) =
+event_shows date row book (event.Received moment bytes settlement) =
     let given = dealer_verdict date row book moment bytes in
-    sum_by-cons shows (Came moment bytes (uses_number given)) (verdict_facts given answer) ∙ ap (λ (n : ℕ). 0 + n) (verdict_shows given answer)
+    sum_by-cons shows (Came moment bytes (uses_number given)) (verdict_facts given settlement) ∙ ap (λ (n : ℕ). 0 + n) (verdict_shows given settlement)
 event_shows date row book (event.Shown room ask moment) = omega arith
 event_shows date row book (event.Told request close moment) = told_shows (is_some (closable book request)) request close moment
-event_shows date row book (event.Drop last moment answer) =
-    sum_by-cons shows (Dropped last moment) (settled_facts (number_to_drop book last) by.Cancel answer) ∙ ap (λ (n : ℕ). 0 + n) (settled_shows (number_to_drop book last) by.Cancel answer)
+event_shows date row book (event.Drop last moment settlement) =
+    sum_by-cons shows (Dropped last moment) (settled_facts (number_to_drop book last) by.Cancel settlement) ∙ ap (λ (n : ℕ). 0 + n) (settled_shows (number_to_drop book last) by.Cancel settlement)
 
 rooms_more : (came : DealerEvent) (events : List DealerEvent) → length (rooms_of (came ∷ events)) ≡ length (rooms_of (came ∷ [])) + length (rooms_of events)
 rooms_more (event.Shown room ask moment) events = omega arith

@@ -36,21 +36,21 @@ of_day_if row true (Some r) make lawful = lawful r
 of_day_if row true None make lawful = tt
 of_day_if row false room make lawful = tt
 
-duty_of_day : (row : DealerRow) (book : DealerBook) (rooms : List RoomRef) (moment : ℕ) (given : DealerVerdict) (answer : Option Settled) → StandsIn row book → Holds row book given
-    → IfSome (verdict_duty rooms moment given answer) (IsOfDay row)
-duty_of_day row book rooms moment (verdict.QuoteAccepted request id quote replaced) answer stands holds =
-    of_day_if row (goes_through replaced answer) (room_of rooms quote.request) (post_of quote) (λ r.
+duty_of_day : (row : DealerRow) (book : DealerBook) (rooms : List RoomRef) (moment : ℕ) (given : DealerVerdict) (settlement : Option Settled) → StandsIn row book → Holds row book given
+    → IfSome (verdict_duty rooms moment given settlement) (IsOfDay row)
+duty_of_day row book rooms moment (verdict.QuoteAccepted request id quote replaced) settlement stands holds =
+    of_day_if row (goes_through replaced settlement) (room_of rooms quote.request) (post_of quote) (λ r.
     let is : quote.number ≡ length book.quotes + 1 = holds.number_is in
     let room : length book.quotes < row.quotes = holds.room in
     let first : 1 ≤ quote.number = omega arith in
     let last : quote.number ≤ row.quotes = omega arith in
     (first, last))
-duty_of_day row book rooms moment (verdict.CancelAccepted id quote request) answer stands holds =
-    of_day_if row (is_withdrawn answer) (room_of rooms request) (λ room. duty.Unpost room quote moment) (λ r. live_within row book.requests book.quotes quote stands holds.0)
-duty_of_day row book rooms moment (verdict.DropsFollow last) answer stands holds = tt
-duty_of_day row book rooms moment (verdict.DeclineAccepted request number) answer stands holds =
+duty_of_day row book rooms moment (verdict.CancelAccepted id quote request) settlement stands holds =
+    of_day_if row (is_withdrawn settlement) (room_of rooms request) (λ room. duty.Unpost room quote moment) (λ r. live_within row book.requests book.quotes quote stands holds.0)
+duty_of_day row book rooms moment (verdict.DropsFollow last) settlement stands holds = tt
+duty_of_day row book rooms moment (verdict.DeclineAccepted request number) settlement stands holds =
     of_day_if row true (room_of rooms number) (λ room. duty.Decline room moment) (λ r. tt)
-duty_of_day row book rooms moment other answer stands holds = tt
+duty_of_day row book rooms moment other settlement stands holds = tt
 
 request_has_room : (row : DealerRow) (book : DealerBook) (rooms : List RoomRef) (given : DealerVerdict) → length book.requests ≡ length rooms → Holds row book given
     → IfSome (request_meant given) (λ request. is_some (room_of rooms request) ≡ true)
@@ -78,11 +78,11 @@ dropped_live book last own numbered is =
       live = first_so (is_live own) _ (first_so (is_droppable own) (nat_le own.quote.number last) here.2);
     }
 
-drop_of_day : (row : DealerRow) (book : DealerBook) (rooms : List RoomRef) (last moment : ℕ) (answer : Option Settled) (found : Option StandingQuote) → StandsIn row book → quote_to_drop book last ≡ found
-    → IfSome (unpost_dropped rooms moment answer found) (IsOfDay row)
-drop_of_day row book rooms last moment answer None stands is = tt
-drop_of_day row book rooms last moment answer (Some own) stands is =
-    of_day_if row (is_withdrawn answer) (room_of rooms own.quote.request) (λ room. duty.Unpost room own.quote.number moment)
+drop_of_day : (row : DealerRow) (book : DealerBook) (rooms : List RoomRef) (last moment : ℕ) (settlement : Option Settled) (found : Option StandingQuote) → StandsIn row book → quote_to_drop book last ≡ found
+    → IfSome (unpost_dropped rooms moment settlement found) (IsOfDay row)
+drop_of_day row book rooms last moment settlement None stands is = tt
+drop_of_day row book rooms last moment settlement (Some own) stands is =
+    of_day_if row (is_withdrawn settlement) (room_of rooms own.quote.request) (λ room. duty.Unpost room own.quote.number moment)
     (λ r. live_within row book.requests book.quotes own.quote.number stands (dropped_live book last own stands.sound.quotes_numbered is))
 
 drop_has_room : (row : DealerRow) (book : DealerBook) (rooms : List RoomRef) (last : ℕ) (found : Option StandingQuote) → StandsIn row book → length book.requests ≡ length rooms → quote_to_drop book last ≡ found
@@ -104,17 +104,17 @@ drop_asks row book last (Some own) stands is = live_within row book.requests boo
 pub stood_at : (desk : DeskEvents) → Stood desk.row (book_at desk) (length desk.events) (length (rooms_at desk))
 stood_at desk = desk_sound desk.date desk.row desk.events
 
-pub message_duty : (desk : DeskEvents) (moment : ℕ) (bytes : List ℕ) (answer : Option Settled) → IfSome (verdict_duty (rooms_at desk) moment (verdict_at desk moment bytes) answer) (IsOfDay desk.row)
-message_duty desk moment bytes answer = let s = stood_at desk in
-    duty_of_day desk.row (book_at desk) (rooms_at desk) moment (verdict_at desk moment bytes) answer s.stands (verdict_holds desk.date desk.row (book_at desk) moment bytes s.stands)
+pub message_duty : (desk : DeskEvents) (moment : ℕ) (bytes : List ℕ) (settlement : Option Settled) → IfSome (verdict_duty (rooms_at desk) moment (verdict_at desk moment bytes) settlement) (IsOfDay desk.row)
+message_duty desk moment bytes settlement = let s = stood_at desk in
+    duty_of_day desk.row (book_at desk) (rooms_at desk) moment (verdict_at desk moment bytes) settlement s.stands (verdict_holds desk.date desk.row (book_at desk) moment bytes s.stands)
 
 pub message_room : (desk : DeskEvents) (moment : ℕ) (bytes : List ℕ) → IfSome (request_meant (verdict_at desk moment bytes)) (λ request. is_some (room_of (rooms_at desk) request) ≡ true)
 message_room desk moment bytes = let s = stood_at desk in
     request_has_room desk.row (book_at desk) (rooms_at desk) (verdict_at desk moment bytes) s.as_many (verdict_holds desk.date desk.row (book_at desk) moment bytes s.stands)
 
-pub drop_duty : (desk : DeskEvents) (last moment : ℕ) (answer : Option Settled) → IfSome (unpost_dropped (rooms_at desk) moment answer (quote_to_drop (book_at desk) last)) (IsOfDay desk.row)
-drop_duty desk last moment answer = let s = stood_at desk in
-    drop_of_day desk.row (book_at desk) (rooms_at desk) last moment answer (quote_to_drop (book_at desk) last) s.stands refl
+pub drop_duty : (desk : DeskEvents) (last moment : ℕ) (settlement : Option Settled) → IfSome (unpost_dropped (rooms_at desk) moment settlement (quote_to_drop (book_at desk) last)) (IsOfDay desk.row)
+drop_duty desk last moment settlement = let s = stood_at desk in
+    drop_of_day desk.row (book_at desk) (rooms_at desk) last moment settlement (quote_to_drop (book_at desk) last) s.stands refl
 
 pub drop_room : (desk : DeskEvents) (last : ℕ) → IfSome (quote_to_drop (book_at desk) last) (λ own. is_some (room_of (rooms_at desk) own.quote.request) ≡ true)
 drop_room desk last = let s = stood_at desk in

@@ -109,61 +109,61 @@ kept_empty date row = record { sent_are = refl; book_is = refl; rooms_are = refl
 
 -- A message of the dealer's own.
 
-noted : (given : DealerVerdict) (answer : Option Settled) → note_facts (note_of given answer) ≡ verdict_facts given answer
-noted (verdict.QuoteAccepted request id quote None) answer = refl
+noted : (given : DealerVerdict) (settlement : Option Settled) → note_facts (note_of given settlement) ≡ verdict_facts given settlement
+noted (verdict.QuoteAccepted request id quote None) settlement = refl
 noted (verdict.QuoteAccepted request id quote (Some replaced)) (Some settled.Withdrawn) = refl
 noted (verdict.QuoteAccepted request id quote (Some replaced)) (Some settled.Lifted) = refl
 noted (verdict.QuoteAccepted request id quote (Some replaced)) None = refl
 noted (verdict.CancelAccepted id quote request) (Some settled.Withdrawn) = refl
 noted (verdict.CancelAccepted id quote request) (Some settled.Lifted) = refl
 noted (verdict.CancelAccepted id quote request) None = refl
-noted (verdict.DeclineAccepted request number) answer = refl
-noted verdict.Dropped answer = refl
-noted (verdict.OutOfSequence reject) answer = refl
-noted other answer = refl
+noted (verdict.DeclineAccepted request number) settlement = refl
+noted verdict.Dropped settlement = refl
+noted (verdict.OutOfSequence reject) settlement = refl
+noted other settlement = refl
 
-used_up : (given : DealerVerdict) (answer : Option Settled) → note_uses (note_of given answer) ≡ uses_number given
-used_up (verdict.QuoteAccepted request id quote None) answer = refl
+used_up : (given : DealerVerdict) (settlement : Option Settled) → note_uses (note_of given settlement) ≡ uses_number given
+used_up (verdict.QuoteAccepted request id quote None) settlement = refl
 used_up (verdict.QuoteAccepted request id quote (Some replaced)) (Some settled.Withdrawn) = refl
 used_up (verdict.QuoteAccepted request id quote (Some replaced)) (Some settled.Lifted) = refl
 used_up (verdict.QuoteAccepted request id quote (Some replaced)) None = refl
 used_up (verdict.CancelAccepted id quote request) (Some settled.Withdrawn) = refl
 used_up (verdict.CancelAccepted id quote request) (Some settled.Lifted) = refl
 used_up (verdict.CancelAccepted id quote request) None = refl
-used_up (verdict.DeclineAccepted request number) answer = refl
-used_up verdict.Dropped answer = refl
-used_up (verdict.OutOfSequence reject) answer = refl
-used_up other answer = refl
+used_up (verdict.DeclineAccepted request number) settlement = refl
+used_up verdict.Dropped settlement = refl
+used_up (verdict.OutOfSequence reject) settlement = refl
+used_up other settlement = refl
 
-pub kept_own : (date : List ℕ) (row : DealerRow) (events : List DealerEvent) (sent : List (List ℕ)) (index index2 : IndexView) (moment : ℕ) (bytes : List ℕ) (answer : Option Settled)
+pub kept_own : (date : List ℕ) (row : DealerRow) (events : List DealerEvent) (sent : List (List ℕ)) (index index2 : IndexView) (moment : ℕ) (bytes : List ℕ) (settlement : Option Settled)
     (given : DealerVerdict) (note : Note) (reply : Option OutMessage) (message : Option (List ℕ))
     → IsDesk date row events sent index
     → given ≡ dealer_verdict date row index.book moment bytes
-    → note ≡ note_of given answer
-    → reply ≡ verdict_message given answer
+    → note ≡ note_of given settlement
+    → reply ≡ verdict_message given settlement
     → sent_with date row sent moment reply ≡ sent ++ option_to_list message
     → index2 ≡ with_facts index (Came moment bytes (note_uses note) ∷ note_facts note)
-    → IsDesk date row (events ++ event.Own moment bytes answer ∷ []) (sent ++ option_to_list message) index2
+    → IsDesk date row (events ++ event.Received moment bytes settlement ∷ []) (sent ++ option_to_list message) index2
 unfolding event_facts event_message
-kept_own date row events sent index index2 moment bytes answer given note reply message kept is notes replies written changed =
+kept_own date row events sent index index2 moment bytes settlement given note reply message kept is notes replies written changed =
     let facts : List DealerFact = Came moment bytes (note_uses note) ∷ note_facts note in
-    let same : facts ≡ event_facts date row index.book (event.Own moment bytes answer) =
+    let same : facts ≡ event_facts date row index.book (event.Received moment bytes settlement) =
     ap (λ (n : Note). Came moment bytes (note_uses n) ∷ note_facts n) notes
-    ∙ ap (λ (b : Bool). Came moment bytes b ∷ note_facts (note_of given answer)) (used_up given answer)
-    ∙ ap (λ (fs : List DealerFact). Came moment bytes (uses_number given) ∷ fs) (noted given answer)
-    ∙ ap (λ (v : DealerVerdict). Came moment bytes (uses_number v) ∷ verdict_facts v answer) is in
-    kept_event date row events sent (sent ++ option_to_list message) index index2 (event.Own moment bytes answer) kept
-    (sym written ∙ ap (sent_with date row sent moment) (replies ∙ ap (λ (v : DealerVerdict). verdict_message v answer) is))
+    ∙ ap (λ (b : Bool). Came moment bytes b ∷ note_facts (note_of given settlement)) (used_up given settlement)
+    ∙ ap (λ (fs : List DealerFact). Came moment bytes (uses_number given) ∷ fs) (noted given settlement)
+    ∙ ap (λ (v : DealerVerdict). Came moment bytes (uses_number v) ∷ verdict_facts v settlement) is in
+    kept_event date row events sent (sent ++ option_to_list message) index index2 (event.Received moment bytes settlement) kept
+    (sym written ∙ ap (sent_with date row sent moment) (replies ∙ ap (λ (v : DealerVerdict). verdict_message v settlement) is))
     (ap (λ (i : IndexView). i.book) changed ∙ books_of index facts ∙ ap (fold book_after index.book) same)
     (ap (λ (i : IndexView). i.rooms) changed ∙ rooms_stay index facts ∙ sym (append-nil index.rooms))
 
 -- what the index takes note of is lawful
-pub own_lawful : (date : List ℕ) (row : DealerRow) (events : List DealerEvent) (sent : List (List ℕ)) (index : IndexView) (moment : ℕ) (bytes : List ℕ) (answer : Option Settled) (given : DealerVerdict) (note : Note)
-    → IsDesk date row events sent index → given ≡ dealer_verdict date row index.book moment bytes → note ≡ note_of given answer → IsLawfulNote index.book note
-own_lawful date row events sent index moment bytes answer given note kept is notes =
+pub own_lawful : (date : List ℕ) (row : DealerRow) (events : List DealerEvent) (sent : List (List ℕ)) (index : IndexView) (moment : ℕ) (bytes : List ℕ) (settlement : Option Settled) (given : DealerVerdict) (note : Note)
+    → IsDesk date row events sent index → given ≡ dealer_verdict date row index.book moment bytes → note ≡ note_of given settlement → IsLawfulNote index.book note
+own_lawful date row events sent index moment bytes settlement given note kept is notes =
     let s = index_stands date row events sent index kept in
-    subst (λ (n : Note). IsLawfulNote index.book n) (sym (notes ∙ ap (λ (v : DealerVerdict). note_of v answer) is))
-    (lawful_note row index.book (dealer_verdict date row index.book moment bytes) answer s.stands (verdict_holds date row index.book moment bytes s.stands))
+    subst (λ (n : Note). IsLawfulNote index.book n) (sym (notes ∙ ap (λ (v : DealerVerdict). note_of v settlement) is))
+    (lawful_note row index.book (dealer_verdict date row index.book moment bytes) settlement s.stands (verdict_holds date row index.book moment bytes s.stands))
 
 -- the numbers that are counted stay below the number of events
 pub used_below : (date : List ℕ) (row : DealerRow) (events : List DealerEvent) (sent : List (List ℕ)) (index : IndexView) → IsDesk date row events sent index → length events + 1 < 2 ^ 63 → index.book.used + 1 < 2 ^ 63
@@ -213,16 +213,16 @@ kept_told date row events sent index index2 number request close moment kept due
 
 -- A drop.
 
-pub kept_drop : (date : List ℕ) (row : DealerRow) (events : List DealerEvent) (sent : List (List ℕ)) (index index2 : IndexView) (last moment : ℕ) (answer : Option Settled) (reply : Option OutMessage) (message : Option (List ℕ))
+pub kept_drop : (date : List ℕ) (row : DealerRow) (events : List DealerEvent) (sent : List (List ℕ)) (index index2 : IndexView) (last moment : ℕ) (settlement : Option Settled) (reply : Option OutMessage) (message : Option (List ℕ))
     → IsDesk date row events sent index
-    → reply ≡ option_map (drop_message answer) (quote_to_drop index.book last)
+    → reply ≡ option_map (drop_message settlement) (quote_to_drop index.book last)
     → sent_with date row sent moment reply ≡ sent ++ option_to_list message
-    → index2 ≡ with_facts index (settled_facts (number_to_drop index.book last) by.Cancel answer)
-    → IsDesk date row (events ++ event.Drop last moment answer ∷ []) (sent ++ option_to_list message) index2
+    → index2 ≡ with_facts index (settled_facts (number_to_drop index.book last) by.Cancel settlement)
+    → IsDesk date row (events ++ event.Drop last moment settlement ∷ []) (sent ++ option_to_list message) index2
 unfolding event_facts event_message
-kept_drop date row events sent index index2 last moment answer reply message kept replies written changed =
-    let facts : List DealerFact = settled_facts (number_to_drop index.book last) by.Cancel answer in
-    kept_event date row events sent (sent ++ option_to_list message) index index2 (event.Drop last moment answer) kept
+kept_drop date row events sent index index2 last moment settlement reply message kept replies written changed =
+    let facts : List DealerFact = settled_facts (number_to_drop index.book last) by.Cancel settlement in
+    kept_event date row events sent (sent ++ option_to_list message) index index2 (event.Drop last moment settlement) kept
     (sym written ∙ ap (sent_with date row sent moment) replies)
     (ap (λ (i : IndexView). i.book) changed ∙ books_of index facts ∙ ap (λ (b : DealerBook). fold book_after b facts) (sym (dropped_book index.book last moment)))
     (ap (λ (i : IndexView). i.rooms) changed ∙ rooms_stay index facts ∙ sym (append-nil index.rooms))

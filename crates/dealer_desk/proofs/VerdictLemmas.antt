@@ -146,7 +146,7 @@ cancel_holds : (row : DealerRow) (book : DealerBook) (id : List ℕ) (found : Op
 cancel_holds row book id None stands there = tt
 cancel_holds row book id (Some own) stands there = let here = there own refl in cancel_answered row book id own here.0 (first_refusal (cancel_checks own)) stands here.1 refl
 
-all_holds : (row : DealerRow) (book : DealerBook) (id : Option (List ℕ)) (b : Bool) (last : ℕ) → Holds row book (cond b (verdict.Refused (out.CancelAnswer id status.Unknown)) (verdict.DropsFollow last))
+all_holds : (row : DealerRow) (book : DealerBook) (id : Option (List ℕ)) (b : Bool) (last : ℕ) → Holds row book (cond b (verdict.Refused (out.CancelReport id status.Unknown)) (verdict.DropsFollow last))
 all_holds row book id true last = tt
 all_holds row book id false last = tt
 
@@ -193,16 +193,16 @@ lawful row book (verdict.CancelAccepted id quote request) holds = holds.0
 lawful row book (verdict.DeclineAccepted request number) holds = holds
 lawful row book other holds = tt
 
-pub lawful_note : (row : DealerRow) (book : DealerBook) (given : DealerVerdict) (answer : Option Settled) → StandsIn row book → Holds row book given → IsLawfulNote book (note_of given answer)
-lawful_note row book (verdict.QuoteAccepted request id quote None) answer stands holds = fits_book row book quote None holds
+pub lawful_note : (row : DealerRow) (book : DealerBook) (given : DealerVerdict) (settlement : Option Settled) → StandsIn row book → Holds row book given → IsLawfulNote book (note_of given settlement)
+lawful_note row book (verdict.QuoteAccepted request id quote None) settlement stands holds = fits_book row book quote None holds
 lawful_note row book (verdict.QuoteAccepted request id quote (Some replaced)) (Some settled.Withdrawn) stands holds = fits_book row book quote (Some replaced) holds
 lawful_note row book (verdict.QuoteAccepted request id quote (Some replaced)) (Some settled.Lifted) stands holds = live_stands book.requests book.quotes quote.request replaced stands.sound holds.replaced_is
 lawful_note row book (verdict.QuoteAccepted request id quote (Some replaced)) None stands holds = tt
 lawful_note row book (verdict.CancelAccepted id quote request) (Some settled.Withdrawn) stands holds = holds.0
 lawful_note row book (verdict.CancelAccepted id quote request) (Some settled.Lifted) stands holds = holds.0
 lawful_note row book (verdict.CancelAccepted id quote request) None stands holds = tt
-lawful_note row book (verdict.DeclineAccepted request number) answer stands holds = holds
-lawful_note row book other answer stands holds = tt
+lawful_note row book (verdict.DeclineAccepted request number) settlement stands holds = holds
+lawful_note row book other settlement stands holds = tt
 
 -- The quote whose word is asked is one of the day's.
 

@@ -12,7 +12,7 @@ use Rattle.dealer_desk.specs.DealerFacts.{DealerBook, book_of, number_to_drop, f
 use Rattle.dealer_desk.specs.DeskLaws.{withdraws, says_lifted, says_withdrawn}
 use Rattle.dealer_desk.specs.DealerRules.{dealer_verdict}
 use Rattle.dealer_desk.specs.DealerOutput.{desk_after, event_facts, verdict_facts, settled_facts}
-use Rattle.dealer_desk.specs.DealerOutput.{uses_number, closable, answered_word, answered_words}
+use Rattle.dealer_desk.specs.DealerOutput.{uses_number, closable, settled_word, settled_words}
 use Rattle.dealer_desk.specs.DealerOutput.{asked_word, asked_by, word_asked}
 use Rattle.dealer_desk.specs.declared.standing.Withdrawal.{Withdrawal}
 use Rattle.dealer_desk.specs.declared.standing.Withdrawal.TheVariants as by
@@ -22,77 +22,77 @@ use Rattle.dealer_desk.specs.declared.verdicts.DealerVerdict.{DealerVerdict}
 use Rattle.dealer_desk.specs.declared.verdicts.DealerVerdict.TheVariants as verdict
 use Rattle.dealer_desk.proofs.DeskLemmas.{facts_push}
 
-verdict_words : (given : DealerVerdict) (answer : Option Settled) → answered_words (verdict_facts given answer) ≡ asked_word (word_asked given) answer
-verdict_words (verdict.QuoteAccepted request id quote None) answer = refl
+verdict_words : (given : DealerVerdict) (settlement : Option Settled) → settled_words (verdict_facts given settlement) ≡ asked_word (word_asked given) settlement
+verdict_words (verdict.QuoteAccepted request id quote None) settlement = refl
 verdict_words (verdict.QuoteAccepted request id quote (Some replaced)) (Some settled.Withdrawn) = refl
 verdict_words (verdict.QuoteAccepted request id quote (Some replaced)) (Some settled.Lifted) = refl
 verdict_words (verdict.QuoteAccepted request id quote (Some replaced)) None = refl
 verdict_words (verdict.CancelAccepted id quote request) (Some settled.Withdrawn) = refl
 verdict_words (verdict.CancelAccepted id quote request) (Some settled.Lifted) = refl
 verdict_words (verdict.CancelAccepted id quote request) None = refl
-verdict_words (verdict.DeclineAccepted request number) answer = refl
-verdict_words other answer = refl
+verdict_words (verdict.DeclineAccepted request number) settlement = refl
+verdict_words other settlement = refl
 
-told_words : (b : Bool) (request : ℕ) (close : Close) (moment : ℕ) → answered_words (cond b (Told request close moment ∷ []) []) ≡ []
+told_words : (b : Bool) (request : ℕ) (close : Close) (moment : ℕ) → settled_words (cond b (Told request close moment ∷ []) []) ≡ []
 told_words true request close moment = refl
 told_words false request close moment = refl
 
-settled_words : (asked : Option ℕ) (how : Withdrawal) (answer : Option Settled) → answered_words (settled_facts asked how answer) ≡ asked_word asked answer
-settled_words None how answer = refl
-settled_words (Some quote) how (Some settled.Withdrawn) = refl
-settled_words (Some quote) how (Some settled.Lifted) = refl
-settled_words (Some quote) how None = refl
+settled_facts_words : (asked : Option ℕ) (how : Withdrawal) (settlement : Option Settled) → settled_words (settled_facts asked how settlement) ≡ asked_word asked settlement
+settled_facts_words None how settlement = refl
+settled_facts_words (Some quote) how (Some settled.Withdrawn) = refl
+settled_facts_words (Some quote) how (Some settled.Lifted) = refl
+settled_facts_words (Some quote) how None = refl
 
 -- the facts of an event say the word that it asks
-pub event_words : (date : List ℕ) (row : DealerRow) (book : DealerBook) (more : DealerEvent) → answered_words (event_facts date row book more) ≡ asked_by date row book more
+pub event_words : (date : List ℕ) (row : DealerRow) (book : DealerBook) (more : DealerEvent) → settled_words (event_facts date row book more) ≡ asked_by date row book more
 unfolding event_facts
-event_words date row book (event.Own moment bytes answer) = verdict_words (dealer_verdict date row book moment bytes) answer
+event_words date row book (event.Received moment bytes settlement) = verdict_words (dealer_verdict date row book moment bytes) settlement
 event_words date row book (event.Shown room ask moment) = refl
 event_words date row book (event.Told request close moment) = told_words (is_some (closable book request)) request close moment
-event_words date row book (event.Drop last moment answer) = settled_words (number_to_drop book last) by.Cancel answer
+event_words date row book (event.Drop last moment settlement) = settled_facts_words (number_to_drop book last) by.Cancel settlement
 
 -- the words that were asked, after one event more
 pub words_push : (date : List ℕ) (row : DealerRow) (events : List DealerEvent) (more : DealerEvent)
-    → answered_words (desk_after date row (events ++ more ∷ [])).facts ≡ answered_words (desk_after date row events).facts ++ asked_by date row (book_of (desk_after date row events).facts) more
+    → settled_words (desk_after date row (events ++ more ∷ [])).facts ≡ settled_words (desk_after date row events).facts ++ asked_by date row (book_of (desk_after date row events).facts) more
 words_push date row events more =
-    ap answered_words (facts_push date row events more)
-    ∙ filter_map-append answered_word (desk_after date row events).facts (event_facts date row (book_of (desk_after date row events).facts) more)
-    ∙ ap (λ (words : List (ℕ × Settled)). answered_words (desk_after date row events).facts ++ words) (event_words date row (book_of (desk_after date row events).facts) more)
+    ap settled_words (facts_push date row events more)
+    ∙ filter_map-append settled_word (desk_after date row events).facts (event_facts date row (book_of (desk_after date row events).facts) more)
+    ∙ ap (λ (words : List (ℕ × Settled)). settled_words (desk_after date row events).facts ++ words) (event_words date row (book_of (desk_after date row events).facts) more)
 
--- An answer where no word is asked.
+-- A settlement where no word is asked.
 
-unasked_verdict : (given : DealerVerdict) (answer : Option Settled) → word_asked given ≡ None → verdict_facts given answer ≡ verdict_facts given None
-unasked_verdict (verdict.QuoteAccepted request id quote None) answer none = refl
-unasked_verdict (verdict.QuoteAccepted request id quote (Some replaced)) answer none = cc
-unasked_verdict (verdict.CancelAccepted id quote request) answer none = cc
-unasked_verdict (verdict.DeclineAccepted request number) answer none = refl
-unasked_verdict other answer none = refl
+unasked_verdict : (given : DealerVerdict) (settlement : Option Settled) → word_asked given ≡ None → verdict_facts given settlement ≡ verdict_facts given None
+unasked_verdict (verdict.QuoteAccepted request id quote None) settlement none = refl
+unasked_verdict (verdict.QuoteAccepted request id quote (Some replaced)) settlement none = cc
+unasked_verdict (verdict.CancelAccepted id quote request) settlement none = cc
+unasked_verdict (verdict.DeclineAccepted request number) settlement none = refl
+unasked_verdict other settlement none = refl
 
-pub unasked_own : (date : List ℕ) (row : DealerRow) (book : DealerBook) (moment : ℕ) (bytes : List ℕ) (answer : Option Settled) → word_asked (dealer_verdict date row book moment bytes) ≡ None
-    → event_facts date row book (event.Own moment bytes answer) ≡ event_facts date row book (event.Own moment bytes None)
+pub unasked_own : (date : List ℕ) (row : DealerRow) (book : DealerBook) (moment : ℕ) (bytes : List ℕ) (settlement : Option Settled) → word_asked (dealer_verdict date row book moment bytes) ≡ None
+    → event_facts date row book (event.Received moment bytes settlement) ≡ event_facts date row book (event.Received moment bytes None)
 unfolding event_facts
-unasked_own date row book moment bytes answer none =
-    ap (λ (facts : List DealerFact). Came moment bytes (uses_number (dealer_verdict date row book moment bytes)) ∷ facts) (unasked_verdict (dealer_verdict date row book moment bytes) answer none)
+unasked_own date row book moment bytes settlement none =
+    ap (λ (facts : List DealerFact). Came moment bytes (uses_number (dealer_verdict date row book moment bytes)) ∷ facts) (unasked_verdict (dealer_verdict date row book moment bytes) settlement none)
 
-unasked_settled : (asked : Option ℕ) (how : Withdrawal) (answer : Option Settled) → asked ≡ None → settled_facts asked how answer ≡ settled_facts asked how None
-unasked_settled None how answer none = refl
-unasked_settled (Some quote) how answer none = cc
+unasked_settled : (asked : Option ℕ) (how : Withdrawal) (settlement : Option Settled) → asked ≡ None → settled_facts asked how settlement ≡ settled_facts asked how None
+unasked_settled None how settlement none = refl
+unasked_settled (Some quote) how settlement none = cc
 
-pub unasked_drop : (date : List ℕ) (row : DealerRow) (book : DealerBook) (last moment : ℕ) (answer : Option Settled) → number_to_drop book last ≡ None
-    → event_facts date row book (event.Drop last moment answer) ≡ event_facts date row book (event.Drop last moment None)
+pub unasked_drop : (date : List ℕ) (row : DealerRow) (book : DealerBook) (last moment : ℕ) (settlement : Option Settled) → number_to_drop book last ≡ None
+    → event_facts date row book (event.Drop last moment settlement) ≡ event_facts date row book (event.Drop last moment None)
 unfolding event_facts
-unasked_drop date row book last moment answer none =
-    ap (λ (facts : List DealerFact). Dropped last moment ∷ facts) (unasked_settled (number_to_drop book last) by.Cancel answer none)
+unasked_drop date row book last moment settlement none =
+    ap (λ (facts : List DealerFact). Dropped last moment ∷ facts) (unasked_settled (number_to_drop book last) by.Cancel settlement none)
 
 -- The facts and the words that were asked say the same of a quote.
 
-pub lifted_words : (facts : List DealerFact) (number : ℕ) → list_any (finds_lifted number) facts ≡ list_any (says_lifted number) (answered_words facts)
+pub lifted_words : (facts : List DealerFact) (number : ℕ) → list_any (finds_lifted number) facts ≡ list_any (says_lifted number) (settled_words facts)
 lifted_words [] number = refl
 lifted_words (Late quote ∷ facts) number = ap (λ (b : Bool). (quote == number) || b) (lifted_words facts number)
 lifted_words (Withdrawn quote how ∷ facts) number = lifted_words facts number
 lifted_words (fact ∷ facts) number = lifted_words facts number
 
-pub withdrawn_words : (facts : List DealerFact) (number : ℕ) → list_any (withdraws number) facts ≡ list_any (says_withdrawn number) (answered_words facts)
+pub withdrawn_words : (facts : List DealerFact) (number : ℕ) → list_any (withdraws number) facts ≡ list_any (says_withdrawn number) (settled_words facts)
 withdrawn_words [] number = refl
 withdrawn_words (Withdrawn quote how ∷ facts) number = ap (λ (b : Bool). (quote == number) || b) (withdrawn_words facts number)
 withdrawn_words (Late quote ∷ facts) number = withdrawn_words facts number

@@ -134,7 +134,7 @@ quote_kept book moment quote request = record {
 
 -- the refusal of a quote
 abbrev pub quote_refused : Quote → QuoteRejectReason → DealerVerdict
-quote_refused quote reason = verdict.Refused (out.QuoteAnswer quote.request quote.id (Some reason))
+quote_refused quote reason = verdict.Refused (out.QuoteReport quote.request quote.id (Some reason))
 
 -- a quote on a request that no check refuses is accepted; it replaces the dealer's live quote
 -- there, where there is one
@@ -169,12 +169,12 @@ cancel_checks own =
 -- a refusal, or else the word of the quote is asked
 abbrev pub cancel_answer : List ℕ → StandingQuote → Option QuoteRejectReason → DealerVerdict
 cancel_answer id own (Some reason) =
-    verdict.Refused (out.CancelAnswer (Some id) (status.Refused reason))
+    verdict.Refused (out.CancelReport (Some id) (status.Refused reason))
 cancel_answer id own None = verdict.CancelAccepted id own.quote.number own.quote.request
 
 -- a cancel of a QuoteID that no accepted quote has is told so
 abbrev pub cancel_of : List ℕ → Option StandingQuote → DealerVerdict
-cancel_of id None = verdict.Refused (out.CancelAnswer (Some id) status.Unknown)
+cancel_of id None = verdict.Refused (out.CancelReport (Some id) status.Unknown)
 cancel_of id (Some own) = cancel_answer id own (first_refusal (cancel_checks own))
 
 -- a cancel of all quotes: the droppable ones of those that were accepted so far are dropped one by
@@ -182,7 +182,7 @@ cancel_of id (Some own) = cancel_answer id own (first_refusal (cancel_checks own
 abbrev pub cancel_all : DealerBook → Option (List ℕ) → DealerVerdict
 cancel_all book id =
     if is_none (quote_to_drop book (quotes_accepted book))
-    then verdict.Refused (out.CancelAnswer id status.Unknown)
+    then verdict.Refused (out.CancelReport id status.Unknown)
     else verdict.DropsFollow (quotes_accepted book)
 
 -- the verdict on a cancel: QuoteCancelType (298) 5 cancels the quote that QuoteID (117) names, 4
@@ -191,7 +191,7 @@ unfoldable pub cancel_verdict : DealerBook → CancelScope → DealerVerdict
 cancel_verdict book (cancels.One id) = cancel_of id (quote_with_id book id)
 cancel_verdict book (cancels.All id) = cancel_all book id
 cancel_verdict book (cancels.Other cancel_type id) =
-    verdict.Refused (out.CancelAnswer id (status.Refused Other))
+    verdict.Refused (out.CancelReport id (status.Refused Other))
 
 -- Declines.
 
@@ -207,8 +207,8 @@ decline_checks book request =
 -- a refusal, or else the decline is accepted
 abbrev pub decline_answer : List ℕ → Option StandingRequest → Option QuoteRejectReason
     → DealerVerdict
-decline_answer name request (Some reason) = verdict.Refused (out.DeclineAnswer name (Some reason))
-decline_answer name None None = verdict.Refused (out.DeclineAnswer name (Some Other))
+decline_answer name request (Some reason) = verdict.Refused (out.DeclineReport name (Some reason))
+decline_answer name None None = verdict.Refused (out.DeclineReport name (Some Other))
 decline_answer name (Some request) None = verdict.DeclineAccepted name request.number
 
 -- the verdict on a decline of this request

@@ -59,9 +59,9 @@ day_checks row book moment quote shown =
     ∷ (nat_lt row.exposure (exposure_with book shown), ExceedsLimit)
     ∷ []
 
--- what the index notes of a verdict, with the answer of the word that it asks
+-- what the index notes of a verdict, with the settlement of the word that it asks
 abbrev pub note_of_quote : AcceptedQuote → Option ℕ → Option Settled → Note
-note_of_quote quote None answer = note.Accepted quote
+note_of_quote quote None settlement = note.Accepted quote
 note_of_quote quote (Some replaced) (Some settled.Withdrawn) = note.Replaced replaced quote
 note_of_quote quote (Some replaced) (Some settled.Lifted) = note.Late replaced
 note_of_quote quote (Some replaced) None = note.Number
@@ -74,15 +74,15 @@ note_of_cancel quote None = note.Number
 
 -- the same of any verdict
 abbrev pub note_of : DealerVerdict → Option Settled → Note
-note_of verdict.Dropped answer = note.Nothing
-note_of (verdict.OutOfSequence reject) answer = note.Nothing
-note_of (verdict.Rejected reject) answer = note.Number
-note_of (verdict.Refused message) answer = note.Number
-note_of (verdict.QuoteAccepted request id quote replaced) answer =
-    note_of_quote quote replaced answer
-note_of (verdict.CancelAccepted id quote request) answer = note_of_cancel quote answer
-note_of (verdict.DropsFollow last) answer = note.Number
-note_of (verdict.DeclineAccepted request number) answer = note.Declined number
+note_of verdict.Dropped settlement = note.Nothing
+note_of (verdict.OutOfSequence reject) settlement = note.Nothing
+note_of (verdict.Rejected reject) settlement = note.Number
+note_of (verdict.Refused message) settlement = note.Number
+note_of (verdict.QuoteAccepted request id quote replaced) settlement =
+    note_of_quote quote replaced settlement
+note_of (verdict.CancelAccepted id quote request) settlement = note_of_cancel quote settlement
+note_of (verdict.DropsFollow last) settlement = note.Number
+note_of (verdict.DeclineAccepted request number) settlement = note.Declined number
 
 -- whether a message used up its number
 abbrev pub note_uses : Note → Bool

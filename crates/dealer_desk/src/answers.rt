@@ -16,10 +16,10 @@ use quote_messages::{CancelStatus, OutMessage, QuoteRejectReason};
 use quote_word::Settled;
 
 /// Whether a word was asked and is withdrawn.
-pub(crate) fn is_withdrawn(answer: Option<Settled>) -> bool
-    ensures { result ≡ spec.is_withdrawn answer }
+pub(crate) fn is_withdrawn(settlement: Option<Settled>) -> bool
+    ensures { result ≡ spec.is_withdrawn settlement }
 {
-    match answer {
+    match settlement {
         Some(Settled::Withdrawn) => true,
         Some(Settled::Lifted) => false,
         None => false,
@@ -27,29 +27,29 @@ pub(crate) fn is_withdrawn(answer: Option<Settled>) -> bool
 }
 
 /// Whether nothing stands against what was decided: no word is asked, or the word is withdrawn.
-fn goes_through(asked: Option<u32>, answer: Option<Settled>) -> bool
-    ensures { result ≡ spec.goes_through asked answer }
+fn goes_through(asked: Option<u32>, settlement: Option<Settled>) -> bool
+    ensures { result ≡ spec.goes_through asked settlement }
 {
     match asked {
-        Some(_) => is_withdrawn(answer),
+        Some(_) => is_withdrawn(settlement),
         None => true,
     }
 }
 
-/// The status of a cancel whose quote's word gave this answer.
-pub(crate) fn cancel_status(answer: Option<Settled>) -> CancelStatus
-    ensures { result ≡ spec.cancel_status answer }
+/// The status of a cancel whose quote's word has this settlement.
+pub(crate) fn cancel_status(settlement: Option<Settled>) -> CancelStatus
+    ensures { result ≡ spec.cancel_status settlement }
 {
-    if is_withdrawn(answer) {
+    if is_withdrawn(settlement) {
         return CancelStatus::Withdrawn;
     }
     CancelStatus::Refused(QuoteRejectReason::TooLate)
 }
 
-/// What a verdict leads to, with the answer of the word that it asks.
-pub(crate) fn outcome_of(verdict: DealerVerdict<'_>, answer: Option<Settled>) -> Outcome<'_>
-    ensures note { result.note ≡ note_of verdict.entry answer }
-    ensures answer { result.answer ≡ spec.verdict_message verdict.entry answer }
+/// What a verdict leads to, with the settlement of the word that it asks.
+pub(crate) fn outcome_of(verdict: DealerVerdict<'_>, settlement: Option<Settled>) -> Outcome<'_>
+    ensures note { result.note ≡ note_of verdict.entry settlement }
+    ensures output { result.output ≡ spec.verdict_message verdict.entry settlement }
 {
     match verdict {
         DealerVerdict::Dropped => unnumbered(None),
@@ -62,20 +62,20 @@ pub(crate) fn outcome_of(verdict: DealerVerdict<'_>, answer: Option<Settled>) ->
             quote,
             replaced,
         } => Outcome {
-            note: note_of_quote(quote, replaced, answer),
-            answer: Some(quote_answer(request, id, replaced, answer)),
+            note: note_of_quote(quote, replaced, settlement),
+            output: Some(quote_report(request, id, replaced, settlement)),
         },
         DealerVerdict::CancelAccepted { id, quote, .. } => Outcome {
-            note: note_of_cancel(quote, answer),
-            answer: Some(cancel_answer(id, answer)),
+            note: note_of_cancel(quote, settlement),
+            output: Some(cancel_report(id, settlement)),
         },
         DealerVerdict::DropsFollow { .. } => Outcome {
             note: Note::Number,
-            answer: None,
+            output: None,
         },
         DealerVerdict::DeclineAccepted { request, number } => Outcome {
             note: Note::Declined(number),
-            answer: Some(OutMessage::DeclineAnswer {
+            output: Some(OutMessage::DeclineReport {
                 request,
                 refusal: None,
             }),
@@ -84,33 +84,33 @@ pub(crate) fn outcome_of(verdict: DealerVerdict<'_>, answer: Option<Settled>) ->
 }
 
 /// A message that used up no number.
-fn unnumbered(answer: Option<OutMessage<'_>>) -> Outcome<'_>
-    ensures { result ≡ record { note = Note.Nothing; answer = answer.entry } }
+fn unnumbered(output: Option<OutMessage<'_>>) -> Outcome<'_>
+    ensures { result ≡ record { note = Note.Nothing; output = output.entry } }
 {
     Outcome {
         note: Note::Nothing,
-        answer,
+        output,
     }
 }
 
 /// A message that used up its number and changes nothing else.
-fn numbered(answer: OutMessage<'_>) -> Outcome<'_>
-    ensures { result ≡ record { note = Note.Number; answer = Some answer.entry } }
+fn numbered(output: OutMessage<'_>) -> Outcome<'_>
+    ensures { result ≡ record { note = Note.Number; output = Some output.entry } }
 {
     Outcome {
         note: Note::Number,
-        answer: Some(answer),
+        output: Some(output),
     }
 }
 
 /// What is noted of an accepted quote.
-fn note_of_quote(quote: AcceptedQuote, replaced: Option<u32>, answer: Option<Settled>) -> Note
-    ensures { result ≡ note_of_quote quote replaced answer }
+fn note_of_quote(quote: AcceptedQuote, replaced: Option<u32>, settlement: Option<Settled>) -> Note
+    ensures { result ≡ note_of_quote quote replaced settlement }
 {
     let Some(replaced) = replaced else {
         return Note::Accepted(quote);
     };
-    match answer {
+    match settlement {
         Some(Settled::Withdrawn) => Note::Replaced(replaced, quote),
         Some(Settled::Lifted) => Note::Late(replaced),
         None => Note::Number,
@@ -118,30 +118,30 @@ fn note_of_quote(quote: AcceptedQuote, replaced: Option<u32>, answer: Option<Set
 }
 
 /// What is noted of a cancel.
-pub(crate) fn note_of_cancel(quote: u32, answer: Option<Settled>) -> Note
-    ensures { result ≡ note_of_cancel quote answer }
+pub(crate) fn note_of_cancel(quote: u32, settlement: Option<Settled>) -> Note
+    ensures { result ≡ note_of_cancel quote settlement }
 {
-    match answer {
+    match settlement {
         Some(Settled::Withdrawn) => Note::Cancelled(quote),
         Some(Settled::Lifted) => Note::Late(quote),
         None => Note::Number,
     }
 }
 
-/// The answer to an accepted quote.
-fn quote_answer<'a>(
+/// The report on an accepted quote.
+fn quote_report<'a>(
     request: Id<'a>,
     id: Id<'a>,
     replaced: Option<u32>,
-    answer: Option<Settled>,
+    settlement: Option<Settled>,
 ) -> OutMessage<'a>
-    ensures { result ≡ OutMessage.QuoteAnswer request.entry id.entry
-        (if spec.goes_through replaced answer then None else Some QuoteRejectReason.TooLate) }
+    ensures { result ≡ OutMessage.QuoteReport request.entry id.entry
+        (if spec.goes_through replaced settlement then None else Some QuoteRejectReason.TooLate) }
 {
-    OutMessage::QuoteAnswer {
+    OutMessage::QuoteReport {
         request,
         id,
-        refusal: late_unless(goes_through(replaced, answer)),
+        refusal: late_unless(goes_through(replaced, settlement)),
     }
 }
 
@@ -155,13 +155,13 @@ fn late_unless(goes_through: bool) -> Option<QuoteRejectReason>
     Some(QuoteRejectReason::TooLate)
 }
 
-/// The answer to a cancel.
-fn cancel_answer(id: Id<'_>, answer: Option<Settled>) -> OutMessage<'_>
-    ensures { result ≡ OutMessage.CancelAnswer (Some id.entry) (spec.cancel_status answer) }
+/// The report on a cancel.
+fn cancel_report(id: Id<'_>, settlement: Option<Settled>) -> OutMessage<'_>
+    ensures { result ≡ OutMessage.CancelReport (Some id.entry) (spec.cancel_status settlement) }
 {
-    OutMessage::CancelAnswer {
+    OutMessage::CancelReport {
         id: Some(id),
-        status: cancel_status(answer),
+        status: cancel_status(settlement),
     }
 }
 
@@ -232,18 +232,18 @@ pub(crate) fn duty_of(
     index: &DealerIndex,
     moment: Moment,
     verdict: &DealerVerdict,
-    answer: Option<Settled>,
+    settlement: Option<Settled>,
 ) -> Option<Duty>
-    ensures { result ≡ spec.verdict_duty index.now.rooms moment verdict.now answer }
+    ensures { result ≡ spec.verdict_duty index.now.rooms moment verdict.now settlement }
 {
     match verdict {
         DealerVerdict::QuoteAccepted {
             quote,
             replaced,
             ..
-        } => post_where(goes_through(*replaced, answer), index, quote),
+        } => post_where(goes_through(*replaced, settlement), index, quote),
         DealerVerdict::CancelAccepted { quote, request, .. } => {
-            unpost_where(is_withdrawn(answer), index, *quote, *request, moment)
+            unpost_where(is_withdrawn(settlement), index, *quote, *request, moment)
         }
         DealerVerdict::DropsFollow { last } => Some(Duty::Drop {
             last: *last,

@@ -76,9 +76,9 @@ fn late_where(so: bool) -> Option<QuoteRejectReason>
 
 /// A cancel that withdraws nothing.
 fn refused(id: Option<Id<'_>>, status: CancelStatus) -> DealerVerdict<'_>
-    ensures { result ≡ DealerVerdict.Refused (OutMessage.CancelAnswer id.entry status) }
+    ensures { result ≡ DealerVerdict.Refused (OutMessage.CancelReport id.entry status) }
 {
-    DealerVerdict::Refused(OutMessage::CancelAnswer { id, status })
+    DealerVerdict::Refused(OutMessage::CancelReport { id, status })
 }
 
 /// The verdict on a decline of the request with this QuoteReqID (131).
@@ -119,9 +119,9 @@ fn decline_refusal(_index: &DealerIndex, shown: &RequestRow) -> Option<QuoteReje
 /// The refusal of a decline.
 fn decline_refused(request: Id<'_>, reason: QuoteRejectReason) -> DealerVerdict<'_>
     ensures { result
-        ≡ DealerVerdict.Refused (OutMessage.DeclineAnswer request.entry (Some reason)) }
+        ≡ DealerVerdict.Refused (OutMessage.DeclineReport request.entry (Some reason)) }
 {
-    DealerVerdict::Refused(OutMessage::DeclineAnswer {
+    DealerVerdict::Refused(OutMessage::DeclineReport {
         request,
         refusal: Some(reason),
     })

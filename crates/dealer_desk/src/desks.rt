@@ -10,10 +10,10 @@ ghost use Rattle.dealer_desk.specs.DealerOutput.{verdict_duty};
 ghost use Rattle.dealer_desk.specs.QuoteLines.{lines_of};
 
 use crate::answers::{duty_of, outcome_of, take_note};
-use crate::drops::{drop_answer, further_drop, note_drop, unpost_of};
+use crate::drops::{drop_message, further_drop, note_drop, unpost_of};
 use crate::index::DealerIndex;
 use crate::rules::dealer_verdict;
-use crate::sending::{answer_message, next_message, notice_of, push_some};
+use crate::sending::{next_message, notice_of, output_message, push_some};
 use crate::{DealerEvent, DealerVerdict};
 use fix_fields::{Date, Memory, Moment};
 use market_terms::{Ask, Close, Duty, QuoteLine, RoomRef};
@@ -74,9 +74,9 @@ impl DealerDesk {
     }
 
     /// The verdict on bytes that come at this moment: what the session and the market make of them.
-    /// It may be handed to [`DealerDesk::take_judged`] as long as nothing else comes to the desk,
-    /// so that a message is read and judged once. The quote whose word it asks has a number from 1
-    /// to the quotes of the dealer's row.
+    /// It may be handed to [`DealerDesk::receive_judged`] as long as nothing else comes to the
+    /// desk, so that a message is read and judged once. The quote whose word it asks has a number
+    /// from 1 to the quotes of the dealer's row.
     pub fn judge<'a>(&self, moment: Moment, bytes: &'a [u8]) -> DealerVerdict<'a>
         ensures verdict { result ≡ verdict_at self.now moment bytes.now }
         ensures own { IfSome (word_asked result)
@@ -98,62 +98,63 @@ impl DealerDesk {
         quote
     }
 
-    /// Takes a message of the dealer's own, whatever its bytes are, with the answer of the word
+    /// Takes a message of the dealer's own, whatever its bytes are, with the settlement of the word
     /// that it asks, and gives what is left to be done in the room of its request. After an error
     /// the desk is as before.
     pub fn take(
         &mut self,
         moment: Moment,
         bytes: &[u8],
-        answer: Option<Settled>,
+        settlement: Option<Settled>,
     ) -> Result<Option<Duty>, Memory>
-        requires { is_some answer ≡ is_some (word_asked (verdict_at self.old moment bytes.now)) }
+        requires { is_some settlement ≡ is_some
+            (word_asked (verdict_at self.old moment bytes.now)) }
         ensures ok { OnOk result
-            (self.new ≡ with_event self.old (DealerEvent.Own moment bytes.now answer)) }
+            (self.new ≡ with_event self.old (DealerEvent.Received moment bytes.now settlement)) }
         ensures duty { IfOk result (λ duty. duty
             ≡ verdict_duty (rooms_at self.old) moment
-            (verdict_at self.old moment bytes.now) answer) }
+            (verdict_at self.old moment bytes.now) settlement) }
         ensures err { OnErr result (self.new ≡ self.old) }
     {
         let verdict = dealer_verdict(&self.date, &self.row, &self.index, moment, bytes);
-        let duty = self.take_judged(moment, bytes, verdict, answer)?;
+        let duty = self.receive_judged(moment, bytes, verdict, settlement)?;
         Ok(duty)
     }
 
     /// The same of a message that was judged already.
-    pub fn take_judged(
+    pub fn receive_judged(
         &mut self,
         moment: Moment,
         bytes: &[u8],
         verdict: DealerVerdict<'_>,
-        answer: Option<Settled>,
+        settlement: Option<Settled>,
     ) -> Result<Option<Duty>, Memory>
         requires judged { verdict ≡ verdict_at self.old moment bytes.now }
-        requires answered { is_some answer ≡ is_some (word_asked verdict) }
+        requires settled { is_some settlement ≡ is_some (word_asked verdict) }
         ensures ok { OnOk result
-            (self.new ≡ with_event self.old (DealerEvent.Own moment bytes.now answer)) }
+            (self.new ≡ with_event self.old (DealerEvent.Received moment bytes.now settlement)) }
         ensures duty { IfOk result
-            (λ duty. duty ≡ verdict_duty (rooms_at self.old) moment verdict.entry answer) }
+            (λ duty. duty ≡ verdict_duty (rooms_at self.old) moment verdict.entry settlement) }
         ensures err { OnErr result (self.new ≡ self.old) }
     {
         let message = Message::copy_of(self.alloc, bytes)?;
-        let duty = duty_of(&self.index, moment, &verdict, answer);
-        let outcome = outcome_of(verdict, answer);
-        let sent = answer_message(
+        let duty = duty_of(&self.index, moment, &verdict, settlement);
+        let outcome = outcome_of(verdict, settlement);
+        let sent = output_message(
             self.alloc,
             &self.date,
             &self.row,
             &self.sent,
             moment,
-            &outcome.answer,
+            &outcome.output,
         )?;
         self.events.reserve(1)?;
         self.sent.reserve(1)?;
         take_note(&mut self.index, outcome.note)?;
-        self.events.push(DealerEvent::Own {
+        self.events.push(DealerEvent::Received {
             moment,
             message,
-            answer,
+            settlement,
         })?;
         push_some(&mut self.sent, sent)?;
         Ok(duty)
@@ -240,38 +241,38 @@ impl DealerDesk {
         Some(own.quote.number)
     }
 
-    /// Drops the next of the quotes up to `last`, with the answer of its word, for a cancel of all
-    /// quotes that came at this moment. It gives what is left to be done in the room of that quote,
-    /// and the same drop once more where another quote is left. After an error the desk is as
-    /// before.
+    /// Drops the next of the quotes up to `last`, with the settlement of its word, for a cancel of
+    /// all quotes that came at this moment. It gives what is left to be done in the room of that
+    /// quote, and the same drop once more where another quote is left. After an error the desk is
+    /// as before.
     pub fn drop_one(
         &mut self,
         last: u32,
         moment: Moment,
-        answer: Option<Settled>,
+        settlement: Option<Settled>,
     ) -> Result<(Option<Duty>, Option<Duty>), Memory>
-        requires { is_some answer ≡ is_some (number_to_drop (book_at self.old) last) }
+        requires { is_some settlement ≡ is_some (number_to_drop (book_at self.old) last) }
         ensures ok { OnOk result
-            (self.new ≡ with_event self.old (DealerEvent.Drop last moment answer)) }
+            (self.new ≡ with_event self.old (DealerEvent.Drop last moment settlement)) }
         ensures unpost { IfOk result (λ duties. duties.0
-            ≡ spec.unpost_dropped (rooms_at self.old) moment answer
+            ≡ spec.unpost_dropped (rooms_at self.old) moment settlement
             (quote_to_drop (book_at self.old) last)) }
         ensures further { IfOk result
             (λ duties. duties.1 ≡ spec.further_drop (book_at self.new) last moment) }
         ensures err { OnErr result (self.new ≡ self.old) }
     {
-        let answered = drop_answer(&self.index, last, answer);
-        let unpost = unpost_of(&self.index, last, moment, answer);
-        let sent = answer_message(
-            self.alloc, &self.date, &self.row, &self.sent, moment, &answered,
+        let output = drop_message(&self.index, last, settlement);
+        let unpost = unpost_of(&self.index, last, moment, settlement);
+        let sent = output_message(
+            self.alloc, &self.date, &self.row, &self.sent, moment, &output,
         )?;
         self.events.reserve(1)?;
         self.sent.reserve(1)?;
-        note_drop(&mut self.index, last, answer);
+        note_drop(&mut self.index, last, settlement);
         self.events.push(DealerEvent::Drop {
             last,
             moment,
-            answer,
+            settlement,
         })?;
         push_some(&mut self.sent, sent)?;
         let further = further_drop(&self.index, last, moment);

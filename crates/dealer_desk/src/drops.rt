@@ -15,17 +15,18 @@ use quote_messages::OutMessage;
 use quote_word::Settled;
 
 /// What the dealer is told of the quote that a drop takes, where it takes one.
-pub(crate) fn drop_answer(
+pub(crate) fn drop_message(
     index: &DealerIndex,
     last: u32,
-    answer: Option<Settled>,
+    settlement: Option<Settled>,
 ) -> Option<OutMessage<'_>>
-    ensures { result ≡ option_map (spec.drop_message answer) (quote_to_drop index.now.book last) }
+    ensures { result ≡ option_map (spec.drop_message settlement)
+        (quote_to_drop index.now.book last) }
 {
     let own = index.quote_to_drop(last)?;
-    Some(OutMessage::CancelAnswer {
+    Some(OutMessage::CancelReport {
         id: Some(own.quote.id.as_id()),
-        status: cancel_status(answer),
+        status: cancel_status(settlement),
     })
 }
 
@@ -34,13 +35,14 @@ pub(crate) fn unpost_of(
     index: &DealerIndex,
     last: u32,
     moment: Moment,
-    answer: Option<Settled>,
+    settlement: Option<Settled>,
 ) -> Option<Duty>
     ensures { result
-        ≡ spec.unpost_dropped index.now.rooms moment answer (quote_to_drop index.now.book last) }
+        ≡ spec.unpost_dropped index.now.rooms moment settlement
+        (quote_to_drop index.now.book last) }
 {
     let own = index.quote_to_drop(last)?;
-    let so = is_withdrawn(answer);
+    let so = is_withdrawn(settlement);
     unpost_where(so, index, own.quote.number, own.quote.request, moment)
 }
 
@@ -54,16 +56,16 @@ pub(crate) fn further_drop(index: &DealerIndex, last: u32, moment: Moment) -> Op
     Some(Duty::Drop { last, moment })
 }
 
-/// Notes the answer of the word of the quote that a drop takes, where it takes one.
-pub(crate) fn note_drop(index: &mut DealerIndex, last: u32, answer: Option<Settled>)
+/// Notes the settlement of the word of the quote that a drop takes, where it takes one.
+pub(crate) fn note_drop(index: &mut DealerIndex, last: u32, settlement: Option<Settled>)
     requires { IsSound index.old.book.requests index.old.book.quotes }
     ensures { index.new ≡ with_facts index.old
-        (spec.settled_facts (number_to_drop index.old.book last) by.Cancel answer) }
+        (spec.settled_facts (number_to_drop index.old.book last) by.Cancel settlement) }
 {
     let Some(quote) = number_to_drop(index, last) else {
         return;
     };
-    match answer {
+    match settlement {
         Some(Settled::Withdrawn) => index.cancel(quote),
         Some(Settled::Lifted) => index.find_lifted(quote),
         None => {}

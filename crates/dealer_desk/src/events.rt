@@ -9,13 +9,13 @@ use quote_word::Settled;
 #[derive(Drop)]
 pub enum DealerEvent {
     /// A message of the dealer's own.
-    Own {
+    Received {
         /// The moment at which it came.
         moment: Moment,
         /// Its bytes, whatever they are.
         message: Message,
         /// What the word that it asked is from then on, where it asked one.
-        answer: Option<Settled>,
+        settlement: Option<Settled>,
     },
     /// A request is shown to the dealer.
     Shown {
@@ -43,6 +43,6 @@ pub enum DealerEvent {
         /// The moment of the cancel.
         moment: Moment,
         /// What the word that it asked is from then on, where it asked one.
-        answer: Option<Settled>,
+        settlement: Option<Settled>,
     },
 }

@@ -10,7 +10,7 @@ ghost use Rattle.dealer_desk.specs.DealerFacts.{finds_lifted, is_live_on, is_wit
 ghost use Rattle.dealer_desk.specs.DealerFacts.{number_to_drop, quote_to_drop, quotes_accepted};
 ghost use Rattle.dealer_desk.specs.DealerRules.{dealer_verdict};
 ghost use Rattle.dealer_desk.specs.DealerOutput.{DeskEvents, desk_after, event_facts};
-ghost use Rattle.dealer_desk.specs.DealerOutput.{answered_words, asked_by, word_asked, facts_at};
+ghost use Rattle.dealer_desk.specs.DealerOutput.{settled_words, asked_by, word_asked, facts_at};
 ghost use Rattle.dealer_desk.specs.DealerOutput.{book_at, rooms_at, verdict_at, room_of};
 ghost use Rattle.dealer_desk.specs.DealerOutput.{verdict_duty, unpost_dropped};
 ghost use Rattle.dealer_desk.specs.DeskLaws.{IsOfDay, request_meant, says_lifted, says_withdrawn};
@@ -26,36 +26,36 @@ pub fn facts_after_one_event_more()
         ++ event_facts date row (book_of (desk_after date row events).facts) more }
 {}
 
-/// The words that were asked stand in the facts, each with its answer: one event more adds the word
-/// that it asks, if it asks one, and changes none of those before it.
+/// The words that were asked stand in the facts, each with its settlement: one event more adds the
+/// word that it asks, if it asks one, and changes none of those before it.
 pub fn words_are_asked_event_by_event()
     ensures { (date : List ℕ) (row : DealerRow) (events : List DealerEvent) (more : DealerEvent)
-        → answered_words (desk_after date row (events ++ more ∷ [])).facts
-        ≡ answered_words (desk_after date row events).facts
+        → settled_words (desk_after date row (events ++ more ∷ [])).facts
+        ≡ settled_words (desk_after date row events).facts
         ++ asked_by date row (book_of (desk_after date row events).facts) more }
 {}
 
-/// A quote is late or withdrawn in the facts exactly where its word was asked and answered so.
-pub fn facts_say_how_words_were_answered()
+/// A quote is late or withdrawn in the facts exactly where its word was asked and settled so.
+pub fn facts_say_how_words_were_settled()
     ensures late { (facts : List DealerFact) (quote : ℕ)
         → list_any (finds_lifted quote) facts
-        ≡ list_any (says_lifted quote) (answered_words facts) }
+        ≡ list_any (says_lifted quote) (settled_words facts) }
     ensures withdrawn { (facts : List DealerFact) (quote : ℕ)
         → list_any (withdraws quote) facts
-        ≡ list_any (says_withdrawn quote) (answered_words facts) }
+        ≡ list_any (says_withdrawn quote) (settled_words facts) }
 {}
 
-/// An answer that comes where no word is asked changes no fact.
-pub fn an_answer_unasked_changes_nothing()
+/// A settlement that comes where no word is asked changes no fact.
+pub fn a_settlement_unasked_changes_nothing()
     ensures own { (date : List ℕ) (row : DealerRow) (book : DealerBook)
-        (moment : ℕ) (bytes : List ℕ) (answer : Option Settled)
+        (moment : ℕ) (bytes : List ℕ) (settlement : Option Settled)
         → word_asked (dealer_verdict date row book moment bytes) ≡ None
-        → event_facts date row book (event.Own moment bytes answer)
-        ≡ event_facts date row book (event.Own moment bytes None) }
+        → event_facts date row book (event.Received moment bytes settlement)
+        ≡ event_facts date row book (event.Received moment bytes None) }
     ensures drop { (date : List ℕ) (row : DealerRow) (book : DealerBook)
-        (last : ℕ) (moment : ℕ) (answer : Option Settled)
+        (last : ℕ) (moment : ℕ) (settlement : Option Settled)
         → number_to_drop book last ≡ None
-        → event_facts date row book (event.Drop last moment answer)
+        → event_facts date row book (event.Drop last moment settlement)
         ≡ event_facts date row book (event.Drop last moment None) }
 {}
 
@@ -75,23 +75,24 @@ pub fn limits_are_kept()
 /// dealer's row, and the request of an accepted quote, cancel or decline and of a dropped quote has
 /// a room: so the duty is there.
 pub fn what_is_left_is_of_the_day()
-    ensures message { (desk : DeskEvents) (moment : ℕ) (bytes : List ℕ) (answer : Option Settled)
-        → IfSome (verdict_duty (rooms_at desk) moment (verdict_at desk moment bytes) answer)
+    ensures message { (desk : DeskEvents) (moment : ℕ) (bytes : List ℕ)
+        (settlement : Option Settled)
+        → IfSome (verdict_duty (rooms_at desk) moment (verdict_at desk moment bytes) settlement)
         (IsOfDay desk.row) }
     ensures room { (desk : DeskEvents) (moment : ℕ) (bytes : List ℕ)
         → IfSome (request_meant (verdict_at desk moment bytes))
         (λ request. is_some (room_of (rooms_at desk) request) ≡ true) }
-    ensures drop { (desk : DeskEvents) (last : ℕ) (moment : ℕ) (answer : Option Settled)
+    ensures drop { (desk : DeskEvents) (last : ℕ) (moment : ℕ) (settlement : Option Settled)
         → IfSome
-        (unpost_dropped (rooms_at desk) moment answer (quote_to_drop (book_at desk) last))
+        (unpost_dropped (rooms_at desk) moment settlement (quote_to_drop (book_at desk) last))
         (IsOfDay desk.row) }
     ensures drop_room { (desk : DeskEvents) (last : ℕ)
         → IfSome (quote_to_drop (book_at desk) last)
         (λ own. is_some (room_of (rooms_at desk) own.quote.request) ≡ true) }
 {}
 
-/// A word that is asked, by a message or a drop, is that of a quote of the day: from 1 to the quotes of
-/// the dealer's row.
+/// A word that is asked, by a message or a drop, is that of a quote of the day: from 1 to the
+/// quotes of the dealer's row.
 pub fn what_is_asked_is_of_the_day()
     ensures message { (desk : DeskEvents) (moment : ℕ) (bytes : List ℕ)
         → IfSome (word_asked (verdict_at desk moment bytes))
@@ -101,15 +102,15 @@ pub fn what_is_asked_is_of_the_day()
         (λ quote. (1 ≤ quote) × (quote ≤ desk.row.quotes)) }
 {}
 
-/// Each quote stands as its word was answered: it is withdrawn exactly where its word was asked and
+/// Each quote stands as its word was settled: it is withdrawn exactly where its word was asked and
 /// is withdrawn, and it is known to be lifted exactly where its word was asked and found lifted.
-pub fn quotes_stand_as_their_words_were_answered()
+pub fn quotes_stand_as_their_words_were_settled()
     ensures withdrawn { (desk : DeskEvents)
         → All (λ own. is_withdrawal own.end
-        ≡ list_any (says_withdrawn own.quote.number) (answered_words (facts_at desk)))
+        ≡ list_any (says_withdrawn own.quote.number) (settled_words (facts_at desk)))
         (book_at desk).quotes }
     ensures lifted { (desk : DeskEvents)
         → All (λ own. own.is_known_lifted
-        ≡ list_any (says_lifted own.quote.number) (answered_words (facts_at desk)))
+        ≡ list_any (says_lifted own.quote.number) (settled_words (facts_at desk)))
         (book_at desk).quotes }
 {}

@@ -16,13 +16,13 @@
 //! // A message of the dealer's own, as it came. It is judged once; where it would replace or
 //! // cancel a quote, that quote's word is asked.
 //! let verdict = desk.judge(ten_past_nine, bytes);
-//! let answer = match verdict.word_asked() {
+//! let settlement = match verdict.word_asked() {
 //!     Some(quote) => Some(words.withdraw(first_word + quote - 1)),
 //!     None => None,
 //! };
 //! // What is left to be done: a post, an unpost or a decline in the room of the request, the first
 //! // drop of a cancel of all quotes, or nothing.
-//! let duty = desk.take_judged(ten_past_nine, bytes, verdict, answer)?;
+//! let duty = desk.receive_judged(ten_past_nine, bytes, verdict, settlement)?;
 //! // The request ended.
 //! let told = desk.tell(room, Close::Hit, half_past_nine)?;
 //! for message in desk.sent() {
@@ -77,8 +77,8 @@ pub use accepted::AcceptedQuote;
 pub use desks::DealerDesk;
 pub use events::DealerEvent;
 pub use laws::{
-    an_answer_unasked_changes_nothing, facts_after_one_event_more,
-    facts_say_how_words_were_answered, limits_are_kept, quotes_stand_as_their_words_were_answered,
+    a_settlement_unasked_changes_nothing, facts_after_one_event_more,
+    facts_say_how_words_were_settled, limits_are_kept, quotes_stand_as_their_words_were_settled,
     what_is_asked_is_of_the_day, what_is_left_is_of_the_day, words_are_asked_event_by_event,
 };
 pub use standing::{QuoteEnd, StandingQuote, StandingRequest, Withdrawal};

@@ -1,4 +1,4 @@
-//! What a verdict leads to, once the word that it asks has answered.
+//! What a verdict leads to, once the word that it asks is settled.
 
 use crate::AcceptedQuote;
 use quote_messages::OutMessage;
@@ -10,7 +10,7 @@ pub(crate) struct Outcome<'a> {
     /// What the index notes.
     pub(crate) note: Note,
     /// The message that answers.
-    pub(crate) answer: Option<OutMessage<'a>>,
+    pub(crate) output: Option<OutMessage<'a>>,
 }
 
 /// What an index notes of a message.

@@ -252,7 +252,7 @@ fn lone_price(
 fn refused(quote: Quote<'_>, reason: QuoteRejectReason) -> DealerVerdict<'_>
     ensures { result ≡ spec.quote_refused quote.entry reason }
 {
-    DealerVerdict::Refused(OutMessage::QuoteAnswer {
+    DealerVerdict::Refused(OutMessage::QuoteReport {
         request: quote.request,
         id: quote.id,
         refusal: Some(reason),

@@ -81,19 +81,19 @@ pub(crate) fn next_message(
     Ok(bytes)
 }
 
-/// The same of an answer, where there is one.
-pub(crate) fn answer_message(
+/// The same of what is sent, where there is one.
+pub(crate) fn output_message(
     alloc: Global,
     date: &Date,
     row: &DealerRow,
     sent: &[SentMessage],
     moment: Moment,
-    answer: &Option<OutMessage>,
+    output: &Option<OutMessage>,
 ) -> Result<Option<SentMessage>, Memory>
-    ensures { IfOk result (λ bytes. spec.sent_with date.now row.now sent.now moment answer.now
+    ensures { IfOk result (λ bytes. spec.sent_with date.now row.now sent.now moment output.now
         ≡ sent.now ++ option_to_list bytes) }
 {
-    let Some(message) = answer else {
+    let Some(message) = output else {
         return Ok(None);
     };
     let bytes = next_message(alloc, date, row, sent, moment, message)?;

@@ -17,7 +17,7 @@ pub enum DealerVerdict<'a> {
     OutOfSequence(Reject<'a>),
     /// The message used up its number and met a session fault.
     Rejected(Reject<'a>),
-    /// The market refuses the message, by this answer: that of the first check that it does not
+    /// The market refuses the message, by this report: that of the first check that it does not
     /// pass.
     Refused(OutMessage<'a>),
     /// A quote is accepted, unless it would replace one that was lifted.

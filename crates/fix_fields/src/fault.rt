@@ -1,7 +1,7 @@
 //! What is wrong with bytes that are no frame, and with texts that are no moment.
 ghost use Rattle.std.specs.Prelude.{◌≡◌};
 
-use std::alloc::AllocError;
+use crate::Memory;
 use thiserror::Error;
 
 /// Why bytes are no frame: the first of these checks, in this order, that they do not pass.
@@ -53,12 +53,12 @@ pub enum StreamFault {
     Memory,
 }
 
-impl From<AllocError> for StreamFault {
+impl From<Memory> for StreamFault {
     ghost use Rattle.fix_fields.specs.declared.fault.StreamFault.TheVariants.{Memory};
 
     ghost from_gives = { λ _ fault. fault ≡ Memory };
 
-    fn from(_error: AllocError) -> StreamFault {
+    fn from(_error: Memory) -> StreamFault {
         StreamFault::Memory
     }
 }

@@ -72,4 +72,4 @@ pub use streams::{Messages, Splitter};
 pub use writer::{FrameWriter, decimal_len, fits, is_tag, is_value};
 
 /// An allocation that was refused.
-pub type Memory = std::alloc::AllocError;
+pub use std::alloc::AllocError as Memory;

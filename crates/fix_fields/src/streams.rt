@@ -10,7 +10,7 @@ use crate::Memory;
 use crate::fault::StreamFault;
 use crate::fronts::{Found, front_of};
 use crate::limits::MOST_FRAME;
-use std::alloc::{AllocError, Global};
+use std::alloc::Global;
 use std::marker::Model;
 
 /// Messages that were cut out of a stream, first to last. A contract sees the list of their bytes.
@@ -169,7 +169,7 @@ fn put_messages(kept: &mut Vec<u8>, old: usize, len: usize, behind: &[u8]) -> Re
     let alloc = *kept.allocator();
     let Ok(cut) = cut_messages(alloc, &kept[..len], behind) else {
         kept.truncate(old);
-        return Err(AllocError);
+        return Err(Memory);
     };
     kept.clear();
     kept.extend_from_slice(cut.rest)?;

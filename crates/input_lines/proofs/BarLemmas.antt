@@ -14,8 +14,8 @@ use Rattle.input_lines.specs.BarLaws.{barred_value}
 use Rattle.input_lines.specs.SayLine.{is_plain_value, with_bar}
 use Rattle.input_lines.proofs.TagLemmas.{value_is_plain}
 
-pub barred_plain : (word : List ℕ) → is_plain_value word ≡ true → map with_bar word ≡ word
-barred_plain word plain = barred_value word (value_is_plain word plain)
+pub barred_plain : (part : List ℕ) → is_plain_value part ≡ true → map with_bar part ≡ part
+barred_plain part plain = barred_value part (value_is_plain part plain)
 
 -- bytes of which those in front of a place have their bars already
 pub record IsBarred (was : List ℕ) (i : ℕ) (now : List ℕ) : Type 0 where

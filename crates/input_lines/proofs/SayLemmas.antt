@@ -4,7 +4,7 @@ use Rattle.std.proofs.Common.{Some, None, Ok, Err, if◌then◌else◌}
 use Rattle.venue_rows.specs.Rows.{ConfigValues}
 use Rattle.step_replay.specs.declared.steps.Step.TheVariants as step
 use Rattle.input_lines.specs.Lines.{first_part, behind_part}
-use Rattle.input_lines.specs.SayLine.{Said, has_tag, said_of, said_message, with_bar}
+use Rattle.input_lines.specs.SayLine.{SayLine, has_tag, said_of, said_message, with_bar}
 use Rattle.input_lines.specs.StepLines.{said_step, firm_named, Heard, with_number, number_for}
 use Rattle.input_lines.specs.StepReading.{counted, read_as}
 use Rattle.input_lines.specs.declared.faults.ProgramFault.TheVariants.{Form, UnknownFirm}
@@ -17,7 +17,7 @@ said_counted : (heard : Heard) (firm moment : ℕ) (message : List ℕ) (is_numb
 said_counted heard firm moment message true = refl
 said_counted heard firm moment message false = refl
 
-module _ (config : ConfigValues) (heard : Heard) (k : ℕ) (text : List ℕ) (said : Said) where
+module _ (config : ConfigValues) (heard : Heard) (k : ℕ) (text : List ℕ) (said : SayLine) where
   -- what a `say` line spells, from what each step of its reading gave
   pub say_ok : (message : List ℕ) (firm : ℕ) (is_numbered : Bool) → (length (first_part text) == 0) ≡ false
       → Some said ≡ said_of config.date (behind_part text)

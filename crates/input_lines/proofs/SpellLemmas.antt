@@ -7,7 +7,7 @@ use Rattle.fix_fields.specs.UtcTimestamp.{timestamp_text}
 use Rattle.std.specs.Option.{option_map}
 use Rattle.step_replay.specs.declared.dues.Due.{Due}
 use Rattle.input_lines.specs.declared.faults.ProgramFault.{ProgramFault}
-use Rattle.input_lines.specs.SayLine.{fitting, with_field, Said, header_field, said_message}
+use Rattle.input_lines.specs.SayLine.{fitting, with_field, SayLine, header_field, said_message}
 use Rattle.input_lines.specs.OptionSteps as option
 use Rattle.input_lines.specs.ResultSteps as result
 use Rattle.std.proofs.lemmas.List.{length-append, append-nil}
@@ -133,7 +133,7 @@ pub push_none : (fields : List Field) (tag : ℕ) (value : List ℕ) → left_of
 push_none fields tag value long = push_long fields tag (length (decimal tag)) value refl (omega arith)
 
 -- the message of a line, from what each step of its writing gave
-pub said_message_is : (date firm : List ℕ) (number : ℕ) (said : Said) (f0 f1 f2 f3 f4 f5 f6 : Option (List Field)) (m : Option (List ℕ))
+pub said_message_is : (date firm : List ℕ) (number : ℕ) (said : SayLine) (f0 f1 f2 f3 f4 f5 f6 : Option (List Field)) (m : Option (List ℕ))
     (t v1 v2 v3 v4 v5 : List ℕ) (b1 b2 b3 b4 b5 b6 : List Field) → t ≡ said.msg_type → v1 ≡ firm → v2 ≡ codes "VENUE" → v3 ≡ decimal number
     → v4 ≡ timestamp_text date said.moment → v5 ≡ said.trader → b1 ≡ said.fields → b2 ≡ said.fields → b3 ≡ said.fields → b4 ≡ said.fields
     → b5 ≡ said.fields → b6 ≡ said.fields → f0 ≡ fitting ((35, t) ∷ []) → f1 ≡ fold with_field f0 (header_field b1 49 v1)

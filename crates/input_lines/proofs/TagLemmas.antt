@@ -40,8 +40,8 @@ character-apart c h = λ e. grind (arith, nat_tests)
 pub value_is_plain : (value : List ℕ) → is_plain_value value ≡ true → IsValue value
 value_is_plain value h = value_if_all (λ (c : ℕ). not (c == 1)) plain-apart value h
 
-pub part_is_value : (word : List ℕ) → is_plain_part word ≡ true → IsValue word
-part_is_value word h = value_if_all is_plain_character character-apart word (and_parts (not (length word == 0)) (list_all is_plain_character word) h).1
+pub part_is_value : (part : List ℕ) → is_plain_part part ≡ true → IsValue part
+part_is_value part h = value_if_all is_plain_character character-apart part (and_parts (not (length part == 0)) (list_all is_plain_character part) h).1
 
 -- a vertical bar in the place of each SOH
 bar-apart : (c : ℕ) → with_bar c ≢ 1
@@ -50,6 +50,6 @@ bar-apart c = λ is. elim (cases_Bool (c == 1)) [
   | inr other ↦ (let same : c ≡ 1 = rw other at is in grind (arith, nat_tests))
 ]
 
-pub barred_is_value : (word : List ℕ) → IsValue (map with_bar word)
+pub barred_is_value : (part : List ℕ) → IsValue (map with_bar part)
 barred_is_value [] = tt
-barred_is_value (c ∷ word) = (bar-apart c, barred_is_value word)
+barred_is_value (c ∷ part) = (bar-apart c, barred_is_value part)

@@ -17,7 +17,7 @@ use Rattle.step_replay.specs.declared.dues.Due.TheVariants as due
 use Rattle.input_lines.specs.Lines.{parts_of, first_part, behind_part, has_part_behind}
 use Rattle.input_lines.specs.Lines.{side_of, time_of}
 use Rattle.input_lines.specs.OptionSteps.{◌>>=◌}
-use Rattle.input_lines.specs.SayLine.{Said, said_of, said_message, received_of, hexed_of}
+use Rattle.input_lines.specs.SayLine.{SayLine, said_of, said_message, received_of, hexed_of}
 use Rattle.input_lines.specs.SayLine.{has_tag}
 
 -- `date YYYYMMDD`
@@ -112,7 +112,7 @@ shown_of date text = do
 
 -- The MsgSeqNum (34) that is written into the next message whose BODY has none: 1 more than before
 -- where one was written into this.
-abbrev pub next_number : ℕ → Said → ℕ
+abbrev pub next_number : ℕ → SayLine → ℕ
 next_number number said = if has_tag said.fields 34 then number else number + 1
 
 -- behind `say`: TRADER TIME TYPE BODY, and the number of the next such line

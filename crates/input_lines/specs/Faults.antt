@@ -46,5 +46,5 @@ fault_line fault = fault_text fault ++ 10 ∷ []
 
 -- the line that tells a fault of a run, whose argument FIRM or DEALER is this word
 abbrev pub told_line : List ℕ → ProgramFault → List ℕ
-told_line word Firm = fault_line Firm ++ word ++ 10 ∷ []
-told_line word fault = fault_line fault
+told_line argument Firm = fault_line Firm ++ argument ++ 10 ∷ []
+told_line argument fault = fault_line fault

@@ -73,14 +73,14 @@ abbrev pub is_plain_part : List ℕ → Bool
 is_plain_part part = not (length part == 0) && list_all is_plain_character part
 
 -- what a `say` line says
-pub record Said : Type 0 where
+pub record SayLine : Type 0 where
   pub trader : List ℕ
   pub moment : ℕ
   pub msg_type : List ℕ
   pub fields : List Field
 
 -- TRADER TIME TYPE BODY, where each is of its form: BODY is the rest of the line and not empty
-unfoldable pub said_of : List ℕ → List ℕ → Option Said
+unfoldable pub said_of : List ℕ → List ℕ → Option SayLine
 said_of date text = do
   let trader = first_part text
   let behind_trader = behind_part text
@@ -89,7 +89,7 @@ said_of date text = do
   let body = behind_part behind_time
   moment ← time_of date (first_part behind_trader)
   fields ← said_fields body
-  let said : Said = record {
+  let said : SayLine = record {
     trader = trader;
     moment = moment;
     msg_type = msg_type;
@@ -108,7 +108,7 @@ header_field body tag value = if has_tag body tag then [] else (tag, value) ∷ 
 
 -- the fields behind MsgType (35): SenderCompID (49), TargetCompID (56), MsgSeqNum (34), SendingTime
 -- (52) and SenderSubID (50), each unless BODY has it, and then BODY
-abbrev pub fields_behind_type : List ℕ → List ℕ → ℕ → Said → List Field
+abbrev pub fields_behind_type : List ℕ → List ℕ → ℕ → SayLine → List Field
 fields_behind_type date firm number said =
     header_field said.fields 49 firm
     ++ header_field said.fields 56 (codes "VENUE")
@@ -129,7 +129,7 @@ with_field fields field = do
 
 -- the message that the firm sends: the frame of its type and of the fields behind it, where it is
 -- not too long
-abbrev pub said_message : List ℕ → List ℕ → ℕ → Said → Option (List ℕ)
+abbrev pub said_message : List ℕ → List ℕ → ℕ → SayLine → Option (List ℕ)
 said_message date firm number said =
     option_map frame_text (fitting ((35, said.msg_type) ∷ fields_behind_type date firm number said))
 

@@ -18,7 +18,8 @@ use Rattle.input_lines.specs.DueLines.{within}
 use Rattle.input_lines.specs.DueText.{Lines, at_line}
 use Rattle.input_lines.specs.Lines.{first_part, behind_part, time_of}
 use Rattle.input_lines.specs.ResultSteps.{◌>>=◌}
-use Rattle.input_lines.specs.SayLine.{Said, said_of, said_message, received_of, hexed_of, with_bar}
+use Rattle.input_lines.specs.SayLine.{SayLine, said_of, said_message, received_of, hexed_of}
+use Rattle.input_lines.specs.SayLine.{with_bar}
 use Rattle.input_lines.specs.SayLine.{has_tag}
 use Rattle.input_lines.specs.declared.faults.ProgramFault.{ProgramFault}
 use Rattle.input_lines.specs.declared.faults.ProgramFault.TheVariants.{Firm, Form, UnknownFirm}
@@ -91,7 +92,7 @@ with_number heard firm number = record {
 }
 
 -- what was heard with a `say` line of a firm: it is counted where its number was written for it
-abbrev pub with_said : Heard → ℕ → Said → Heard
+abbrev pub with_said : Heard → ℕ → SayLine → Heard
 with_said heard firm said =
     if has_tag said.fields 34 then heard
     else with_number heard firm (number_for heard (Some firm) + 1)
@@ -107,11 +108,11 @@ with_stream heard firm rest = record {
 
 -- FIRM and ACTOR are not empty
 abbrev pub is_filled : List ℕ → Bool
-is_filled word = not (length word == 0)
+is_filled part = not (length part == 0)
 
 -- the word at the front of the line with this number
-abbrev pub word_at : ℕ → List ℕ → Result (List ℕ) ProgramFault
-word_at k text = at_line k (text_if is_filled (first_part text))
+abbrev pub part_at : ℕ → List ℕ → Result (List ℕ) ProgramFault
+part_at k text = at_line k (text_if is_filled (first_part text))
 
 -- what a firm has, or that the line with this number names none
 abbrev pub of_known : {A : Type 0} → ℕ → Option A → Result A ProgramFault
@@ -120,16 +121,16 @@ of_known k (Some value) = Ok value
 
 -- the firm that a word names
 abbrev pub known_firm : ConfigValues → ℕ → List ℕ → Result ℕ ProgramFault
-known_firm config k word = of_known k (firm_named config word)
+known_firm config k part = of_known k (firm_named config part)
 
--- the actor that a word names: the clock or a firm
+-- the actor that a part names: the clock or a firm
 abbrev pub actor_named : ConfigValues → List ℕ → Option Actor
-actor_named config word =
-    if same_text word (codes "CLOCK") then Some actor.Clock
-    else option_map actor.Firm (firm_named config word)
+actor_named config part =
+    if same_text part (codes "CLOCK") then Some actor.Clock
+    else option_map actor.Firm (firm_named config part)
 
 abbrev pub known_actor : ConfigValues → ℕ → List ℕ → Result Actor ProgramFault
-known_actor config k word = of_known k (actor_named config word)
+known_actor config k part = of_known k (actor_named config part)
 
 -- the room of a firm's n-th request
 abbrev pub known_room : ConfigValues → ℕ → ℕ → ℕ → Result RoomRef ProgramFault
@@ -157,44 +158,44 @@ Read = Result (List Step × Heard) ProgramFault
 unfoldable pub said_step : ConfigValues → Heard → ℕ → List ℕ → Read
 said_step config heard k text = do
   let number = number_for heard (firm_named config (first_part text))
-  word ← word_at k text
+  part ← part_at k text
   said ← at_line k (said_of config.date (behind_part text))
-  message ← at_line k (said_message config.date (map with_bar word) number said)
-  firm ← known_firm config k word
+  message ← at_line k (said_message config.date (map with_bar part) number said)
+  firm ← known_firm config k part
   Ok (step.In firm said.moment message ∷ [], with_said heard firm said)
 
 -- `in FIRM TIME FRAME`: the bytes of FRAME
 unfoldable pub in_step : ConfigValues → Heard → ℕ → List ℕ → Read
 in_step config heard k text = do
-  word ← word_at k text
+  part ← part_at k text
   received ← at_line k (received_of config.date (behind_part text))
-  firm ← known_firm config k word
+  firm ← known_firm config k part
   Ok (step.In firm received.0 received.1 ∷ [], heard)
 
 -- `hex FIRM TIME HEX`: the bytes that the digits of HEX write
 unfoldable pub hex_step : ConfigValues → Heard → ℕ → List ℕ → Read
 hex_step config heard k text = do
-  word ← word_at k text
+  part ← part_at k text
   received ← at_line k (hexed_of config.date (behind_part text))
-  firm ← known_firm config k word
+  firm ← known_firm config k part
   Ok (step.In firm received.0 received.1 ∷ [], heard)
 
 -- `turn ACTOR N`: so many turns
 unfoldable pub turn_steps : ConfigValues → Heard → ℕ → List ℕ → Read
 turn_steps config heard k text = do
-  word ← word_at k text
+  part ← part_at k text
   turns ← at_line k (turns_of (behind_part text))
-  actor ← known_actor config k word
+  actor ← known_actor config k part
   Ok (replicate turns (step.Turn actor), heard)
 
 -- `expire FIRM N TIME`: a sweep of the room of the firm's N-th request
 unfoldable pub expire_step : ConfigValues → Heard → ℕ → List ℕ → Read
 expire_step config heard k text = do
   let behind_firm = behind_part text
-  word ← word_at k text
+  part ← part_at k text
   n ← at_line k (number_of (first_part behind_firm))
   moment ← at_line k (time_of config.date (behind_part behind_firm))
-  firm ← known_firm config k word
+  firm ← known_firm config k part
   room ← known_room config k firm n
   Ok (step.Expire room moment ∷ [], heard)
 
@@ -224,9 +225,9 @@ cut_for heard k firm piece = do
 -- `piece FIRM TIME BYTES`: the messages that end in these bytes of the firm's stream
 unfoldable pub piece_steps : ConfigValues → Heard → ℕ → List ℕ → Read
 piece_steps config heard k text = do
-  word ← word_at k text
+  part ← part_at k text
   received ← at_line k (received_of config.date (behind_part text))
-  firm ← known_firm config k word
+  firm ← known_firm config k part
   cut ← cut_for heard k firm received.1
   Ok (in_steps firm received.0 cut.0, cut.1)
 

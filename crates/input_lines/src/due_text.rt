@@ -8,9 +8,9 @@ ghost use Rattle.input_lines.specs.Lines as lines;
 use crate::dealer_line::{read_date, read_dealer_row};
 use crate::due_items::read_by_keyword;
 use crate::faults::ProgramFault;
-use crate::lines::{MOST_INPUT, SpokenLines, has_divider, one_past};
+use crate::lines::{MOST_INPUT, NumberedLines, has_divider, one_past};
 use crate::parts::{cut_part, same_text};
-use crate::say_lines::Said;
+use crate::say_lines::SayLine;
 use fix_fields::{Date, Memory};
 use std::alloc::Global;
 use step_replay::Due;
@@ -40,7 +40,7 @@ pub fn read_due_text(alloc: Global, input: &[u8]) -> Result<DueText, ProgramFaul
     if has_divider(input) {
         return Err(ProgramFault::Parts);
     }
-    let mut lines = SpokenLines::new(input);
+    let mut lines = NumberedLines::new(input);
     let Some((line, text)) = lines.next() else {
         return Err(missing(input));
     };
@@ -72,7 +72,7 @@ fn read_dues(
     alloc: Global,
     date: &Date,
     firm: &Name,
-    lines: SpokenLines<'_>,
+    lines: NumberedLines<'_>,
 ) -> Result<Vec<Due>, ProgramFault>
     ensures ok { IfOk result (λ dues.
         spec.dues_from date.now firm.now 1 lines.entry ≡ Ok dues.items) }
@@ -126,7 +126,7 @@ fn read_said(
     ensures due { IfOk result (λ due. due ≡ said_due date.now firm.now number text.now) }
     ensures next { IfOk result (λ due. IfSome due (λ due. due.1 ≤ number + 1)) }
 {
-    let Some(said) = Said::read(alloc, date, text)? else {
+    let Some(said) = SayLine::read(alloc, date, text)? else {
         return Ok(None);
     };
     let Some(message) = said.message(alloc, date, firm, number)? else {

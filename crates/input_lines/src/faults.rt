@@ -4,8 +4,9 @@ ghost use Rattle.input_lines.specs.Faults as spec;
 ghost use Rattle.input_lines.specs.declared.faults.ProgramFault.TheVariants.{Memory};
 
 use arrayvec::ArrayString;
+use fix_fields::Memory;
 use itoa::Buffer;
-use std::alloc::{AllocError, AllocFailed};
+use std::alloc::AllocFailed;
 use std::fmt;
 use venue_config::ConfigFault;
 
@@ -132,10 +133,10 @@ impl fmt::Display for ProgramFault {
     }
 }
 
-impl From<AllocError> for ProgramFault {
+impl From<Memory> for ProgramFault {
     ghost from_gives = { λ _ fault. fault ≡ Memory };
 
-    fn from(_error: AllocError) -> ProgramFault {
+    fn from(_error: Memory) -> ProgramFault {
         ProgramFault::Memory
     }
 }

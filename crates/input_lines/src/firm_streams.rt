@@ -8,7 +8,7 @@ ghost use Rattle.input_lines.specs.StepReading.{messages_if, whole_cut, whole_me
 
 use crate::faults::ProgramFault;
 use fix_fields::{Memory, Messages, Splitter, StreamFault, envelopes_of_is_the_cutting};
-use std::alloc::{AllocError, Global};
+use std::alloc::Global;
 use std::marker::Model;
 
 /// The greatest number of a firm's next `say` line. So many lines ask for more memory than any
@@ -103,7 +103,7 @@ impl Heard {
             return Ok(());
         };
         if *number >= MOST_SAID {
-            return Err(AllocError);
+            return Err(Memory);
         }
         *number += 1;
         Ok(())
@@ -200,7 +200,7 @@ fn feed_once(stream: &mut Splitter, piece: &[u8]) -> Result<Option<Messages>, Me
         Err(fault) => fault,
     };
     if fault == StreamFault::Memory {
-        return Err(AllocError);
+        return Err(Memory);
     }
     Ok(None)
 }

@@ -8,7 +8,7 @@ use crate::parts::{cut_part, read_time};
 use fix_fields::{Date, Memory, Moment};
 use hex::{FromHexError, decode};
 use quote_messages::Message;
-use std::alloc::{AllocError, Global};
+use std::alloc::Global;
 
 /// What `TIME FRAME` spells, or none where it is not of its form: the moment, and the bytes of
 /// FRAME, which is the rest of the line and not empty, with SOH for each vertical bar. It fails for
@@ -82,7 +82,7 @@ fn with_bytes(alloc: Global, digits: &[u8]) -> Result<Option<Message>, Memory>
 {
     match decode(alloc, digits) {
         Ok(bytes) => Ok(Some(Message::new(bytes))),
-        Err(FromHexError::OutOfMemory) => Err(AllocError),
+        Err(FromHexError::OutOfMemory) => Err(Memory),
         Err(_) => Ok(None),
     }
 }

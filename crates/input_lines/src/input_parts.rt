@@ -6,7 +6,7 @@ ghost use Rattle.input_lines.specs.PartReading.{StandsApart};
 ghost use Rattle.input_lines.specs.VenueParts as spec;
 
 use crate::faults::ProgramFault;
-use crate::lines::{MOST_INPUT, SpokenLines, has_divider};
+use crate::lines::{MOST_INPUT, NumberedLines, has_divider};
 use crate::parts::{cut_at, same_text};
 use std::marker::Model;
 
@@ -93,10 +93,10 @@ impl<'a> InputPart<'a> {
     }
 
     /// Its lines that are not skipped.
-    pub(crate) fn spoken(self) -> SpokenLines<'a>
+    pub(crate) fn spoken(self) -> NumberedLines<'a>
         ensures { result ≡ spec.spoken_in self.entry }
     {
-        SpokenLines::numbered(self.text, self.first)
+        NumberedLines::numbered(self.text, self.first)
     }
 }
 
@@ -109,10 +109,10 @@ impl<'a> ClosedPart<'a> {
     }
 
     /// Its lines that are not skipped.
-    pub(crate) fn spoken(self) -> SpokenLines<'a>
+    pub(crate) fn spoken(self) -> NumberedLines<'a>
         ensures { result ≡ spec.spoken_in self.entry }
     {
-        SpokenLines::numbered(self.text, self.first)
+        NumberedLines::numbered(self.text, self.first)
     }
 }
 

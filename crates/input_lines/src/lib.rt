@@ -28,8 +28,8 @@
 //! - [`read_line`] reads one line of steps, behind what was [`Heard`] of the lines before it;
 //!   [`count_line`] and [`push_steps`], both of them [`push_spelled`], put what it spells behind
 //!   those.
-//! - [`Said`] and [`read_received`] read what a firm sends as lines of steps and of due text
-//!   share it, [`SpokenLines`], [`Parts`], [`read_time`] and [`read_side`] what is in a line;
+//! - [`SayLine`] and [`read_received`] read what a firm sends as lines of steps and of due text
+//!   share it, [`NumberedLines`], [`Parts`], [`read_time`] and [`read_side`] what is in a line;
 //!   [`push_barred`] writes a message with a bar for each SOH, as such a line has it.
 //! - [`fault_line`] is the whole line of every fault.
 //!
@@ -61,10 +61,10 @@ pub use fields::{Field, read_fields};
 pub use firm_streams::Heard;
 pub use frame_lines::read_received;
 pub use line_steps::{Spelled, count_line, push_spelled, push_steps};
-pub use lines::{MOST_INPUT, Parts, SpokenLines, has_divider, is_skipped, one_past};
+pub use lines::{MOST_INPUT, NumberedLines, Parts, has_divider, is_skipped, one_past};
 pub use parts::{cut_part, read_side, read_time, same_text};
 pub use say_frames::LONGEST_BODY;
-pub use say_lines::Said;
+pub use say_lines::SayLine;
 pub use step_lines::{MOST_TURNS, read_line};
 pub use step_text::read_steps;
 pub use venue_parts::{

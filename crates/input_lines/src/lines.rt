@@ -54,12 +54,12 @@ impl<'a> Iterator for Parts<'a> {
 
 /// The lines of a text that are not skipped, each with its number.
 #[derive(Drop)]
-pub struct SpokenLines<'a> {
+pub struct NumberedLines<'a> {
     rest: &'a [u8],
     number: usize,
 }
 
-impl<'a> Model for SpokenLines<'a> {
+impl<'a> Model for NumberedLines<'a> {
     ghost use Rattle.std.specs.Prelude.{ℕ, List, ◌+◌, ◌≤◌, ◌<◌, length};
     ghost use Rattle.input_lines.specs.Lines.{spoken_from, parts_of};
     ghost use Rattle.input_lines.specs.declared.lines.TheConstants.{MOST_INPUT};
@@ -71,13 +71,13 @@ impl<'a> Model for SpokenLines<'a> {
     ghost invariant = { λ lines. lines.number + length lines.rest.now ≤ MOST_INPUT + 1 };
 }
 
-impl<'a> SpokenLines<'a> {
+impl<'a> NumberedLines<'a> {
     /// The lines of a text that are not skipped.
     pub fn new(text: &'a [u8]) -> Self
         requires { length text.now ≤ MOST_INPUT }
         ensures { result ≡ spec.spoken_lines text.entry.now }
     {
-        SpokenLines::numbered(text, 1)
+        NumberedLines::numbered(text, 1)
     }
 
     /// The same of a text whose first line has this number.
@@ -85,11 +85,11 @@ impl<'a> SpokenLines<'a> {
         requires { number + length text.now ≤ MOST_INPUT + 1 }
         ensures { result ≡ spec.spoken_from number (spec.lines_of text.entry.now) }
     {
-        SpokenLines { rest: text, number }
+        NumberedLines { rest: text, number }
     }
 }
 
-impl<'a> Iterator for SpokenLines<'a> {
+impl<'a> Iterator for NumberedLines<'a> {
     ghost use Rattle.std.specs.Iterator.{YieldsFirstBy, item_count};
 
     type Item = (usize, &'a [u8]);

@@ -18,18 +18,18 @@ use venue_rows::Name;
 
 /// What a `say` line says: TRADER, TIME, TYPE, and the fields of BODY.
 #[derive(Drop)]
-pub struct Said<'a> {
+pub struct SayLine<'a> {
     trader: &'a [u8],
     moment: Moment,
     msg_type: &'a [u8],
     fields: Vec<Field<'a>>,
 }
 
-impl<'a> Model for Said<'a> {
+impl<'a> Model for SayLine<'a> {
     ghost use Rattle.std.specs.Prelude.{IsTrue};
-    ghost use Rattle.input_lines.specs.SayLine.{Said, is_plain_part};
+    ghost use Rattle.input_lines.specs.SayLine.{SayLine, is_plain_part};
 
-    ghost Value = { Said };
+    ghost Value = { SayLine };
 
     ghost view = { λ said. record {
       trader = said.trader.now;
@@ -42,7 +42,7 @@ impl<'a> Model for Said<'a> {
         × IsTrue (is_plain_part said.msg_type.now) };
 }
 
-impl<'a> Said<'a> {
+impl<'a> SayLine<'a> {
     /// What `TRADER TIME TYPE BODY` spells, or none where it is not of its form. It fails for
     /// memory alone.
     #[tactic(auto, unfolding(crate::specs::SayLine::said_of))]
@@ -61,7 +61,7 @@ impl<'a> Said<'a> {
         if !is_plain_part(trader) || !is_plain_part(msg_type) || body.is_empty() {
             return Ok(None);
         }
-        Ok(Some(Said {
+        Ok(Some(SayLine {
             trader,
             moment,
             msg_type,
@@ -100,25 +100,25 @@ impl<'a> Said<'a> {
         Ok(message)
     }
 
-    /// The message as a firm with this word as its name would send it, with a vertical bar for each
-    /// SOH in the word. A word without one is not copied.
+    /// The message as a firm with this part as its name would send it, with a vertical bar for each
+    /// SOH in the part. A word without one is not copied.
     #[tactic(auto, using(crate::proofs::BarLemmas::barred_plain, crate::proofs::TagLemmas::value_is_plain))]
     pub(crate) fn message_by(
         &self,
         alloc: Global,
         date: &Date,
-        word: &[u8],
+        part: &[u8],
         number: u64,
     ) -> Result<Option<Message>, Memory>
         ensures { IfOk result (λ message.
-            message ≡ spec.said_message date.now (map with_bar word.now) number self.now) }
+            message ≡ spec.said_message date.now (map with_bar part.now) number self.now) }
     {
-        if is_plain_value(word) {
-            let message = self.framed(alloc, date, word, number)?;
+        if is_plain_value(part) {
+            let message = self.framed(alloc, date, part, number)?;
             return Ok(message);
         }
-        let word = with_bars(alloc, word)?;
-        let message = self.framed(alloc, date, word.as_slice(), number)?;
+        let part = with_bars(alloc, part)?;
+        let message = self.framed(alloc, date, part.as_slice(), number)?;
         Ok(message)
     }
 
@@ -150,14 +150,14 @@ impl<'a> Said<'a> {
     }
 }
 
-/// A word with a vertical bar for each SOH, so that it can be a value of a field.
+/// A part with a vertical bar for each SOH, so that it can be a value of a field.
 #[tactic(auto, using(crate::proofs::TagLemmas::barred_is_value))]
-fn with_bars(alloc: Global, word: &[u8]) -> Result<Vec<u8>, Memory>
-    ensures barred { IfOk result (λ text. text.items ≡ map with_bar word.now) }
+fn with_bars(alloc: Global, part: &[u8]) -> Result<Vec<u8>, Memory>
+    ensures barred { IfOk result (λ text. text.items ≡ map with_bar part.now) }
     ensures value { IfOk result (λ text. IsValue text.items) }
 {
-    let mut text = Vec::with_capacity(alloc, word.len())?;
-    push_barred(&mut text, word)?;
+    let mut text = Vec::with_capacity(alloc, part.len())?;
+    push_barred(&mut text, part)?;
     Ok(text)
 }
 

@@ -10,7 +10,7 @@ use crate::firm_streams::Heard;
 use crate::frame_lines::{read_hexed, read_received};
 use crate::line_steps::Spelled;
 use crate::parts::{cut_part, read_time, same_text};
-use crate::say_lines::Said;
+use crate::say_lines::SayLine;
 use crate::venue_parts::{firm_of, is_room};
 use quote_messages::{RoomRef, read_number};
 use std::alloc::Global;
@@ -80,16 +80,16 @@ fn read_say(
     ensures unwritten { IfErr result (λ fault. fault ≢ ProgramFault.Write) }
     ensures known { IfOk result (λ spelled. is_known config.now spelled ≡ true) }
 {
-    let (word, rest) = cut_part(text);
-    if word.is_empty() {
+    let (part, rest) = cut_part(text);
+    if part.is_empty() {
         return Err(ProgramFault::Form { line });
     }
-    let Some(said) = Said::read(alloc, config.date(), rest)? else {
+    let Some(said) = SayLine::read(alloc, config.date(), rest)? else {
         return Err(ProgramFault::Form { line });
     };
-    let firm = firm_of(config, word);
+    let firm = firm_of(config, part);
     let number = heard.number_for(firm);
-    let Some(message) = said.message_by(alloc, config.date(), word, number)? else {
+    let Some(message) = said.message_by(alloc, config.date(), part, number)? else {
         return Err(ProgramFault::Form { line });
     };
     let Some(firm) = firm else {
@@ -114,14 +114,14 @@ fn read_in(
     ensures unwritten { IfErr result (λ fault. fault ≢ ProgramFault.Write) }
     ensures known { IfOk result (λ spelled. is_known config.now spelled ≡ true) }
 {
-    let (word, rest) = cut_part(text);
-    if word.is_empty() {
+    let (part, rest) = cut_part(text);
+    if part.is_empty() {
         return Err(ProgramFault::Form { line });
     }
     let Some((moment, message)) = read_received(alloc, config.date(), rest)? else {
         return Err(ProgramFault::Form { line });
     };
-    let Some(firm) = firm_of(config, word) else {
+    let Some(firm) = firm_of(config, part) else {
         return Err(ProgramFault::UnknownFirm { line });
     };
     Ok(Spelled::Came(firm, moment, message))
@@ -142,14 +142,14 @@ fn read_hex(
     ensures unwritten { IfErr result (λ fault. fault ≢ ProgramFault.Write) }
     ensures known { IfOk result (λ spelled. is_known config.now spelled ≡ true) }
 {
-    let (word, rest) = cut_part(text);
-    if word.is_empty() {
+    let (part, rest) = cut_part(text);
+    if part.is_empty() {
         return Err(ProgramFault::Form { line });
     }
     let Some((moment, message)) = read_hexed(alloc, config.date(), rest)? else {
         return Err(ProgramFault::Form { line });
     };
-    let Some(firm) = firm_of(config, word) else {
+    let Some(firm) = firm_of(config, part) else {
         return Err(ProgramFault::UnknownFirm { line });
     };
     Ok(Spelled::Came(firm, moment, message))
@@ -165,14 +165,14 @@ fn read_turn(config: &VenueConfig, line: usize, text: &[u8]) -> Result<Spelled, 
     ensures unwritten { IfErr result (λ fault. fault ≢ ProgramFault.Write) }
     ensures known { IfOk result (λ spelled. is_known config.now spelled ≡ true) }
 {
-    let (word, count) = cut_part(text);
-    if word.is_empty() {
+    let (part, count) = cut_part(text);
+    if part.is_empty() {
         return Err(ProgramFault::Form { line });
     }
     let Some(count) = read_turns(count) else {
         return Err(ProgramFault::Form { line });
     };
-    let Some(actor) = read_actor(config, word) else {
+    let Some(actor) = read_actor(config, part) else {
         return Err(ProgramFault::UnknownFirm { line });
     };
     Ok(Spelled::Turns(actor, count))
@@ -189,15 +189,15 @@ fn read_turns(text: &[u8]) -> Option<u64>
     Some(count)
 }
 
-/// The actor that a word names: the clock or a firm.
-fn read_actor(config: &VenueConfig, word: &[u8]) -> Option<Actor>
-    ensures value { result ≡ spec.actor_named (values_of config.now) word.now }
+/// The actor that a part names: the clock or a firm.
+fn read_actor(config: &VenueConfig, part: &[u8]) -> Option<Actor>
+    ensures value { result ≡ spec.actor_named (values_of config.now) part.now }
     ensures known { IfSome result (λ actor. is_actor config.now actor ≡ true) }
 {
-    if same_text(word, b"CLOCK") {
+    if same_text(part, b"CLOCK") {
         return Some(Actor::Clock);
     }
-    let firm = firm_of(config, word)?;
+    let firm = firm_of(config, part)?;
     Some(Actor::Firm(firm))
 }
 
@@ -211,9 +211,9 @@ fn read_expire(config: &VenueConfig, line: usize, text: &[u8]) -> Result<Spelled
     ensures unwritten { IfErr result (λ fault. fault ≢ ProgramFault.Write) }
     ensures known { IfOk result (λ spelled. is_known config.now spelled ≡ true) }
 {
-    let (word, rest) = cut_part(text);
+    let (part, rest) = cut_part(text);
     let (number, time) = cut_part(rest);
-    if word.is_empty() {
+    if part.is_empty() {
         return Err(ProgramFault::Form { line });
     }
     let Some(n) = read_request(number) else {
@@ -222,7 +222,7 @@ fn read_expire(config: &VenueConfig, line: usize, text: &[u8]) -> Result<Spelled
     let Some(moment) = read_time(config.date(), time) else {
         return Err(ProgramFault::Form { line });
     };
-    let Some(investor) = firm_of(config, word) else {
+    let Some(investor) = firm_of(config, part) else {
         return Err(ProgramFault::UnknownFirm { line });
     };
     if !is_room(config, investor, n) {
@@ -274,14 +274,14 @@ fn read_piece(
     ensures unheard { OnErr result (heard.new ≡ heard.old) }
     ensures numbers { OnOk result (heard.new.numbers ≡ heard.old.numbers) }
 {
-    let (word, rest) = cut_part(text);
-    if word.is_empty() {
+    let (part, rest) = cut_part(text);
+    if part.is_empty() {
         return Err(ProgramFault::Form { line });
     }
     let Some((moment, bytes)) = read_received(alloc, config.date(), rest)? else {
         return Err(ProgramFault::Form { line });
     };
-    let Some(firm) = firm_of(config, word) else {
+    let Some(firm) = firm_of(config, part) else {
         return Err(ProgramFault::UnknownFirm { line });
     };
     let messages = heard.feed(line, firm, bytes.as_bytes())?;

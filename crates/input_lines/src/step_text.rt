@@ -7,7 +7,7 @@ ghost use Rattle.input_lines.specs.StepLines as spec;
 use crate::faults::ProgramFault;
 use crate::firm_streams::Heard;
 use crate::line_steps::push_spelled;
-use crate::lines::SpokenLines;
+use crate::lines::NumberedLines;
 use crate::step_lines::read_line;
 use std::alloc::Global;
 use step_replay::Step;
@@ -19,7 +19,7 @@ use venue_rows::VenueConfig;
 pub fn read_steps(
     alloc: Global,
     config: &VenueConfig,
-    lines: SpokenLines<'_>,
+    lines: NumberedLines<'_>,
 ) -> Result<Vec<Step>, ProgramFault>
     ensures ok { IfOk result (λ steps.
         spec.steps_of (values_of config.now) lines.entry ≡ Ok steps.items) }

@@ -10,7 +10,7 @@ ghost use Rattle.input_lines.specs.VenueParts as spec;
 
 use crate::faults::ProgramFault;
 use crate::input_parts::InputPart;
-use crate::lines::{MOST_INPUT, SpokenLines};
+use crate::lines::{MOST_INPUT, NumberedLines};
 use std::alloc::Global;
 use venue_config::{ConfigFault, read_config};
 use venue_rows::{DealerRow, InvestorRow, VenueConfig};
@@ -21,7 +21,7 @@ pub struct DayParts<'a> {
     /// The text of the configuration.
     pub config: &'a [u8],
     /// The lines of the steps, with their numbers in the whole input.
-    pub steps: SpokenLines<'a>,
+    pub steps: NumberedLines<'a>,
 }
 
 /// The parts of an input that is one day: a configuration, a line `%%`, and the lines of steps.
@@ -146,10 +146,10 @@ pub(crate) fn is_room(config: &VenueConfig, firm: u16, n: u32) -> bool
 }
 
 /// The number of the firm that an argument names, or [`ProgramFault::Firm`].
-pub fn asked_firm(config: &VenueConfig, word: &[u8]) -> Result<u16, ProgramFault>
-    ensures { result ≡ lines.asked (lines.firm_named (values_of config.now) word.now) }
+pub fn asked_firm(config: &VenueConfig, argument: &[u8]) -> Result<u16, ProgramFault>
+    ensures { result ≡ lines.asked (lines.firm_named (values_of config.now) argument.now) }
 {
-    let Some(firm) = firm_of(config, word) else {
+    let Some(firm) = firm_of(config, argument) else {
         return Err(ProgramFault::Firm);
     };
     Ok(firm)
@@ -157,10 +157,10 @@ pub fn asked_firm(config: &VenueConfig, word: &[u8]) -> Result<u16, ProgramFault
 
 /// The number of the dealer that an argument names, or [`ProgramFault::Firm`].
 #[tactic(auto, using(crate::specs::FirmLemmas::same_dealer))]
-pub fn asked_dealer(config: &VenueConfig, word: &[u8]) -> Result<u16, ProgramFault>
-    ensures { result ≡ lines.asked (lines.dealer_named (values_of config.now) word.now) }
+pub fn asked_dealer(config: &VenueConfig, argument: &[u8]) -> Result<u16, ProgramFault>
+    ensures { result ≡ lines.asked (lines.dealer_named (values_of config.now) argument.now) }
 {
-    let Some(dealer) = config.dealer_named(word) else {
+    let Some(dealer) = config.dealer_named(argument) else {
         return Err(ProgramFault::Firm);
     };
     Ok(dealer)

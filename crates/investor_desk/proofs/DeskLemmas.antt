@@ -132,7 +132,7 @@ expiry_stands market book number (Some own) stands = closed_stands market book n
 
 pub event_stands : (market : InvestorMarket) (book : InvestorBook) (came : InvestorEvent) → StandsIn market book → StandsIn market (fold book_after book (event_facts market book came))
 unfolding event_facts
-event_stands market book (event.Own moment bytes) stands =
+event_stands market book (event.Received moment bytes) stands =
     let given = investor_verdict market book moment bytes in
     came_own market book moment bytes (uses_number given) given stands (verdict_holds market book moment bytes stands)
 event_stands market book (event.QuoteCame request offer moment) stands =
@@ -209,7 +209,7 @@ expiry_weight number (Some own) = refl
 
 event_weight : (market : InvestorMarket) (book : InvestorBook) (came : InvestorEvent) → sum_by weight (event_facts market book came) ≤ 1
 unfolding event_facts
-event_weight market book (event.Own moment bytes) =
+event_weight market book (event.Received moment bytes) =
     let given = investor_verdict market book moment bytes in
     let none = verdict_weight given in
     rw (sum_by-cons weight (Came moment bytes (uses_number given)) (verdict_facts given)) (omega arith)

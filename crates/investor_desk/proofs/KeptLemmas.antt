@@ -10,7 +10,7 @@ use Rattle.investor_desk.specs.InvestorOutput.{sent_with, written_from, moment_o
 use Rattle.investor_desk.specs.InvestorOutput.{DeskEvents, book_at, verdict_at, verdict_message}
 use Rattle.investor_desk.specs.InvestorOutput.{own_facts}
 use Rattle.investor_desk.specs.BookChanges.{book_after, book_with}
-use Rattle.investor_desk.specs.RuleCuts.{IsDesk, IsLawful, noted, own_outcome, messages_of}
+use Rattle.investor_desk.specs.RuleCuts.{IsDesk, IsLawful, noted, received_outcome, messages_of}
 use Rattle.investor_desk.specs.RuleCuts.{next_written}
 use Rattle.quote_messages.specs.declared.out_messages.OutMessage.{OutMessage}
 use Rattle.investor_desk.specs.declared.outcomes.Note.{Note}
@@ -101,7 +101,7 @@ pub verdict_seen : (market : InvestorMarket) (events : List InvestorEvent) (sent
 verdict_seen market events sents book now moment bytes kept is =
     ap (λ (b : InvestorBook). investor_verdict market b moment bytes) kept.book_is ∙ ap (λ (n : DeskEvents). verdict_at n moment bytes) is
 
-lawful_verdict : (market : InvestorMarket) (book : InvestorBook) (given : InvestorVerdict) → Holds market book given → IsLawful book (own_outcome given).note
+lawful_verdict : (market : InvestorMarket) (book : InvestorBook) (given : InvestorVerdict) → Holds market book given → IsLawful book (received_outcome given).note
 lawful_verdict market book verdict.Dropped holds = tt
 lawful_verdict market book (verdict.OutOfSequence reject) holds = tt
 lawful_verdict market book (verdict.Rejected reject) holds = tt
@@ -110,14 +110,14 @@ lawful_verdict market book (verdict.RequestAccepted id request) holds = fits_boo
 lawful_verdict market book (verdict.Hits request response word) holds = tt
 lawful_verdict market book (verdict.Passes request response) holds = tt
 
-pub own_lawful : (now : DeskEvents) (moment : ℕ) (bytes : List ℕ) (outcome : Outcome) → outcome ≡ own_outcome (verdict_at now moment bytes) → IsLawful (book_at now) outcome.note
+pub own_lawful : (now : DeskEvents) (moment : ℕ) (bytes : List ℕ) (outcome : Outcome) → outcome ≡ received_outcome (verdict_at now moment bytes) → IsLawful (book_at now) outcome.note
 own_lawful now moment bytes outcome is =
     let stands = desk_stands now.market now.events in
     subst (λ (o : Outcome). IsLawful (book_at now) o.note) (sym is)
     (lawful_verdict now.market (book_at now) (verdict_at now moment bytes) (verdict_holds now.market (book_at now) moment bytes stands))
 
-pub own_facts_owed : (now : DeskEvents) (moment : ℕ) (bytes message : List ℕ) (outcome : Outcome) → message ≡ bytes → outcome ≡ own_outcome (verdict_at now moment bytes)
-    → noted (book_at now) outcome.note ≡ book_with (book_at now) (event_facts now.market (book_at now) (event.Own moment message))
+pub own_facts_owed : (now : DeskEvents) (moment : ℕ) (bytes message : List ℕ) (outcome : Outcome) → message ≡ bytes → outcome ≡ received_outcome (verdict_at now moment bytes)
+    → noted (book_at now) outcome.note ≡ book_with (book_at now) (event_facts now.market (book_at now) (event.Received moment message))
 unfolding event_facts
 own_facts_owed now moment bytes message outcome same is =
     ap (λ (o : Outcome). noted (book_at now) o.note) is
@@ -126,11 +126,11 @@ own_facts_owed now moment bytes message outcome same is =
 
 pub own_sent_owed : (market : InvestorMarket) (events : List InvestorEvent) (sents : List (List ℕ)) (book : InvestorBook) (now : DeskEvents) (moment : ℕ) (bytes message : List ℕ) (given : InvestorVerdict) (outcome : Outcome) (out : List (List ℕ))
     → IsDesk market events sents book → record { market = market; events = events } ≡ now
-    → message ≡ bytes → given ≡ investor_verdict market book moment bytes → outcome ≡ own_outcome given → out ≡ next_written now moment (messages_of outcome)
-    → out ≡ next_written now moment (event_messages now.market (book_at now) (event.Own moment message))
+    → message ≡ bytes → given ≡ investor_verdict market book moment bytes → outcome ≡ received_outcome given → out ≡ next_written now moment (messages_of outcome)
+    → out ≡ next_written now moment (event_messages now.market (book_at now) (event.Received moment message))
 unfolding event_messages
 own_sent_owed market events sents book now moment bytes message given outcome out kept is same judged leads written =
-    owed_sent market events sents book now (messages_of outcome) out (event.Own moment message) kept is
+    owed_sent market events sents book now (messages_of outcome) out (event.Received moment message) kept is
     (ap messages_of leads ∙ own_sent given ∙ ap (λ (g : InvestorVerdict). option_to_list (verdict_message g)) judged
     ∙ ap (λ (m : List ℕ). option_to_list (verdict_message (investor_verdict market book moment m))) (sym same))
     written

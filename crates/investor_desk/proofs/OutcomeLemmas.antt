@@ -5,7 +5,7 @@ use Rattle.std.specs.Option.{option_to_list}
 use Rattle.investor_desk.specs.InvestorFacts.{Came, Asked, InvestorBook}
 use Rattle.investor_desk.specs.InvestorOutput.{verdict_message, own_facts}
 use Rattle.investor_desk.specs.BookChanges.{book_after, book_with}
-use Rattle.investor_desk.specs.RuleCuts.{noted, messages_of, own_outcome}
+use Rattle.investor_desk.specs.RuleCuts.{noted, messages_of, received_outcome}
 use Rattle.investor_desk.specs.declared.verdicts.InvestorVerdict.{InvestorVerdict}
 use Rattle.investor_desk.specs.declared.verdicts.InvestorVerdict.TheVariants as verdict
 use Rattle.investor_desk.proofs.BookLemmas.{came_book}
@@ -20,7 +20,7 @@ came_noted : (book : InvestorBook) (moment : ℕ) (bytes : List ℕ) (used : Boo
 came_noted book moment bytes true = sym (came_book book moment bytes true)
 came_noted book moment bytes false = sym (came_book book moment bytes false)
 
-pub own_noted : (book : InvestorBook) (moment : ℕ) (bytes : List ℕ) (given : InvestorVerdict) → noted book (own_outcome given).note ≡ book_with book (own_facts moment bytes given)
+pub own_noted : (book : InvestorBook) (moment : ℕ) (bytes : List ℕ) (given : InvestorVerdict) → noted book (received_outcome given).note ≡ book_with book (own_facts moment bytes given)
 own_noted book moment bytes verdict.Dropped = came_noted book moment bytes false
 own_noted book moment bytes (verdict.OutOfSequence reject) = came_noted book moment bytes false
 own_noted book moment bytes (verdict.Rejected reject) = came_noted book moment bytes true
@@ -29,7 +29,7 @@ own_noted book moment bytes (verdict.RequestAccepted id request) = ap (λ (b : I
 own_noted book moment bytes (verdict.Hits request response word) = came_noted book moment bytes true
 own_noted book moment bytes (verdict.Passes request response) = came_noted book moment bytes true
 
-pub own_sent : (given : InvestorVerdict) → messages_of (own_outcome given) ≡ option_to_list (verdict_message given)
+pub own_sent : (given : InvestorVerdict) → messages_of (received_outcome given) ≡ option_to_list (verdict_message given)
 own_sent verdict.Dropped = refl
 own_sent (verdict.OutOfSequence reject) = refl
 own_sent (verdict.Rejected reject) = refl

@@ -161,8 +161,8 @@ pass_status (Some refusal) = status.NotOpen
 
 -- the answer to a hit of this quote, or to a pass
 abbrev pub response_message : StandingRequest → List ℕ → Option ℕ → Option HitRefusal → OutMessage
-response_message own id None refusal = out.PassAnswer id own.request.id (pass_status refusal)
-response_message own id (Some quote) refusal = out.HitAnswer id own.request.id quote refusal
+response_message own id None refusal = out.PassReport id own.request.id (pass_status refusal)
+response_message own id (Some quote) refusal = out.HitReport id own.request.id quote refusal
 
 -- the message of the answer to a response to this request
 abbrev pub answer_messages : ResponseRef → Reply → Option StandingRequest → List OutMessage
@@ -190,7 +190,7 @@ own_facts moment bytes verdict = Came moment bytes (uses_number verdict) ∷ ver
 
 -- the facts that an event adds, given the book as it stood
 unfoldable pub event_facts : InvestorMarket → InvestorBook → InvestorEvent → List InvestorFact
-event_facts market book (event.Own moment bytes) =
+event_facts market book (event.Received moment bytes) =
     own_facts moment bytes (investor_verdict market book moment bytes)
 event_facts market book (event.QuoteCame request offer moment) =
     offer_facts book request offer (open_request book request)
@@ -205,7 +205,7 @@ event_facts market book (event.Closed request moment) =
 -- The messages that an event sends. What comes for a request that is closed at the desk, but for
 -- the answer to a response, sends nothing.
 unfoldable pub event_messages : InvestorMarket → InvestorBook → InvestorEvent → List OutMessage
-event_messages market book (event.Own moment bytes) =
+event_messages market book (event.Received moment bytes) =
     option_to_list (verdict_message (investor_verdict market book moment bytes))
 event_messages market book (event.QuoteCame request offer moment) =
     offer_messages book request offer (open_request book request)
@@ -220,7 +220,7 @@ event_messages market book (event.Closed request moment) =
 
 -- the moment of an event, which its messages bear
 abbrev pub moment_of : InvestorEvent → ℕ
-moment_of (event.Own moment bytes) = moment
+moment_of (event.Received moment bytes) = moment
 moment_of (event.QuoteCame request offer moment) = moment
 moment_of (event.QuoteGone request word moment) = moment
 moment_of (event.DealerDeclined request dealer moment) = moment

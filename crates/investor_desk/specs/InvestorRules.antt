@@ -139,7 +139,7 @@ hit_verdict book hit = hit_of hit (offer_named book hit.quote)
 
 -- a pass of this request
 abbrev pub pass_of : RequestPass → Option StandingRequest → InvestorVerdict
-pass_of pass None = verdict.Refused (out.PassAnswer pass.id pass.request status.Unknown)
+pass_of pass None = verdict.Refused (out.PassReport pass.id pass.request status.Unknown)
 pass_of pass (Some own) = verdict.Passes own.request.number (response_to pass.id None)
 
 -- the verdict on a pass: QuoteReqID (131) names the request, also one that is closed

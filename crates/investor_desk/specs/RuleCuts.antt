@@ -96,12 +96,12 @@ next_written desk moment messages =
     written_from desk.market (length (investor_output desk.market desk.events) + 1) moment messages
 
 -- what a verdict leads to
-abbrev pub own_outcome : InvestorVerdict → Outcome
-own_outcome verdict.Dropped = sends note.Nothing None
-own_outcome (verdict.OutOfSequence reject) = sends note.Nothing (Some (out.Reject reject))
-own_outcome (verdict.Rejected reject) = sends note.Number (Some (out.Reject reject))
-own_outcome (verdict.Refused message) = sends note.Number (Some message)
-own_outcome (verdict.RequestAccepted id request) =
+abbrev pub received_outcome : InvestorVerdict → Outcome
+received_outcome verdict.Dropped = sends note.Nothing None
+received_outcome (verdict.OutOfSequence reject) = sends note.Nothing (Some (out.Reject reject))
+received_outcome (verdict.Rejected reject) = sends note.Number (Some (out.Reject reject))
+received_outcome (verdict.Refused message) = sends note.Number (Some message)
+received_outcome (verdict.RequestAccepted id request) =
     sends (note.Asked request) (Some (out.RequestAccepted id))
-own_outcome (verdict.Hits request response word) = sends note.Number None
-own_outcome (verdict.Passes request response) = sends note.Number None
+received_outcome (verdict.Hits request response word) = sends note.Number None
+received_outcome (verdict.Passes request response) = sends note.Number None

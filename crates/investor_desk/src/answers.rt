@@ -4,7 +4,8 @@ ghost use Rattle.std.specs.Option.{option_map};
 ghost use Rattle.investor_desk.specs.InvestorFacts as facts;
 ghost use Rattle.investor_desk.specs.InvestorOutput as spec;
 ghost use Rattle.investor_desk.specs.BookChanges.{book_with};
-ghost use Rattle.investor_desk.specs.RuleCuts.{IsLawful, noted, messages_of, own_outcome, sends};
+ghost use Rattle.investor_desk.specs.RuleCuts.{IsLawful, noted, messages_of, received_outcome};
+ghost use Rattle.investor_desk.specs.RuleCuts.{sends};
 ghost use Rattle.investor_desk.specs.InvestorTable.{request_in};
 
 use crate::index::{InvestorIndex, RequestRow, copy_of};
@@ -67,8 +68,8 @@ pub(crate) fn response_again(response: &ResponseRef) -> ResponseRef
 }
 
 /// What a message of the investor's own leads to, by its verdict.
-pub(crate) fn own_outcome(verdict: InvestorVerdict<'_>) -> Outcome<'_>
-    ensures { result ≡ own_outcome verdict.entry }
+pub(crate) fn received_outcome(verdict: InvestorVerdict<'_>) -> Outcome<'_>
+    ensures { result ≡ received_outcome verdict.entry }
 {
     match verdict {
         InvestorVerdict::Dropped => sends(Note::Nothing, None),
@@ -246,13 +247,13 @@ fn response_message<'a>(
         (request_in row.now) response.now.id response.now.k refusal }
 {
     let Some(quote) = response.k else {
-        return OutMessage::PassAnswer {
+        return OutMessage::PassReport {
             id: response.id.as_id(),
             request: row.request.id.as_id(),
             status: pass_status(refusal),
         };
     };
-    OutMessage::HitAnswer {
+    OutMessage::HitReport {
         id: response.id.as_id(),
         request: row.request.id.as_id(),
         quote,

@@ -13,7 +13,7 @@ ghost use Rattle.investor_desk.specs.RequestLines.{lines_of};
 
 use crate::InvestorEvent;
 use crate::answers::{
-    answer_outcome, decline_outcome, duty_of, expiry_outcome, offer_outcome, own_outcome,
+    answer_outcome, decline_outcome, duty_of, expiry_outcome, offer_outcome, received_outcome,
     response_again, take_note, withdrawal_outcome,
 };
 use crate::index::{InvestorIndex, copy_of};
@@ -82,7 +82,7 @@ impl InvestorDesk {
     /// done in the room of its request. After an error the desk is as before.
     pub fn take(&mut self, moment: Moment, bytes: &[u8]) -> Result<Option<Duty>, Memory>
         ensures ok { OnOk result (self.new
-            ≡ with_event self.old (InvestorEvent.Own moment bytes.now)) }
+            ≡ with_event self.old (InvestorEvent.Received moment bytes.now)) }
         ensures duty { IfOk result (λ duty. duty
             ≡ verdict_duty self.old.market moment (verdict_at self.old moment bytes.now)) }
         ensures err { OnErr result (self.new ≡ self.old) }
@@ -90,9 +90,13 @@ impl InvestorDesk {
         let message = Message::copy_of(self.alloc, bytes)?;
         let verdict = investor_verdict(&self.market, &self.index, moment, bytes);
         let duty = duty_of(&self.market, moment, &verdict);
-        let outcome = own_outcome(verdict);
+        let outcome = received_outcome(verdict);
         let sent = self.written(moment, &outcome)?;
-        self.keep(InvestorEvent::Own { moment, message }, outcome.note, sent)?;
+        self.keep(
+            InvestorEvent::Received { moment, message },
+            outcome.note,
+            sent,
+        )?;
         Ok(duty)
     }
 

@@ -10,7 +10,7 @@ use venue_rows::Name;
 #[derive(Drop)]
 pub enum InvestorEvent {
     /// A message of the investor's own.
-    Own {
+    Received {
         /// The moment at which it came.
         moment: Moment,
         /// Its bytes, whatever they are.

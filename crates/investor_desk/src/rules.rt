@@ -253,7 +253,7 @@ fn pass_verdict<'a>(index: &InvestorIndex, pass: RequestPass<'a>) -> InvestorVer
     ensures { result ≡ spec.pass_verdict index.now pass.entry }
 {
     let Some(own) = index.request_with_id(&pass.request) else {
-        return InvestorVerdict::Refused(OutMessage::PassAnswer {
+        return InvestorVerdict::Refused(OutMessage::PassReport {
             id: pass.id,
             request: pass.request,
             status: PassStatus::Unknown,

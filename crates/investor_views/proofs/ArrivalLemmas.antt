@@ -10,11 +10,11 @@ use Rattle.investor_desk.specs.InvestorRules.{InvestorMarket}
 use Rattle.investor_desk.specs.InvestorOutput.{DeskEvents, book_at, market_for, market_of}
 use Rattle.investor_desk.specs.declared.events.InvestorEvent.{InvestorEvent}
 use Rattle.investor_desk.specs.declared.events.InvestorEvent.TheVariants as event
-use Rattle.venue_steps.specs.InvestorSteps.{answers, where_so}
+use Rattle.venue_steps.specs.InvestorSteps.{replies_to, where_so}
 use Rattle.venue_places.specs.Brought.{investor_with}
 use Rattle.venue_places.specs.Dealers.{dealer_at}
-use Rattle.venue_places.specs.declared.arrivals.Arrival.{Arrival}
-use Rattle.venue_places.specs.declared.arrivals.Arrival.TheVariants as arrival
+use Rattle.venue_places.specs.declared.arrivals.Placement.{Placement}
+use Rattle.venue_places.specs.declared.arrivals.Placement.TheVariants as arrival
 use Rattle.venue_places.specs.declared.arrivals.ForInvestor.{ForInvestor}
 use Rattle.venue_places.specs.declared.arrivals.ForInvestor.TheVariants as to_investor
 use Rattle.step_replay.specs.Actions.{Effect, at_market, done_for, dropped_by, nothing}
@@ -74,10 +74,10 @@ module _ (market : InvestorMarket) (facts : List Fact) (desk : DeskEvents)
   own_stands (to_investor.Answer request response reply moment) =
       let more = event.Answered request response reply moment in
       subst (λ (e : Effect). DeskStands market (facts ++ e.facts)
-      (where_so (knows (book_at desk) request response.k && answers response.k reply) desk more))
-      (nested (knows known request response.k) (answers response.k reply)
+      (where_so (knows (book_at desk) request response.k && replies_to response.k reply) desk more))
+      (nested (knows known request response.k) (replies_to response.k reply)
       (at_market facts market more []))
-      (by_book (λ book. knows book request response.k && answers response.k reply) more)
+      (by_book (λ book. knows book request response.k && replies_to response.k reply) more)
   own_stands (to_investor.Close request moment) =
       by_book (λ book. knows book request None) (event.Closed request moment)
 
@@ -149,7 +149,7 @@ module _ (config : Configuration) (number : ℕ) (row : InvestorRow)
               stays market_here facts _ desk (by_row (investor_numbered config firm) is) before
 
       -- what comes to a place
-      arrival_stands : (coming : Arrival)
+      arrival_stands : (coming : Placement)
           → DeskStands market_here (facts ++ (arrival_effect config facts coming).facts)
           (desk_where desk (at_desk_of number (Some coming)))
       unfolding arrival_effect
@@ -168,7 +168,7 @@ module _ (config : Configuration) (number : ℕ) (row : InvestorRow)
           stays market_here facts _ desk (hit_adds number config facts room response word moment)
           before
 
-      pub effect_stands : (coming : Option Arrival)
+      pub effect_stands : (coming : Option Placement)
           → DeskStands market_here (facts ++ (effect_where config facts coming).facts)
           (desk_where desk (at_desk_of number coming))
       effect_stands None = stays market_here facts [] desk (nothing_adds number) before

@@ -18,10 +18,10 @@ use Rattle.investor_desk.specs.declared.events.InvestorEvent.TheVariants as even
 use Rattle.venue_places.specs.Dealers.{dealer_at}
 use Rattle.venue_places.specs.Placed.{placed, swept, where_so}
 use Rattle.venue_places.specs.declared.actors.Actor.{Actor}
-use Rattle.venue_places.specs.declared.arrivals.Arrival.TheVariants as arrival
+use Rattle.venue_places.specs.declared.arrivals.Placement.TheVariants as arrival
 use Rattle.venue_places.specs.declared.arrivals.ForRoom.TheVariants as to_room
 use Rattle.step_replay.specs.Actions.{Effect, done_by, done_for, duty_effect}
-use Rattle.step_replay.specs.Actions.{message_effect, said_by_dealer, said_by_investor}
+use Rattle.step_replay.specs.Actions.{message_effect, received_by_dealer, received_by_investor}
 use Rattle.step_replay.specs.Actions.{sweep_effect}
 use Rattle.step_replay.specs.AuditTrail.{AuditTrail, after_step, after_turn, audit_trail, no_steps}
 use Rattle.step_replay.specs.AuditTrail.{pending, sent_to}
@@ -119,18 +119,18 @@ module _ (duties_come : DutiesCome) (sweeps_come : SweepsCome) (config : Configu
     another_says : (firm moment : ℕ) (bytes : List ℕ) (dealer : Bool) → (firm == number) ≡ false
         → StandsAfter facts
         (if dealer
-        then done_by (dealer_at config firm) (said_by_dealer config facts moment bytes)
-        else done_for (market_for config firm) (said_by_investor facts moment bytes)) desk
+        then done_by (dealer_at config firm) (received_by_dealer config facts moment bytes)
+        else done_for (market_for config firm) (received_by_investor facts moment bytes)) desk
     another_says firm moment bytes true differs =
         stays market facts _ desk
-        (done_adds number (dealer_at config firm) (said_by_dealer config facts moment bytes)
+        (done_adds number (dealer_at config firm) (received_by_dealer config facts moment bytes)
         (said_adds number config facts moment bytes)) before
     another_says firm moment bytes false differs =
         stays market facts _ desk (by_row (investor_numbered config firm)) before
       where
         by_row : (found : Option InvestorRow)
             → of_investor number (done_for (option_map (market_of config firm) found)
-            (said_by_investor facts moment bytes)).facts ≡ []
+            (received_by_investor facts moment bytes)).facts ≡ []
         by_row None = nothing_adds number
         by_row (Some other) = other_investor number firm differs _
 
@@ -138,17 +138,17 @@ module _ (duties_come : DutiesCome) (sweeps_come : SweepsCome) (config : Configu
     says : (moment : ℕ) (bytes : List ℕ) (dealer : Bool) → dealer ≡ false
         → StandsAfter facts
         (if dealer
-        then done_by (dealer_at config number) (said_by_dealer config facts moment bytes)
-        else done_for (market_for config number) (said_by_investor facts moment bytes))
+        then done_by (dealer_at config number) (received_by_dealer config facts moment bytes)
+        else done_for (market_for config number) (received_by_investor facts moment bytes))
         (after_coming desk (Own moment bytes))
     unfolding after_coming
     says moment bytes true is = cc
     says moment bytes false is =
         subst (λ (found : Option InvestorMarket). StandsAfter facts
-        (done_for found (said_by_investor facts moment bytes))
+        (done_for found (received_by_investor facts moment bytes))
         (after_coming desk (Own moment bytes)))
         (sym (ap (option_map (market_of config number)) is_investor))
-        (happens market facts desk (event.Own moment bytes) before)
+        (happens market facts desk (event.Received moment bytes) before)
 
     message_stands : (firm moment : ℕ) (bytes : List ℕ) (same : Bool) → (firm == number) ≡ same
         → StandsAfter facts (message_effect config facts firm moment bytes)

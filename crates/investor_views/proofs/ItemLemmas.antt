@@ -97,7 +97,7 @@ module _ (market : InvestorMarket) (facts : List InvestorFact) where
   -- A message of the investor's own.
 
   pub own_answers : (moment : ℕ) (bytes : List ℕ)
-      → Answers market facts (event.Own moment bytes) (event.Own moment bytes)
+      → Answers market facts (event.Received moment bytes) (event.Received moment bytes)
   unfolding event_facts event_messages
   own_answers moment bytes =
       let same = verdict_alike book market moment bytes in

@@ -22,7 +22,7 @@ use Rattle.venue_places.specs.declared.arrivals.ForRoom.{ForRoom}
 use Rattle.venue_places.specs.declared.arrivals.ForRoom.TheVariants as to_room
 use Rattle.step_replay.specs.Actions.{Effect, at_dealer, done_by, dropped_by, hit_in}
 use Rattle.step_replay.specs.Actions.{hit_with, in_room, left_by, left_by_drop, lifting, nothing}
-use Rattle.step_replay.specs.Actions.{said_by_dealer, told_of, verdict_on}
+use Rattle.step_replay.specs.Actions.{received_by_dealer, told_of, verdict_on}
 use Rattle.step_replay.specs.Coming.{dealer_gets, room_gets}
 use Rattle.step_replay.specs.PlaceLemmas.{investor_at_dealer, investor_grown, investor_in_room}
 use Rattle.step_replay.specs.VenueFacts.{Fact, InRoom, of_dealer, of_investor, of_room}
@@ -73,7 +73,7 @@ module _ (number : ℕ) where
         (desk_adds dealer _ (left_by_drop config facts last moment dealer)) nothing_adds
 
     pub said_adds : (moment : ℕ) (bytes : List ℕ) (dealer : Dealer)
-        → Adds (said_by_dealer config facts moment bytes dealer)
+        → Adds (received_by_dealer config facts moment bytes dealer)
     said_adds moment bytes dealer =
         if_adds _ _ nothing
         (desk_adds dealer _ (left_by (of_dealer dealer.number facts) moment
@@ -105,24 +105,24 @@ module _ (number : ℕ) where
     lifting_adds (Some hit) (Err refused) = refl
 
     hit_with_adds : (room : RoomRef) (response : ResponseRef) (word moment : ℕ)
-        (answer : Option Settled) → Adds (hit_with config facts room response word moment answer)
-    hit_with_adds room response word moment answer =
+        (settlement : Option Settled) → Adds (hit_with config facts room response word moment settlement)
+    hit_with_adds room response word moment settlement =
         investor_grown number lifts happened
         ∙ ap (λ l. l ++ of_investor number happened)
         (lifting_adds (quote_with_word config word) outcome)
-        ∙ investor_in_room number room (event_facts known (at_room.Hit word moment answer))
+        ∙ investor_in_room number room (event_facts known (at_room.Hit word moment settlement))
       where
         known : List RoomFact
         known = of_room room facts
 
         outcome : Result End HitRefusal
-        outcome = hit_outcome known word moment answer
+        outcome = hit_outcome known word moment settlement
 
         lifts : List Fact
         lifts = lifting (quote_with_word config word) outcome
 
         happened : List Fact
-        happened = map (InRoom room) (event_facts known (at_room.Hit word moment answer))
+        happened = map (InRoom room) (event_facts known (at_room.Hit word moment settlement))
 
     pub hit_adds : (room : RoomRef) (response : ResponseRef) (word moment : ℕ)
         → Adds (hit_in config facts room response word moment)

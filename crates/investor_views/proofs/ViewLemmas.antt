@@ -13,7 +13,7 @@ use Rattle.investor_desk.specs.InvestorOutput.{with_event, written_from}
 use Rattle.investor_desk.specs.declared.events.InvestorEvent.{InvestorEvent}
 use Rattle.investor_desk.specs.declared.events.InvestorEvent.TheVariants as event
 use Rattle.quote_messages.specs.Written.{written}
-use Rattle.venue_steps.specs.InvestorSteps.{answers, where_so}
+use Rattle.venue_steps.specs.InvestorSteps.{replies_to, where_so}
 use Rattle.venue_places.specs.Brought.{investor_with}
 use Rattle.venue_places.specs.declared.arrivals.ForInvestor.TheVariants as to_investor
 use Rattle.investor_views.specs.Comings.{Coming, Own, For, after_coming, desk_by}
@@ -154,7 +154,7 @@ module _ (market : InvestorMarket) where
         → Sees (after_coming desk came) (after_due view (due_by (book_at desk) came))
     unfolding after_coming after_due due_by coming_by investor_with
     coming_sees (Own moment bytes) =
-        one_more (event.Own moment bytes) (event.Own moment bytes) refl
+        one_more (event.Received moment bytes) (event.Received moment bytes) refl
         (own_answers market stood moment bytes)
     coming_sees (For (to_investor.Relay request offer moment)) =
         by_books (λ here there. Sees
@@ -188,16 +188,16 @@ module _ (market : InvestorMarket) where
         (knows_same book request None))
     coming_sees (For (to_investor.Answer request response reply moment)) =
         by_books (λ here there. Sees
-        (where_so (knows here request response.k && answers response.k reply) desk
+        (where_so (knows here request response.k && replies_to response.k reply) desk
         (event.Answered request response reply moment))
-        (where_so (knows there request response.k && answers response.k reply) view
+        (where_so (knows there request response.k && replies_to response.k reply) view
         (event.Answered request response reply moment)))
         (one_if (event.Answered request response reply moment)
         (event.Answered request response reply moment) refl
         (answered_answers market stood request response reply moment)
-        (knows book request response.k && answers response.k reply)
-        (knows (renamed_book book) request response.k && answers response.k reply)
-        (ap (λ (b : Bool). b && answers response.k reply) (knows_same book request response.k)))
+        (knows book request response.k && replies_to response.k reply)
+        (knows (renamed_book book) request response.k && replies_to response.k reply)
+        (ap (λ (b : Bool). b && replies_to response.k reply) (knows_same book request response.k)))
     coming_sees (For (to_investor.Close request moment)) =
         by_books (λ here there. Sees
         (where_so (knows here request None) desk (event.Closed request moment))
@@ -211,8 +211,8 @@ module _ (market : InvestorMarket) where
     event_sees : (more : InvestorEvent)
         → Sees (with_event desk more) (with_item view (due_by (book_at desk) (coming_of more)))
     unfolding with_item due_by coming_by
-    event_sees (event.Own moment bytes) =
-        one_more (event.Own moment bytes) (event.Own moment bytes) refl
+    event_sees (event.Received moment bytes) =
+        one_more (event.Received moment bytes) (event.Received moment bytes) refl
         (own_answers market stood moment bytes)
     event_sees (event.QuoteCame request offer moment) =
         by_books (λ here there. Sees (with_event desk (event.QuoteCame request offer moment))

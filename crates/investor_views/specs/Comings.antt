@@ -11,8 +11,8 @@ use Rattle.venue_steps.specs.InvestorSteps.{desk_after_own}
 use Rattle.venue_places.specs.Brought.{investor_with}
 use Rattle.venue_places.specs.Placed.{placed}
 use Rattle.venue_places.specs.declared.actors.Actor.{Actor}
-use Rattle.venue_places.specs.declared.arrivals.Arrival.{Arrival}
-use Rattle.venue_places.specs.declared.arrivals.Arrival.TheVariants as arrival
+use Rattle.venue_places.specs.declared.arrivals.Placement.{Placement}
+use Rattle.venue_places.specs.declared.arrivals.Placement.TheVariants as arrival
 use Rattle.venue_places.specs.declared.arrivals.ForInvestor.{ForInvestor}
 use Rattle.step_replay.specs.AuditTrail.{AuditTrail, after_step, no_steps, pending}
 use Rattle.step_replay.specs.declared.steps.Step.{Step}
@@ -24,7 +24,7 @@ pub data Coming : Type 0 where
   For : ForInvestor → Coming
 
 -- what comes to the desk of the investor with this number, where something comes there
-abbrev pub at_desk_of : ℕ → Option Arrival → Option Coming
+abbrev pub at_desk_of : ℕ → Option Placement → Option Coming
 at_desk_of number (Some (arrival.Investor firm what)) =
     if firm == number then Some (For what) else None
 at_desk_of number other = None

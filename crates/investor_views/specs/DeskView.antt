@@ -16,7 +16,7 @@ use Rattle.investor_views.specs.declared.dues.InvestorDue.{InvestorDue}
 
 -- what came to a desk, by the event that it left there
 abbrev pub coming_of : InvestorEvent → Coming
-coming_of (event.Own moment bytes) = Own moment bytes
+coming_of (event.Received moment bytes) = Own moment bytes
 coming_of (event.QuoteCame request offer moment) = For (to_investor.Relay request offer moment)
 coming_of (event.QuoteGone request word moment) = For (to_investor.Gone request word moment)
 coming_of (event.DealerDeclined request dealer moment) =
@@ -27,7 +27,7 @@ coming_of (event.Closed request moment) = For (to_investor.Close request moment)
 
 -- the event that it leaves, where it fits
 abbrev pub event_of : Coming → InvestorEvent
-event_of (Own moment bytes) = event.Own moment bytes
+event_of (Own moment bytes) = event.Received moment bytes
 event_of (For (to_investor.Relay request offer moment)) = event.QuoteCame request offer moment
 event_of (For (to_investor.Gone request word moment)) = event.QuoteGone request word moment
 event_of (For (to_investor.Declined request dealer moment)) =

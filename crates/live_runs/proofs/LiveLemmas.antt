@@ -122,23 +122,23 @@ faults_kept (first ∷ faults) old mid new told kept = (told.0, told.1, faults_k
 
 -- what is known behind a line that was answered
 pub record AfterLine (form : LiveForm) (config : Configuration) (lines : List (List ℕ)) (line : List ℕ) (day : LiveDay)
-    (answer : List ℕ) (fault : Option ProgramFault) : Type 0 where
+    (output : List ℕ) (fault : Option ProgramFault) : Type 0 where
   pub goes : Goes form config (taken_in config (lines ++ line ∷ [])) day
-  pub printed : text_in form config (lines ++ line ∷ []) ≡ text_in form config lines ++ answer
+  pub printed : text_in form config (lines ++ line ∷ []) ≡ text_in form config lines ++ output
   pub faults : (taken_in config (lines ++ line ∷ [])).faults ≡ (taken_in config lines).faults ++ option_to_list fault
 
 -- what a line gives, wherever the day stood
 abbrev pub GivesAnywhere : ℕ → List ℕ → LiveDay → LiveDay → List ℕ → Option ProgramFault → Type 0
-GivesAnywhere number line before after answer fault = (form : LiveForm) (config : Configuration) (taken : Taken)
-    → Goes form config taken before → Gives form config taken number line after answer fault
+GivesAnywhere number line before after output fault = (form : LiveForm) (config : Configuration) (taken : Taken)
+    → Goes form config taken before → Gives form config taken number line after output fault
 
-after_line : (number : ℕ) (line answer : List ℕ) (fault : Option ProgramFault) (before after : LiveDay)
-    → GivesAnywhere number line before after answer fault
+after_line : (number : ℕ) (line output : List ℕ) (fault : Option ProgramFault) (before after : LiveDay)
+    → GivesAnywhere number line before after output fault
     → (form : LiveForm) (config : Configuration) (lines : List (List ℕ)) → number ≡ length lines + 1 → are_divided lines ≡ true
-    → Goes form config (taken_in config lines) before → AfterLine form config lines line after answer fault
-after_line number line answer fault before after gives form config lines at divided goes =
+    → Goes form config (taken_in config lines) before → AfterLine form config lines line after output fault
+after_line number line output fault before after gives form config lines at divided goes =
     let taken = taken_in config lines in
-    let is = subst (λ (n : ℕ). Gives form config taken n line after answer fault) at (gives form config taken goes) in
+    let is = subst (λ (n : ℕ). Gives form config taken n line after output fault) at (gives form config taken goes) in
     let same = taken_any config lines line divided in
     record {
       goes = subst (λ (t : Taken). Goes form config t after) (sym same) is.goes;
@@ -146,13 +146,13 @@ after_line number line answer fault before after gives form config lines at divi
       faults = ap (λ (t : Taken). t.faults) same ∙ is.told;
     }
 
-module _ (form : LiveForm) (lines : List (List ℕ)) (number : ℕ) (line answer : List ℕ) (fault : Option ProgramFault)
-    (before after : LiveDay) (gives : GivesAnywhere number line before after answer fault) (at : number ≡ length lines + 1)
+module _ (form : LiveForm) (lines : List (List ℕ)) (number : ℕ) (line output : List ℕ) (fault : Option ProgramFault)
+    (before after : LiveDay) (gives : GivesAnywhere number line before after output fault) (at : number ≡ length lines + 1)
     (start old new told err err' : Option (List ℕ))
     (had : DayGoes form lines before (record { before = start; after = old }) (record { before = told; after = err }))
     (tells : GainsFaults (option_to_list fault) (record { before = err; after = err' })) where
-  abbrev next : AfterLine form had.config lines line after answer fault
-  next = after_line number line answer fault before after gives form had.config lines at had.answers.divided had.goes
+  abbrev next : AfterLine form had.config lines line after output fault
+  next = after_line number line output fault before after gives form had.config lines at had.answers.divided had.goes
 
   divided_still : are_divided (lines ++ line ∷ []) ≡ true
   divided_still = (parts_stay is_divider lines (line ∷ []) had.answers.divided).any
@@ -166,7 +166,7 @@ module _ (form : LiveForm) (lines : List (List ℕ)) (number : ℕ) (line answer
       (faults_more (taken_in had.config lines).faults (option_to_list fault) told err err' had.answers.told tells)
 
   -- its text was printed
-  pub day_answered : Appends old new answer
+  pub day_answered : Appends old new output
       → DayGoes form (lines ++ line ∷ []) after (record { before = start; after = new }) (record { before = told; after = err' })
   day_answered gained = record {
     config = had.config;
@@ -174,7 +174,7 @@ module _ (form : LiveForm) (lines : List (List ℕ)) (number : ℕ) (line answer
       divided = divided_still;
       spelled = spelled_still;
       asked = refl;
-      printed = subst (λ (t : List ℕ). Appends start new t) (sym next.printed) (appends_both start old new _ answer had.answers.printed gained);
+      printed = subst (λ (t : List ℕ). Appends start new t) (sym next.printed) (appends_both start old new _ output had.answers.printed gained);
       told = told_more;
     };
     goes = next.goes;
@@ -182,7 +182,7 @@ module _ (form : LiveForm) (lines : List (List ℕ)) (number : ℕ) (line answer
 
   -- or a part of it
   pub day_unprinted : (more : List (List ℕ)) (refused : ProgramFault) → refused ≡ Write
-      → GainsPart answer (record { before = old; after = new })
+      → GainsPart output (record { before = old; after = new })
       → EndsDay (answered form) refused ((lines ++ line ∷ []) ++ more) (record { before = start; after = new }) (record { before = told; after = err' })
   day_unprinted more refused is part =
       subst (λ (f : ProgramFault). EndsDay (answered form) f ((lines ++ line ∷ []) ++ more) (record { before = start; after = new })
@@ -199,7 +199,7 @@ module _ (form : LiveForm) (lines : List (List ℕ)) (number : ℕ) (line answer
             spelled = spelled_still;
             asked = refl;
             printed = subst (λ (t : List ℕ). GainsPart t (record { before = start; after = new })) (sym next.printed)
-                (more_part start old new _ answer had.answers.printed part);
+                (more_part start old new _ output had.answers.printed part);
             told = told_more;
           },
         );
@@ -1507,25 +1507,25 @@ first_stands form run number form_same line t at empty start = record {
   };
 }
 
-pub run_answered : (form : LineForm) (word : List ℕ) (run : LiveRun) (known left : Option (List ℕ)) (out err : Written) → StandsFirst form run
+pub run_answered : (form : LineForm) (argument : List ℕ) (run : LiveRun) (known left : Option (List ℕ)) (out err : Written) → StandsFirst form run
     → IfSome known (λ all. AnswersAll all run out err)
-    → EndsInLive form word 0 (record { input = known; left = left; out = out; err = err })
-run_answered form word run None left out err first answers = (inl refl, tt)
-run_answered form word run (Some all) left out err first answers =
+    → EndsInLive form argument 0 (record { input = known; left = left; out = out; err = err })
+run_answered form argument run None left out err first answers = (inl refl, tt)
+run_answered form argument run (Some all) left out err first answers =
     let start : Start = record { out = out.before; err = err.before } in
     (inl refl, inl (refl, answers form [] start (first start)))
 
-pub run_failed : (form : LineForm) (word : List ℕ) (run : LiveRun) (known left o o' e e' e'' : Option (List ℕ)) (fault : ProgramFault) (status : ℕ)
+pub run_failed : (form : LineForm) (argument : List ℕ) (run : LiveRun) (known left o o' e e' e'' : Option (List ℕ)) (fault : ProgramFault) (status : ℕ)
     → StandsFirst form run
     → IfSome known (λ all. FailsIn all left fault run (record { before = o; after = o' }) (record { before = e; after = e' }))
-    → status ≡ 1 → GainsPart (told_line word fault) (record { before = e'; after = e'' })
-    → EndsInLive form word status (record {
+    → status ≡ 1 → GainsPart (told_line argument fault) (record { before = e'; after = e'' })
+    → EndsInLive form argument status (record {
       input = known;
       left = left;
       out = record { before = o; after = o' };
       err = record { before = e; after = e'' };
     })
-run_failed form word run None left o o' e e' e'' fault status first fails one told = (inr one, tt)
-run_failed form word run (Some all) left o o' e e' e'' fault status first fails one told =
+run_failed form argument run None left o o' e e' e'' fault status first fails one told = (inr one, tt)
+run_failed form argument run (Some all) left o o' e e' e'' fault status first fails one told =
     let start : Start = record { out = o; err = e } in
     (inr one, inr (one, record { fault = fault; mid = e'; ends = fails form [] start (first start); told = told }))

@@ -221,13 +221,14 @@ EndsWith form Read input left out err = EndsInRead form input left out err
 EndsWith form fault input left out err = EndsDay form fault (lines_of input) out err
 
 -- the same, and the fault was told behind the others
-pub record EndsInLiveFault (form : LineForm) (word input : List ℕ) (streams : Streams)
+pub record EndsInLiveFault (form : LineForm) (argument input : List ℕ) (streams : Streams)
     : Type 0 where
   pub fault : ProgramFault
   pub mid : Option (List ℕ)
   pub ends : EndsWith form fault input streams.left streams.out
       (record { before = streams.err.before; after = mid })
-  pub told : GainsPart (told_line word fault) (record { before = mid; after = streams.err.after })
+  pub told : GainsPart (told_line argument fault)
+      (record { before = mid; after = streams.err.after })
 
 -- all lines of the input were answered
 abbrev pub EndsInAnswers : LineForm → List (List ℕ) → Written → Written → Type 0
@@ -239,12 +240,12 @@ EndsInAnswers form all out err =
 -- How a run ends over an input: with status 0 and all of its answers, or with status 1 behind some
 -- of them.
 abbrev pub EndsOver : LineForm → List ℕ → List ℕ → ℕ → Streams → Type 0
-EndsOver form word input status streams =
+EndsOver form argument input status streams =
     ((status ≡ 0) × EndsInAnswers form (lines_of input) streams.out streams.err)
-    ⊎ ((status ≡ 1) × EndsInLiveFault form word input streams)
+    ⊎ ((status ≡ 1) × EndsInLiveFault form argument input streams)
 
 -- The same where the input is known.
 abbrev pub EndsInLive : LineForm → List ℕ → ℕ → Streams → Type 0
-EndsInLive form word status streams =
+EndsInLive form argument status streams =
     ((status ≡ 0) ⊎ (status ≡ 1))
-    × IfSome streams.input (λ all. EndsOver form word all status streams)
+    × IfSome streams.input (λ all. EndsOver form argument all status streams)

@@ -58,16 +58,16 @@ struct LiveRun<'a> {
 
 /// Runs `live`: reads a configuration and a line `%%`, and then answers each line of steps before
 /// the next one is read. A line at fault is told on `err`, and the day goes on. Or the same of
-/// `replay --live`, which prints at the end; the word is that of its argument.
+/// `replay --live`, which prints at the end; the argument is that of the command.
 pub fn run_live<R: Read, W: Write, E: Write>(
     alloc: Global,
     form: LineForm<'_>,
-    word: &[u8],
+    argument: &[u8],
     input: &mut R,
     out: &mut W,
     err: &mut E,
 ) -> u8
-    ensures { spec.EndsInLive (meant_form form.entry) word.now result (record {
+    ensures { spec.EndsInLive (meant_form form.entry) argument.now result (record {
       input = R.remaining input.old;
       left = R.remaining input.new;
       out = record { before = W.contents out.old; after = W.contents out.new };
@@ -78,7 +78,7 @@ pub fn run_live<R: Read, W: Write, E: Write>(
     let Err(fault) = answer_all(&mut run, input, out, err) else {
         return 0;
     };
-    report(err, word, &fault)
+    report(err, argument, &fault)
 }
 
 /// Reads to the end of the input.
@@ -141,13 +141,13 @@ impl<'a> LiveRun<'a> {
             (record { before = E.contents err.old; after = E.contents err.new })) }
     {
         for byte in bytes {
-            self.take(*byte, out, err)?;
+            self.feed_byte(*byte, out, err)?;
         }
         Ok(())
     }
 
     /// The next byte comes.
-    fn take<W: Write, E: Write>(
+    fn feed_byte<W: Write, E: Write>(
         &mut self,
         byte: u8,
         out: &mut W,
@@ -161,7 +161,7 @@ impl<'a> LiveRun<'a> {
             (record { before = E.contents err.old; after = E.contents err.new })) }
     {
         if byte == b'\n' {
-            self.answer_line(out, err)?;
+            self.output_line(out, err)?;
             return Ok(());
         }
         put(&mut self.line, byte)?;
@@ -182,14 +182,14 @@ impl<'a> LiveRun<'a> {
             close(self.alloc, stage, out)?;
             return Ok(());
         }
-        self.answer_line(out, err)?;
+        self.output_line(out, err)?;
         let stage = mem::replace(&mut self.stage, Stage::Configuration(Vec::new(self.alloc)));
         close(self.alloc, stage, out)?;
         Ok(())
     }
 
     /// The line that has begun is whole.
-    fn answer_line<W: Write, E: Write>(
+    fn output_line<W: Write, E: Write>(
         &mut self,
         out: &mut W,
         err: &mut E,
@@ -440,9 +440,9 @@ fn answer_step<W: Write, E: Write>(
         (record { before = W.contents out.old; after = W.contents out.new })
         (record { before = E.contents err.old; after = E.contents err.new })) }
 {
-    let answer = day.answer(alloc, number, line)?;
-    tell_fault(err, &answer.fault);
-    print_answer(out, answer.text.as_slice())?;
+    let output = day.output(alloc, number, line)?;
+    report_fault(err, &output.fault);
+    print_output(out, output.text.as_slice())?;
     Ok(())
 }
 
@@ -459,13 +459,13 @@ fn keep_step<E: Write>(
     ensures err { IfErr result (λ fault. (fault ≡ ProgramFault.Memory)
         × (E.contents err.new ≡ E.contents err.old)) }
 {
-    let fault = day.take(alloc, number, line)?;
-    tell_fault(err, &fault);
+    let fault = day.keep(alloc, number, line)?;
+    report_fault(err, &fault);
     Ok(())
 }
 
 /// Tells the fault of a line, if it has one.
-fn tell_fault<E: Write>(err: &mut E, fault: &Option<ProgramFault>)
+fn report_fault<E: Write>(err: &mut E, fault: &Option<ProgramFault>)
     ensures { spec.GainsFaults (option_to_list fault.now)
         (record { before = E.contents err.old; after = E.contents err.new }) }
 {
@@ -476,7 +476,7 @@ fn tell_fault<E: Write>(err: &mut E, fault: &Option<ProgramFault>)
 }
 
 /// Prints the text of a line; where there is none nothing is written.
-fn print_answer<W: Write>(out: &mut W, text: &[u8]) -> Result<(), ProgramFault>
+fn print_output<W: Write>(out: &mut W, text: &[u8]) -> Result<(), ProgramFault>
     ensures ok { OnOk result (Appends (W.contents out.old) (W.contents out.new) text.now) }
     ensures err { IfErr result (λ fault. fault ≡ ProgramFault.Write) }
     ensures part { OnErr result (GainsPart text.now

@@ -46,11 +46,11 @@ pub fn print_text<W: Write>(out: &mut W, text: &[u8]) -> Result<(), ProgramFault
     Ok(())
 }
 
-/// Tells a fault of a run in one line, and answers the status of a run that has one. The word is
-/// the one of the arguments that names a firm.
-pub fn report<E: Write>(err: &mut E, word: &[u8], fault: &ProgramFault) -> u8
+/// Tells a fault of a run in one line, and answers the status of a run that has one. The argument
+/// is the one that names a firm.
+pub fn report<E: Write>(err: &mut E, argument: &[u8], fault: &ProgramFault) -> u8
     ensures status { result ≡ 1 }
-    ensures told { GainsPart (faults.told_line word.now fault.now)
+    ensures told { GainsPart (faults.told_line argument.now fault.now)
         (record { before = E.contents err.old; after = E.contents err.new }) }
 {
     let line = fault_line(fault);
@@ -58,19 +58,19 @@ pub fn report<E: Write>(err: &mut E, word: &[u8], fault: &ProgramFault) -> u8
         write_text(err, line.as_bytes());
         return 1;
     }
-    write_named(err, line.as_bytes(), word);
+    write_named(err, line.as_bytes(), argument);
     1
 }
 
-/// Writes a line: its front, and the word that it ends with.
-fn write_named<E: Write>(err: &mut E, front: &[u8], word: &[u8])
-    ensures { GainsPart (front.now ++ word.now ++ 10 ∷ [])
+/// Writes a line: its front, and the argument that it ends with.
+fn write_named<E: Write>(err: &mut E, front: &[u8], argument: &[u8])
+    ensures { GainsPart (front.now ++ argument.now ++ 10 ∷ [])
         (record { before = E.contents err.old; after = E.contents err.new }) }
 {
     if !write_text(err, front) {
         return;
     }
-    if !write_text(err, word) {
+    if !write_text(err, argument) {
         return;
     }
     write_text(err, b"\n");

@@ -61,9 +61,9 @@ fn tries_rest(room: &mut Room, event: &RoomEvent) -> Result<(), CaseFault> {
         RoomEvent::Hit {
             word,
             moment,
-            answer,
+            settlement,
         } => {
-            hit(room, *word, *moment, *answer)?;
+            hit(room, *word, *moment, *settlement)?;
             Ok(())
         }
         RoomEvent::Pass { moment } => {
@@ -117,7 +117,7 @@ fn push_rest(answer: &mut String, event: &RoomEvent) -> Result<(), CaseFault> {
         RoomEvent::Hit {
             word,
             moment,
-            answer: told,
+            settlement: told,
         } => push_hit(answer, *word, *moment, *told),
         RoomEvent::Pass { moment } => push_at(answer, "pass", *moment),
         RoomEvent::Expire { moment } => push_at(answer, "expire", *moment),

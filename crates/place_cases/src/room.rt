@@ -235,7 +235,7 @@ pub(crate) fn declined(room: &mut Room, dealer: u16) -> Result<bool, CaseFault> 
     Ok(effect)
 }
 
-/// A hit, with an answer exactly where the room has the word asked.
+/// A hit, with a settlement exactly where the room has the word asked.
 pub(crate) fn hit(
     room: &mut Room,
     word: u32,
@@ -271,8 +271,8 @@ fn last_settled(words: &mut Words) -> Result<Option<Settled>, CaseFault> {
     if words.is_at_end() {
         return Ok(None);
     }
-    let answer = settled(words)?;
-    Ok(Some(answer))
+    let settlement = settled(words)?;
+    Ok(Some(settlement))
 }
 
 /// The word that a hit asks.

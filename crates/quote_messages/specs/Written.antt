@@ -72,17 +72,17 @@ abbrev pub size_tag : Side → ℕ
 size_tag Buy = 135
 size_tag Sell = 134
 
--- QuoteStatus (297) of an answer: accepted with this status, or refused (5) with QuoteRejectReason
+-- QuoteStatus (297) of a report: accepted with this status, or refused (5) with QuoteRejectReason
 -- (300)
-abbrev pub answer_status : List ℕ → Option QuoteRejectReason → List Field
-answer_status accepted None = (297, accepted) ∷ []
-answer_status accepted (Some reason) = (297, codes "5") ∷ (300, decimal (quote_reject_code reason))
+abbrev pub report_status : List ℕ → Option QuoteRejectReason → List Field
+report_status accepted None = (297, accepted) ∷ []
+report_status accepted (Some reason) = (297, codes "5") ∷ (300, decimal (quote_reject_code reason))
     ∷ []
 
 -- a refusal by the room: it came too late (300=4), and Text (58) names why
 abbrev pub room_refusal : HitRefusal → List Field
 room_refusal refusal =
-    answer_status [] (Some TooLate) ++ (58, refusal_name refusal) ∷ []
+    report_status [] (Some TooLate) ++ (58, refusal_name refusal) ∷ []
 
 -- The fields of each message.
 
@@ -114,11 +114,11 @@ abbrev pub received_id : Option (List ℕ) → List Field
 received_id None = []
 received_id (Some id) = (117, id) ∷ []
 
--- QuoteStatus (297) of an answer to a cancel
+-- QuoteStatus (297) of a report on a cancel
 abbrev pub cancel_status : CancelStatus → List Field
 cancel_status cancel.Withdrawn = (297, codes "17") ∷ []
 cancel_status cancel.Unknown = (297, codes "9") ∷ []
-cancel_status (cancel.Refused reason) = answer_status [] (Some reason)
+cancel_status (cancel.Refused reason) = report_status [] (Some reason)
 
 -- whether the request ended by a hit of this dealer's quote
 abbrev pub is_hit : Close → Bool
@@ -181,12 +181,12 @@ shown_quote_fields date quote =
     ++ (537, codes "1") ∷ []
     ++ party_fields quote.dealer (codes "35")
 
--- QuoteStatus (297) of an answer to a hit
+-- QuoteStatus (297) of a report on a hit
 abbrev pub hit_status : Option HitRefusal → List Field
 hit_status None = (297, codes "0") ∷ []
 hit_status (Some refusal) = room_refusal refusal
 
--- QuoteStatus (297) of an answer to a pass
+-- QuoteStatus (297) of a report on a pass
 abbrev pub pass_status : PassStatus → List Field
 pass_status pass.Passed = (297, codes "11") ∷ []
 pass_status pass.NotOpen = room_refusal IsNotOpen
@@ -196,11 +196,11 @@ pass_status pass.Unknown = (297, codes "9") ∷ []
 abbrev pub body_fields : List ℕ → OutMessage → List Field
 body_fields date (out.Reject reject) = reject_fields reject
 body_fields date (out.Request request) = request_fields date request
-body_fields date (out.QuoteAnswer request id refusal) =
-    (131, request) ∷ (117, id) ∷ [] ++ answer_status (codes "0") refusal
-body_fields date (out.CancelAnswer id status) = received_id id ++ cancel_status status
-body_fields date (out.DeclineAnswer request refusal) =
-    (131, request) ∷ [] ++ answer_status (codes "11") refusal
+body_fields date (out.QuoteReport request id refusal) =
+    (131, request) ∷ (117, id) ∷ [] ++ report_status (codes "0") refusal
+body_fields date (out.CancelReport id status) = received_id id ++ cancel_status status
+body_fields date (out.DeclineReport request refusal) =
+    (131, request) ∷ [] ++ report_status (codes "11") refusal
 body_fields date (out.ClosingNotice notice) = closing_fields notice
 body_fields date (out.RequestAccepted request) = (131, request) ∷ (297, codes "0") ∷ []
 body_fields date (out.RequestRefused request bond reason) =
@@ -210,10 +210,10 @@ body_fields date (out.QuoteGone request quote) =
     (131, request) ∷ (117, quote_name quote) ∷ (297, codes "17") ∷ []
 body_fields date (out.DealerDeclined request dealer) =
     (131, request) ∷ (297, codes "11") ∷ [] ++ party_fields dealer (codes "35")
-body_fields date (out.HitAnswer id request quote refusal) =
+body_fields date (out.HitReport id request quote refusal) =
     (693, id) ∷ (131, request) ∷ (117, quote_name quote) ∷ [] ++ hit_status refusal
 body_fields date (out.HitUnknown id quote) = (693, id) ∷ (117, quote) ∷ (297, codes "9") ∷ []
-body_fields date (out.PassAnswer id request status) =
+body_fields date (out.PassReport id request status) =
     (693, id) ∷ (131, request) ∷ [] ++ pass_status status
 body_fields date (out.RequestExpired request) = (131, request) ∷ (297, codes "7") ∷ []
 

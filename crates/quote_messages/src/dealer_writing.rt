@@ -2,13 +2,13 @@
 ghost use Rattle.std.specs.Prelude.{◌≡◌, ◌+◌, ◌≤◌, [], ◌∷◌, ◌++◌, codes, OnOk};
 ghost use Rattle.fix_fields.specs.Frame.{left_of};
 ghost use Rattle.quote_messages.specs.Written as spec;
-ghost use Rattle.quote_messages.specs.Written.{answer_status, request_fields, received_id};
+ghost use Rattle.quote_messages.specs.Written.{report_status, request_fields, received_id};
 ghost use Rattle.quote_messages.specs.Written.{cancel_status, closing_fields, hit_quote, hit_id};
 ghost use Rattle.quote_messages.specs.Written.{hit_price};
 ghost use Rattle.quote_messages.specs.Room.{room_for_fields, room_behind_a_text, room_behind_texts};
 
 use crate::field_writing::{
-    notice_name, price_tag, price_value, put_answer, put_bond, put_party, request_name,
+    notice_name, price_tag, price_value, put_bond, put_party, put_report_status, request_name,
 };
 use crate::{CancelStatus, Close, ClosingNotice, Id, QuoteRejectReason, Request};
 use fix_fields::{Date, FrameWriter, Memory, moment_bytes};
@@ -34,8 +34,8 @@ pub(crate) fn put_request(
     Ok(())
 }
 
-/// The fields of an answer to a quote.
-pub(crate) fn put_quote_answer(
+/// The fields of a report on a quote.
+pub(crate) fn put_quote_report(
     writer: &mut FrameWriter,
     request: &Id,
     id: &Id,
@@ -43,16 +43,16 @@ pub(crate) fn put_quote_answer(
 ) -> Result<(), Memory>
     requires { room_for_fields ≤ left_of writer.old }
     ensures { OnOk result (writer.new ≡ writer.old
-        ++ ((131, request.now) ∷ (117, id.now) ∷ [] ++ answer_status (codes "0") refusal)) }
+        ++ ((131, request.now) ∷ (117, id.now) ∷ [] ++ report_status (codes "0") refusal)) }
 {
     writer.text(131, request.as_bytes())?;
     writer.text(117, id.as_bytes())?;
-    put_answer(writer, b"0", refusal)?;
+    put_report_status(writer, b"0", refusal)?;
     Ok(())
 }
 
-/// The fields of an answer to a cancel.
-pub(crate) fn put_cancel_answer(
+/// The fields of a report on a cancel.
+pub(crate) fn put_cancel_report(
     writer: &mut FrameWriter,
     id: &Option<Id>,
     status: CancelStatus,
@@ -79,30 +79,30 @@ fn put_received_id(writer: &mut FrameWriter, id: &Option<Id>) -> Result<(), Memo
     Ok(())
 }
 
-/// QuoteStatus (297) of an answer to a cancel.
+/// QuoteStatus (297) of a report on a cancel.
 fn put_cancel_status(writer: &mut FrameWriter, status: CancelStatus) -> Result<(), Memory>
     requires { room_behind_a_text ≤ left_of writer.old }
     ensures { OnOk result (writer.new ≡ writer.old ++ cancel_status status) }
 {
     match status {
-        CancelStatus::Withdrawn => put_answer(writer, b"17", None),
-        CancelStatus::Unknown => put_answer(writer, b"9", None),
-        CancelStatus::Refused(reason) => put_answer(writer, b"", Some(reason)),
+        CancelStatus::Withdrawn => put_report_status(writer, b"17", None),
+        CancelStatus::Unknown => put_report_status(writer, b"9", None),
+        CancelStatus::Refused(reason) => put_report_status(writer, b"", Some(reason)),
     }
 }
 
-/// The fields of an answer to a decline.
-pub(crate) fn put_decline_answer(
+/// The fields of a report on a decline.
+pub(crate) fn put_decline_report(
     writer: &mut FrameWriter,
     request: &Id,
     refusal: Option<QuoteRejectReason>,
 ) -> Result<(), Memory>
     requires { room_for_fields ≤ left_of writer.old }
     ensures { OnOk result (writer.new ≡ writer.old
-        ++ ((131, request.now) ∷ [] ++ answer_status (codes "11") refusal)) }
+        ++ ((131, request.now) ∷ [] ++ report_status (codes "11") refusal)) }
 {
     writer.text(131, request.as_bytes())?;
-    put_answer(writer, b"11", refusal)?;
+    put_report_status(writer, b"11", refusal)?;
     Ok(())
 }
 

@@ -4,7 +4,7 @@ ghost use Rattle.fix_fields.specs.Frame.{left_of, IsValue};
 ghost use Rattle.bond_prices.specs.Price.{price_digits};
 ghost use Rattle.quote_messages.specs.Written as spec;
 ghost use Rattle.quote_messages.specs.Written.{reject_fields, ref_msg_type, bond_fields};
-ghost use Rattle.quote_messages.specs.Written.{party_fields, answer_status, room_refusal};
+ghost use Rattle.quote_messages.specs.Written.{party_fields, report_status, room_refusal};
 ghost use Rattle.quote_messages.specs.Room.{room_for_fields, room_behind_a_text, room_behind_texts, room_behind_all};
 
 use crate::received::MsgType;
@@ -67,8 +67,8 @@ pub(crate) fn put_party(writer: &mut FrameWriter, firm: &Name, role: &[u8]) -> R
     Ok(())
 }
 
-/// QuoteStatus (297) of an answer: accepted with this status, or refused with a reason.
-pub(crate) fn put_answer(
+/// QuoteStatus (297) of a report: accepted with this status, or refused with a reason.
+pub(crate) fn put_report_status(
     writer: &mut FrameWriter,
     accepted: &[u8],
     refusal: Option<QuoteRejectReason>,
@@ -76,7 +76,7 @@ pub(crate) fn put_answer(
     requires room { room_behind_texts ≤ left_of writer.old }
     requires short { length accepted.now ≤ 2 }
     requires digits { IsValue accepted.now }
-    ensures { OnOk result (writer.new ≡ writer.old ++ answer_status accepted.now refusal) }
+    ensures { OnOk result (writer.new ≡ writer.old ++ report_status accepted.now refusal) }
 {
     let Some(reason) = refusal else {
         writer.text(297, accepted)?;

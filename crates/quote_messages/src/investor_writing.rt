@@ -8,7 +8,8 @@ ghost use Rattle.quote_messages.specs.Written.{hit_status, pass_status};
 ghost use Rattle.quote_messages.specs.Room.{room_for_fields, room_behind_texts};
 
 use crate::field_writing::{
-    price_tag, price_value, put_answer, put_bond, put_party, put_room_refusal, quote_name, size_tag,
+    price_tag, price_value, put_bond, put_party, put_report_status, put_room_refusal, quote_name,
+    size_tag,
 };
 use crate::{HitRefusal, Id, PassStatus, Quantity, RequestRejectReason, ShownQuote, Side};
 use bond_prices::Ticks;
@@ -138,8 +139,8 @@ pub(crate) fn put_dealer_declined(
     Ok(())
 }
 
-/// The fields of an answer to a hit of a quote that was shown.
-pub(crate) fn put_hit_answer(
+/// The fields of a report on a hit of a quote that was shown.
+pub(crate) fn put_hit_report(
     writer: &mut FrameWriter,
     id: &Id,
     request: &Id,
@@ -158,14 +159,14 @@ pub(crate) fn put_hit_answer(
     Ok(())
 }
 
-/// QuoteStatus (297) of an answer to a hit.
+/// QuoteStatus (297) of a report on a hit.
 fn put_hit_status(writer: &mut FrameWriter, refusal: Option<HitRefusal>) -> Result<(), Memory>
     requires { room_behind_texts ≤ left_of writer.old }
     ensures { OnOk result (writer.new ≡ writer.old ++ hit_status refusal) }
 {
     match refusal {
         Some(refusal) => put_room_refusal(writer, refusal),
-        None => put_answer(writer, b"0", None),
+        None => put_report_status(writer, b"0", None),
     }
 }
 
@@ -181,8 +182,8 @@ pub(crate) fn put_unknown_hit(writer: &mut FrameWriter, id: &Id, quote: &Id) -> 
     Ok(())
 }
 
-/// The fields of an answer to a pass.
-pub(crate) fn put_pass_answer(
+/// The fields of a report on a pass.
+pub(crate) fn put_pass_report(
     writer: &mut FrameWriter,
     id: &Id,
     request: &Id,
@@ -198,14 +199,14 @@ pub(crate) fn put_pass_answer(
     Ok(())
 }
 
-/// QuoteStatus (297) of an answer to a pass.
+/// QuoteStatus (297) of a report on a pass.
 fn put_pass_status(writer: &mut FrameWriter, status: PassStatus) -> Result<(), Memory>
     requires { room_behind_texts ≤ left_of writer.old }
     ensures { OnOk result (writer.new ≡ writer.old ++ pass_status status) }
 {
     match status {
-        PassStatus::Passed => put_answer(writer, b"11", None),
+        PassStatus::Passed => put_report_status(writer, b"11", None),
         PassStatus::NotOpen => put_room_refusal(writer, HitRefusal::NotOpen),
-        PassStatus::Unknown => put_answer(writer, b"9", None),
+        PassStatus::Unknown => put_report_status(writer, b"9", None),
     }
 }

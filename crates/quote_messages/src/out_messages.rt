@@ -30,7 +30,7 @@ pub enum OutMessage<'a> {
     /// QuoteRequest (35=R): a dealer is shown a request.
     Request(Request),
     /// QuoteStatusReport (35=AI) on a dealer's quote: accepted (297=0) or refused (297=5).
-    QuoteAnswer {
+    QuoteReport {
         /// QuoteReqID (131) as received.
         request: Id<'a>,
         /// QuoteID (117) as received.
@@ -39,14 +39,14 @@ pub enum OutMessage<'a> {
         refusal: Option<QuoteRejectReason>,
     },
     /// QuoteStatusReport (35=AI) on a dealer's cancel.
-    CancelAnswer {
+    CancelReport {
         /// QuoteID (117) as received, where it stood.
         id: Option<Id<'a>>,
         /// What became of the cancel.
         status: CancelStatus,
     },
     /// QuoteStatusReport (35=AI) on a dealer's decline: accepted (297=11) or refused (297=5).
-    DeclineAnswer {
+    DeclineReport {
         /// QuoteReqID (131) as received.
         request: Id<'a>,
         /// QuoteRejectReason (300), where it is refused.
@@ -87,7 +87,7 @@ pub enum OutMessage<'a> {
         dealer: Name,
     },
     /// QuoteStatusReport (35=AI) on an investor's hit: awarded (297=0) or refused (297=5).
-    HitAnswer {
+    HitReport {
         /// QuoteRespID (693) as received.
         id: Id<'a>,
         /// QuoteReqID (131) of the request that the quote answers.
@@ -106,7 +106,7 @@ pub enum OutMessage<'a> {
         quote: Id<'a>,
     },
     /// QuoteStatusReport (35=AI) on an investor's pass.
-    PassAnswer {
+    PassReport {
         /// QuoteRespID (693) as received.
         id: Id<'a>,
         /// QuoteReqID (131) as received.

@@ -5,11 +5,11 @@ ghost use Rattle.quote_messages.specs.Written.{written, written_fields, header_f
 ghost use Rattle.quote_messages.specs.Room.{room_for_fields};
 
 use crate::dealer_writing::{
-    put_cancel_answer, put_closing_notice, put_decline_answer, put_quote_answer, put_request,
+    put_cancel_report, put_closing_notice, put_decline_report, put_quote_report, put_request,
 };
 use crate::field_writing::put_reject;
 use crate::investor_writing::{
-    put_dealer_declined, put_hit_answer, put_pass_answer, put_quote_gone, put_refused_request,
+    put_dealer_declined, put_hit_report, put_pass_report, put_quote_gone, put_refused_request,
     put_request_status, put_shown_quote, put_unknown_hit,
 };
 use crate::{Head, OutMessage, SentMessage};
@@ -36,14 +36,14 @@ fn put_body(writer: &mut FrameWriter, date: &Date, message: &OutMessage) -> Resu
     match message {
         OutMessage::Reject(reject) => put_reject(writer, reject),
         OutMessage::Request(request) => put_request(writer, date, request),
-        OutMessage::QuoteAnswer {
+        OutMessage::QuoteReport {
             request,
             id,
             refusal,
-        } => put_quote_answer(writer, request, id, *refusal),
-        OutMessage::CancelAnswer { id, status } => put_cancel_answer(writer, id, *status),
-        OutMessage::DeclineAnswer { request, refusal } => {
-            put_decline_answer(writer, request, *refusal)
+        } => put_quote_report(writer, request, id, *refusal),
+        OutMessage::CancelReport { id, status } => put_cancel_report(writer, id, *status),
+        OutMessage::DeclineReport { request, refusal } => {
+            put_decline_report(writer, request, *refusal)
         }
         OutMessage::ClosingNotice(notice) => put_closing_notice(writer, notice),
         OutMessage::RequestAccepted { request } => put_request_status(writer, request, b"0"),
@@ -57,18 +57,18 @@ fn put_body(writer: &mut FrameWriter, date: &Date, message: &OutMessage) -> Resu
         OutMessage::DealerDeclined { request, dealer } => {
             put_dealer_declined(writer, request, dealer)
         }
-        OutMessage::HitAnswer {
+        OutMessage::HitReport {
             id,
             request,
             quote,
             refusal,
-        } => put_hit_answer(writer, id, request, *quote, *refusal),
+        } => put_hit_report(writer, id, request, *quote, *refusal),
         OutMessage::HitUnknown { id, quote } => put_unknown_hit(writer, id, quote),
-        OutMessage::PassAnswer {
+        OutMessage::PassReport {
             id,
             request,
             status,
-        } => put_pass_answer(writer, id, request, *status),
+        } => put_pass_report(writer, id, request, *status),
         OutMessage::RequestExpired { request } => put_request_status(writer, request, b"7"),
     }
 }

@@ -10,7 +10,7 @@ use Rattle.logbook.specs.Pages.{Book, Named, Cell, View, cell, keeps, no_nib, st
 use Rattle.quote_word.specs.declared.settled.Settled.{Settled}
 use Rattle.quote_word.specs.declared.settled.Settled.TheVariants.{Withdrawn, Lifted}
 use Rattle.quote_word.specs.declared.settled.Settlement.{Settlement}
-use Rattle.quote_word.specs.PlainWords.{answer_of}
+use Rattle.quote_word.specs.PlainWords.{settlement_of}
 use Rattle.quote_word.specs.SettleLog.{SettleLog, entry_of, IsLegal, added_by, log_after}
 use Rattle.quote_word.specs.SettleLogLaws.{entry_after, other_after, legal_after}
 use Rattle.quote_word.specs.Board.{BoardName, SettlesOnBoard}
@@ -22,7 +22,7 @@ abbrev pub shown : List Settlement → List Settlement
 shown log = []
 
 abbrev pub moved : List Settlement → List Settlement → ℕ → Type 0
-moved before after answer = Unit {0}
+moved before after settlement = Unit {0}
 
 -- what is appended to a log that has begun
 pub begun_appended : (log more : List Settlement) → IsBegun log → IsBegun (log ++ more)
@@ -68,7 +68,7 @@ written wish n = either (n == 0) (code_of (Some wish)) n
 
 -- the number after an exchange is that of the entry after it
 pub written_code : (entry : Option Settled) (wish : Settled)
-    → written wish (code_of entry) ≡ code_of (Some (answer_of entry wish))
+    → written wish (code_of entry) ≡ code_of (Some (settlement_of entry wish))
 written_code None wish = refl
 written_code (Some Withdrawn) wish = refl
 written_code (Some Lifted) wish = refl
@@ -180,7 +180,7 @@ pub record Told (book : Book) (seen : List Settlement) (w : ℕ) (wish : Settled
   pub begun : IsBegun later
   pub legal : IsLegal (settle_log later)
   pub settles :
-      SettlesOnBoard (front_of book seen) w wish (answer_of (entry_of_code found) wish)
+      SettlesOnBoard (front_of book seen) w wish (settlement_of (entry_of_code found) wish)
       (front_of book later)
 
 told_of : (book : Book) (seen log later : List Settlement) (w : ℕ) (wish : Settled) (found : ℕ)
@@ -199,7 +199,7 @@ told_of book seen log later w wish found begun goes_on legal is grown =
     ap words_of grown ∙ words_appended log more begun_log
     ∙ words_later seen log goes_on begun in
     let named : ℕ → BoardName = λ n. record { book = book; words = n } in
-    let answered : Option Settled → Option Settled = λ e. Some (answer_of e wish) in
+    let answered : Option Settled → Option Settled = λ e. Some (settlement_of e wish) in
     record {
       begun = subst IsBegun (sym grown) (begun_appended log more begun_log);
       legal = subst IsLegal (sym tail) (legal_after (settle_log log) w wish legal);

@@ -19,22 +19,22 @@ pub record Front : Type 0 where
 -- a receipt: which word was asked, what it is from then on, and what was seen afterwards
 pub record Answered : Type 0 where
   pub word : ℕ
-  pub answer : Settled
+  pub settlement : Settled
   pub seen : Front
 
--- two receipts that met: a log that extends both, and the answers of both
+-- two receipts that met: a log that extends both, and the settlements of both
 pub record Meeting : Type 0 where
   pub front : Front
   pub first : Settled
   pub second : Settled
 
 -- one exchange on the board: some legal log begins with what had been seen; what is seen
--- afterwards is that log after the exchange; and the word's entry there is the answer
-pub record SettlesOnBoard (before : Front) (w : ℕ) (wish answer : Settled) (after : Front)
+-- afterwards is that log after the exchange; and the word's entry there is the settlement
+pub record SettlesOnBoard (before : Front) (w : ℕ) (wish settlement : Settled) (after : Front)
     : Type 0 where
   pub board : after.board ≡ before.board
   pub found : List Settlement
   pub extends : IsPrefix before.log found
   pub legal : IsLegal found
   pub settled : after.log ≡ log_after found w wish
-  pub answered : entry_of w after.log ≡ Some answer
+  pub answered : entry_of w after.log ≡ Some settlement

@@ -9,7 +9,7 @@ use mathlib.Core.List.{IsPrefix}
 use Rattle.quote_word.specs.declared.settled.Settled.{Settled}
 use Rattle.quote_word.specs.declared.settled.Settlement.{Settlement}
 use Rattle.quote_word.specs.SettleLog.{SettleLog, entry_of, IsLegal, added_by, log_after}
-use Rattle.quote_word.specs.PlainWords.{answer_of}
+use Rattle.quote_word.specs.PlainWords.{settlement_of}
 
 -- an entry that stands stays, whatever is appended
 entry_stays_by : (e : Settlement) (log more : SettleLog) (w : ℕ) (was : Settled) (here : Bool)
@@ -67,13 +67,13 @@ other_alone w v wish other = other_alone_by (w == v) wish (grind (arith, nat_tes
 -- after an exchange the word's entry is what it was already, or else the wish
 entry_after_by : (entry : Option Settled) (log : SettleLog) (w : ℕ) (wish : Settled)
     → entry_of w log ≡ entry
-    → entry_of w (log ++ added_by entry w wish) ≡ Some (answer_of entry wish)
+    → entry_of w (log ++ added_by entry w wish) ≡ Some (settlement_of entry wish)
 entry_after_by None log w wish is =
     entry_appended log (added_by None w wish) w is ∙ entry_alone w wish
 entry_after_by (Some settled) log w wish is = entry_stays log [] w settled is
 
 pub entry_after : (log : SettleLog) (w : ℕ) (wish : Settled)
-    → entry_of w (log_after log w wish) ≡ Some (answer_of (entry_of w log) wish)
+    → entry_of w (log_after log w wish) ≡ Some (settlement_of (entry_of w log) wish)
 entry_after log w wish = entry_after_by (entry_of w log) log w wish refl
 
 -- and every other word's entry is what it was
@@ -154,7 +154,8 @@ one_entry log w v first second one two same = cc (ap (λ (k : ℕ). entry_of k l
 pub open_after : (log : SettleLog) (w : ℕ) (wish : Settled) → entry_of w log ≡ None
     → entry_of w (log_after log w wish) ≡ Some wish
 open_after log w wish unsettled =
-    entry_after log w wish ∙ ap (λ (entry : Option Settled). Some (answer_of entry wish)) unsettled
+    entry_after log w wish ∙ ap (λ (entry : Option Settled). Some (settlement_of entry wish))
+    unsettled
 
 -- a settled word adds nothing
 pub settled_after : (log : SettleLog) (w : ℕ) (wish was : Settled) → entry_of w log ≡ Some was

@@ -1,7 +1,7 @@
 //! A board of words that threads share.
 ghost use Rattle.std.specs.Prelude.{◌≡◌, ◌<◌, [], Some, IfOk};
 ghost use mathlib.Core.List.{IsPrefix};
-ghost use Rattle.quote_word.specs.PlainWords.{answer_of};
+ghost use Rattle.quote_word.specs.PlainWords.{settlement_of};
 ghost use Rattle.quote_word.specs.Rule.{code_of, entry_of_code};
 ghost use Rattle.quote_word.specs.Board.{SettlesOnBoard};
 ghost use Rattle.quote_word.specs.SettleLog.{entry_of, IsLegal};
@@ -60,8 +60,8 @@ fn entry_found(found: u64) -> Option<Settled>
 }
 
 /// What an exchange answers that found this number.
-fn answer(found: u64, wish: Settled) -> Settled
-    ensures { result ≡ answer_of (entry_of_code found) wish }
+fn settlement_of(found: u64, wish: Settled) -> Settled
+    ensures { result ≡ settlement_of (entry_of_code found) wish }
 {
     match entry_found(found) {
         None => wish,
@@ -98,7 +98,7 @@ impl Board {
         requires ours { seen.board ≡ self.now }
         requires word { w < self.now.words }
         ensures word { result.word ≡ w }
-        ensures settles { SettlesOnBoard seen w Settled.Withdrawn result.answer result.seen }
+        ensures settles { SettlesOnBoard seen w Settled.Withdrawn result.settlement result.seen }
         ensures later { IsPrefix seen.log result.seen.log }
         ensures legal { IsLegal result.seen.log }
     {
@@ -110,7 +110,7 @@ impl Board {
         requires ours { seen.board ≡ self.now }
         requires word { w < self.now.words }
         ensures word { result.word ≡ w }
-        ensures settles { SettlesOnBoard seen w Settled.Lifted result.answer result.seen }
+        ensures settles { SettlesOnBoard seen w Settled.Lifted result.settlement result.seen }
         ensures later { IsPrefix seen.log result.seen.log }
         ensures legal { IsLegal result.seen.log }
     {
@@ -153,20 +153,20 @@ impl Board {
         BoardSeen { seen }
     }
 
-    /// Brings two receipts together: a token that is later than both, and both answers. Two
-    /// receipts of one word have one answer.
+    /// Brings two receipts together: a token that is later than both, and both settlements. Two
+    /// receipts of one word have one settlement.
     pub fn meet(&self, first: Receipt, second: Receipt) -> Met
         requires first { first.seen.board ≡ self.now }
         requires second { second.seen.board ≡ self.now }
         ensures ours { result.front.board ≡ self.now }
         ensures legal { IsLegal result.front.log }
         ensures first { IsPrefix first.seen.log result.front.log }
-        ensures first_answer { result.first ≡ first.answer }
+        ensures first_settlement { result.first ≡ first.settlement }
         ensures first_entry { entry_of first.word result.front.log ≡ Some result.first }
         ensures second { IsPrefix second.seen.log result.front.log }
-        ensures second_answer { result.second ≡ second.answer }
+        ensures second_settlement { result.second ≡ second.settlement }
         ensures second_entry { entry_of second.word result.front.log ≡ Some result.second }
-        ensures one_answer { first.word ≡ second.word → result.first ≡ result.second }
+        ensures one_settlement { first.word ≡ second.word → result.first ≡ result.second }
     {
         let one = first.settled();
         let two = second.settled();
@@ -183,7 +183,7 @@ impl Board {
         requires ours { seen.board ≡ self.now }
         requires word { w < self.now.words }
         ensures word { result.word ≡ w }
-        ensures settles { SettlesOnBoard seen w wish result.answer result.seen }
+        ensures settles { SettlesOnBoard seen w wish result.settlement result.seen }
         ensures later { IsPrefix seen.log result.seen.log }
         ensures legal { IsLegal result.seen.log }
     {
@@ -202,7 +202,7 @@ impl Board {
             &mut offer,
             &mut pen,
         );
-        let settled = answer(found, wish);
+        let settled = settlement_of(found, wish);
         Receipt {
             word: w,
             settled,

@@ -9,11 +9,11 @@ ghost use Rattle.quote_word.specs.declared.settled.Settled.{Settled};
 /// Words in a list: the word that is asked becomes the wish where it was open, and no other word
 /// changes.
 pub fn an_exchange_changes_one_word()
-    ensures open { (before after : List (Option Settled)) (w : ℕ) (wish answer : Settled)
-        → w < length before → Exchanges before w wish answer after
+    ensures open { (before after : List (Option Settled)) (w : ℕ) (wish settlement : Settled)
+        → w < length before → Exchanges before w wish settlement after
         → entry_in before w ≡ None → entry_in after w ≡ Some wish }
-    ensures others { (before after : List (Option Settled)) (w v : ℕ) (wish answer : Settled)
-        → Exchanges before w wish answer after → v ≢ w → entry_in after v ≡ entry_in before v }
+    ensures others { (before after : List (Option Settled)) (w v : ℕ) (wish settlement : Settled)
+        → Exchanges before w wish settlement after → v ≢ w → entry_in after v ≡ entry_in before v }
 {}
 
 /// A settle log: the word that is asked has the wish as its entry where it had none, a settled word
@@ -32,8 +32,8 @@ pub fn an_exchange_adds_one_settlement()
 /// A board, by whatever call: the log that is seen after an exchange begins with what was seen
 /// before it, and is legal.
 pub fn an_exchange_on_a_board_is_seen_later()
-    ensures later { (before after : Front) (w : ℕ) (wish answer : Settled)
-        → SettlesOnBoard before w wish answer after → IsPrefix before.log after.log }
-    ensures legal { (before after : Front) (w : ℕ) (wish answer : Settled)
-        → SettlesOnBoard before w wish answer after → IsLegal after.log }
+    ensures later { (before after : Front) (w : ℕ) (wish settlement : Settled)
+        → SettlesOnBoard before w wish settlement after → IsPrefix before.log after.log }
+    ensures legal { (before after : Front) (w : ℕ) (wish settlement : Settled)
+        → SettlesOnBoard before w wish settlement after → IsLegal after.log }
 {}

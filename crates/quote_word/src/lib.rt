@@ -23,7 +23,7 @@
 //! The settlements of a board stand in one log, which only grows and has no word twice. The log is
 //! in the proofs alone; a [`BoardSeen`] stands for so much of it as was seen, and has no bytes. A
 //! call takes a token and gives a [`Receipt`], whose token has seen more. Receipts of two threads
-//! meet: where they are of one word, their answers are one answer.
+//! meet: where they are of one word, their settlements are one settlement.
 //!
 //! ```text
 //! let (board, opening) = Board::open(alloc, 2)?;

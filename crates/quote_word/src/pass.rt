@@ -41,7 +41,7 @@ impl<'a> BoardPass<'a> {
     fn keep(&mut self, receipt: Receipt) -> Settled
         requires { receipt.seen.board ≡ self.old.board }
         ensures token { self.new ≡ receipt.seen }
-        ensures answer { result ≡ receipt.answer }
+        ensures settlement { result ≡ receipt.settlement }
     {
         self.seen = receipt.seen();
         receipt.settled()

@@ -20,7 +20,7 @@ impl Rule<Settlement, u64> for Law {
 
     ghost keeps = { λ names log. ftrue };
 
-    ghost moves = { λ ask before after answer. Unit {0} };
+    ghost moves = { λ ask before after settlement. Unit {0} };
 }
 
 /// A board's book begins with the number of its words.
@@ -36,7 +36,7 @@ pub(crate) struct Nothing;
 impl Gain<Settlement, u64> for Nothing {
     ghost use base.Fml.{ftrue};
 
-    ghost after = { λ names about answer. ftrue };
+    ghost after = { λ names about settlement. ftrue };
 }
 
 /// The step that asks for a settlement: one exchange.

@@ -71,15 +71,16 @@ pub trait Words {
         ensures { settles self.old w Settled.Lifted result self.new };
 
     /// No word comes or goes.
-    ghost count_stays: { (before after : Self) (w : ℕ) (wish answer : Settled)
-        → settles before w wish answer after → count after ≡ count before };
+    ghost count_stays: { (before after : Self) (w : ℕ) (wish settlement : Settled)
+        → settles before w wish settlement after → count after ≡ count before };
 
     /// The answer is what the word is afterwards.
-    ghost answer_is_entry: { (before after : Self) (w : ℕ) (wish answer : Settled)
-        → w < count before → settles before w wish answer after → entry after w ≡ Some answer };
+    ghost answer_is_entry: { (before after : Self) (w : ℕ) (wish settlement : Settled)
+        → w < count before → settles before w wish settlement after → entry after w
+        ≡ Some settlement };
 
     /// A word that was settled stays as it was.
-    ghost entry_stays: { (before after : Self) (w v : ℕ) (wish answer was : Settled)
-        → settles before w wish answer after → entry before v ≡ Some was
+    ghost entry_stays: { (before after : Self) (w v : ℕ) (wish settlement was : Settled)
+        → settles before w wish settlement after → entry before v ≡ Some was
         → entry after v ≡ Some was };
 }

@@ -38,7 +38,7 @@ impl BoardSeen {
     }
 }
 
-/// What a call on a word was answered, with what its caller has seen since.
+/// What a call on a word was settled, with what its caller has seen since.
 #[derive(Drop)]
 pub struct Receipt {
     pub(crate) word: u32,
@@ -53,7 +53,7 @@ impl Model for Receipt {
 
     ghost Value = { Answered };
 
-    ghost view = { λ r. record { word = r.word; answer = r.settled; seen = r.seen } };
+    ghost view = { λ r. record { word = r.word; settlement = r.settled; seen = r.seen } };
 
     ghost invariant = { λ r. entry_of r.word r.seen.log ≡ Some r.settled };
 }
@@ -68,7 +68,7 @@ impl Receipt {
 
     /// What the word is from that call on: its entry in the log that was then seen.
     pub fn settled(&self) -> Settled
-        ensures answer { result ≡ self.now.answer }
+        ensures settlement { result ≡ self.now.settlement }
         ensures entry { entry_of self.now.word self.now.seen.log ≡ Some result }
     {
         self.settled
@@ -82,7 +82,7 @@ impl Receipt {
     }
 }
 
-/// Two receipts that met: one log that extends what both had seen, with the answers of both.
+/// Two receipts that met: one log that extends what both had seen, with the settlements of both.
 #[derive(Drop)]
 pub struct Met {
     pub(crate) front: BoardSeen,

@@ -1,4 +1,4 @@
--- How the answers of a desk go on event by event, and what the code puts for an event.
+-- How the settlements of a desk go on event by event, and what the code puts for an event.
 use Rattle.std.proofs.Common.{◌≡◌, ℕ, ◌==◌, Bool, true, false, ◌||◌, ◌&&◌}
 use Rattle.std.proofs.Common.{List, [], ◌∷◌, ◌++◌, Option, Some}
 use Rattle.std.proofs.Common.{All, refl, sym, ap, subst, ◌∙◌, arith}
@@ -21,7 +21,7 @@ use Rattle.dealer_desk.specs.declared.events.DealerEvent.TheVariants as event
 use Rattle.step_replay.specs.declared.dues.Due.{Due}
 use Rattle.step_replay.specs.declared.dues.Due.TheVariants as due
 use Rattle.recorded_days.specs.DayDues.{AreAnsweredFrom, DayDues, IsAnswered, after_drop, after_own}
-use Rattle.recorded_days.specs.DayDues.{after_recorded, answer_taken}
+use Rattle.recorded_days.specs.DayDues.{after_recorded, settlement_taken}
 use Rattle.recorded_days.specs.DayDues.{lifting_learned}
 
 -- Lists.
@@ -43,7 +43,7 @@ kept_by_more P more xs [] p = subst P (sym (append-nil xs)) p
 kept_by_more P more xs (y ∷ ys) p =
     subst P (append_snoc xs y ys) (kept_by_more P more (xs ++ y ∷ []) ys (more xs y p))
 
--- The answers of a desk.
+-- The settlements of a desk.
 
 -- a desk with more events
 abbrev with_events : DeskEvents → List DealerEvent → DeskEvents
@@ -95,9 +95,9 @@ neither false b one other = other
 abbrev says : (Settled → Bool) → ℕ → (ℕ × Settled) → Bool
 says kind quote asked = kind asked.1 && (asked.0 == quote)
 
-module _ (word_of : ℕ → Option Settled) (quote : ℕ) (answer : Settled) (kind : Settled → Bool)
-    (is : word_of quote ≡ Some answer)
-    (other_kind : (other : Settled) → (kind other ≡ false) ⊎ (other ≡ answer → ⊥)) where
+module _ (word_of : ℕ → Option Settled) (quote : ℕ) (settlement : Settled) (kind : Settled → Bool)
+    (is : word_of quote ≡ Some settlement)
+    (other_kind : (other : Settled) → (kind other ≡ false) ⊎ (other ≡ settlement → ⊥)) where
   says_not : (number : ℕ) (other : Settled) → word_of number ≡ Some other
       → (kind other && (number == quote)) ≡ false
   says_not number other told = elim (other_kind other) [
@@ -106,9 +106,9 @@ module _ (word_of : ℕ → Option Settled) (quote : ℕ) (answer : Settled) (ki
         (apart number quote (λ (same : number ≡ quote). differs (inside same))) ∙ and_false (kind other)
   ]
     where
-      inside : number ≡ quote → other ≡ answer
+      inside : number ≡ quote → other ≡ settlement
       inside same =
-          let told_too : Some other ≡ Some answer = sym told ∙ ap word_of same ∙ is in cc
+          let told_too : Some other ≡ Some settlement = sym told ∙ ap word_of same ∙ is in cc
 
       and_false : (b : Bool) → (b && false) ≡ false
       and_false true = refl
@@ -135,37 +135,37 @@ days_are desk other dues others one two =
     ap (λ d. day_of d dues) one ∙ ap (λ l. day_of other l) two
 
 pub own_is_put : (old new : DeskEvents) (dues lifted after : List Due) (moment : ℕ)
-    (bytes copy : List ℕ) (answer taken : Option Settled) (asked : Option ℕ)
+    (bytes copy : List ℕ) (settlement taken : Option Settled) (asked : Option ℕ)
     → asked ≡ word_asked (verdict_at old moment bytes)
-    → lifted ≡ dues ++ lifting_learned asked answer
+    → lifted ≡ dues ++ lifting_learned asked settlement
     → copy ≡ bytes → after ≡ lifted ++ due.Own moment copy ∷ []
-    → taken ≡ answer_taken asked answer
-    → new ≡ with_event old (event.Own moment bytes taken)
-    → day_of new after ≡ after_recorded (day_of old dues) (event.Own moment bytes answer)
+    → taken ≡ settlement_taken asked settlement
+    → new ≡ with_event old (event.Received moment bytes taken)
+    → day_of new after ≡ after_recorded (day_of old dues) (event.Received moment bytes settlement)
 unfolding after_recorded
-own_is_put old new dues lifted after moment bytes copy answer taken asked as_verdict put same pushed
+own_is_put old new dues lifted after moment bytes copy settlement taken asked as_verdict put same pushed
     as_taken came =
     days_are new _ after _
-    (came ∙ ap (λ (a : Option Settled). with_event old (event.Own moment bytes a)) as_taken)
+    (came ∙ ap (λ (a : Option Settled). with_event old (event.Received moment bytes a)) as_taken)
     (pushed ∙ ap (λ (b : List ℕ). lifted ++ due.Own moment b ∷ []) same
     ∙ ap (λ (l : List Due). l ++ due.Own moment bytes ∷ []) put)
-    ∙ ap (λ (a : Option ℕ). after_own (day_of old dues) moment bytes answer a) as_verdict
+    ∙ ap (λ (a : Option ℕ). after_own (day_of old dues) moment bytes settlement a) as_verdict
 
 pub drop_is_put : (old new : DeskEvents) (dues lifted after : List Due) (last moment : ℕ)
-    (answer taken : Option Settled) (asked : Option ℕ)
+    (settlement taken : Option Settled) (asked : Option ℕ)
     → asked ≡ number_to_drop (book_at old) last
-    → lifted ≡ dues ++ lifting_learned asked answer
+    → lifted ≡ dues ++ lifting_learned asked settlement
     → after ≡ lifted ++ due.Drop last moment ∷ []
-    → taken ≡ answer_taken asked answer
+    → taken ≡ settlement_taken asked settlement
     → new ≡ with_event old (event.Drop last moment taken)
-    → day_of new after ≡ after_recorded (day_of old dues) (event.Drop last moment answer)
+    → day_of new after ≡ after_recorded (day_of old dues) (event.Drop last moment settlement)
 unfolding after_recorded
-drop_is_put old new dues lifted after last moment answer taken asked as_asked put pushed as_taken
+drop_is_put old new dues lifted after last moment settlement taken asked as_asked put pushed as_taken
     came =
     days_are new _ after _
     (came ∙ ap (λ (a : Option Settled). with_event old (event.Drop last moment a)) as_taken)
     (pushed ∙ ap (λ (l : List Due). l ++ due.Drop last moment ∷ []) put)
-    ∙ ap (λ (a : Option ℕ). after_drop (day_of old dues) last moment answer a) as_asked
+    ∙ ap (λ (a : Option ℕ). after_drop (day_of old dues) last moment settlement a) as_asked
 
 pub shown_is_put : (old new : DeskEvents) (dues after : List Due) (room : RoomRef)
     (ask one other : Ask) (moment : ℕ) (now : DealerEvent)

@@ -17,7 +17,7 @@ use Rattle.market_terms.specs.declared.closes.Close.{Close}
 use Rattle.market_terms.specs.declared.rooms.RoomRef.{RoomRef}
 use Rattle.dealer_desk.specs.DealerFacts.{DealerFact, Told, book_of, number_to_drop}
 use Rattle.dealer_desk.specs.DealerRules.{dealer_verdict}
-use Rattle.dealer_desk.specs.DealerOutput.{DeskEvents, DeskState, after_event, answered_words}
+use Rattle.dealer_desk.specs.DealerOutput.{DeskEvents, DeskState, after_event, settled_words}
 use Rattle.dealer_desk.specs.DealerOutput.{asked_by, asked_word, closable, desk_after, event_facts}
 use Rattle.dealer_desk.specs.DealerOutput.{event_message, notice_of, sent_with, word_asked}
 use Rattle.dealer_desk.specs.DealerOutput.{book_at, verdict_at}
@@ -31,7 +31,7 @@ use Rattle.step_replay.specs.DealerView.{dealer_view, sent_at, view_at_start}
 use Rattle.step_replay.specs.declared.dues.Due.{Due}
 use Rattle.step_replay.specs.declared.dues.Due.TheVariants as due
 use Rattle.recorded_days.specs.DayDues.{AreAnsweredFrom, DayDues, after_drop, after_own}
-use Rattle.recorded_days.specs.DayDues.{after_recorded, answer_taken, dues_after, dues_at_start}
+use Rattle.recorded_days.specs.DayDues.{after_recorded, settlement_taken, dues_after, dues_at_start}
 use Rattle.recorded_days.specs.DayDues.{lifting_learned}
 use Rattle.recorded_days.proofs.DayDueLemmas.{AreOne, all_behind, all_front, answered_before}
 use Rattle.recorded_days.proofs.DayDueLemmas.{answered_last, kept_by_more, none_says}
@@ -40,14 +40,14 @@ use Rattle.recorded_days.proofs.DeskLemmas.{both, desk_push, view_of}
 -- the laws of a desk that are used: the words that are asked stand in the facts, event by event
 abbrev pub WordsGrow : Type 0
 WordsGrow = (date : List ℕ) (row : DealerRow) (events : List DealerEvent) (more : DealerEvent)
-    → answered_words (desk_after date row (events ++ more ∷ [])).facts
-    ≡ answered_words (desk_after date row events).facts
+    → settled_words (desk_after date row (events ++ more ∷ [])).facts
+    ≡ settled_words (desk_after date row events).facts
     ++ asked_by date row (book_of (desk_after date row events).facts) more
 
--- a quote is withdrawn where its word was answered so
+-- a quote is withdrawn where its word was settled so
 abbrev pub WithdrawnIsSaid : Type 0
 WithdrawnIsSaid = (facts : List DealerFact) (quote : ℕ)
-    → list_any (withdraws quote) facts ≡ list_any (says_withdrawn quote) (answered_words facts)
+    → list_any (withdraws quote) facts ≡ list_any (says_withdrawn quote) (settled_words facts)
 
 -- a quote of the day
 abbrev pub IsOfDay : DealerRow → ℕ → Type 0
@@ -69,7 +69,7 @@ pub record DaySeen (date : List ℕ) (row : DealerRow) (events : List DealerEven
   pub walked_is : desk_after date row walked ≡ desk_after date row events
   pub seen_is : desk_after date row seen ≡ desk_after date row events
   pub lifted_are : (quote : ℕ) → list_any (λ (one : ℕ). one == quote) lifted
-      ≡ list_any (says_lifted quote) (answered_words (desk_after date row events).facts)
+      ≡ list_any (says_lifted quote) (settled_words (desk_after date row events).facts)
 
 pub start_is_seen : (date : List ℕ) (row : DealerRow) → DaySeen date row []
 unfolding desk_after
@@ -123,7 +123,7 @@ module _ (date : List ℕ) (row : DealerRow) where
 
   lifting_seen : WithdrawnIsSaid → (seen : List DealerEvent) (lifted : List ℕ) (quote : ℕ)
       → IsOfDay row quote
-      → list_any (says_withdrawn quote) (answered_words (desk_after date row seen).facts) ≡ false
+      → list_any (says_withdrawn quote) (settled_words (desk_after date row seen).facts) ≡ false
       → after_due (view_of date row seen lifted) (due.Lifted quote)
       ≡ view_of date row seen (lifted ++ quote ∷ [])
   unfolding after_due
@@ -157,17 +157,17 @@ module _ (date : List ℕ) (row : DealerRow) where
   module _ (said : WithdrawnIsSaid) (events : List DealerEvent) (before : DaySeen date row events)
       (put : Option Settled → DealerEvent) (item : Due) (word_of : ℕ → Option Settled) where
     abbrev words : List (ℕ × Settled)
-    words = answered_words (desk_after date row events).facts
+    words = settled_words (desk_after date row events).facts
 
     abbrev view_with : List ℕ → DealerView
     view_with lifted = view_of date row before.seen lifted
 
     abbrev told : List ℕ → Option Settled → DealerView
-    told lifted answer = view_of date row (before.seen ++ put answer ∷ []) lifted
+    told lifted settlement = view_of date row (before.seen ++ put settlement ∷ []) lifted
 
     -- the desks have the event as it came
     abbrev came : Option Settled → DayDues → DealerEvent → Type 0
-    came answer next now =
+    came settlement next now =
         after_recorded (walk_of date row before.walked before.dues) now ≡ next
 
     not_lifted : (quote : ℕ) → word_of quote ≡ Some Withdrawn → AreOne word_of words
@@ -181,10 +181,10 @@ module _ (date : List ℕ) (row : DealerRow) where
         kinds Lifted = inr (λ same. cc)
 
     not_withdrawn : (quote : ℕ) → word_of quote ≡ Some Lifted → AreOne word_of words
-        → list_any (says_withdrawn quote) (answered_words (desk_after date row before.seen).facts)
+        → list_any (says_withdrawn quote) (settled_words (desk_after date row before.seen).facts)
         ≡ false
     not_withdrawn quote is one =
-        ap (λ (state : DeskState). list_any (says_withdrawn quote) (answered_words state.facts))
+        ap (λ (state : DeskState). list_any (says_withdrawn quote) (settled_words state.facts))
         before.seen_is
         ∙ none_says word_of quote Lifted is_taken_back is kinds words one
       where
@@ -192,17 +192,17 @@ module _ (date : List ℕ) (row : DealerRow) where
         kinds Withdrawn = inr (λ same. cc)
         kinds Lifted = inl refl
 
-    pub asking_seen : (asked : Option ℕ) (answer : Option Settled)
-        → is_some answer ≡ is_some asked → IfSome asked (IsOfDay row)
-        → after_recorded (walk_of date row before.walked before.dues) (put answer)
-        ≡ walk_of date row (before.walked ++ put (answer_taken asked answer) ∷ [])
-        (before.dues ++ lifting_learned asked answer ++ item ∷ [])
+    pub asking_seen : (asked : Option ℕ) (settlement : Option Settled)
+        → is_some settlement ≡ is_some asked → IfSome asked (IsOfDay row)
+        → after_recorded (walk_of date row before.walked before.dues) (put settlement)
+        ≡ walk_of date row (before.walked ++ put (settlement_taken asked settlement) ∷ [])
+        (before.dues ++ lifting_learned asked settlement ++ item ∷ [])
         → ((lifted : List ℕ) → after_due (view_with lifted) item
         ≡ told lifted (option_map (answer_to (view_with lifted)) asked))
-        → answered_words (desk_after date row (events ++ put answer ∷ [])).facts
-        ≡ words ++ asked_word asked answer
-        → AreOne word_of words → AreOne word_of (asked_word asked answer)
-        → DaySeen date row (events ++ put answer ∷ [])
+        → settled_words (desk_after date row (events ++ put settlement ∷ [])).facts
+        ≡ words ++ asked_word asked settlement
+        → AreOne word_of words → AreOne word_of (asked_word asked settlement)
+        → DaySeen date row (events ++ put settlement ∷ [])
     asking_seen None None both_are of_day recorded due_is said_now one last = record {
       seen = before.seen ++ put None ∷ [];
       walked = before.walked ++ put None ∷ [];
@@ -217,7 +217,7 @@ module _ (date : List ℕ) (row : DealerRow) where
       lifted_are = λ quote. before.lifted_are quote
           ∙ sym (ap (list_any (says_lifted quote)) (said_now ∙ append-nil words));
     }
-    asking_seen None (Some answer) both_are of_day recorded due_is said_now one last = absurd cc
+    asking_seen None (Some settlement) both_are of_day recorded due_is said_now one last = absurd cc
     asking_seen (Some quote) None both_are of_day recorded due_is said_now one last = absurd cc
     asking_seen (Some quote) (Some Withdrawn) both_are of_day recorded due_is said_now one last =
         let is : word_of quote ≡ Some Withdrawn =
@@ -299,7 +299,7 @@ module _ (date : List ℕ) (row : DealerRow) where
     lifted_are = λ quote. before.lifted_are quote
         ∙ sym (ap (list_any (says_lifted quote))
         (grows date row events (event.Shown room ask moment)
-        ∙ append-nil (answered_words (desk_after date row events).facts)));
+        ∙ append-nil (settled_words (desk_after date row events).facts)));
   }
 
   -- A notice.
@@ -390,7 +390,7 @@ module _ (date : List ℕ) (row : DealerRow) where
       lifted_are = λ quote. before.lifted_are quote
           ∙ sym (ap (list_any (says_lifted quote))
           (grows date row events now
-          ∙ append-nil (answered_words (desk_after date row events).facts)));
+          ∙ append-nil (settled_words (desk_after date row events).facts)));
     }
 
   -- Any event.
@@ -398,7 +398,7 @@ module _ (date : List ℕ) (row : DealerRow) where
   -- what is known of the events of a desk
   pub record Known (word_of : ℕ → Option Settled) (events : List DealerEvent) : Type 0 where
     pub answered : AreAnsweredFrom (record { date = date; row = row; events = [] }) events
-    pub one : AreOne word_of (answered_words (desk_after date row events).facts)
+    pub one : AreOne word_of (settled_words (desk_after date row events).facts)
 
   -- what a desk that an event comes to asks
   abbrev pub AskedOfDay : Type 0
@@ -420,7 +420,7 @@ module _ (date : List ℕ) (row : DealerRow) where
     known_before now known = record {
       answered = answered_before (record { date = date; row = row; events = [] }) events now
           known.answered;
-      one = all_front word_says (answered_words (desk_after date row events).facts)
+      one = all_front word_says (settled_words (desk_after date row events).facts)
           (asked_by date row (book_of (desk_after date row events).facts) now)
           (subst (λ (words : List (ℕ × Settled)). All word_says words)
           (grows date row events now) known.one);
@@ -430,7 +430,7 @@ module _ (date : List ℕ) (row : DealerRow) where
     last_one : (now : DealerEvent) → Known word_of (events ++ now ∷ [])
         → All word_says (asked_by date row (book_of (desk_after date row events).facts) now)
     last_one now known =
-        all_behind word_says (answered_words (desk_after date row events).facts)
+        all_behind word_says (settled_words (desk_after date row events).facts)
         (asked_by date row (book_of (desk_after date row events).facts) now)
         (subst (λ (words : List (ℕ × Settled)). All word_says words)
         (grows date row events now) known.one)
@@ -438,22 +438,22 @@ module _ (date : List ℕ) (row : DealerRow) where
     pub event_is_seen : (now : DealerEvent) → Known word_of (events ++ now ∷ [])
         → DaySeen date row events → DaySeen date row (events ++ now ∷ [])
     unfolding after_recorded after_due
-    event_is_seen (event.Own moment bytes answer) known before =
-        asking_seen said events before (event.Own moment bytes) (due.Own moment bytes) word_of
-        (word_asked (verdict_at desk moment bytes)) answer
+    event_is_seen (event.Received moment bytes settlement) known before =
+        asking_seen said events before (event.Received moment bytes) (due.Own moment bytes) word_of
+        (word_asked (verdict_at desk moment bytes)) settlement
         (answered_last (record { date = date; row = row; events = [] }) events
-        (event.Own moment bytes answer) known.answered)
+        (event.Received moment bytes settlement) known.answered)
         ((of_day desk).0 moment bytes)
         (ap (λ (asked : Option ℕ).
-        after_own (walk_of date row before.walked before.dues) moment bytes answer asked)
+        after_own (walk_of date row before.walked before.dues) moment bytes settlement asked)
         (ap asked_in before.walked_is))
         (λ lifted. ap (λ (asked : Option ℕ). view_of date row
-        (before.seen ++ event.Own moment bytes
+        (before.seen ++ event.Received moment bytes
         (option_map (answer_to (view_of date row before.seen lifted)) asked) ∷ []) lifted)
         (ap asked_in before.seen_is))
-        (grows date row events (event.Own moment bytes answer))
-        (known_before (event.Own moment bytes answer) known).one
-        (last_one (event.Own moment bytes answer) known)
+        (grows date row events (event.Received moment bytes settlement))
+        (known_before (event.Received moment bytes settlement) known).one
+        (last_one (event.Received moment bytes settlement) known)
       where
         asked_in : DeskState → Option ℕ
         asked_in state = word_asked (dealer_verdict date row (book_of state.facts) moment bytes)
@@ -461,22 +461,22 @@ module _ (date : List ℕ) (row : DealerRow) where
         shown_is_seen events before grows room ask moment
     event_is_seen (event.Told request close moment) known before =
         told_is_seen events before request close moment grows
-    event_is_seen (event.Drop last moment answer) known before =
+    event_is_seen (event.Drop last moment settlement) known before =
         asking_seen said events before (event.Drop last moment) (due.Drop last moment) word_of
-        (number_to_drop (book_at desk) last) answer
+        (number_to_drop (book_at desk) last) settlement
         (answered_last (record { date = date; row = row; events = [] }) events
-        (event.Drop last moment answer) known.answered)
+        (event.Drop last moment settlement) known.answered)
         ((of_day desk).1 last)
         (ap (λ (asked : Option ℕ).
-        after_drop (walk_of date row before.walked before.dues) last moment answer asked)
+        after_drop (walk_of date row before.walked before.dues) last moment settlement asked)
         (ap dropped_in before.walked_is))
         (λ lifted. ap (λ (asked : Option ℕ). view_of date row
         (before.seen ++ event.Drop last moment
         (option_map (answer_to (view_of date row before.seen lifted)) asked) ∷ []) lifted)
         (ap dropped_in before.seen_is))
-        (grows date row events (event.Drop last moment answer))
-        (known_before (event.Drop last moment answer) known).one
-        (last_one (event.Drop last moment answer) known)
+        (grows date row events (event.Drop last moment settlement))
+        (known_before (event.Drop last moment settlement) known).one
+        (last_one (event.Drop last moment settlement) known)
       where
         dropped_in : DeskState → Option ℕ
         dropped_in state = number_to_drop (book_of state.facts) last

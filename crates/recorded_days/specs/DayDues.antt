@@ -9,7 +9,7 @@ use Rattle.quote_word.specs.declared.settled.Settled.TheVariants.{Withdrawn, Lif
 use Rattle.venue_rows.specs.Rows.{Configuration, dealer_numbered}
 use Rattle.venue_rows.specs.declared.dealer_rows.DealerRow.{DealerRow}
 use Rattle.dealer_desk.specs.DealerFacts.{number_to_drop}
-use Rattle.dealer_desk.specs.DealerOutput.{DeskEvents, answered_words, book_at, facts_at}
+use Rattle.dealer_desk.specs.DealerOutput.{DeskEvents, settled_words, book_at, facts_at}
 use Rattle.dealer_desk.specs.DealerOutput.{verdict_at, with_event, with_notice, word_asked}
 use Rattle.dealer_desk.specs.declared.events.DealerEvent.{DealerEvent}
 use Rattle.dealer_desk.specs.declared.events.DealerEvent.TheVariants as event
@@ -19,31 +19,32 @@ use Rattle.recorded_days.specs.Records.{DealerLists, RecordedDay, dealer_in}
 
 -- the own number of the quote whose word an event asks, where it comes to this desk
 abbrev pub quote_asked : DeskEvents → DealerEvent → Option ℕ
-quote_asked desk (event.Own moment bytes answer) = word_asked (verdict_at desk moment bytes)
+quote_asked desk (event.Received moment bytes settlement) =
+    word_asked (verdict_at desk moment bytes)
 quote_asked desk (event.Shown room ask moment) = None
 quote_asked desk (event.Told request close moment) = None
-quote_asked desk (event.Drop last moment answer) = number_to_drop (book_at desk) last
+quote_asked desk (event.Drop last moment settlement) = number_to_drop (book_at desk) last
 
 -- what it was answered
-abbrev pub answer_of : DealerEvent → Option Settled
-answer_of (event.Own moment bytes answer) = answer
-answer_of (event.Shown room ask moment) = None
-answer_of (event.Told request close moment) = None
-answer_of (event.Drop last moment answer) = answer
+abbrev pub settlement_of : DealerEvent → Option Settled
+settlement_of (event.Received moment bytes settlement) = settlement
+settlement_of (event.Shown room ask moment) = None
+settlement_of (event.Told request close moment) = None
+settlement_of (event.Drop last moment settlement) = settlement
 
--- the lifting that a dealer learns of by an answer: that of the quote that was asked
+-- the lifting that a dealer learns of by a settlement: that of the quote that was asked
 abbrev pub lifting_learned : Option ℕ → Option Settled → List Due
 lifting_learned (Some quote) (Some Lifted) = due.Lifted quote ∷ []
 lifting_learned (Some quote) (Some Withdrawn) = []
 lifting_learned (Some quote) None = []
-lifting_learned None answer = []
+lifting_learned None settlement = []
 
--- A desk takes an answer exactly where a word is asked. In a list of events that no desk can have,
--- an answer that is missing counts as a withdrawal, and one that nothing asked as none.
-abbrev pub answer_taken : Option ℕ → Option Settled → Option Settled
-answer_taken (Some quote) (Some answer) = Some answer
-answer_taken (Some quote) None = Some Withdrawn
-answer_taken None answer = None
+-- A desk takes a settlement exactly where a word is asked. In a list of events that no desk can
+-- have, a settlement that is missing counts as a withdrawal, and one that nothing asked as none.
+abbrev pub settlement_taken : Option ℕ → Option Settled → Option Settled
+settlement_taken (Some quote) (Some settlement) = Some settlement
+settlement_taken (Some quote) None = Some Withdrawn
+settlement_taken None settlement = None
 
 -- How far the events have come: the desk, and what was due by them.
 pub record DayDues : Type 0 where
@@ -59,22 +60,22 @@ dues_at_start date row = record {
 
 -- after a message of the dealer's own that asks this quote's word, if it asks one
 abbrev pub after_own : DayDues → ℕ → List ℕ → Option Settled → Option ℕ → DayDues
-after_own day moment bytes answer asked = record {
-  desk = with_event day.desk (event.Own moment bytes (answer_taken asked answer));
-  dues = day.dues ++ lifting_learned asked answer ++ due.Own moment bytes ∷ [];
+after_own day moment bytes settlement asked = record {
+  desk = with_event day.desk (event.Received moment bytes (settlement_taken asked settlement));
+  dues = day.dues ++ lifting_learned asked settlement ++ due.Own moment bytes ∷ [];
 }
 
 -- after a drop, likewise
 abbrev pub after_drop : DayDues → ℕ → ℕ → Option Settled → Option ℕ → DayDues
-after_drop day last moment answer asked = record {
-  desk = with_event day.desk (event.Drop last moment (answer_taken asked answer));
-  dues = day.dues ++ lifting_learned asked answer ++ due.Drop last moment ∷ [];
+after_drop day last moment settlement asked = record {
+  desk = with_event day.desk (event.Drop last moment (settlement_taken asked settlement));
+  dues = day.dues ++ lifting_learned asked settlement ++ due.Drop last moment ∷ [];
 }
 
 -- after one event more
 unfoldable pub after_recorded : DayDues → DealerEvent → DayDues
-after_recorded day (event.Own moment bytes answer) =
-    after_own day moment bytes answer (word_asked (verdict_at day.desk moment bytes))
+after_recorded day (event.Received moment bytes settlement) =
+    after_own day moment bytes settlement (word_asked (verdict_at day.desk moment bytes))
 after_recorded day (event.Shown room ask moment) = record {
   desk = with_event day.desk (event.Shown room ask moment);
   dues = day.dues ++ due.Shown ask moment ∷ [];
@@ -83,8 +84,8 @@ after_recorded day (event.Told request close moment) = record {
   desk = with_notice day.desk request close moment;
   dues = day.dues ++ due.Closed request close moment ∷ [];
 }
-after_recorded day (event.Drop last moment answer) =
-    after_drop day last moment answer (number_to_drop (book_at day.desk) last)
+after_recorded day (event.Drop last moment settlement) =
+    after_drop day last moment settlement (number_to_drop (book_at day.desk) last)
 
 -- after these events
 abbrev pub dues_after : List ℕ → DealerRow → List DealerEvent → DayDues
@@ -101,11 +102,11 @@ day_dues_of config day dealer =
     option_map (λ (lists : DealerLists). day_due_list config.date row lists.events)
     (dealer_in day dealer)) (dealer_numbered config dealer)
 
--- When the answers of a desk agree.
+-- When the settlements of a desk agree.
 
--- an event that comes to this desk has an answer exactly where it asks a word
+-- an event that comes to this desk has a settlement exactly where it asks a word
 abbrev pub IsAnswered : DeskEvents → DealerEvent → Type 0
-IsAnswered desk now = is_some (answer_of now) ≡ is_some (quote_asked desk now)
+IsAnswered desk now = is_some (settlement_of now) ≡ is_some (quote_asked desk now)
 
 -- so has each of the events that come to it
 abbrev pub AreAnsweredFrom : DeskEvents → List DealerEvent → Type 0
@@ -117,7 +118,7 @@ AreAnsweredFrom desk (now ∷ later) =
 abbrev pub AreAnswered : DeskEvents → Type 0
 AreAnswered desk = AreAnsweredFrom (record desk { events = [] }) desk.events
 
--- the word of each quote is this, in all answers of a desk
+-- the word of each quote is this, in all settlements of a desk
 abbrev pub AnswersAre : (ℕ → Option Settled) → DeskEvents → Type 0
 AnswersAre word_of desk =
-    All (λ (asked : ℕ × Settled). word_of asked.0 ≡ Some asked.1) (answered_words (facts_at desk))
+    All (λ (asked : ℕ × Settled). word_of asked.0 ≡ Some asked.1) (settled_words (facts_at desk))

@@ -10,7 +10,7 @@ ghost use Rattle.step_replay.specs.DealerView.{dealer_view};
 
 use crate::records::DayRecord;
 use dealer_desk::{
-    DealerDesk, DealerEvent, facts_say_how_words_were_answered, what_is_asked_is_of_the_day,
+    DealerDesk, DealerEvent, facts_say_how_words_were_settled, what_is_asked_is_of_the_day,
     words_are_asked_event_by_event,
 };
 use fix_fields::{Date, Memory, Moment};
@@ -73,12 +73,12 @@ fn put_event(
         ≡ spec.after_recorded (record { desk = desk.old; dues = dues.old.items }) event.now) }
 {
     match event {
-        DealerEvent::Own {
+        DealerEvent::Received {
             moment,
             message,
-            answer,
+            settlement,
         } => {
-            put_own(alloc, desk, dues, *moment, message.as_bytes(), *answer)?;
+            put_received(alloc, desk, dues, *moment, message.as_bytes(), *settlement)?;
             Ok(())
         }
         DealerEvent::Shown { room, ask, moment } => {
@@ -98,33 +98,33 @@ fn put_event(
         DealerEvent::Drop {
             last,
             moment,
-            answer,
+            settlement,
         } => {
-            put_drop(desk, dues, *last, *moment, *answer)?;
+            put_drop(desk, dues, *last, *moment, *settlement)?;
             Ok(())
         }
     }
 }
 
 /// Puts a message of the dealer's own behind some dues, and before it the lifting that the desk
-/// learns of by its answer.
-fn put_own(
+/// learns of by its settlement.
+fn put_received(
     alloc: Global,
     desk: &mut DealerDesk,
     dues: &mut Vec<Due>,
     moment: Moment,
     bytes: &[u8],
-    answer: Option<Settled>,
+    settlement: Option<Settled>,
 ) -> Result<(), Memory>
     ensures { OnOk result (record { desk = desk.new; dues = dues.new.items }
         ≡ spec.after_recorded (record { desk = desk.old; dues = dues.old.items })
-        (DealerEvent.Own moment bytes.now answer)) }
+        (DealerEvent.Received moment bytes.now settlement)) }
 {
     let verdict = desk.judge(moment, bytes);
     let asked = verdict.word_asked();
-    put_lifting(dues, asked, answer)?;
+    put_lifting(dues, asked, settlement)?;
     dues.push(Due::Own(moment, Message::copy_of(alloc, bytes)?))?;
-    desk.take_judged(moment, bytes, verdict, answer_taken(asked, answer))?;
+    desk.receive_judged(moment, bytes, verdict, settlement_taken(asked, settlement))?;
     Ok(())
 }
 
@@ -134,52 +134,53 @@ fn put_drop(
     dues: &mut Vec<Due>,
     last: u32,
     moment: Moment,
-    answer: Option<Settled>,
+    settlement: Option<Settled>,
 ) -> Result<(), Memory>
     ensures { OnOk result (record { desk = desk.new; dues = dues.new.items }
         ≡ spec.after_recorded (record { desk = desk.old; dues = dues.old.items })
-        (DealerEvent.Drop last moment answer)) }
+        (DealerEvent.Drop last moment settlement)) }
 {
     let asked = desk.question_drop(last);
-    put_lifting(dues, asked, answer)?;
+    put_lifting(dues, asked, settlement)?;
     dues.push(Due::Drop(last, moment))?;
-    desk.drop_one(last, moment, answer_taken(asked, answer))?;
+    desk.drop_one(last, moment, settlement_taken(asked, settlement))?;
     Ok(())
 }
 
-/// Puts the lifting that a dealer learns of by an answer behind some dues, where it learns of one.
+/// Puts the lifting that a dealer learns of by a settlement behind some dues, where it learns of
+/// one.
 fn put_lifting(
     dues: &mut Vec<Due>,
     asked: Option<u32>,
-    answer: Option<Settled>,
+    settlement: Option<Settled>,
 ) -> Result<(), Memory>
     ensures { OnOk result
-        (dues.new.items ≡ dues.old.items ++ spec.lifting_learned asked answer) }
+        (dues.new.items ≡ dues.old.items ++ spec.lifting_learned asked settlement) }
 {
     let Some(quote) = asked else {
         return Ok(());
     };
-    let Some(Settled::Lifted) = answer else {
+    let Some(Settled::Lifted) = settlement else {
         return Ok(());
     };
     dues.push(Due::Lifted(quote))?;
     Ok(())
 }
 
-/// The answer that a desk takes of the quote that was asked.
-fn answer_taken(asked: Option<u32>, answer: Option<Settled>) -> Option<Settled>
-    ensures { result ≡ spec.answer_taken asked answer }
+/// The settlement that a desk takes of the quote that was asked.
+fn settlement_taken(asked: Option<u32>, settlement: Option<Settled>) -> Option<Settled>
+    ensures { result ≡ spec.settlement_taken asked settlement }
 {
     let _asked = asked?;
-    let Some(settled) = answer else {
+    let Some(settled) = settlement else {
         return Some(Settled::Withdrawn);
     };
     Some(settled)
 }
 
-/// A law: whatever the liftings were that no dealer saw, where each event of a desk had an answer
-/// exactly where it asked a word, and all answers of one word agree, what the desk sent is the
-/// dealer view of what was due by its events. It does nothing.
+/// A law: whatever the liftings were that no dealer saw, where each event of a desk had a
+/// settlement exactly where it asked a word, and all settlements of one word agree, what the desk
+/// sent is the dealer view of what was due by its events. It does nothing.
 pub fn recorded_dealers_are_sent_their_view()
     ensures { (date : List ℕ) (row : DealerRow) (events : List DealerEvent)
         (word_of : ℕ → Option Settled)
@@ -189,13 +190,13 @@ pub fn recorded_dealers_are_sent_their_view()
         ≡ dealer_view date row (spec.day_due_list date row events) }
 {
     words_are_asked_event_by_event();
-    facts_say_how_words_were_answered();
+    facts_say_how_words_were_settled();
     what_is_asked_is_of_the_day();
 }
 
-/// A law: each event of a desk had an answer exactly where it asked a word, where so had each
+/// A law: each event of a desk had a settlement exactly where it asked a word, where so had each
 /// before, and so has the last. It does nothing.
-pub fn events_are_answered_one_by_one()
+pub fn events_are_settled_one_by_one()
     ensures none { (date : List ℕ) (row : DealerRow)
         → spec.AreAnswered (record { date = date; row = row; events = [] }) }
     ensures more { (desk : DeskEvents) (now : DealerEvent)

@@ -12,7 +12,7 @@
 //!
 //! - [`DayRecord::due`] is what was due to a dealer by the events at its desk, and
 //!   [`recorded_dealers_are_sent_their_view`] the law that what its desk sent is the dealer view of
-//!   that. [`events_are_answered_one_by_one`] says how a premise of it is kept event by event.
+//!   that. [`events_are_settled_one_by_one`] says how a premise of it is kept event by event.
 #![tactic(auto)]
 
 mod actions;
@@ -20,5 +20,5 @@ mod day_dues;
 mod records;
 
 pub use actions::{Action, Inbound, Kind, Sweep};
-pub use day_dues::{events_are_answered_one_by_one, recorded_dealers_are_sent_their_view};
+pub use day_dues::{events_are_settled_one_by_one, recorded_dealers_are_sent_their_view};
 pub use records::{DayRecord, DealerDay, InvestorDay, RoomDay};

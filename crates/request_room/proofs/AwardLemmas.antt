@@ -9,7 +9,7 @@ use Rattle.request_room.specs.declared.ends.End.{End}
 use Rattle.request_room.specs.declared.ends.EndKind.TheVariants.{Awarded}
 use Rattle.request_room.specs.declared.events.RoomEvent.{RoomEvent}
 use Rattle.request_room.specs.declared.events.RoomEvent.TheVariants as event
-use Rattle.request_room.specs.declared.quotes.StandingQuote.{StandingQuote}
+use Rattle.request_room.specs.declared.quotes.PostedQuote.{PostedQuote}
 use Rattle.request_room.specs.declared.requests.RoomRequest.{RoomRequest}
 use Rattle.request_room.specs.RoomFacts.{RoomFact, Opened, Readied, Posted, Unposted, Noted, Ended}
 use Rattle.request_room.specs.RoomFacts.{ended_as, end_of, is_open, is_vacant, is_opening}
@@ -47,13 +47,13 @@ meant_if_not_refused facts w moment h =
     ((is_none meant, refusal.Gone) ∷ last) at_open.1 in
     (passed_first (is_none meant) refusal.Gone last at_deadline.1).0
 
-named_apart : (dealer : ℕ) (cover : Option StandingQuote)
+named_apart : (dealer : ℕ) (cover : Option PostedQuote)
     → IfSome cover (λ quote. quote.dealer ≢ dealer)
     → IfSome (option_map (λ quote. quote.dealer) cover) (λ other. other ≢ dealer)
 named_apart dealer None h = tt
 named_apart dealer (Some quote) h = h
 
-cover_apart : (request : Option RoomRequest) (winner : StandingQuote) (book : List StandingQuote)
+cover_apart : (request : Option RoomRequest) (winner : PostedQuote) (book : List PostedQuote)
     → IfSome (option_map (λ quote. quote.dealer) (cover_for request (Some winner) book))
     (λ other. other ≢ winner.dealer)
 cover_apart None winner book = tt
@@ -61,8 +61,8 @@ cover_apart (Some request) winner book =
     named_apart winner.dealer (cover_of request.ask.side winner.dealer book)
     (cover_is_another request.ask.side winner.dealer book)
 
-award_with : (request : Option RoomRequest) (meant : Option StandingQuote)
-    (book : List StandingQuote) → is_none meant ≡ false
+award_with : (request : Option RoomRequest) (meant : Option PostedQuote)
+    (book : List PostedQuote) → is_none meant ≡ false
     → IsEndOf Awarded (option_map (λ quote. (quote.dealer, quote.word)) meant)
     (option_map (λ quote. quote.dealer) (cover_for request meant book))
 award_with request None book h = absurd (cc)
@@ -79,11 +79,11 @@ by_word : (so : Bool) (award : End) (moment : ℕ) → IsLawful award
 by_word true award moment lawful = lawful
 by_word false award moment lawful = tt
 
-settled_lawfully : (refused : Option HitRefusal) (answer : Option Settled) (award : End)
+settled_lawfully : (refused : Option HitRefusal) (settlement : Option Settled) (award : End)
     (moment : ℕ) → (refused ≡ None → IsLawful award)
-    → IfSome (end_of (end_by (hit_settled refused answer award) moment)) IsLawful
-settled_lawfully (Some refused) answer award moment h = tt
-settled_lawfully None answer award moment h = by_word (is_lift answer) award moment (h refl)
+    → IfSome (end_of (end_by (hit_settled refused settlement award) moment)) IsLawful
+settled_lawfully (Some refused) settlement award moment h = tt
+settled_lawfully None settlement award moment h = by_word (is_lift settlement) award moment (h refl)
 
 -- Event by event.
 
@@ -116,8 +116,8 @@ adds_lawfully facts (event.Unpost dealer w) =
 adds_lawfully facts (event.Decline dealer) =
     nothing_lawful (where_so (takes_quotes facts) (Noted dealer))
     (quiet (takes_quotes facts) (Noted dealer) refl)
-adds_lawfully facts (event.Hit w moment answer) =
-    settled_lawfully (hit_refusal facts w moment) answer (award_of facts w) moment
+adds_lawfully facts (event.Hit w moment settlement) =
+    settled_lawfully (hit_refusal facts w moment) settlement (award_of facts w) moment
     (award_is_lawful facts w moment)
 adds_lawfully facts (event.Pass moment) = ended_where (is_open facts) passed moment (refl, refl)
 adds_lawfully facts (event.Expire moment) =

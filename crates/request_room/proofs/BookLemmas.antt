@@ -5,7 +5,7 @@ use Rattle.std.specs.List.{list_any}
 use Rattle.std.proofs.lemmas.Bool.Decides.{nat_tests}
 use Rattle.std.proofs.lemmas.List.Elements.{All-nil, All-cons}
 use Rattle.std.proofs.lemmas.List.Kept.{AllPairs-cons}
-use Rattle.request_room.specs.declared.quotes.StandingQuote.{StandingQuote}
+use Rattle.request_room.specs.declared.quotes.PostedQuote.{PostedQuote}
 use Rattle.request_room.specs.RoomFacts.{RoomFact, Opened, Readied, Posted, Unposted, Noted, Ended}
 use Rattle.request_room.specs.Book.{book_of, takes_out}
 
@@ -21,14 +21,14 @@ apart : (dealer other : ℕ) → (dealer == other) ≡ false → dealer ≢ othe
 apart dealer other h = grind (arith, nat_tests)
 
 -- a quote that no later fact takes out, and the quotes that were posted later
-one_apart : (taken : Bool) (quote next : StandingQuote) (book : List StandingQuote)
+one_apart : (taken : Bool) (quote next : PostedQuote) (book : List PostedQuote)
     → quote.dealer ≢ next.dealer → All (λ other. quote.dealer ≢ other.dealer) book
     → All (λ other. quote.dealer ≢ other.dealer) (cond taken book (next ∷ book))
 one_apart true quote next book differs more = more
 one_apart false quote next book differs more =
     All-cons (λ other. quote.dealer ≢ other.dealer) next book differs more
 
-all_apart : (quote : StandingQuote) (later : List RoomFact) → list_any (takes_out quote) later
+all_apart : (quote : PostedQuote) (later : List RoomFact) → list_any (takes_out quote) later
     ≡ false → All (λ other. quote.dealer ≢ other.dealer) (book_of later)
 all_apart quote [] h = All-nil (λ other. quote.dealer ≢ other.dealer)
 all_apart quote (Posted next ∷ later) h =
@@ -45,7 +45,7 @@ all_apart quote (Unposted dealer w ∷ later) h =
 all_apart quote (Noted dealer ∷ later) h = all_apart quote later h
 all_apart quote (Ended end moment ∷ later) h = all_apart quote later h
 
-one_more : (taken : Bool) (quote : StandingQuote) (later : List RoomFact)
+one_more : (taken : Bool) (quote : PostedQuote) (later : List RoomFact)
     → list_any (takes_out quote) later ≡ taken
     → AllPairs (λ one other. one.dealer ≢ other.dealer) (book_of later)
     → AllPairs (λ one other. one.dealer ≢ other.dealer)

@@ -11,7 +11,7 @@ use Rattle.std.proofs.lemmas.List.MinMax.{IsFirstBest-from_best_of, IsStrictWeak
 use Rattle.std.proofs.lemmas.List.MinMax.{IsStrictWeakOrder-flip}
 use Rattle.market_terms.specs.declared.asks.Side.{Side}
 use Rattle.market_terms.specs.declared.asks.Side.TheVariants.{Buy, Sell}
-use Rattle.request_room.specs.declared.quotes.StandingQuote.{StandingQuote}
+use Rattle.request_room.specs.declared.quotes.PostedQuote.{PostedQuote}
 use Rattle.request_room.specs.Book.{has_better_price, others, best_of, cover_of, IsBest}
 
 -- The best of some quotes.
@@ -32,7 +32,7 @@ by_price Sell =
     (IsStrictWeakOrder-by_number (λ quote. quote.price))
 
 -- what stands at the first place at which none is better is found
-best_found : (side : Side) (quotes : List StandingQuote) (b : ℕ) (d : StandingQuote)
+best_found : (side : Side) (quotes : List PostedQuote) (b : ℕ) (d : PostedQuote)
     → IsFirstBest (has_better_price side) quotes (length quotes) b → best_of side quotes
     ≡ Some (get_or quotes b d)
 best_found side quotes b d best =
@@ -47,12 +47,12 @@ best_found side quotes b d best =
     quotes b d best.0 (best.2 k d below)))
 
 -- there is a best of some quotes where there are any
-best_of_some : (side : Side) (first : StandingQuote) (later : List StandingQuote)
-    → (best : StandingQuote) × (best_of side (first ∷ later) ≡ Some best)
+best_of_some : (side : Side) (first : PostedQuote) (later : List PostedQuote)
+    → (best : PostedQuote) × (best_of side (first ∷ later) ≡ Some best)
     × IsBest side (first ∷ later) best
 best_of_some side first later =
     let found = IsFirstBest-from_best_of (by_price side) first later in
-    let best : StandingQuote = get_or (first ∷ later) found.0 first in
+    let best : PostedQuote = get_or (first ∷ later) found.0 first in
     let is_best : IsBest side (first ∷ later) best =
     record {
       place = found.0;
@@ -62,12 +62,12 @@ best_of_some side first later =
     } in
     (best, best_found side (first ∷ later) found.0 first found.1, is_best)
 
-best_is_best : (side : Side) (quotes : List StandingQuote)
+best_is_best : (side : Side) (quotes : List PostedQuote)
     → IfSome (best_of side quotes) (λ best. IsBest side quotes best)
 best_is_best side [] = tt
 best_is_best side (first ∷ later) = let found = best_of_some side first later in rw found.1 found.2
 
-best_if_any : (side : Side) (quotes : List StandingQuote) → best_of side quotes ≡ None → quotes ≡ []
+best_if_any : (side : Side) (quotes : List PostedQuote) → best_of side quotes ≡ None → quotes ≡ []
 best_if_any side [] h = refl
 best_if_any side (first ∷ later) h = let found = best_of_some side first later in
     let clash : Some found.0 ≡ None = sym found.1 ∙ h in absurd (cc)
@@ -75,16 +75,16 @@ best_if_any side (first ∷ later) h = let found = best_of_some side first later
 -- The cover.
 
 -- the cover is the best of the quotes of the other dealers
-pub cover_is_best : (side : Side) (winner : ℕ) (book : List StandingQuote)
+pub cover_is_best : (side : Side) (winner : ℕ) (book : List PostedQuote)
     → IfSome (cover_of side winner book) (λ cover. IsBest side (others winner book) cover)
 unfolding cover_of
 cover_is_best side winner book = best_is_best side (others winner book)
 
-no_best : (side : Side) (quotes : List StandingQuote) → quotes ≡ [] → best_of side quotes ≡ None
+no_best : (side : Side) (quotes : List PostedQuote) → quotes ≡ [] → best_of side quotes ≡ None
 no_best side quotes h = ap (best_of side) h
 
 -- there is none exactly where no other dealer's quote stands
-pub cover_if_any : (side : Side) (winner : ℕ) (book : List StandingQuote)
+pub cover_if_any : (side : Side) (winner : ℕ) (book : List PostedQuote)
     → (cover_of side winner book ≡ None) ↔ (others winner book ≡ [])
 unfolding cover_of
 cover_if_any side winner book =
@@ -107,14 +107,14 @@ found_passes p q (x ∷ xs) = found_step p q x xs (p x) refl (found_passes p q x
 another : (dealer winner : ℕ) → not (dealer == winner) ≡ true → dealer ≢ winner
 another dealer winner h = grind (arith, nat_tests)
 
-passes_another : (winner : ℕ) (found : Option StandingQuote)
+passes_another : (winner : ℕ) (found : Option PostedQuote)
     → IfSome found (λ quote. not (quote.dealer == winner) ≡ true)
     → IfSome found (λ quote. quote.dealer ≢ winner)
 passes_another winner None h = tt
 passes_another winner (Some quote) h = another quote.dealer winner h
 
 -- the cover is never the winner's quote
-pub cover_is_another : (side : Side) (winner : ℕ) (book : List StandingQuote)
+pub cover_is_another : (side : Side) (winner : ℕ) (book : List PostedQuote)
     → IfSome (cover_of side winner book) (λ cover. cover.dealer ≢ winner)
 unfolding cover_of
 cover_is_another side winner book =
@@ -126,7 +126,7 @@ cover_is_another side winner book =
 -- The best so far, quote by quote.
 
 -- the best of some quotes is the first that no later one beats
-pub best_is_so_far : (side : Side) (first : StandingQuote) (later : List StandingQuote)
+pub best_is_so_far : (side : Side) (first : PostedQuote) (later : List PostedQuote)
     → best_of side (first ∷ later) ≡ Some (best_so_far (has_better_price side) first later)
 best_is_so_far side first later =
     let found = IsFirstBest-from_best_of (by_price side) first later in

@@ -64,8 +64,8 @@ no_fact_more facts (event.Unpost dealer w) h =
 no_fact_more facts (event.Decline dealer) h =
     no_fact (takes_quotes facts) (Noted dealer)
     (closed_by (is_some (request_of facts)) (is_ended facts) h)
-no_fact_more facts (event.Hit w moment answer) h =
-    ap (λ refused. end_by (hit_settled refused answer (award_of facts w)) moment)
+no_fact_more facts (event.Hit w moment settlement) h =
+    ap (λ refused. end_by (hit_settled refused settlement (award_of facts w)) moment)
     (hit_not_open facts w moment (closed_by (is_ready facts) (is_ended facts) h))
 no_fact_more facts (event.Pass moment) h =
     no_fact (is_open facts) (Ended passed moment) (closed_by (is_ready facts) (is_ended facts) h)
@@ -116,7 +116,7 @@ one_fact facts event.Ready = one_where _ _
 one_fact facts (event.Post dealer w price until) = one_where _ _
 one_fact facts (event.Unpost dealer w) = one_where _ _
 one_fact facts (event.Decline dealer) = one_where _ _
-one_fact facts (event.Hit w moment answer) = one_by _ _
+one_fact facts (event.Hit w moment settlement) = one_by _ _
 one_fact facts (event.Pass moment) = one_where _ _
 one_fact facts (event.Expire moment) = one_where _ _
 

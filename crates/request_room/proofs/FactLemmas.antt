@@ -4,7 +4,7 @@ use Rattle.std.proofs.Common.{Option, Some, None, filter, refl, ap, sym, ◌∙�
 use Rattle.std.proofs.lemmas.List.{append-nil}
 use Rattle.std.specs.List.{list_any}
 use Rattle.std.specs.Option.{option_or}
-use Rattle.request_room.specs.declared.quotes.StandingQuote.{StandingQuote}
+use Rattle.request_room.specs.declared.quotes.PostedQuote.{PostedQuote}
 use Rattle.request_room.specs.declared.requests.RoomRequest.{RoomRequest}
 use Rattle.request_room.specs.declared.ends.End.{End}
 use Rattle.request_room.specs.RoomFacts.{RoomFact, Opened, Readied, Posted, Unposted, Noted, Ended}
@@ -83,15 +83,15 @@ ready_now facts = sym (any_after is_readied facts Readied ∙ or_true (is_ready 
 -- The book.
 
 -- the quotes that a fact leaves in the book
-abbrev pub left_by : RoomFact → List StandingQuote → List StandingQuote
+abbrev pub left_by : RoomFact → List PostedQuote → List PostedQuote
 left_by fact book = filter (λ quote. not (takes_out quote fact)) book
 
-keep_or_drop : (taken : Bool) (quote : StandingQuote) (left new : List StandingQuote)
+keep_or_drop : (taken : Bool) (quote : PostedQuote) (left new : List PostedQuote)
     → cond taken (left ++ new) (quote ∷ (left ++ new)) ≡ cond (not taken) (quote ∷ left) left ++ new
 keep_or_drop true quote left new = refl
 keep_or_drop false quote left new = refl
 
-one_quote : (gone : Bool) (quote : StandingQuote) (book new : List StandingQuote) (fact : RoomFact)
+one_quote : (gone : Bool) (quote : PostedQuote) (book new : List PostedQuote) (fact : RoomFact)
     → cond (gone || takes_out quote fact) (left_by fact book ++ new)
     (quote ∷ (left_by fact book ++ new)) ≡ left_by fact (cond gone book (quote ∷ book)) ++ new
 one_quote true quote book new fact = refl
@@ -111,12 +111,12 @@ book_after (Unposted dealer w ∷ later) fact = book_after later fact
 book_after (Noted dealer ∷ later) fact = book_after later fact
 book_after (Ended end moment ∷ later) fact = book_after later fact
 
-all_left : (book : List StandingQuote) → filter (λ quote. true) book ≡ book
+all_left : (book : List PostedQuote) → filter (λ quote. true) book ≡ book
 all_left [] = refl
 all_left (quote ∷ book) = ap (λ more. quote ∷ more) (all_left book)
 
 -- a fact that takes out nothing and posts nothing
-same_book : (book : List StandingQuote) → filter (λ quote. true) book ++ [] ≡ book
+same_book : (book : List PostedQuote) → filter (λ quote. true) book ++ [] ≡ book
 same_book book = append-nil (filter (λ quote. true) book) ∙ all_left book
 
 pub book_opened : (facts : List RoomFact) (request : RoomRequest) → book_of facts

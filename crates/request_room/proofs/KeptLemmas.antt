@@ -9,7 +9,7 @@ use Rattle.quote_word.specs.declared.settled.Settled.{Settled}
 use Rattle.request_room.specs.declared.ends.End.{End}
 use Rattle.request_room.specs.declared.events.RoomEvent.{RoomEvent}
 use Rattle.request_room.specs.declared.events.RoomEvent.TheVariants as event
-use Rattle.request_room.specs.declared.quotes.StandingQuote.{StandingQuote}
+use Rattle.request_room.specs.declared.quotes.PostedQuote.{PostedQuote}
 use Rattle.request_room.specs.declared.requests.RoomRequest.{RoomRequest}
 use Rattle.request_room.specs.RoomFacts.{RoomFact, Opened, Readied, Posted, Unposted, Noted, Ended}
 use Rattle.request_room.specs.RoomFacts.{opened_for, ended_as, request_of, end_of, is_ready}
@@ -48,7 +48,7 @@ kept_vacant =
 -- What is kept after one fact more.
 
 module _ (facts : List RoomFact) (request : Option RoomRequest) (ready : Bool)
-    (book : List StandingQuote) (end : Option End) where
+    (book : List PostedQuote) (end : Option End) where
   keeps_opened : (opened : RoomRequest) → Keeps facts None ready book end
       → Keeps (facts ++ Opened opened ∷ []) (Some opened) ready book end
   keeps_opened opened kept = record {
@@ -67,7 +67,7 @@ module _ (facts : List RoomFact) (request : Option RoomRequest) (ready : Bool)
     end_is = kept.end_is ∙ said_by_others ended_as facts Readied refl;
   }
 
-  keeps_posted : (quote : StandingQuote) → Keeps facts request ready book end
+  keeps_posted : (quote : PostedQuote) → Keeps facts request ready book end
       → Keeps (facts ++ Posted quote ∷ []) request ready (others quote.dealer book ++ quote ∷ [])
       end
   keeps_posted quote kept = record {
@@ -136,10 +136,10 @@ adds_none : (so : Bool) (fact : RoomFact) → so ≡ false → where_so so fact 
 adds_none so fact h = ap (λ b. where_so b fact) h
 
 -- a hit that awards is taken by an open room
-refused_none : (refused : Option HitRefusal) (answer : Option Settled) (award award' : End)
-    → hit_settled refused answer award ≡ Ok award' → refused ≡ None
-refused_none None answer award award' h = refl
-refused_none (Some refused) answer award award' h = absurd (cc)
+refused_none : (refused : Option HitRefusal) (settlement : Option Settled) (award award' : End)
+    → hit_settled refused settlement award ≡ Ok award' → refused ≡ None
+refused_none None settlement award award' h = refl
+refused_none (Some refused) settlement award award' h = absurd (cc)
 
 open_first : (is_so : Bool) (checks : List (Bool × HitRefusal))
     → first_refusal ((not is_so, refusal.NotOpen) ∷ checks) ≡ None → is_so ≡ true
@@ -151,17 +151,17 @@ open_if_not_refused : (facts : List RoomFact) (w moment : ℕ) → hit_refusal f
 unfolding hit_refusal
 open_if_not_refused facts w moment h = open_first (is_open facts) (open_checks facts w moment) h
 
-no_end_at_award : (facts : List RoomFact) (w moment : ℕ) (answer : Option Settled) (award : End)
-    → hit_outcome facts w moment answer ≡ Ok award → end_of facts ≡ None
-no_end_at_award facts w moment answer award h =
+no_end_at_award : (facts : List RoomFact) (w moment : ℕ) (settlement : Option Settled) (award : End)
+    → hit_outcome facts w moment settlement ≡ Ok award → end_of facts ≡ None
+no_end_at_award facts w moment settlement award h =
     open_has_no_end facts (open_if_not_refused facts w moment
-    (refused_none (hit_refusal facts w moment) answer (award_of facts w) award h))
+    (refused_none (hit_refusal facts w moment) settlement (award_of facts w) award h))
 
 module _ (events : List RoomEvent) (request : Option RoomRequest) (ready : Bool)
-    (book : List StandingQuote) (end : Option End) where
+    (book : List PostedQuote) (end : Option End) where
   -- an event that adds these facts
   kept_after : (event : RoomEvent) (added : List RoomFact) (request' : Option RoomRequest)
-      (ready' : Bool) (book' : List StandingQuote) (end' : Option End)
+      (ready' : Bool) (book' : List PostedQuote) (end' : Option End)
       → event_facts (room_after events) event ≡ added
       → Keeps (room_after events ++ added) request' ready' book' end'
       → Keeps (room_after (events ++ event ∷ [])) request' ready' book' end'
@@ -213,7 +213,7 @@ module _ (events : List RoomEvent) (request : Option RoomRequest) (ready : Bool)
       (others dealer book ++ quote_posted dealer w price until ∷ []) end
   unfolding event_facts
   kept_post dealer w price until h kept =
-      let quote : StandingQuote = quote_posted dealer w price until in
+      let quote : PostedQuote = quote_posted dealer w price until in
       kept_after (event.Post dealer w price until) (Posted quote ∷ []) request ready
       (others dealer book ++ quote ∷ []) end
       (adds_one (takes_quotes (room_after events)) (Posted quote) h)
@@ -302,22 +302,22 @@ module _ (events : List RoomEvent) (request : Option RoomRequest) (ready : Bool)
       kept_unchanged (event.Expire moment)
       (adds_none (may_expire (room_after events) moment) (Ended expired moment) h) kept
 
-  pub kept_hit_refused : (w moment : ℕ) (answer : Option Settled) (refused : HitRefusal)
-      → hit_outcome (room_after events) w moment answer ≡ Err refused
+  pub kept_hit_refused : (w moment : ℕ) (settlement : Option Settled) (refused : HitRefusal)
+      → hit_outcome (room_after events) w moment settlement ≡ Err refused
       → Keeps (room_after events) request ready book end
-      → Keeps (room_after (events ++ event.Hit w moment answer ∷ [])) request ready book end
+      → Keeps (room_after (events ++ event.Hit w moment settlement ∷ [])) request ready book end
   unfolding event_facts
-  kept_hit_refused w moment answer refused h kept =
-      kept_unchanged (event.Hit w moment answer) (ap (λ outcome. end_by outcome moment) h) kept
+  kept_hit_refused w moment settlement refused h kept =
+      kept_unchanged (event.Hit w moment settlement) (ap (λ outcome. end_by outcome moment) h) kept
 
-  pub kept_hit : (w moment : ℕ) (answer : Option Settled) (award : End)
-      → hit_outcome (room_after events) w moment answer ≡ Ok award
+  pub kept_hit : (w moment : ℕ) (settlement : Option Settled) (award : End)
+      → hit_outcome (room_after events) w moment settlement ≡ Ok award
       → Keeps (room_after events) request ready book end
-      → Keeps (room_after (events ++ event.Hit w moment answer ∷ [])) request ready book
+      → Keeps (room_after (events ++ event.Hit w moment settlement ∷ [])) request ready book
       (Some award)
   unfolding event_facts
-  kept_hit w moment answer award h kept =
-      kept_after (event.Hit w moment answer) (Ended award moment ∷ []) request ready book
+  kept_hit w moment settlement award h kept =
+      kept_after (event.Hit w moment settlement) (Ended award moment ∷ []) request ready book
       (Some award) (ap (λ outcome. end_by outcome moment) h)
       (keeps_ended (room_after events) request ready book end award moment
-      (no_end_at_award (room_after events) w moment answer award h) kept)
+      (no_end_at_award (room_after events) w moment settlement award h) kept)

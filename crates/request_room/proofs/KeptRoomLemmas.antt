@@ -13,7 +13,7 @@ use Rattle.request_room.specs.declared.book.RankedQuote.{RankedQuote}
 use Rattle.request_room.specs.declared.ends.End.{End}
 use Rattle.request_room.specs.declared.events.RoomEvent.{RoomEvent}
 use Rattle.request_room.specs.declared.events.RoomEvent.TheVariants as event
-use Rattle.request_room.specs.declared.quotes.StandingQuote.{StandingQuote}
+use Rattle.request_room.specs.declared.quotes.PostedQuote.{PostedQuote}
 use Rattle.request_room.specs.declared.requests.RoomRequest.{RoomRequest}
 use Rattle.request_room.specs.RoomFacts.{RoomFact, request_of, end_of, is_vacant}
 use Rattle.request_room.specs.RoomFacts.{is_opening, is_open, takes_quotes}
@@ -39,12 +39,12 @@ kept_is None side posted kept ranks = ranks.1 ∙ sym (ap (ranked side) ranks.0)
 kept_is (Some request) side posted kept ranks = ranks.1
 
 quotes-filter_step : (here : Bool) (one : RankedQuote) (left : List RankedQuote)
-    (rest : List StandingQuote) → quotes_in left ≡ rest → quotes_in (cond here (one ∷ left) left)
+    (rest : List PostedQuote) → quotes_in left ≡ rest → quotes_in (cond here (one ∷ left) left)
     ≡ cond here (one.quote ∷ rest) rest
 quotes-filter_step true one left rest h = ap (λ quotes. one.quote ∷ quotes) h
 quotes-filter_step false one left rest h = h
 
-quotes-filter : (p : StandingQuote → Bool) (posted : List RankedQuote)
+quotes-filter : (p : PostedQuote → Bool) (posted : List RankedQuote)
     → quotes_in (filter (λ one. p one.quote) posted) ≡ filter p (quotes_in posted)
 quotes-filter p [] = refl
 quotes-filter p (one ∷ later) =
@@ -75,7 +75,7 @@ until_later least end [] h = tt
 until_later least end (one ∷ later) h =
     (h.0, omega arith, until_later (one.posting + 1) end later h.2)
 
-posted_then : (least end : ℕ) (posted : List RankedQuote) (quote : StandingQuote) → least ≤ end
+posted_then : (least end : ℕ) (posted : List RankedQuote) (quote : PostedQuote) → least ≤ end
     → IsPostedIn least end posted → IsPostedIn least (end + 1)
     (posted ++ (record { posting = end; quote = quote }) ∷ [])
 posted_then least end [] quote room h = (room, omega arith, tt)
@@ -133,7 +133,7 @@ cover_ranked side winner posted =
     ∙ ap (best_of side) (quotes-filter (λ quote. not (quote.dealer == winner)) posted)
 
 cover_by_request : (request : Option RoomRequest) (side : Side) (posted kept : List RankedQuote)
-    (winner : StandingQuote) → Ranks request side posted kept
+    (winner : PostedQuote) → Ranks request side posted kept
     → option_map (λ one. one.quote) (find (λ one. not (one.quote.dealer == winner.dealer)) kept)
     ≡ cover_for request (Some winner) (quotes_in posted)
 cover_by_request None side posted kept winner ranks =
@@ -151,7 +151,7 @@ dealer_of None = refl
 dealer_of (Some one) = refl
 
 -- without a winner there is no cover
-pub no_cover : (request : Option RoomRequest) (book : List StandingQuote)
+pub no_cover : (request : Option RoomRequest) (book : List PostedQuote)
     → cover_for request None book ≡ None
 no_cover None book = refl
 no_cover (Some request) book = refl
@@ -162,7 +162,7 @@ module _ {facts : List RoomFact} {events : ℕ} {request : Option RoomRequest} {
   ranked_kept : kept ≡ ranked side room.posted
   ranked_kept = kept_is request side room.posted kept room.ranks
 
-  cover_quote : (winner : StandingQuote)
+  cover_quote : (winner : PostedQuote)
       → option_map (λ one. one.quote) (find (λ one. not (one.quote.dealer == winner.dealer)) kept)
       ≡ cover_for (request_of facts) (Some winner) (book_of facts)
   cover_quote winner =
@@ -170,7 +170,7 @@ module _ {facts : List RoomFact} {events : ℕ} {request : Option RoomRequest} {
       ∙ ap (λ asked. cover_for asked (Some winner) (quotes_in room.posted)) room.keeps.request_is
       ∙ ap (cover_for (request_of facts) (Some winner)) room.keeps.book_is
 
-  pub cover_is : (winner : StandingQuote)
+  pub cover_is : (winner : PostedQuote)
       → option_map (λ one. one.quote.dealer)
       (find (λ one. not (one.quote.dealer == winner.dealer)) kept)
       ≡ option_map (λ quote. quote.dealer)
@@ -204,13 +204,13 @@ and_left true other h = refl
 and_left false other h = h
 
 -- the posted quotes after one post more: those of the other dealers, and the new one behind them
-abbrev posted_with : List RankedQuote → ℕ → StandingQuote → List RankedQuote
+abbrev posted_with : List RankedQuote → ℕ → PostedQuote → List RankedQuote
 posted_with posted end quote =
     filter (λ one. not (one.quote.dealer == quote.dealer)) posted ++
     (record { posting = end; quote = quote }) ∷ []
 
 ranks_posted : (request : Option RoomRequest) (side : Side) (posted kept : List RankedQuote)
-    (end : ℕ) (quote : StandingQuote) → Ranks request side posted kept → is_some request ≡ true
+    (end : ℕ) (quote : PostedQuote) → Ranks request side posted kept → is_some request ≡ true
     → Ranks request side (posted_with posted end quote)
     (rank_in side (filter (λ one. not (one.quote.dealer == quote.dealer)) kept)
     (record { posting = end; quote = quote }))
@@ -224,7 +224,7 @@ ranks_posted (Some request) side posted kept end quote ranks h =
           ∙ sym (ranked-push side (filter is_other posted) new),
     )
 
-quotes_posted : (posted : List RankedQuote) (end : ℕ) (quote : StandingQuote)
+quotes_posted : (posted : List RankedQuote) (end : ℕ) (quote : PostedQuote)
     → quotes_in (posted_with posted end quote)
     ≡ others quote.dealer (quotes_in posted) ++ quote ∷ []
 quotes_posted posted end quote =
@@ -296,7 +296,7 @@ module _ (events : List RoomEvent) {request : Option RoomRequest} {ready : Bool}
       (rank_in side (filter (λ one. not (one.quote.dealer == dealer)) kept)
       (record { posting = length events; quote = quote_posted dealer w price until })) end
   room_post dealer w price until h =
-      let quote : StandingQuote = quote_posted dealer w price until in
+      let quote : PostedQuote = quote_posted dealer w price until in
       let asked : is_some request ≡ true =
       ap is_some room.keeps.request_is
       ∙ and_left (is_some (request_of (room_after events)))
@@ -386,20 +386,20 @@ module _ (events : List RoomEvent) {request : Option RoomRequest} {ready : Bool}
       (kept_expire_refused events request ready (quotes_in room.posted) end moment h room.keeps)
       room.ranks
 
-  pub room_hit : (w moment : ℕ) (answer : Option Settled) (award : End)
-      → hit_outcome (room_after events) w moment answer ≡ Ok award
-      → KeepsRoom (room_after (events ++ event.Hit w moment answer ∷ []))
-      (length (events ++ event.Hit w moment answer ∷ [])) request ready side kept (Some award)
-  room_hit w moment answer award h =
-      same_book (event.Hit w moment answer) request ready side (Some award)
-      (kept_hit events request ready (quotes_in room.posted) end w moment answer award h room.keeps)
+  pub room_hit : (w moment : ℕ) (settlement : Option Settled) (award : End)
+      → hit_outcome (room_after events) w moment settlement ≡ Ok award
+      → KeepsRoom (room_after (events ++ event.Hit w moment settlement ∷ []))
+      (length (events ++ event.Hit w moment settlement ∷ [])) request ready side kept (Some award)
+  room_hit w moment settlement award h =
+      same_book (event.Hit w moment settlement) request ready side (Some award)
+      (kept_hit events request ready (quotes_in room.posted) end w moment settlement award h room.keeps)
       room.ranks
 
-  pub room_hit_refused : (w moment : ℕ) (answer : Option Settled) (refused : HitRefusal)
-      → hit_outcome (room_after events) w moment answer ≡ Err refused
-      → KeepsRoom (room_after (events ++ event.Hit w moment answer ∷ []))
-      (length (events ++ event.Hit w moment answer ∷ [])) request ready side kept end
-  room_hit_refused w moment answer refused h =
-      same_book (event.Hit w moment answer) request ready side end
-      (kept_hit_refused events request ready (quotes_in room.posted) end w moment answer refused h
+  pub room_hit_refused : (w moment : ℕ) (settlement : Option Settled) (refused : HitRefusal)
+      → hit_outcome (room_after events) w moment settlement ≡ Err refused
+      → KeepsRoom (room_after (events ++ event.Hit w moment settlement ∷ []))
+      (length (events ++ event.Hit w moment settlement ∷ [])) request ready side kept end
+  room_hit_refused w moment settlement refused h =
+      same_book (event.Hit w moment settlement) request ready side end
+      (kept_hit_refused events request ready (quotes_in room.posted) end w moment settlement refused h
       room.keeps) room.ranks

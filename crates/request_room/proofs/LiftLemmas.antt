@@ -1,4 +1,4 @@
--- A room is awarded by a hit whose word was answered lifted.
+-- A room is awarded by a hit whose word was settled lifted.
 use Rattle.std.proofs.Common.{◌≡◌, ℕ, Bool, true, false, ◌&&◌, ◌==◌, cond, List, []}
 use Rattle.std.proofs.Common.{◌∷◌, Option, Some, None, IfSome, Contains, fold, refl}
 use Rattle.std.proofs.Common.{subst, length, ◌<◌, arith}
@@ -10,7 +10,7 @@ use Rattle.quote_word.specs.declared.settled.Settled.TheVariants.{Withdrawn, Lif
 use Rattle.request_room.specs.declared.ends.End.{End}
 use Rattle.request_room.specs.declared.events.RoomEvent.{RoomEvent}
 use Rattle.request_room.specs.declared.events.RoomEvent.TheVariants as event
-use Rattle.request_room.specs.declared.quotes.StandingQuote.{StandingQuote}
+use Rattle.request_room.specs.declared.quotes.PostedQuote.{PostedQuote}
 use Rattle.request_room.specs.RoomFacts.{RoomFact, Opened, Readied, Posted, Unposted, Noted, Ended}
 use Rattle.request_room.specs.RoomFacts.{ended_as, end_of, is_open, is_vacant, is_opening}
 use Rattle.request_room.specs.RoomFacts.{takes_quotes}
@@ -30,11 +30,11 @@ WonByLift events end = IfSome end.winner (λ winner. WasLifted events winner.1)
 -- A hit.
 
 -- a quote as a winner: its dealer and its word
-abbrev as_winner : StandingQuote → ℕ × ℕ
+abbrev as_winner : PostedQuote → ℕ × ℕ
 as_winner quote = (quote.dealer, quote.word)
 
-meant_or_later : (events : List RoomEvent) (w : ℕ) (quote : StandingQuote)
-    (later : List StandingQuote) (same : Bool) → (quote.word == w) ≡ same → WasLifted events w
+meant_or_later : (events : List RoomEvent) (w : ℕ) (quote : PostedQuote)
+    (later : List PostedQuote) (same : Bool) → (quote.word == w) ≡ same → WasLifted events w
     → IfSome (option_map as_winner (quote_meant later w)) (λ winner. WasLifted events winner.1)
     → IfSome (option_map as_winner (cond same (Some quote) (quote_meant later w)))
     (λ winner. WasLifted events winner.1)
@@ -44,7 +44,7 @@ meant_or_later events w quote later true same lifted more =
 meant_or_later events w quote later false same lifted more = more
 
 -- the quote that a hit means bears the word of the hit
-meant_was_lifted : (events : List RoomEvent) (w : ℕ) (book : List StandingQuote)
+meant_was_lifted : (events : List RoomEvent) (w : ℕ) (book : List PostedQuote)
     → WasLifted events w
     → IfSome (option_map as_winner (quote_meant book w)) (λ winner. WasLifted events winner.1)
 meant_was_lifted events w [] lifted = tt
@@ -53,11 +53,11 @@ meant_was_lifted events w (quote ∷ later) lifted =
     (meant_was_lifted events w later lifted)
 
 settled_by_lift : (events : List RoomEvent) (facts : List RoomFact) (w moment : ℕ)
-    (refused : Option HitRefusal) (answer : Option Settled)
-    → Contains events (event.Hit w moment answer)
-    → IfSome (end_of (end_by (hit_settled refused answer (award_of facts w)) moment))
+    (refused : Option HitRefusal) (settlement : Option Settled)
+    → Contains events (event.Hit w moment settlement)
+    → IfSome (end_of (end_by (hit_settled refused settlement (award_of facts w)) moment))
     (WonByLift events)
-settled_by_lift events facts w moment (Some refused) answer tried = tt
+settled_by_lift events facts w moment (Some refused) settlement tried = tt
 settled_by_lift events facts w moment None (Some Lifted) tried =
     meant_was_lifted events w (book_of facts) (moment, tried)
 settled_by_lift events facts w moment None (Some Withdrawn) tried = tt
@@ -88,8 +88,8 @@ adds_by_lift events facts (event.Unpost dealer w) has =
     no_end events (takes_quotes facts && stands (book_of facts) dealer w) (Unposted dealer w) refl
 adds_by_lift events facts (event.Decline dealer) has =
     no_end events (takes_quotes facts) (Noted dealer) refl
-adds_by_lift events facts (event.Hit w moment answer) has =
-    settled_by_lift events facts w moment (hit_refusal facts w moment) answer has
+adds_by_lift events facts (event.Hit w moment settlement) has =
+    settled_by_lift events facts w moment (hit_refusal facts w moment) settlement has
 adds_by_lift events facts (event.Pass moment) has = no_winner events (is_open facts) passed moment refl
 adds_by_lift events facts (event.Expire moment) has =
     no_winner events (may_expire facts moment) expired moment refl

@@ -10,7 +10,7 @@ use Rattle.std.proofs.lemmas.List.Sums.{fold-append, prefix_len-le-length}
 use Rattle.market_terms.specs.declared.asks.Side.{Side}
 use Rattle.market_terms.specs.declared.asks.Side.TheVariants.{Buy, Sell}
 use Rattle.request_room.specs.declared.book.RankedQuote.{RankedQuote}
-use Rattle.request_room.specs.declared.quotes.StandingQuote.{StandingQuote}
+use Rattle.request_room.specs.declared.quotes.PostedQuote.{PostedQuote}
 use Rattle.request_room.specs.Book.{is_better}
 use Rattle.request_room.specs.Kept.{rank_in, ranked, bears, comes_first, earlier_of, earliest_of}
 use Rattle.request_room.specs.Kept.{quotes_in, IsPostedIn}
@@ -272,13 +272,13 @@ any-ranked_on side p best (new ∷ later) =
     ∙ ap (λ b. b || list_any p later) (any-rank_in side p new best)
     ∙ or_moved (p new) (list_any p best) (list_any p later)
 
-any-map : (p : StandingQuote → Bool) (posted : List RankedQuote)
+any-map : (p : PostedQuote → Bool) (posted : List RankedQuote)
     → list_any (λ one. p one.quote) posted ≡ list_any p (quotes_in posted)
 any-map p [] = refl
 any-map p (one ∷ others) = ap (λ b. p one.quote || b) (any-map p others)
 
 -- some quote is kept where it was posted
-pub any-ranked : (side : Side) (p : StandingQuote → Bool) (posted : List RankedQuote)
+pub any-ranked : (side : Side) (p : PostedQuote → Bool) (posted : List RankedQuote)
     → list_any (λ one. p one.quote) (ranked side posted) ≡ list_any p (quotes_in posted)
 any-ranked side p posted = any-ranked_on side (λ one. p one.quote) [] posted ∙ any-map p posted
 

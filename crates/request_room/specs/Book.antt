@@ -19,7 +19,7 @@ use Rattle.request_room.specs.declared.ends.EndKind.{EndKind}
 use Rattle.request_room.specs.declared.ends.EndKind.TheVariants as ends
 use Rattle.request_room.specs.declared.events.RoomEvent.{RoomEvent}
 use Rattle.request_room.specs.declared.events.RoomEvent.TheVariants as event
-use Rattle.request_room.specs.declared.quotes.StandingQuote.{StandingQuote}
+use Rattle.request_room.specs.declared.quotes.PostedQuote.{PostedQuote}
 use Rattle.request_room.specs.declared.requests.RoomRequest.{RoomRequest}
 use Rattle.request_room.specs.RoomFacts.{RoomFact, Opened, Readied, Posted, Unposted, Noted, Ended}
 use Rattle.request_room.specs.RoomFacts.{request_of, is_vacant, is_opening}
@@ -28,18 +28,18 @@ use Rattle.request_room.specs.RoomFacts.{is_open, takes_quotes}
 -- The book.
 
 -- whether a quote is that of this dealer with this word
-abbrev pub is_quote_of : ℕ → ℕ → StandingQuote → Bool
+abbrev pub is_quote_of : ℕ → ℕ → PostedQuote → Bool
 is_quote_of dealer w quote = (quote.dealer == dealer) && (quote.word == w)
 
 -- whether a fact takes a quote out of the book: its dealer posts another, or it is unposted
-abbrev pub takes_out : StandingQuote → RoomFact → Bool
+abbrev pub takes_out : PostedQuote → RoomFact → Bool
 takes_out quote (Posted next) = quote.dealer == next.dealer
 takes_out quote (Unposted dealer w) = is_quote_of dealer w quote
 takes_out quote fact = false
 
 -- The book: for each dealer its last posted quote, and none where that was unposted later. So it
 -- has each quote that was posted and that no later fact takes out, the earliest posted first.
-abbrev pub book_of : List RoomFact → List StandingQuote
+abbrev pub book_of : List RoomFact → List PostedQuote
 book_of [] = []
 book_of (Posted quote ∷ later) =
     if list_any (takes_out quote) later then book_of later else quote ∷ book_of later
@@ -50,11 +50,11 @@ book_of (Noted dealer ∷ later) = book_of later
 book_of (Ended end moment ∷ later) = book_of later
 
 -- whether that quote of that dealer stands in the book
-abbrev pub stands : List StandingQuote → ℕ → ℕ → Bool
+abbrev pub stands : List PostedQuote → ℕ → ℕ → Bool
 stands book dealer w = list_any (is_quote_of dealer w) book
 
 -- the quote that a hit of this word means: the earliest posted of those that bear it
-abbrev pub quote_meant : List StandingQuote → ℕ → Option StandingQuote
+abbrev pub quote_meant : List PostedQuote → ℕ → Option PostedQuote
 quote_meant book w = find (λ quote. quote.word == w) book
 
 -- Cover.
@@ -66,32 +66,32 @@ is_better Buy price other = nat_lt price other
 is_better Sell price other = nat_lt other price
 
 -- whether a quote's price is better than another's
-abbrev pub has_better_price : Side → StandingQuote → StandingQuote → Bool
+abbrev pub has_better_price : Side → PostedQuote → PostedQuote → Bool
 has_better_price side quote other = is_better side quote.price other.price
 
 -- the quotes of the other dealers
-abbrev pub others : ℕ → List StandingQuote → List StandingQuote
+abbrev pub others : ℕ → List PostedQuote → List PostedQuote
 others dealer book = filter (λ quote. not (quote.dealer == dealer)) book
 
 -- the best of some quotes: the earliest posted of those than which none is better
-abbrev pub best_of : Side → List StandingQuote → Option StandingQuote
+abbrev pub best_of : Side → List PostedQuote → Option PostedQuote
 best_of side quotes =
     find (λ quote. not (list_any (λ other. has_better_price side other quote) quotes)) quotes
 
 -- A quote is the best of some: it stands among them at a place at which none is better, and each
 -- that was posted earlier is worse.
-pub record IsBest (side : Side) (quotes : List StandingQuote) (best : StandingQuote) : Type 0 where
+pub record IsBest (side : Side) (quotes : List PostedQuote) (best : PostedQuote) : Type 0 where
   pub place : ℕ
   pub stands_there : slice_index_or quotes place best ≡ best
   pub first_best : IsFirstBest (has_better_price side) quotes (length quotes) place
 
 -- the cover of an award: the best of the quotes of the other dealers
-unfoldable pub cover_of : Side → ℕ → List StandingQuote → Option StandingQuote
+unfoldable pub cover_of : Side → ℕ → List PostedQuote → Option PostedQuote
 cover_of side winner book = best_of side (others winner book)
 
 -- the cover of an award of this quote, where there is one
-abbrev pub cover_for : Option RoomRequest → Option StandingQuote → List StandingQuote
-    → Option StandingQuote
+abbrev pub cover_for : Option RoomRequest → Option PostedQuote → List PostedQuote
+    → Option PostedQuote
 cover_for None winner book = None
 cover_for (Some request) None book = None
 cover_for (Some request) (Some winner) book = cover_of request.ask.side winner.dealer book
@@ -104,7 +104,7 @@ is_past_deadline None moment = false
 is_past_deadline (Some request) moment = nat_le request.ask.deadline moment
 
 -- whether a quote's own validity has ended
-abbrev pub is_expired : Option StandingQuote → ℕ → Bool
+abbrev pub is_expired : Option PostedQuote → ℕ → Bool
 is_expired None moment = false
 is_expired (Some quote) moment = is_not_after moment quote.valid_until
 
@@ -150,13 +150,14 @@ is_lift None = false
 
 -- a hit that no check refuses is an award where the word is lifted
 abbrev pub hit_settled : Option HitRefusal → Option Settled → End → Result End HitRefusal
-hit_settled (Some refused) answer award = Err refused
-hit_settled None answer award = if is_lift answer then Ok award else Err refusal.Withdrawn
+hit_settled (Some refused) settlement award = Err refused
+hit_settled None settlement award = if is_lift settlement then Ok award else Err refusal.Withdrawn
 
--- what becomes of a hit, with the answer of the word that it asks: an award, or the first refusal
+-- what becomes of a hit, with the settlement of the word that it asks: an award, or the first
+-- refusal
 abbrev pub hit_outcome : List RoomFact → ℕ → ℕ → Option Settled → Result End HitRefusal
-hit_outcome facts w moment answer =
-    hit_settled (hit_refusal facts w moment) answer (award_of facts w)
+hit_outcome facts w moment settlement =
+    hit_settled (hit_refusal facts w moment) settlement (award_of facts w)
 
 -- what the investor is answered
 abbrev pub reply_of : Result End HitRefusal → Reply
@@ -182,7 +183,7 @@ abbrev pub may_unpost : List RoomFact → ℕ → ℕ → Bool
 may_unpost facts dealer w = takes_quotes facts && stands (book_of facts) dealer w
 
 -- a quote as it stands once it is posted
-abbrev pub quote_posted : ℕ → ℕ → ℕ → Option ℕ → StandingQuote
+abbrev pub quote_posted : ℕ → ℕ → ℕ → Option ℕ → PostedQuote
 quote_posted dealer w price until =
     record { dealer = dealer; word = w; price = price; valid_until = until }
 
@@ -206,7 +207,8 @@ event_facts facts (event.Post dealer w price until) =
 event_facts facts (event.Unpost dealer w) =
     where_so (may_unpost facts dealer w) (Unposted dealer w)
 event_facts facts (event.Decline dealer) = where_so (takes_quotes facts) (Noted dealer)
-event_facts facts (event.Hit w moment answer) = end_by (hit_outcome facts w moment answer) moment
+event_facts facts (event.Hit w moment settlement) =
+    end_by (hit_outcome facts w moment settlement) moment
 event_facts facts (event.Pass moment) = where_so (is_open facts) (Ended passed moment)
 event_facts facts (event.Expire moment) = where_so (may_expire facts moment) (Ended expired moment)
 

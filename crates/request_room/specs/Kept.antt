@@ -6,7 +6,7 @@ use Rattle.std.specs.Prelude.{List, [], ◌∷◌, map, fold, Option, Some, None
 use Rattle.market_terms.specs.declared.asks.Side.{Side}
 use Rattle.request_room.specs.declared.book.RankedQuote.{RankedQuote}
 use Rattle.request_room.specs.declared.ends.End.{End}
-use Rattle.request_room.specs.declared.quotes.StandingQuote.{StandingQuote}
+use Rattle.request_room.specs.declared.quotes.PostedQuote.{PostedQuote}
 use Rattle.request_room.specs.declared.requests.RoomRequest.{RoomRequest}
 use Rattle.request_room.specs.RoomFacts.{RoomFact, request_of, is_ready, end_of}
 use Rattle.request_room.specs.Book.{book_of, is_better, is_quote_of}
@@ -45,7 +45,7 @@ abbrev pub is_kept_of : ℕ → ℕ → RankedQuote → Bool
 is_kept_of dealer w kept = is_quote_of dealer w kept.quote
 
 -- the quotes without the numbers of their postings
-abbrev pub quotes_in : List RankedQuote → List StandingQuote
+abbrev pub quotes_in : List RankedQuote → List PostedQuote
 quotes_in kept = map (λ one. one.quote) kept
 
 -- the numbers of the postings rise, from a least one on and below an end
@@ -61,7 +61,7 @@ Ranks (Some request) side posted kept = (side ≡ request.ask.side) × (kept ≡
 
 -- what is kept of the facts, with the book in the order of posting
 pub record Keeps (facts : List RoomFact) (request : Option RoomRequest) (ready : Bool)
-    (book : List StandingQuote) (end : Option End) : Type 0 where
+    (book : List PostedQuote) (end : Option End) : Type 0 where
   pub request_is : request ≡ request_of facts
   pub ready_is : ready ≡ is_ready facts
   pub book_is : book ≡ book_of facts

@@ -8,13 +8,13 @@ use Rattle.request_room.specs.declared.ends.End.{End}
 use Rattle.request_room.specs.declared.ends.EndKind.{EndKind}
 use Rattle.request_room.specs.declared.ends.EndKind.TheVariants.{Awarded, Passed, Expired}
 use Rattle.request_room.specs.declared.requests.RoomRequest.{RoomRequest}
-use Rattle.request_room.specs.declared.quotes.StandingQuote.{StandingQuote}
+use Rattle.request_room.specs.declared.quotes.PostedQuote.{PostedQuote}
 
 -- what became so in a room
 pub data RoomFact : Type 0 where
   Opened : RoomRequest → RoomFact  -- it was opened for a request
   Readied : RoomFact  -- each named dealer was shown the request
-  Posted : StandingQuote → RoomFact  -- a quote was posted
+  Posted : PostedQuote → RoomFact  -- a quote was posted
   Unposted : ℕ → ℕ → RoomFact  -- the dealer's quote with this word was taken out
   Noted : ℕ → RoomFact  -- the dealer declined
   Ended : End → ℕ → RoomFact  -- it ended so, at this moment

@@ -6,7 +6,7 @@ ghost use Rattle.std.specs.Option.{option_map};
 ghost use Rattle.request_room.specs.Book as spec;
 ghost use Rattle.request_room.specs.Kept as kept;
 
-use crate::StandingQuote;
+use crate::PostedQuote;
 use bond_prices::Ticks;
 use fix_fields::Memory;
 use market_terms::Side;
@@ -19,7 +19,7 @@ pub(crate) struct RankedQuote {
     /// earlier.
     pub(crate) posting: usize,
     /// The quote.
-    pub(crate) quote: StandingQuote,
+    pub(crate) quote: PostedQuote,
 }
 
 /// The quotes that stand in a room, the best first, of equal prices the earlier posted first. It
@@ -56,7 +56,7 @@ impl RoomBook {
 
     /// Puts a quote that is posted now where it ranks, in the place of the one that its dealer has
     /// in the book. There is room for it.
-    pub(crate) fn post(&mut self, posting: usize, quote: StandingQuote) -> Result<(), Memory>
+    pub(crate) fn post(&mut self, posting: usize, quote: PostedQuote) -> Result<(), Memory>
         requires { vec_len self.old.quotes < vec_capacity self.old.quotes }
         ensures ok { IsOk result }
         ensures side { self.new.side ≡ self.old.side }
@@ -88,7 +88,7 @@ impl RoomBook {
     }
 
     /// The quote that a hit of this word means: the earliest posted of those that bear it.
-    pub(crate) fn hit(&self, w: u32) -> Option<StandingQuote>
+    pub(crate) fn hit(&self, w: u32) -> Option<PostedQuote>
         ensures { result
             ≡ option_map (λ one. one.quote) (kept.earliest_of w self.now.quotes.items) }
     {

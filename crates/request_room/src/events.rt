@@ -42,7 +42,7 @@ pub enum RoomEvent {
         /// The moment of the hit.
         moment: Moment,
         /// What the word is from then on, where it was asked.
-        answer: Option<Settled>,
+        settlement: Option<Settled>,
     },
     /// The investor passes (QuoteRespType 694=6).
     Pass {

@@ -2,7 +2,7 @@
 ghost use Rattle.std.specs.Prelude.{◌≡◌, Some};
 ghost use Rattle.request_room.specs.Book.{hit_settled, is_expired, is_lift, is_past_deadline};
 
-use crate::{End, RoomRequest, StandingQuote};
+use crate::{End, PostedQuote, RoomRequest};
 use fix_fields::Moment;
 use market_terms::HitRefusal;
 use quote_word::Settled;
@@ -18,7 +18,7 @@ pub(crate) fn is_past_deadline(request: &Option<RoomRequest>, moment: Moment) ->
 }
 
 /// Whether a quote's own validity has ended.
-pub(crate) fn is_expired(quote: StandingQuote, moment: Moment) -> bool
+pub(crate) fn is_expired(quote: PostedQuote, moment: Moment) -> bool
     ensures { result ≡ is_expired (Some quote) moment }
 {
     match quote.valid_until {
@@ -28,10 +28,10 @@ pub(crate) fn is_expired(quote: StandingQuote, moment: Moment) -> bool
 }
 
 /// Whether a word was asked and is lifted.
-fn is_lift(answer: Option<Settled>) -> bool
-    ensures { result ≡ is_lift answer }
+fn is_lift(settlement: Option<Settled>) -> bool
+    ensures { result ≡ is_lift settlement }
 {
-    match answer {
+    match settlement {
         Some(Settled::Lifted) => true,
         Some(Settled::Withdrawn) => false,
         None => false,
@@ -41,15 +41,15 @@ fn is_lift(answer: Option<Settled>) -> bool
 /// What becomes of a hit: its refusal, or the award where its word is lifted.
 pub(crate) fn settled(
     refusal: Option<HitRefusal>,
-    answer: Option<Settled>,
+    settlement: Option<Settled>,
     award: End,
 ) -> Result<End, HitRefusal>
-    ensures { result ≡ hit_settled refusal answer award }
+    ensures { result ≡ hit_settled refusal settlement award }
 {
     if let Some(refused) = refusal {
         return Err(refused);
     }
-    if !is_lift(answer) {
+    if !is_lift(settlement) {
         return Err(HitRefusal::Withdrawn);
     }
     Ok(award)

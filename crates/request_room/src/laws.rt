@@ -5,7 +5,7 @@ ghost use Rattle.market_terms.specs.declared.asks.Side.{Side};
 ghost use Rattle.quote_word.specs.declared.settled.Settled.TheVariants.{Lifted};
 ghost use Rattle.request_room.specs.declared.events.RoomEvent.{RoomEvent};
 ghost use Rattle.request_room.specs.declared.events.RoomEvent.TheVariants as event;
-ghost use Rattle.request_room.specs.declared.quotes.StandingQuote.{StandingQuote};
+ghost use Rattle.request_room.specs.declared.quotes.PostedQuote.{PostedQuote};
 ghost use Rattle.request_room.specs.RoomFacts.{RoomFact, end_of, is_award, is_ended, is_ending};
 ghost use Rattle.request_room.specs.Book.{IsBest, IsEndOf, book_of, cover_of, event_facts, others};
 ghost use Rattle.request_room.specs.Book.{room_after};
@@ -35,11 +35,11 @@ pub fn a_room_ends_once()
 /// each other's that was posted earlier is worse. It is never the winner's, and there is one
 /// exactly where another dealer's quote stands.
 pub fn the_cover_is_the_best_other_quote()
-    ensures best { (side : Side) (winner : ℕ) (book : List StandingQuote)
+    ensures best { (side : Side) (winner : ℕ) (book : List PostedQuote)
         → IfSome (cover_of side winner book) (λ cover. IsBest side (others winner book) cover) }
-    ensures another { (side : Side) (winner : ℕ) (book : List StandingQuote)
+    ensures another { (side : Side) (winner : ℕ) (book : List PostedQuote)
         → IfSome (cover_of side winner book) (λ cover. cover.dealer ≢ winner) }
-    ensures none { (side : Side) (winner : ℕ) (book : List StandingQuote)
+    ensures none { (side : Side) (winner : ℕ) (book : List PostedQuote)
         → (cover_of side winner book ≡ None) ↔ (others winner book ≡ []) }
 {}
 

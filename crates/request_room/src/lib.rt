@@ -14,11 +14,11 @@
 //! room.post(0, first_word, price, None)?;
 //! room.ready()?;
 //! // The investor hits a quote. Where nothing speaks against it, its word is asked, by a lift.
-//! let answer = match room.question_hit(first_word, ten_past_nine) {
+//! let settlement = match room.question_hit(first_word, ten_past_nine) {
 //!     Ok(w) => Some(words.lift(w)),
 //!     Err(_) => None,
 //! };
-//! let reply = room.hit(first_word, ten_past_nine, answer)?;
+//! let reply = room.hit(first_word, ten_past_nine, settlement)?;
 //! if let Some(End { kind: EndKind::Awarded, winner, cover }) = room.end() {
 //!     ..
 //! }
@@ -70,6 +70,6 @@ pub use laws::{
     an_ended_room_changes_no_more, facts_after_one_event_more, only_an_award_has_a_winner,
     the_cover_is_the_best_other_quote,
 };
-pub use quotes::StandingQuote;
+pub use quotes::PostedQuote;
 pub use requests::RoomRequest;
 pub use rooms::Room;

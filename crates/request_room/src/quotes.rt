@@ -7,7 +7,7 @@ use fix_fields::Moment;
 
 /// A quote that was posted in a room, for the full quantity of its request.
 #[derive(Clone, Copy)]
-pub struct StandingQuote {
+pub struct PostedQuote {
     /// The number of its dealer among the firms of the configuration.
     pub dealer: u16,
     /// Its word, by which the room names it.
@@ -19,7 +19,7 @@ pub struct StandingQuote {
     pub valid_until: Option<Moment>,
 }
 
-impl StandingQuote {
+impl PostedQuote {
     /// Its posting.
     pub(crate) fn posting(&self) -> RoomEvent
         ensures { result ≡ RoomEvent.Post self.now.dealer self.now.word self.now.price

@@ -7,7 +7,7 @@ ghost use Rattle.request_room.specs.Book.{room_after};
 
 use crate::book::RoomBook;
 use crate::hits::{is_expired, is_past_deadline, settled};
-use crate::{End, EndKind, RoomEvent, RoomRequest, StandingQuote};
+use crate::{End, EndKind, PostedQuote, RoomEvent, RoomRequest};
 use bond_prices::Ticks;
 use fix_fields::{Memory, Moment};
 use market_terms::{Ask, AskedDealers, HitRefusal, Reply, Side};
@@ -114,7 +114,7 @@ impl Room {
         ensures ok { OnOk result (self.new ≡ self.old ++ RoomEvent.Post dealer w price until ∷ []) }
         ensures err { OnErr result (self.new ≡ self.old) }
     {
-        let quote = StandingQuote {
+        let quote = PostedQuote {
             dealer,
             word: w,
             price,
@@ -183,25 +183,30 @@ impl Room {
     }
 
     /// The investor hits the quote with this word (QuoteResponse 35=AJ, QuoteRespType 694=1), with
-    /// the answer of the word where it is asked. A lifted word awards the request to the earliest
-    /// posted quote that bears it, and ends the room. Else the hit is refused as
+    /// the settlement of the word where it is asked. A lifted word awards the request to the
+    /// earliest posted quote that bears it, and ends the room. Else the hit is refused as
     /// [`Room::question_hit`] says, or as `Withdrawn` where the word was withdrawn, and the room
     /// stays as it was but for the event. It fails for memory alone, and then the room is as
     /// before.
-    pub fn hit(&mut self, w: u32, moment: Moment, answer: Option<Settled>) -> Result<Reply, Memory>
-        requires { is_some answer ≡ is_ok (spec.hit_question (room_after self.old) w moment) }
+    pub fn hit(
+        &mut self,
+        w: u32,
+        moment: Moment,
+        settlement: Option<Settled>,
+    ) -> Result<Reply, Memory>
+        requires { is_some settlement ≡ is_ok (spec.hit_question (room_after self.old) w moment) }
         ensures reply { IfOk result
             (λ reply. reply
-            ≡ spec.reply_of (spec.hit_outcome (room_after self.old) w moment answer)) }
-        ensures ok { OnOk result (self.new ≡ self.old ++ RoomEvent.Hit w moment answer ∷ []) }
+            ≡ spec.reply_of (spec.hit_outcome (room_after self.old) w moment settlement)) }
+        ensures ok { OnOk result (self.new ≡ self.old ++ RoomEvent.Hit w moment settlement ∷ []) }
         ensures err { OnErr result (self.new ≡ self.old) }
     {
-        let outcome = settled(self.hit_refusal(w, moment), answer, self.award_of(w));
+        let outcome = settled(self.hit_refusal(w, moment), settlement, self.award_of(w));
         self.events.reserve(1)?;
         self.events.push(RoomEvent::Hit {
             word: w,
             moment,
-            answer,
+            settlement,
         })?;
         let award = match outcome {
             Ok(award) => award,
@@ -378,14 +383,14 @@ impl Room {
     }
 
     /// The quote that a hit of this word means.
-    fn quote_meant(&self, w: u32) -> Option<StandingQuote>
+    fn quote_meant(&self, w: u32) -> Option<PostedQuote>
         ensures { result ≡ spec.quote_meant (spec.book_of (room_after self.now)) w }
     {
         self.book.hit(w)
     }
 
     /// The dealer of the cover of an award of this quote, where there is one.
-    fn cover_for(&self, winner: &StandingQuote) -> Option<u16>
+    fn cover_for(&self, winner: &PostedQuote) -> Option<u16>
         ensures { result ≡ option_map (λ quote. quote.dealer)
             (spec.cover_for (facts.request_of (room_after self.now)) (Some winner.now)
             (spec.book_of (room_after self.now))) }

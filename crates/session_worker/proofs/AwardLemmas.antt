@@ -18,7 +18,7 @@ use Rattle.request_room.specs.RoomFacts.{end_of, ended_as}
 use Rattle.request_room.specs.declared.ends.End.{End}
 use Rattle.request_room.specs.declared.events.RoomEvent.{RoomEvent}
 use Rattle.request_room.specs.declared.events.RoomEvent.TheVariants as in_room
-use Rattle.request_room.specs.declared.quotes.StandingQuote.{StandingQuote}
+use Rattle.request_room.specs.declared.quotes.PostedQuote.{PostedQuote}
 use Rattle.session_worker.specs.DayChecks.{DayRoom}
 use Rattle.session_worker.specs.KeptDays.{AwardStands, RoomsStand, WinnerLifted}
 use Rattle.session_worker.specs.Locks.{StandsIn, answers_in}
@@ -58,26 +58,26 @@ others_of_all : {A : Type 0} (P : A → Type 0) (x : A) (xs : List A) → All P 
 others_of_all P x xs all k d below = all (suc k) d (omega (arith, below))
 
 -- a quote that wins, by its dealer and word
-abbrev winning : StandingQuote → ℕ × ℕ
+abbrev winning : PostedQuote → ℕ × ℕ
 winning quote = (quote.dealer, quote.word)
 
 -- the winner of an award has the word that was hit
-award_lifted : (log : SettleLog) (w : ℕ) (quotes : List StandingQuote)
-    (meant : Option StandingQuote) → quote_meant quotes w ≡ meant → entry_of w log ≡ Some Lifted
+award_lifted : (log : SettleLog) (w : ℕ) (quotes : List PostedQuote)
+    (meant : Option PostedQuote) → quote_meant quotes w ≡ meant → entry_of w log ≡ Some Lifted
     → IfSome (option_map winning meant) (λ winner. entry_of winner.1 log ≡ Some Lifted)
 award_lifted log w quotes None is lifted = tt
 award_lifted log w quotes (Some quote) is lifted =
     let test : (quote.word == w) ≡ true =
-    found_meets (λ (own : StandingQuote). own.word == w) quotes quote is in
+    found_meets (λ (own : PostedQuote). own.word == w) quotes quote is in
     let same : w ≡ quote.word = grind (arith, nat_tests) in
     subst (λ word. entry_of word log ≡ Some Lifted) same lifted
 
 -- what a hit adds
 hit_lifted : (log : SettleLog) (facts : List RoomFact) (w moment : ℕ)
-    (refused : Option HitRefusal) (answer : Option Settled)
-    → ((settled : Settled) → answer ≡ Some settled → entry_of w log ≡ Some settled)
-    → WinnerLifted log (end_of (end_by (hit_settled refused answer (award_of facts w)) moment))
-hit_lifted log facts w moment (Some refused) answer stands = tt
+    (refused : Option HitRefusal) (settlement : Option Settled)
+    → ((settled : Settled) → settlement ≡ Some settled → entry_of w log ≡ Some settled)
+    → WinnerLifted log (end_of (end_by (hit_settled refused settlement (award_of facts w)) moment))
+hit_lifted log facts w moment (Some refused) settlement stands = tt
 hit_lifted log facts w moment None None stands = tt
 hit_lifted log facts w moment None (Some Withdrawn) stands = tt
 hit_lifted log facts w moment None (Some Lifted) stands =

@@ -18,7 +18,7 @@ use Rattle.venue_places.specs.declared.arrivals.ForInvestor.{ForInvestor}
 use Rattle.venue_places.specs.declared.arrivals.ForInvestor.TheVariants as to_investor
 use Rattle.venue_places.specs.declared.arrivals.ForRoom.{ForRoom}
 use Rattle.venue_places.specs.declared.arrivals.ForRoom.TheVariants as to_room
-use Rattle.venue_steps.specs.InvestorSteps.{answers, knows_request}
+use Rattle.venue_steps.specs.InvestorSteps.{replies_to, knows_request}
 use Rattle.session_worker.specs.Locks.{KeepsDealer, KeepsInvestor, KeepsRoom}
 use Rattle.session_worker.proofs.DealerLockLemmas.{DeskLaws, notice_keeps, show_keeps_if}
 use Rattle.session_worker.proofs.LockLemmas.{quiet_kept, told_kept}
@@ -53,7 +53,7 @@ investor_brought config desk after (to_investor.Declined request dealer moment) 
     (at_investor.DealerDeclined request dealer moment) keeps is
 investor_brought config desk after (to_investor.Answer request response reply moment) keeps is =
     told_kept config desk after
-    (knows (book_at desk) request response.k && answers response.k reply)
+    (knows (book_at desk) request response.k && replies_to response.k reply)
     (at_investor.Answered request response reply moment) keeps is
 investor_brought config desk after (to_investor.Close request moment) keeps is =
     told_kept config desk after (knows_request desk request)

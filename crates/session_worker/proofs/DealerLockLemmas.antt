@@ -5,7 +5,7 @@ use Rattle.std.proofs.lemmas.List.{map-append}
 use Rattle.std.proofs.lemmas.List.Elements.{All-append, All-cons, All-head, All-nil, All-tail}
 use Rattle.std.specs.Option.{option_map}
 use Rattle.dealer_desk.specs.DealerFacts.{book_of, number_to_drop}
-use Rattle.dealer_desk.specs.DealerOutput.{DeskEvents, answered_words, asked_by, asked_word, book_at}
+use Rattle.dealer_desk.specs.DealerOutput.{DeskEvents, settled_words, asked_by, asked_word, book_at}
 use Rattle.dealer_desk.specs.DealerOutput.{dealer_output, desk_after, facts_at, may_close, verdict_at}
 use Rattle.dealer_desk.specs.DealerOutput.{with_event, with_notice_in, word_asked}
 use Rattle.dealer_desk.specs.declared.events.DealerEvent.{DealerEvent}
@@ -24,7 +24,7 @@ use Rattle.step_replay.specs.DealerView.{dealer_view}
 use Rattle.venue_rows.specs.Rows.{Configuration, dealer_numbered}
 use Rattle.venue_rows.specs.declared.dealer_rows.DealerRow.{DealerRow}
 use Rattle.venue_steps.specs.DealerSteps.{desk_after_drop, desk_after_own, drop_word, own_word}
-use Rattle.venue_steps.specs.Words.{AsksAtMost, SettlesSo, answer_in, has_word, word_of, word_to_ask}
+use Rattle.venue_steps.specs.Words.{AsksAtMost, SettlesSo, settlement_in, has_word, word_of, word_to_ask}
 use Rattle.session_worker.specs.Locks.{KeepsDealer, StandsIn, answers_at, by_word}
 use Rattle.session_worker.proofs.LockLemmas.{IsLater, answers_stay, as_late, asks_later, entry_seen}
 
@@ -33,11 +33,11 @@ use Rattle.session_worker.proofs.LockLemmas.{IsLater, answers_stay, as_late, ask
 -- the words that were asked grow event by event
 abbrev pub AsksEventByEvent : Type 0
 AsksEventByEvent = (date : List ℕ) (row : DealerRow) (events : List DealerEvent) (more : DealerEvent)
-    → answered_words (desk_after date row (events ++ more ∷ [])).facts
-    ≡ answered_words (desk_after date row events).facts
+    → settled_words (desk_after date row (events ++ more ∷ [])).facts
+    ≡ settled_words (desk_after date row events).facts
     ++ asked_by date row (book_of (desk_after date row events).facts) more
 
--- an answer exactly where a word is asked, event by event
+-- a settlement exactly where a word is asked, event by event
 abbrev pub AnsweredOneByOne : Type 0
 AnsweredOneByOne = (desk : DeskEvents) (now : DealerEvent)
     → AreAnswered desk → IsAnswered desk now → AreAnswered (with_event desk now)
@@ -57,7 +57,7 @@ SentTheirView = (date : List ℕ) (row : DealerRow) (events : List DealerEvent)
 
 -- Answers.
 
--- the answer of the word that is asked stands in the log from which it is taken
+-- the settlement of the word that is asked stands in the log from which it is taken
 pub answer_stands : (first quote : ℕ) (log : List Settlement) (found : Option Settled)
     → entry_of (word_of first quote) log ≡ found
     → All (StandsIn log) (map (by_word first) (asked_word (Some quote) found))
@@ -68,15 +68,15 @@ answer_stands first quote log (Some settled) is =
 -- the same where a word is asked or none
 pub asked_stands : (first : ℕ) (log : List Settlement) (quote : Option ℕ)
     → All (StandsIn log) (map (by_word first)
-    (asked_word quote (answer_in (λ w. entry_of w log) (option_map (word_of first) quote))))
+    (asked_word quote (settlement_in (λ w. entry_of w log) (option_map (word_of first) quote))))
 asked_stands first log None = All-nil (StandsIn log)
 asked_stands first log (Some quote) =
     answer_stands first quote log (entry_of (word_of first quote) log) refl
 
 -- an exchange leaves an entry
-pub exchange_answers : (seen : Front) (word : ℕ) (wish : Settled) (answer : Option Settled)
-    (later : Front) → SettlesSo SettlesOnBoard seen word wish answer later → is_some answer ≡ true
-exchange_answers seen word wish (Some answer) later e = refl
+pub exchange_answers : (seen : Front) (word : ℕ) (wish : Settled) (settlement : Option Settled)
+    (later : Front) → SettlesSo SettlesOnBoard seen word wish settlement later → is_some settlement ≡ true
+exchange_answers seen word wish (Some settlement) later e = refl
 exchange_answers seen word wish None later e = elim e [ ]
 
 -- there is an answer where a word is asked that the board has, and else none
@@ -84,7 +84,7 @@ pub asked_answers : (first : ℕ) (seen later : Front) (count : ℕ) (wish : Set
     → has_word count (option_map (word_of first) quote) ≡ true
     → AsksAtMost SettlesOnBoard entry_seen seen
     (word_to_ask count (option_map (word_of first) quote)) wish later
-    → is_some (answer_in (entry_seen later) (option_map (word_of first) quote)) ≡ is_some quote
+    → is_some (settlement_in (entry_seen later) (option_map (word_of first) quote)) ≡ is_some quote
 asked_answers first seen later count wish None has asks = refl
 asked_answers first seen later count wish (Some quote) has asks =
     let word = word_of first quote in
@@ -99,11 +99,11 @@ pub answers_by_quote : (first : ℕ) (log : List Settlement) (answers : List (�
     → All (λ (asked : ℕ × Settled). entry_of (word_of first asked.0) log ≡ Some asked.1) answers
 answers_by_quote first log [] stand =
     All-nil (λ (asked : ℕ × Settled). entry_of (word_of first asked.0) log ≡ Some asked.1)
-answers_by_quote first log (answer ∷ later) stand =
-    All-cons (λ (asked : ℕ × Settled). entry_of (word_of first asked.0) log ≡ Some asked.1) answer
-    later (All-head (StandsIn log) (by_word first answer) (map (by_word first) later) stand)
+answers_by_quote first log (settlement ∷ later) stand =
+    All-cons (λ (asked : ℕ × Settled). entry_of (word_of first asked.0) log ≡ Some asked.1) settlement
+    later (All-head (StandsIn log) (by_word first settlement) (map (by_word first) later) stand)
     (answers_by_quote first log later
-    (All-tail (StandsIn log) (by_word first answer) (map (by_word first) later) stand))
+    (All-tail (StandsIn log) (by_word first settlement) (map (by_word first) later) stand))
 
 -- Events.
 
@@ -138,7 +138,7 @@ keeps_event laws board config firm first desk seen later more keeps is answered 
     let answers : answers_at first (with_event desk more)
     ≡ answers_at first desk ++ map (by_word first) (asked_by desk.date desk.row (book_at desk) more) =
     ap (map (by_word first)) (laws.asks desk.date desk.row desk.events more)
-    ∙ map-append (by_word first) (answered_words (facts_at desk))
+    ∙ map-append (by_word first) (settled_words (facts_at desk))
     (asked_by desk.date desk.row (book_at desk) more) in
     record {
       of_board = is.0 ∙ keeps.of_board;
@@ -157,10 +157,10 @@ pub own_keeps : DeskLaws → (board : BoardName) (config : Configuration) (firm 
     → AsksAtMost SettlesOnBoard entry_seen seen
     (word_to_ask count (own_word first desk moment bytes)) Withdrawn later
     → KeepsDealer board config firm first (desk_after_own desk moment bytes has
-    (answer_in (entry_seen later) (own_word first desk moment bytes))) later
+    (settlement_in (entry_seen later) (own_word first desk moment bytes))) later
 own_keeps laws board config firm first desk seen later moment bytes count true has keeps asks =
     keeps_event laws board config firm first desk seen later
-    (event.Own moment bytes (answer_in (entry_seen later) (own_word first desk moment bytes))) keeps
+    (event.Received moment bytes (settlement_in (entry_seen later) (own_word first desk moment bytes))) keeps
     (asks_later seen (word_to_ask count (own_word first desk moment bytes)) Withdrawn later asks)
     (asked_answers first seen later count Withdrawn (word_asked (verdict_at desk moment bytes)) has
     asks)
@@ -177,10 +177,10 @@ pub drop_keeps : DeskLaws → (board : BoardName) (config : Configuration) (firm
     → AsksAtMost SettlesOnBoard entry_seen seen (word_to_ask count (drop_word first desk last))
     Withdrawn later
     → KeepsDealer board config firm first (desk_after_drop desk last moment has
-    (answer_in (entry_seen later) (drop_word first desk last))) later
+    (settlement_in (entry_seen later) (drop_word first desk last))) later
 drop_keeps laws board config firm first desk seen later last moment count true has keeps asks =
     keeps_event laws board config firm first desk seen later
-    (event.Drop last moment (answer_in (entry_seen later) (drop_word first desk last))) keeps
+    (event.Drop last moment (settlement_in (entry_seen later) (drop_word first desk last))) keeps
     (asks_later seen (word_to_ask count (drop_word first desk last)) Withdrawn later asks)
     (asked_answers first seen later count Withdrawn (number_to_drop (book_at desk) last) has asks)
     (asked_stands first later.log (number_to_drop (book_at desk) last))
@@ -251,7 +251,7 @@ pub own_kept : DeskLaws → (board : BoardName) (config : Configuration) (firm f
     → AsksAtMost SettlesOnBoard entry_seen seen
     (word_to_ask count (own_word first desk moment bytes)) Withdrawn later
     → after ≡ desk_after_own desk moment bytes (has_word count (own_word first desk moment bytes))
-    (answer_in (entry_seen later) (own_word first desk moment bytes))
+    (settlement_in (entry_seen later) (own_word first desk moment bytes))
     → KeepsDealer board config firm first after later
 own_kept laws board config firm first desk after held seen later moment bytes count keeps same asks is =
     let kept : KeepsDealer board config firm first desk seen =
@@ -267,7 +267,7 @@ pub drop_kept : DeskLaws → (board : BoardName) (config : Configuration) (firm 
     → AsksAtMost SettlesOnBoard entry_seen seen (word_to_ask count (drop_word first desk last))
     Withdrawn later
     → after ≡ desk_after_drop desk last moment (has_word count (drop_word first desk last))
-    (answer_in (entry_seen later) (drop_word first desk last))
+    (settlement_in (entry_seen later) (drop_word first desk last))
     → KeepsDealer board config firm first after later
 drop_kept laws board config firm first desk after held seen later last moment count keeps same asks is =
     let kept : KeepsDealer board config firm first desk seen =
@@ -301,5 +301,5 @@ view_is_seen law board config firm first desk seen keeps =
     (subst (λ date. AreAnswered (record { date = date; row = desk.row; events = desk.events }))
     keeps.day_is keeps.answered)
     (subst (λ date. AnswersAre word_is (record { date = date; row = desk.row; events = desk.events }))
-    keeps.day_is (answers_by_quote first seen.log (answered_words (facts_at desk))
+    keeps.day_is (answers_by_quote first seen.log (settled_words (facts_at desk))
     keeps.answers_stand))

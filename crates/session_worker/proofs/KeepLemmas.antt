@@ -150,7 +150,7 @@ keeps_alike config firm x y same keeps =
 abbrev desk_of : List ℕ → DealerRow → List DealerEvent → DeskEvents
 desk_of date row events = record { date = date; row = row; events = events }
 
--- the answers at a desk stand in what its lock has seen
+-- the settlements at a desk stand in what its lock has seen
 pub dealer_stands : (board : BoardName) (config : Configuration) (firm first place : ℕ)
     (desk : DeskEvents) (seen : Front) (day : DealerLists)
     → KeepsDealer board config firm first desk seen → firm ≡ place → day.events ≡ desk.events

@@ -10,7 +10,7 @@ use Rattle.quote_word.specs.declared.settled.Settled.{Settled}
 use Rattle.quote_word.specs.declared.settled.Settled.TheVariants.{Lifted}
 use Rattle.quote_word.specs.declared.settled.Settlement.{Settlement}
 use Rattle.venue_rows.specs.Rows.{Configuration}
-use Rattle.venue_steps.specs.Words.{AsksAtMost, SettlesSo, answer_in}
+use Rattle.venue_steps.specs.Words.{AsksAtMost, SettlesSo, settlement_in}
 use Rattle.venue_steps.specs.InvestorSteps.{where_so}
 use Rattle.venue_steps.specs.RoomSteps.{hit_word, where_done, word_asked_by}
 use Rattle.investor_desk.specs.InvestorOutput.{DeskEvents as InvestorEvents, market_for, market_of}
@@ -45,10 +45,10 @@ answers_stay log later stay answers stand k d below =
     stay (slice_index_or answers k d).0 (slice_index_or answers k d).1 (stand k d below)
 
 -- one exchange gives a later token
-pub settles_later : (seen : Front) (word : ℕ) (wish : Settled) (answer : Option Settled) (later : Front)
-    → SettlesSo SettlesOnBoard seen word wish answer later → IsLater seen later
-settles_later seen word wish (Some answer) later e =
-    (e.board, λ w was stands. board_keeps_entries seen later word w wish answer was e stands)
+pub settles_later : (seen : Front) (word : ℕ) (wish : Settled) (settlement : Option Settled) (later : Front)
+    → SettlesSo SettlesOnBoard seen word wish settlement later → IsLater seen later
+settles_later seen word wish (Some settlement) later e =
+    (e.board, λ w was stands. board_keeps_entries seen later word w wish settlement was e stands)
 settles_later seen word wish None later e = elim e [ ]
 
 -- a step that asks a word at most gives a later token
@@ -156,7 +156,7 @@ hit_found log word moment (Some settled) is =
 -- the same where no check refuses the hit before, and where one does
 pub hit_stands : (log : List Settlement) (word moment : ℕ) (refused : Option HitRefusal)
     → All (StandsIn log) (answers_in (in_room.Hit word moment
-    (answer_in (λ w. entry_of w log) (word_asked_by (word_or word refused))) ∷ []))
+    (settlement_in (λ w. entry_of w log) (word_asked_by (word_or word refused))) ∷ []))
 hit_stands log word moment None = hit_found log word moment (entry_of word log) refl
 hit_stands log word moment (Some refused) = All-nil (StandsIn log)
 
@@ -167,14 +167,14 @@ pub hit_kept : (board : BoardName) (config : Configuration) (at : RoomRef)
     → KeepsRoom board config at events held → seen ≡ held
     → AsksAtMost SettlesOnBoard entry_seen seen asked Lifted later
     → after ≡ where_done has events (in_room.Hit word moment
-    (answer_in (entry_seen later) (hit_word (room_after events) word moment)))
+    (settlement_in (entry_seen later) (hit_word (room_after events) word moment)))
     → KeepsRoom board config at after later
 hit_kept board config at events after held seen later word moment asked true keeps same asks is =
     let kept : KeepsRoom board config at events seen =
     subst (KeepsRoom board config at events) (sym same) keeps in
     subst (λ e. KeepsRoom board config at e later) (sym is)
     (room_event board config at events seen later (in_room.Hit word moment
-    (answer_in (entry_seen later) (hit_word (room_after events) word moment))) kept
+    (settlement_in (entry_seen later) (hit_word (room_after events) word moment))) kept
     (asks_later seen asked Lifted later asks)
     (hit_stands later.log word moment (hit_refusal (room_after events) word moment)))
 hit_kept board config at events after held seen later word moment asked false keeps same asks is =

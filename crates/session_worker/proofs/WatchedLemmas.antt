@@ -9,9 +9,9 @@ use Rattle.session_worker.proofs.LockLemmas.{entry_seen}
 
 -- an exchange that is noted is one on the board
 pub settled_on_board : (before after : Watched) (word : ℕ) (wish : Settled)
-    (answer : Option Settled) → SettlesSo SettlesWatched before word wish answer after
-    → SettlesSo SettlesOnBoard before.front word wish answer after.front
-settled_on_board before after word wish (Some answer) e = e.on_board
+    (settlement : Option Settled) → SettlesSo SettlesWatched before word wish settlement after
+    → SettlesSo SettlesOnBoard before.front word wish settlement after.front
+settled_on_board before after word wish (Some settlement) e = e.on_board
 settled_on_board before after word wish None e = e
 
 -- a step that asks a word at most asks it of the board
@@ -22,14 +22,14 @@ asks_on_board before after None wish e = ap (λ (watched : Watched). watched.fro
 asks_on_board before after (Some word) wish e =
     settled_on_board before after word wish (entry_watched after word) e
 
--- an exchange is noted with its answer
+-- an exchange is noted with its settlement
 pub exchange_is_noted : (before after : Watched) (word : ℕ) (wish : Settled)
-    (answer : Option Settled) → SettlesSo SettlesWatched before word wish answer after
-    → after.asked ≡ option_map (λ settled. (word, settled)) answer
-exchange_is_noted before after word wish (Some answer) e = e.noted
+    (settlement : Option Settled) → SettlesSo SettlesWatched before word wish settlement after
+    → after.asked ≡ option_map (λ settled. (word, settled)) settlement
+exchange_is_noted before after word wish (Some settlement) e = e.noted
 exchange_is_noted before after word wish None e = elim e [ ]
 
--- what is noted is the word that was asked, with its answer, and nothing where none was asked
+-- what is noted is the word that was asked, with its settlement, and nothing where none was asked
 pub asked_is_noted : (before after : Watched) (word : Option ℕ) (wish : Settled)
     → before.asked ≡ None → AsksAtMost SettlesWatched entry_watched before word wish after
     → after.asked ≡ asked_of (entry_watched after) word

@@ -57,14 +57,15 @@ is_by name one by action = is_kind name action && is_same_actor by one
 
 -- an event at a dealer's desk
 abbrev pub left_at_dealer : DealerEvent → Actor → Action → Bool
-left_at_dealer (at_dealer.Own moment message answer) by action = is_at kind.In moment action
+left_at_dealer (at_dealer.Received moment message settlement) by action =
+    is_at kind.In moment action
 left_at_dealer (at_dealer.Shown room ask moment) by action = is_at kind.Show moment action
 left_at_dealer (at_dealer.Told request close moment) by action = is_at kind.Tell moment action
-left_at_dealer (at_dealer.Drop last moment answer) by action = is_at kind.Drop moment action
+left_at_dealer (at_dealer.Drop last moment settlement) by action = is_at kind.Drop moment action
 
 -- an event at an investor's desk
 abbrev pub left_at_investor : InvestorEvent → Actor → Action → Bool
-left_at_investor (at_investor.Own moment message) by action = is_at kind.In moment action
+left_at_investor (at_investor.Received moment message) by action = is_at kind.In moment action
 left_at_investor (at_investor.QuoteCame request offer moment) by action =
     is_at kind.Relay moment action
 left_at_investor (at_investor.QuoteGone request word moment) by action =
@@ -85,7 +86,7 @@ left_in_room (in_room.Post dealer word price valid_until) by action =
 left_in_room (in_room.Unpost dealer word) by action =
     is_by kind.Unpost (actor.Firm dealer) by action
 left_in_room (in_room.Decline dealer) by action = is_by kind.Decline (actor.Firm dealer) by action
-left_in_room (in_room.Hit word moment answer) by action = is_at kind.Hit moment action
+left_in_room (in_room.Hit word moment settlement) by action = is_at kind.Hit moment action
 left_in_room (in_room.Pass moment) by action = is_at kind.Pass moment action
 left_in_room (in_room.Expire moment) by action = is_at kind.Expire moment action
 

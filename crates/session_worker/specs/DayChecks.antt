@@ -32,13 +32,13 @@ pub record DayRoom : Type 0 where
 
 -- the message that an event at a dealer's desk brought, where one of the dealer's own came
 abbrev pub own_of_dealer : DealerEvent → Option Inbound
-own_of_dealer (at_dealer.Own moment message answer) =
+own_of_dealer (at_dealer.Received moment message settlement) =
     Some (record { moment = moment; bytes = message })
 own_of_dealer other = None
 
 -- the same at an investor's desk
 abbrev pub own_of_investor : InvestorEvent → Option Inbound
-own_of_investor (at_investor.Own moment message) =
+own_of_investor (at_investor.Received moment message) =
     Some (record { moment = moment; bytes = message })
 own_of_investor other = None
 

@@ -116,14 +116,14 @@ InvestorsKeep config investors = (k : ℕ) (investor : InvestorLists)
 
 -- Answers.
 
--- the answers at the desk of the dealer with this number and row, by the venue's numbers of the
+-- the settlements at the desk of the dealer with this number and row, by the venue's numbers of the
 -- words
 abbrev pub answers_to : Configuration → ℕ → DealerRow → List DealerEvent → List Answer
 answers_to config firm row events =
     answers_at (first_word config (dealer_of firm row))
     (record { date = config.date; row = row; events = events })
 
--- each answer at the desk of the dealer with this number stands in a log
+-- each settlement at the desk of the dealer with this number stands in a log
 abbrev pub DealerStands : Configuration → SettleLog → ℕ → DealerLists → Type 0
 DealerStands config log firm dealer = (row : DealerRow) → dealer_numbered config firm ≡ Some row
     → All (StandsIn log) (answers_to config firm row dealer.events)
@@ -133,7 +133,7 @@ abbrev pub DealersStand : Configuration → SettleLog → List DealerLists → T
 DealersStand config log dealers = (firm : ℕ) (dealer : DealerLists)
     → slice_get dealers firm ≡ Some dealer → DealerStands config log firm dealer
 
--- each answer in a room stands in a log
+-- each settlement in a room stands in a log
 abbrev pub RoomStands : SettleLog → DayRoom → Type 0
 RoomStands log room = All (StandsIn log) (answers_in room.day.events)
 
@@ -150,9 +150,9 @@ WinnerLifted log end =
 abbrev pub AwardStands : SettleLog → DayRoom → Type 0
 AwardStands log room = WinnerLifted log (end_of (room_after room.day.events))
 
--- Each word has one answer all day: there is a log of settlements in which no word stands twice,
--- and in it stands each answer that was given at a dealer's desk or in a room. The word of each
--- quote that won in a room is lifted there.
+-- Each word has one settlement all day: there is a log of settlements in which no word stands
+-- twice, and in it stands each answer that was given at a dealer's desk or in a room. The word of
+-- each quote that won in a room is lifted there.
 pub record AnswersAgree (config : Configuration) (day : RecordedDay) : Type 0 where
   pub log : SettleLog
   pub legal : IsLegal log
@@ -164,8 +164,8 @@ pub record AnswersAgree (config : Configuration) (day : RecordedDay) : Type 0 wh
 -- and whose clock had these sweeps to make. It has the firms and rooms of the venue, and their
 -- inboxes are those that came; what is recorded of each firm follows from the events at its desk;
 -- each dealer was told once how each room that names it ended, and nothing else; each room was
--- swept as the clock was told; all answers of one word agree; and each event is that of an action
--- at its desk or in its room.
+-- swept as the clock was told; all settlements of one word agree; and each event is that of an
+-- action at its desk or in its room.
 pub record KeepsDay (config : Configuration) (inboxes : List (List Inbound)) (sweeps : List Sweep)
     (day : RecordedDay) : Type 0 where
   pub dealers_are : length day.dealers ≡ length config.dealers

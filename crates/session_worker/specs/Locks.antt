@@ -4,7 +4,7 @@ use Rattle.std.specs.Prelude.{Option, Some, None, All, if◌then◌else◌}
 use Rattle.std.specs.List.{filter_map}
 use Rattle.std.specs.Option.{option_map}
 use Rattle.dealer_desk.specs.DealerOutput as dealer
-use Rattle.dealer_desk.specs.DealerOutput.{answered_words, facts_at}
+use Rattle.dealer_desk.specs.DealerOutput.{settled_words, facts_at}
 use Rattle.investor_desk.specs.InvestorOutput as investor
 use Rattle.investor_desk.specs.InvestorOutput.{market_for}
 use Rattle.market_terms.specs.declared.rooms.RoomRef.{RoomRef}
@@ -28,22 +28,23 @@ Answer = ℕ × Settled
 
 -- an answer is the word's entry in a log
 abbrev pub StandsIn : List Settlement → Answer → Type 0
-StandsIn log answer = entry_of answer.0 log ≡ Some answer.1
+StandsIn log settlement = entry_of settlement.0 log ≡ Some settlement.1
 
 -- the answer by the venue's number of the word, where the dealer's first word is this one
 abbrev pub by_word : ℕ → Answer → Answer
-by_word first answer = (word_of first answer.0, answer.1)
+by_word first settlement = (word_of first settlement.0, settlement.1)
 
--- the words that were asked at a dealer's desk, with their answers
+-- the words that were asked at a dealer's desk, with their settlements
 abbrev pub answers_at : ℕ → dealer.DeskEvents → List Answer
-answers_at first desk = map (by_word first) (answered_words (facts_at desk))
+answers_at first desk = map (by_word first) (settled_words (facts_at desk))
 
--- the word that a hit asked in a room, with its answer
+-- the word that a hit asked in a room, with its settlement
 abbrev pub answered_hit : RoomEvent → Option Answer
-answered_hit (in_room.Hit word moment answer) = option_map (λ settled. (word, settled)) answer
+answered_hit (in_room.Hit word moment settlement) =
+    option_map (λ settled. (word, settled)) settlement
 answered_hit other = None
 
--- the words that were asked in a room, with their answers
+-- the words that were asked in a room, with their settlements
 abbrev pub answers_in : List RoomEvent → List Answer
 answers_in events = filter_map answered_hit events
 
@@ -72,8 +73,8 @@ pub record RoomUnderLock : Type 0 where
   pub order : List ActionRef
 
 -- Under the lock of a dealer lies the desk of a dealer of the configuration. Each of its events had
--- an answer exactly where it asked a word. The token is one of the venue's board, and each word that
--- was asked at the desk is in its log what it was answered.
+-- a settlement exactly where it asked a word. The token is one of the venue's board, and each word
+-- that was asked at the desk is in its log what it was answered.
 pub record KeepsDealer (board : BoardName) (config : Configuration) (firm first : ℕ)
     (desk : dealer.DeskEvents) (seen : Front) : Type 0 where
   pub of_board : seen.board ≡ board

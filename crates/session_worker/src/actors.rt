@@ -74,7 +74,7 @@ impl<'v, J: Naming, R: Wait, G: Gate> Shift<'v, J, R, G> {
         self.gate.at(Point::Before(self.by, Kind::In));
         let acting = self.acting();
         let bytes = inbound.bytes.as_bytes();
-        let done = self.venue.say(self.rt, &acting, inbound.moment, bytes)?;
+        let done = self.venue.receive(self.rt, &acting, inbound.moment, bytes)?;
         self.note(Kind::In, inbound.moment, done)?;
         Ok(())
     }

@@ -30,7 +30,7 @@ pub(crate) fn is_inbox_of_dealer(events: &[DealerEvent], inbox: &[Inbound]) -> b
     let mut inbox = inbox;
     while let Some((event, later)) = events.split_first() {
         events = later;
-        let DealerEvent::Own {
+        let DealerEvent::Received {
             moment,
             message,
             ..
@@ -57,7 +57,7 @@ pub(crate) fn is_inbox_of_investor(events: &[InvestorEvent], inbox: &[Inbound]) 
     let mut inbox = inbox;
     while let Some((event, later)) = events.split_first() {
         events = later;
-        let InvestorEvent::Own { moment, message } = event else {
+        let InvestorEvent::Received { moment, message } = event else {
             continue;
         };
         let Some((first, rest)) = inbox.split_first() else {

@@ -12,7 +12,7 @@ ghost use Rattle.venue_rows.specs.Rows.{dealer_numbered};
 ghost use Rattle.venue_places.specs.Brought as spec;
 ghost use Rattle.venue_places.specs.declared.actors.Actor.TheVariants as actor;
 ghost use Rattle.venue_steps.specs.DealerSteps as steps;
-ghost use Rattle.venue_steps.specs.Words.{answer_in, has_word, word_to_ask};
+ghost use Rattle.venue_steps.specs.Words.{settlement_in, has_word, word_to_ask};
 
 use crate::day_checks::is_inbox_of_dealer;
 use crate::done::Done;
@@ -25,7 +25,7 @@ use dealer_desk::{DealerDesk, words_are_asked_event_by_event};
 use fix_fields::{Memory, Moment};
 use quote_word::BoardSeen;
 use recorded_days::{
-    DealerDay, events_are_answered_one_by_one, recorded_dealers_are_sent_their_view,
+    DealerDay, events_are_settled_one_by_one, recorded_dealers_are_sent_their_view,
 };
 use std::alloc::Global;
 use std::marker::{Model, PhantomData};
@@ -34,7 +34,7 @@ use venue_places::{ForDealer, bring_to_dealer};
 use venue_rows::{DealerRow, VenueConfig};
 use venue_steps::{do_drop, own_dealer};
 
-/// A dealer's desk, the token that has seen what its words were answered, and the order of the
+/// A dealer's desk, the token that has seen what its words were settled, and the order of the
 /// actions on it.
 #[derive(Drop)]
 pub(crate) struct LockedDealer<J: Naming> {
@@ -97,7 +97,7 @@ impl<J: Naming> LockedDealer<J> {
     }
 
     /// A message of the dealer comes, from its own session.
-    pub(crate) fn own<G: Gate>(
+    pub(crate) fn receive<G: Gate>(
         &mut self,
         acting: &Acting<'_, G>,
         moment: Moment,
@@ -108,12 +108,12 @@ impl<J: Naming> LockedDealer<J> {
         ensures desk { OnOk result (self.new.desk ≡ steps.desk_after_own
             self.old.desk moment bytes.now
             (has_word J.board.words (steps.own_word self.old.first self.old.desk moment bytes.now))
-            (answer_in (λ word. entry_of word self.new.seen.log)
+            (settlement_in (λ word. entry_of word self.new.seen.log)
             (steps.own_word self.old.first self.old.desk moment bytes.now))) }
         ensures duties { IfOk result (λ done. done.duties.items
             ≡ steps.duties_of_own self.old.desk moment bytes.now
             (has_word J.board.words (steps.own_word self.old.first self.old.desk moment bytes.now))
-            (answer_in (λ word. entry_of word self.new.seen.log)
+            (settlement_in (λ word. entry_of word self.new.seen.log)
             (steps.own_word self.old.first self.old.desk moment bytes.now))) }
         ensures word { IfOk result (λ done. done.word
             ≡ asked_of (λ word. entry_of word self.new.seen.log) (word_to_ask J.board.words
@@ -122,7 +122,7 @@ impl<J: Naming> LockedDealer<J> {
             (self.new.order ≡ with_action self.old.order (acting.now.by, acting.now.number)) }
     {
         words_are_asked_event_by_event();
-        events_are_answered_one_by_one();
+        events_are_settled_one_by_one();
         self.order.reserve(1)?;
         let mut words = WatchedWords::new(acting, self.seen.again());
         let done = own_dealer(&mut self.desk, &mut words, self.first_word, moment, bytes);
@@ -147,12 +147,12 @@ impl<J: Naming> LockedDealer<J> {
         ensures desk { OnOk result (self.new.desk ≡ steps.desk_after_drop
             self.old.desk last moment
             (has_word J.board.words (steps.drop_word self.old.first self.old.desk last))
-            (answer_in (λ word. entry_of word self.new.seen.log)
+            (settlement_in (λ word. entry_of word self.new.seen.log)
             (steps.drop_word self.old.first self.old.desk last))) }
         ensures duties { IfOk result (λ done. done.duties.items
             ≡ steps.duties_of_drop self.old.desk last moment
             (has_word J.board.words (steps.drop_word self.old.first self.old.desk last))
-            (answer_in (λ word. entry_of word self.new.seen.log)
+            (settlement_in (λ word. entry_of word self.new.seen.log)
             (steps.drop_word self.old.first self.old.desk last))) }
         ensures word { IfOk result (λ done. done.word
             ≡ asked_of (λ word. entry_of word self.new.seen.log) (word_to_ask J.board.words
@@ -161,7 +161,7 @@ impl<J: Naming> LockedDealer<J> {
             (self.new.order ≡ with_action self.old.order (acting.now.by, acting.now.number)) }
     {
         words_are_asked_event_by_event();
-        events_are_answered_one_by_one();
+        events_are_settled_one_by_one();
         self.order.reserve(1)?;
         let mut words = WatchedWords::new(acting, self.seen.again());
         let done = do_drop(&mut self.desk, &mut words, self.first_word, last, moment);
@@ -186,7 +186,7 @@ impl<J: Naming> LockedDealer<J> {
         ensures order { OnOk result (self.new.order ≡ with_action self.old.order action) }
     {
         words_are_asked_event_by_event();
-        events_are_answered_one_by_one();
+        events_are_settled_one_by_one();
         self.order.reserve(1)?;
         let duties = bring_to_dealer(&mut self.desk, what)?;
         self.order.push(action)?;

@@ -6,7 +6,7 @@ use quote_word::Settled;
 use std::alloc::Global;
 use venue_steps::Duties;
 
-/// What an action left: the duties that follow, and the word that it asked, with its answer.
+/// What an action left: the duties that follow, and the word that it asked, with its settlement.
 #[derive(Drop)]
 pub(crate) struct Done {
     pub(crate) duties: Duties,

@@ -12,7 +12,7 @@ use fix_fields::{Memory, Moment};
 use market_terms::{Duty, ResponseRef, RoomRef};
 use std::sync::Wait;
 use step_replay::Actor;
-use venue_places::{Arrival, ForDealer, ForInvestor, ForRoom, placed, swept};
+use venue_places::{ForDealer, ForInvestor, ForRoom, Placement, placed, swept};
 
 impl<J: Naming> SharedVenue<J> {
     /// An actor does a duty, at its one place.
@@ -53,17 +53,17 @@ impl<J: Naming> SharedVenue<J> {
         &self,
         rt: &R,
         acting: &Acting<'_, G>,
-        arrival: Arrival,
+        arrival: Placement,
     ) -> Result<Done, Memory>
         requires { acting.now.board.now ≡ J.board }
     {
         let action = (acting.by, acting.number);
         match arrival {
-            Arrival::Dealer { firm, what } => self.to_dealer(rt, action, firm, what),
-            Arrival::Drop { firm, last, moment } => self.to_drop(rt, acting, firm, last, moment),
-            Arrival::Investor { firm, what } => self.to_investor(rt, action, firm, what),
-            Arrival::Room { room, what } => self.to_room(rt, action, room, what),
-            Arrival::Hit {
+            Placement::Dealer { firm, what } => self.to_dealer(rt, action, firm, what),
+            Placement::Drop { firm, last, moment } => self.to_drop(rt, acting, firm, last, moment),
+            Placement::Investor { firm, what } => self.to_investor(rt, action, firm, what),
+            Placement::Room { room, what } => self.to_room(rt, action, room, what),
+            Placement::Hit {
                 room,
                 response,
                 word,
@@ -155,7 +155,7 @@ impl<J: Naming> SharedVenue<J> {
     }
 
     /// A message of a firm comes to its own desk, that of a dealer or of an investor.
-    pub(crate) fn say<R: Wait, G: Gate>(
+    pub(crate) fn receive<R: Wait, G: Gate>(
         &self,
         rt: &R,
         acting: &Acting<'_, G>,
@@ -168,15 +168,15 @@ impl<J: Naming> SharedVenue<J> {
             return Ok(Done::nothing(self.alloc));
         };
         let Some(mut desk) = self.lock_dealer(rt, firm) else {
-            let done = self.investor_says(rt, acting, firm, moment, bytes)?;
+            let done = self.investor_receives(rt, acting, firm, moment, bytes)?;
             return Ok(done);
         };
-        let done = desk.own(acting, moment, bytes)?;
+        let done = desk.receive(acting, moment, bytes)?;
         Ok(done)
     }
 
     /// The same of an investor.
-    fn investor_says<R: Wait, G: Gate>(
+    fn investor_receives<R: Wait, G: Gate>(
         &self,
         rt: &R,
         acting: &Acting<'_, G>,
@@ -190,7 +190,7 @@ impl<J: Naming> SharedVenue<J> {
             return Ok(Done::nothing(self.alloc));
         };
         let action = (acting.by, acting.number);
-        let done = desk.own(action, moment, bytes)?;
+        let done = desk.receive(action, moment, bytes)?;
         Ok(done)
     }
 }

@@ -2,8 +2,9 @@
 ghost use Rattle.std.specs.Prelude.{◌≡◌};
 ghost use Rattle.session_worker.specs.declared.faults.DayFault.TheVariants.{Memory};
 
+use fix_fields::Memory;
 use market_terms::RoomRef;
-use std::alloc::{AllocError, AllocFailed};
+use std::alloc::AllocFailed;
 use std::fmt;
 use thiserror::Error;
 
@@ -35,10 +36,10 @@ impl fmt::Debug for DayFault {
     }
 }
 
-impl From<AllocError> for DayFault {
+impl From<Memory> for DayFault {
     ghost from_gives = { λ _ fault. fault ≡ Memory };
 
-    fn from(_error: AllocError) -> DayFault {
+    fn from(_error: Memory) -> DayFault {
         DayFault::Memory
     }
 }

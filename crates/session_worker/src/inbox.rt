@@ -7,7 +7,7 @@ ghost use Rattle.session_worker.specs.Inbox as spec;
 use fix_fields::{Memory, Messages, Moment, Splitter, StreamFault};
 use quote_messages::Message;
 use recorded_days::Inbound;
-use std::alloc::{AllocError, Global};
+use std::alloc::Global;
 
 /// The messages that pieces of one firm's stream bring, first to last, each at the moment of the
 /// piece that ends it, and the fault of the stream, where it has one: the messages are those before
@@ -49,7 +49,7 @@ fn take_piece(
         Err(fault) => fault,
     };
     if fault == StreamFault::Memory {
-        return Err(AllocError);
+        return Err(Memory);
     }
     Ok(())
 }
@@ -76,7 +76,7 @@ fn fault_of(stream: &mut Splitter) -> Result<Option<StreamFault>, Memory>
         return Ok(None);
     };
     if fault == StreamFault::Memory {
-        return Err(AllocError);
+        return Err(Memory);
     }
     Ok(Some(fault))
 }

@@ -65,7 +65,7 @@ impl<J: Naming> LockedInvestor<J> {
     }
 
     /// A message of the investor comes, from its own session.
-    pub(crate) fn own(
+    pub(crate) fn receive(
         &mut self,
         action: (Actor, u64),
         moment: Moment,

@@ -29,7 +29,7 @@ impl PlaceEvent for DealerEvent {
 
     fn is_left_by(&self, _by: Actor, action: &Action) -> bool {
         match self {
-            DealerEvent::Own { moment, .. } => is_at(action, Kind::In, *moment),
+            DealerEvent::Received { moment, .. } => is_at(action, Kind::In, *moment),
             DealerEvent::Shown { moment, .. } => is_at(action, Kind::Show, *moment),
             DealerEvent::Told { moment, .. } => is_at(action, Kind::Tell, *moment),
             DealerEvent::Drop { moment, .. } => is_at(action, Kind::Drop, *moment),
@@ -42,7 +42,7 @@ impl PlaceEvent for InvestorEvent {
 
     fn is_left_by(&self, _by: Actor, action: &Action) -> bool {
         match self {
-            InvestorEvent::Own { moment, .. } => is_at(action, Kind::In, *moment),
+            InvestorEvent::Received { moment, .. } => is_at(action, Kind::In, *moment),
             InvestorEvent::QuoteCame { moment, .. } => is_at(action, Kind::Relay, *moment),
             InvestorEvent::QuoteGone { moment, .. } => is_at(action, Kind::Gone, *moment),
             InvestorEvent::DealerDeclined { moment, .. } => is_at(action, Kind::Declined, *moment),

@@ -8,7 +8,7 @@ ghost use Rattle.session_worker.specs.Watched.{asked_of};
 ghost use Rattle.venue_rows.specs.Rows.{has_room};
 ghost use Rattle.venue_places.specs.Brought as spec;
 ghost use Rattle.venue_steps.specs.RoomSteps as steps;
-ghost use Rattle.venue_steps.specs.Words.{answer_in, has_word, word_to_ask};
+ghost use Rattle.venue_steps.specs.Words.{settlement_in, has_word, word_to_ask};
 
 use crate::day_rooms::DayRoom;
 use crate::done::Done;
@@ -112,13 +112,13 @@ impl<J: Naming> LockedRoom<J> {
         ensures room { OnOk result (self.new.events
             ≡ steps.where_done (has_word J.board.words
             (steps.hit_word (room_after self.old.events) word moment)) self.old.events
-            (event.Hit word moment (answer_in (λ w. entry_of w self.new.seen.log)
+            (event.Hit word moment (settlement_in (λ w. entry_of w self.new.seen.log)
             (steps.hit_word (room_after self.old.events) word moment)))) }
         ensures duties { IfOk result (λ done. done.duties.items
             ≡ steps.duties_of_hit (room_after self.old.events) at
             response word moment (has_word J.board.words
             (steps.hit_word (room_after self.old.events) word moment))
-            (answer_in (λ w. entry_of w self.new.seen.log)
+            (settlement_in (λ w. entry_of w self.new.seen.log)
             (steps.hit_word (room_after self.old.events) word moment))) }
         ensures word { IfOk result (λ done. done.word
             ≡ asked_of (λ w. entry_of w self.new.seen.log) (word_to_ask J.board.words

@@ -35,8 +35,8 @@ use Rattle.investor_desk.specs.declared.verdicts.InvestorVerdict.TheVariants as 
 use Rattle.quote_messages.specs.declared.requests.QuoteRequest.{QuoteRequest}
 use Rattle.quote_messages.specs.declared.requests.RequestPass.{RequestPass}
 use Rattle.step_replay.specs.Actions.{Dealer, Effect, nothing, done_by, done_for, dealer_at}
-use Rattle.step_replay.specs.Actions.{said_by_dealer, said_by_investor, message_effect, at_dealer}
-use Rattle.step_replay.specs.Actions.{words_of, word_for, verdict_on, answer_of, left_by}
+use Rattle.step_replay.specs.Actions.{received_by_dealer, received_by_investor, message_effect, at_dealer}
+use Rattle.step_replay.specs.Actions.{words_of, word_for, verdict_on, settlement_of, left_by}
 use Rattle.dealer_desk.specs.DealerOutput.{word_asked}
 use Rattle.dealer_desk.specs.declared.events.DealerEvent.TheVariants as at_desk
 use Rattle.venue_steps.specs.Words.{has_word}
@@ -211,13 +211,13 @@ left_none market moment (verdict.Passes request response) isnt = refl
 
 module _ (config : Configuration) (facts : List Fact) (moment : ℕ) (bytes : List ℕ) where
   said_none : (found : Option Dealer)
-      → list_any is_hit (done_by found (said_by_dealer config facts moment bytes)).duties ≡ false
+      → list_any is_hit (done_by found (received_by_dealer config facts moment bytes)).duties ≡ false
   said_none None = refl
   said_none (Some dealer) =
       let trail = of_dealer dealer.number facts in
       let v = verdict_on config facts moment bytes dealer in
       if_said (has_word (words_of config) (option_map (word_for config dealer) (word_asked v)))
-      (at_dealer config facts dealer (at_desk.Own moment bytes (answer_of trail v))
+      (at_dealer config facts dealer (at_desk.Received moment bytes (settlement_of trail v))
       (left_by trail moment v))
       (quoting_none (left_by trail moment v) (said_quoting trail moment v))
     where
@@ -227,7 +227,7 @@ module _ (config : Configuration) (facts : List Fact) (moment : ℕ) (bytes : Li
       if_said false effect none = refl
 
   asked_none : says_hit (frame_of bytes) ≡ false → (found : Option InvestorMarket)
-      → list_any is_hit (done_for found (said_by_investor facts moment bytes)).duties ≡ false
+      → list_any is_hit (done_for found (received_by_investor facts moment bytes)).duties ≡ false
   asked_none isnt None = refl
   asked_none isnt (Some market) =
       let book = investor_trail.book_by (of_investor market.firm facts) in
@@ -242,9 +242,9 @@ module _ (config : Configuration) (facts : List Fact) (moment : ℕ) (bytes : Li
     where
       by_role : (b : Bool) → (not b && says_hit (frame_of bytes)) ≡ false
           → list_any is_hit (if b
-          then done_by (dealer_at config firm) (said_by_dealer config facts moment bytes)
+          then done_by (dealer_at config firm) (received_by_dealer config facts moment bytes)
           else done_for (investor_output.market_for config firm)
-          (said_by_investor facts moment bytes)).duties ≡ false
+          (received_by_investor facts moment bytes)).duties ≡ false
       by_role true is = said_none (dealer_at config firm)
       by_role false is = asked_none is (investor_output.market_for config firm)
 

@@ -29,7 +29,7 @@ use Rattle.venue_steps.specs.RoomSteps.{duties_of_open, duties_of_post, duties_o
 use Rattle.venue_steps.specs.RoomSteps.{duties_of_decline, duties_of_pass, duties_of_expire}
 use Rattle.venue_steps.specs.RoomSteps.{shown_then_ready, where_follows, told_in, told_to_each}
 use Rattle.venue_steps.specs.RoomSteps.{dealers_of, close_for, reply_to_pass}
-use Rattle.step_replay.specs.Actions.{Dealer, answer_of, answer_to_drop, left_by, left_by_drop}
+use Rattle.step_replay.specs.Actions.{Dealer, settlement_of, answer_to_drop, left_by, left_by_drop}
 use Rattle.step_replay.specs.Actions.{drop_at}
 use Rattle.step_replay.specs.DealerTrail.{DealerEntry, book_by, rooms_by, entries_of}
 use Rattle.step_replay.specs.EachLemmas.{Every, every_both, every_weaker}
@@ -68,34 +68,34 @@ in_a_room f each true None = tt
 in_a_room f each true (Some room) = (each room, tt)
 in_a_room f each false found = tt
 
-verdict_quoting : (rooms : List RoomRef) (moment : ℕ) (v : DealerVerdict) (answer : Option Settled)
-    → Every IsQuoting (option_to_list (verdict_duty rooms moment v answer))
-verdict_quoting rooms moment verdict.Dropped answer = tt
-verdict_quoting rooms moment (verdict.OutOfSequence reject) answer = tt
-verdict_quoting rooms moment (verdict.Rejected reject) answer = tt
-verdict_quoting rooms moment (verdict.Refused message) answer = tt
-verdict_quoting rooms moment (verdict.QuoteAccepted request id quote replaced) answer =
-    in_a_room (post_of quote) (λ room. refl) (goes_through replaced answer)
+verdict_quoting : (rooms : List RoomRef) (moment : ℕ) (v : DealerVerdict) (settlement : Option Settled)
+    → Every IsQuoting (option_to_list (verdict_duty rooms moment v settlement))
+verdict_quoting rooms moment verdict.Dropped settlement = tt
+verdict_quoting rooms moment (verdict.OutOfSequence reject) settlement = tt
+verdict_quoting rooms moment (verdict.Rejected reject) settlement = tt
+verdict_quoting rooms moment (verdict.Refused message) settlement = tt
+verdict_quoting rooms moment (verdict.QuoteAccepted request id quote replaced) settlement =
+    in_a_room (post_of quote) (λ room. refl) (goes_through replaced settlement)
     (room_of rooms quote.request)
-verdict_quoting rooms moment (verdict.CancelAccepted id quote request) answer =
-    in_a_room (λ room. duty.Unpost room quote moment) (λ room. refl) (is_withdrawn answer)
+verdict_quoting rooms moment (verdict.CancelAccepted id quote request) settlement =
+    in_a_room (λ room. duty.Unpost room quote moment) (λ room. refl) (is_withdrawn settlement)
     (room_of rooms request)
-verdict_quoting rooms moment (verdict.DropsFollow last) answer = (refl, tt)
-verdict_quoting rooms moment (verdict.DeclineAccepted request number) answer =
+verdict_quoting rooms moment (verdict.DropsFollow last) settlement = (refl, tt)
+verdict_quoting rooms moment (verdict.DeclineAccepted request number) settlement =
     in_a_room (λ room. duty.Decline room moment) (λ room. refl) true (room_of rooms number)
 
 pub said_quoting : (trail : List DealerEntry) (moment : ℕ) (v : DealerVerdict)
     → Every IsQuoting (left_by trail moment v)
 said_quoting trail moment v =
-    verdict_quoting (rooms_by trail) moment v (answer_of trail v)
+    verdict_quoting (rooms_by trail) moment v (settlement_of trail v)
 
-dropped_quoting : (rooms : List RoomRef) (moment : ℕ) (answer : Option Settled)
+dropped_quoting : (rooms : List RoomRef) (moment : ℕ) (settlement : Option Settled)
     (found : Option StandingQuote)
-    → Every IsQuoting (option_to_list (unpost_dropped rooms moment answer found))
-dropped_quoting rooms moment answer None = tt
-dropped_quoting rooms moment answer (Some own) =
+    → Every IsQuoting (option_to_list (unpost_dropped rooms moment settlement found))
+dropped_quoting rooms moment settlement None = tt
+dropped_quoting rooms moment settlement (Some own) =
     in_a_room (λ room. duty.Unpost room own.quote.number moment) (λ room. refl)
-    (is_withdrawn answer) (room_of rooms own.quote.request)
+    (is_withdrawn settlement) (room_of rooms own.quote.request)
 
 further_quoting : (b : Bool) (last moment : ℕ)
     → Every IsQuoting (option_to_list (if b then Some (duty.Drop last moment) else None))

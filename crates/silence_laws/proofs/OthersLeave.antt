@@ -24,7 +24,7 @@ use Rattle.step_replay.specs.VenueFacts.{Fact, AtDealer, InRoom, of_dealer, of_r
 use Rattle.step_replay.specs.Actions.{Effect, Dealer, nothing, dealer_of, dealer_at, acting_dealer}
 use Rattle.step_replay.specs.Actions.{done_by, done_for, at_dealer, in_room, word_for, offer_of}
 use Rattle.step_replay.specs.Actions.{at_investor_of, where_known, posted_by, unposted_by}
-use Rattle.step_replay.specs.Actions.{declined_by, dropped_by, said_by_dealer, said_by_investor}
+use Rattle.step_replay.specs.Actions.{declined_by, dropped_by, received_by_dealer, received_by_investor}
 use Rattle.step_replay.specs.Actions.{duty_effect, message_effect}
 use Rattle.venue_places.specs.declared.actors.Actor.{Actor}
 use Rattle.venue_places.specs.declared.actors.Actor.TheVariants as actor
@@ -120,7 +120,7 @@ module _ (config : Configuration) (own : ℕ) (facts : List Fact) where
   }
 
   said_unseen : (moment : ℕ) (bytes : List ℕ) (dealer : Dealer) → (dealer.number == own) ≡ false
-      → IsUnseen own (said_by_dealer config facts moment bytes dealer)
+      → IsUnseen own (received_by_dealer config facts moment bytes dealer)
   said_unseen moment bytes dealer another =
       unseen_if own _ _ (desk_unseen dealer _ _ another
       (said_quoting (of_dealer dealer.number facts) moment _))
@@ -220,9 +220,9 @@ module _ (config : Configuration) (own : ℕ) (facts : List Fact) where
   unfolding message_effect
   message_unseen firm moment bytes is =
       subst (λ (b : Bool). IsUnseen own (if b
-      then done_by (dealer_at config firm) (said_by_dealer config facts moment bytes)
+      then done_by (dealer_at config firm) (received_by_dealer config facts moment bytes)
       else done_for (investor_output.market_for config firm)
-      (said_by_investor facts moment bytes)))
+      (received_by_investor facts moment bytes)))
       (sym (first_part (is_some (dealer_numbered config firm)) (firm == own) is))
       (numbered_other firm is _ (said_unseen moment bytes))
     where

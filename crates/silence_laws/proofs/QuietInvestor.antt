@@ -331,8 +331,8 @@ event_hushed market trail more none =
 module _ (market : InvestorMarket) (book : InvestorBook) where
   -- a message of the investor's own
   pub own_kept : (moment : ℕ) (bytes : List ℕ)
-      → event_facts market book (event.Own moment bytes)
-      ≡ event_facts market (quiet_book book) (event.Own moment bytes)
+      → event_facts market book (event.Received moment bytes)
+      ≡ event_facts market (quiet_book book) (event.Received moment bytes)
   unfolding event_facts
   own_kept moment bytes =
       let heard = verdict_heard book market moment bytes in

@@ -20,7 +20,7 @@ use Rattle.request_room.specs.Book.{where_so, event_facts}
 use Rattle.request_room.specs.declared.ends.End.{End}
 use Rattle.request_room.specs.declared.events.RoomEvent.{RoomEvent}
 use Rattle.request_room.specs.declared.events.RoomEvent.TheVariants as event
-use Rattle.request_room.specs.declared.quotes.StandingQuote.{StandingQuote}
+use Rattle.request_room.specs.declared.quotes.PostedQuote.{PostedQuote}
 use Rattle.request_room.specs.declared.requests.RoomRequest.{RoomRequest}
 use Rattle.venue_steps.specs.RoomSteps.{duties_of_open, duties_of_post, duties_of_unpost}
 use Rattle.venue_steps.specs.RoomSteps.{duties_of_decline, duties_of_pass, duties_of_expire}
@@ -32,7 +32,7 @@ use Rattle.silence_laws.proofs.Quiet.{stays_in_room}
 
 -- whether an event is a hit
 abbrev pub is_hit_there : RoomEvent → Bool
-is_hit_there (event.Hit word moment answer) = true
+is_hit_there (event.Hit word moment settlement) = true
 is_hit_there other = false
 
 module _ (own : ℕ) where
@@ -79,7 +79,7 @@ module _ (own : ℕ) where
   readies_none (Ended end moment) is = refl
 
   -- whether an own quote is taken out: no fact of another dealer does it
-  takes_none : (quote : StandingQuote) → (quote.dealer == own) ≡ true → (fact : RoomFact)
+  takes_none : (quote : PostedQuote) → (quote.dealer == own) ≡ true → (fact : RoomFact)
       → stays_in_room own fact ≡ false → takes_out quote fact ≡ false
   takes_none quote mine (Opened request) is = refl
   takes_none quote mine Readied is = refl
@@ -100,7 +100,7 @@ module _ (own : ℕ) where
       → book_of (fact ∷ kept) ≡ book_of kept
       → stands (book_of (cond b (fact ∷ kept) kept)) own word ≡ stands (book_of kept) own word
   skipped true fact kept word same =
-      ap (λ (book : List StandingQuote). stands book own word) same
+      ap (λ (book : List PostedQuote). stands book own word) same
   skipped false fact kept word same = refl
 
   pub stands_same : (facts : List RoomFact) (word : ℕ)
@@ -110,7 +110,7 @@ module _ (own : ℕ) where
   stands_same (Posted quote ∷ later) word =
       by_test (quote.dealer == own) refl (stands_same later word)
     where
-      if_out : (out : Bool) (one other : List StandingQuote)
+      if_out : (out : Bool) (one other : List PostedQuote)
           → stands one own word ≡ stands other own word
           → stands (if out then one else quote ∷ one) own word
           ≡ stands (if out then other else quote ∷ other) own word
@@ -235,7 +235,7 @@ module _ (own : ℕ) where
     happens_same (event.Decline dealer) isnt =
         ap (λ (b : Bool). filter (stays_in_room own) (where_so b (Noted dealer)))
         (sym takes_same)
-    happens_same (event.Hit word moment answer) isnt = cc
+    happens_same (event.Hit word moment settlement) isnt = cc
     happens_same (event.Pass moment) isnt =
         ap (λ (b : Bool). filter (stays_in_room own) (where_so b (Ended passed moment)))
         (sym open_same)

@@ -41,8 +41,8 @@ use Rattle.step_replay.specs.Actions.{done_by, done_for, shown_to, told_of, told
 use Rattle.step_replay.specs.Actions.{at_investor_of, where_known, at_dealer, left_by_drop}
 use Rattle.step_replay.specs.Actions.{verdict_on}
 use Rattle.step_replay.specs.Actions.{words_of, word_for, has_word_for, offer_of}
-use Rattle.step_replay.specs.Actions.{answer_of, left_by, said_by_dealer, answer_to_drop, drop_at}
-use Rattle.step_replay.specs.Actions.{posted_by, unposted_by, declined_by, said_by_investor}
+use Rattle.step_replay.specs.Actions.{settlement_of, left_by, received_by_dealer, answer_to_drop, drop_at}
+use Rattle.step_replay.specs.Actions.{posted_by, unposted_by, declined_by, received_by_investor}
 use Rattle.step_replay.specs.Actions.{left_by_investor, answered_by, duty_effect}
 use Rattle.step_replay.specs.Actions.{sweep_effect, message_effect}
 use Rattle.venue_places.specs.declared.actors.Actor.{Actor}
@@ -193,8 +193,8 @@ module _ (config : Configuration) (own : ℕ) (facts : List Fact) where
       (drop_quoting config facts last moment dealer)))
 
   said_alike : (moment : ℕ) (bytes : List ℕ) (dealer : Dealer) → (dealer.number == own) ≡ true
-      → AreAlike own (said_by_dealer config facts moment bytes dealer)
-      (said_by_dealer config after moment bytes dealer)
+      → AreAlike own (received_by_dealer config facts moment bytes dealer)
+      (received_by_dealer config after moment bytes dealer)
   said_alike moment bytes dealer mine =
       same_alike own _ _
       (ap (λ (trail : List DealerEntry).
@@ -202,14 +202,14 @@ module _ (config : Configuration) (own : ℕ) (facts : List Fact) where
       if has_word (words_of config) (option_map (word_for config dealer) (word_asked v))
       then record {
         facts = map (AtDealer dealer.number) (entries_of config.date dealer.row trail
-            (at_desk.Own moment bytes (answer_of trail v)));
+            (at_desk.Received moment bytes (settlement_of trail v)));
         duties = left_by trail moment v;
       }
       else nothing) (sym (dealer_same own facts dealer.number mine)))
       (plain_if (has_word (words_of config) (option_map (word_for config dealer)
       (word_asked (verdict_on config facts moment bytes dealer))))
-      (at_dealer config facts dealer (at_desk.Own moment bytes
-      (answer_of (of_dealer dealer.number facts) (verdict_on config facts moment bytes dealer)))
+      (at_dealer config facts dealer (at_desk.Received moment bytes
+      (settlement_of (of_dealer dealer.number facts) (verdict_on config facts moment bytes dealer)))
       (left_by (of_dealer dealer.number facts) moment
       (verdict_on config facts moment bytes dealer)))
       (all_plain _ (said_quoting (of_dealer dealer.number facts) moment
@@ -325,10 +325,10 @@ module _ (config : Configuration) (own : ℕ) (facts : List Fact) where
         ∙ book_by_kept (of_investor market.firm facts)
 
     said_to_investor : hits (verdict_by its_book) ≡ false
-        → AreAlike own (said_by_investor facts moment bytes market)
-        (said_by_investor after moment bytes market)
+        → AreAlike own (received_by_investor facts moment bytes market)
+        (received_by_investor after moment bytes market)
     said_to_investor isnt =
-        investor_alike own facts market (at_investor.Own moment bytes)
+        investor_alike own facts market (at_investor.Received moment bytes)
         (left_by_investor facts moment bytes market) (left_by_investor after moment bytes market)
         (ap (filter stays_at_desk) (investor.own_kept market its_book moment bytes))
         (ap (λ (v : InvestorVerdict).
@@ -408,9 +408,9 @@ module _ (config : Configuration) (own : ℕ) (facts : List Fact) where
       either (is_some (dealer_numbered config firm)) isnt
     where
       for_market : (found : Option InvestorMarket)
-          → list_any is_hit (done_for found (said_by_investor facts moment bytes)).duties ≡ false
-          → AreAlike own (done_for found (said_by_investor facts moment bytes))
-          (done_for found (said_by_investor after moment bytes))
+          → list_any is_hit (done_for found (received_by_investor facts moment bytes)).duties ≡ false
+          → AreAlike own (done_for found (received_by_investor facts moment bytes))
+          (done_for found (received_by_investor after moment bytes))
       for_market None none = nothing_alike own
       for_market (Some market) none =
           said_to_investor moment bytes market
@@ -419,17 +419,17 @@ module _ (config : Configuration) (own : ℕ) (facts : List Fact) where
 
       either : (b : Bool)
           → list_any is_hit (if b
-          then done_by (dealer_at config firm) (said_by_dealer config facts moment bytes)
+          then done_by (dealer_at config firm) (received_by_dealer config facts moment bytes)
           else done_for (investor_output.market_for config firm)
-          (said_by_investor facts moment bytes)).duties ≡ false
+          (received_by_investor facts moment bytes)).duties ≡ false
           → AreAlike own (if b
-          then done_by (dealer_at config firm) (said_by_dealer config facts moment bytes)
+          then done_by (dealer_at config firm) (received_by_dealer config facts moment bytes)
           else done_for (investor_output.market_for config firm)
-          (said_by_investor facts moment bytes))
+          (received_by_investor facts moment bytes))
           (if b
-          then done_by (dealer_at config firm) (said_by_dealer config after moment bytes)
+          then done_by (dealer_at config firm) (received_by_dealer config after moment bytes)
           else done_for (investor_output.market_for config firm)
-          (said_by_investor after moment bytes))
+          (received_by_investor after moment bytes))
       either true none =
           numbered_own config own firm another _ _ (said_alike moment bytes)
       either false none = for_market (investor_output.market_for config firm) none

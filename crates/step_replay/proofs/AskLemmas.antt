@@ -10,7 +10,7 @@ use Rattle.std.specs.Vec.{with_item}
 use Rattle.std.proofs.lemmas.Bool.Decides.{nat_tests}
 use Rattle.std.proofs.lemmas.List.{append-nil}
 use Rattle.std.proofs.lemmas.List.Folds.{list_any-append}
-use Rattle.quote_word.specs.PlainWords.{entry_in, answer_of, Exchanges}
+use Rattle.quote_word.specs.PlainWords.{entry_in, settlement_of, Exchanges}
 use Rattle.quote_word.specs.PlainWordsLaws.{exchange_answers_entry, exchange_keeps_others}
 use Rattle.quote_word.specs.PlainWordsLaws.{exchange_keeps_count}
 use Rattle.quote_word.specs.declared.settled.Settled.{Settled}
@@ -22,7 +22,7 @@ use Rattle.dealer_desk.specs.DealerFacts.{DealerFact}
 use Rattle.dealer_desk.specs.DealerOutput.{DeskEvents, event_facts, with_event, is_withdrawn}
 use Rattle.dealer_desk.specs.DeskLaws.{withdraws}
 use Rattle.dealer_desk.specs.declared.events.DealerEvent.{DealerEvent}
-use Rattle.venue_steps.specs.Words.{AsksAtMost, SettlesSo, answer_in, has_word, word_to_ask}
+use Rattle.venue_steps.specs.Words.{AsksAtMost, SettlesSo, settlement_in, has_word, word_to_ask}
 use Rattle.step_replay.specs.DealerTrail.{DealerEntry, facts_of, book_by}
 use Rattle.step_replay.specs.DealerTrail.{was_lifted, was_withdrawn, answer_to_dealer, entries_of}
 use Rattle.step_replay.specs.VenueFacts.{Fact, AtDealer, of_dealer}
@@ -58,23 +58,23 @@ words_apart config number other row row_too quote quote_too is is_too within wit
     let dealer : number ≡ other = omega arith in
     (dealer, ap (λ (q : QuoteRef). q.quote) equal)
 
--- whether a word that is asked is withdrawn by its answer, and is that of this quote
+-- whether a word that is asked is withdrawn by its settlement, and is that of this quote
 abbrev pub withdraws_by : Option ℕ → Option Settled → ℕ → Bool
-withdraws_by None answer quote = false
-withdraws_by (Some asked) answer quote = is_withdrawn answer && (asked == quote)
+withdraws_by None settlement quote = false
+withdraws_by (Some asked) settlement quote = is_withdrawn settlement && (asked == quote)
 
 -- what a word is that its dealer has asked
 word_taken : (lifted withdrawn : Bool)
     → word_if lifted (withdrawn || (is_withdrawn (Some (if lifted then settled.Lifted
     else settled.Withdrawn)) && true))
-    ≡ Some (answer_of (word_if lifted withdrawn) settled.Withdrawn)
+    ≡ Some (settlement_of (word_if lifted withdrawn) settled.Withdrawn)
 word_taken true withdrawn = refl
 word_taken false true = refl
 word_taken false false = refl
 
 -- what it answers
 pub taken_is : (lifted withdrawn : Bool)
-    → answer_of (word_if lifted withdrawn) settled.Withdrawn
+    → settlement_of (word_if lifted withdrawn) settled.Withdrawn
     ≡ (if lifted then settled.Lifted else settled.Withdrawn)
 taken_is true withdrawn = refl
 taken_is false true = refl
@@ -132,7 +132,7 @@ module _ (config : Configuration) (facts : List Fact) (number : ℕ) (row : Deal
         ∙ ap (λ b. was_withdrawn trail quote || b) (withdraws_so quote))
 
     asked_grown : word_is (of_dealer number now) asked
-        ≡ Some (answer_of (word_is trail asked) settled.Withdrawn)
+        ≡ Some (settlement_of (word_is trail asked) settled.Withdrawn)
     asked_grown =
         let same : (asked == asked) ≡ true = eq-eqb asked asked refl in
         word_grown asked
@@ -150,26 +150,26 @@ module _ (config : Configuration) (facts : List Fact) (number : ℕ) (row : Deal
         (or_and_false (was_withdrawn trail quote)
         (is_withdrawn (Some (answer_to_dealer trail asked))))
 
-    module _ (words after : List (Option Settled)) (answer : Settled)
+    module _ (words after : List (Option Settled)) (settlement : Settled)
         (stand : WordsStand config facts words)
         (exchange : Exchanges words (word_for config (dealer_of number row) asked)
-        settled.Withdrawn answer after)
+        settled.Withdrawn settlement after)
         (there : word_for config (dealer_of number row) asked < length words) where
       -- the word that is asked
       abbrev word : ℕ
       word = word_for config (dealer_of number row) asked
 
-      pub answer_is : answer ≡ answer_to_dealer trail asked
+      pub answer_is : settlement ≡ answer_to_dealer trail asked
       answer_is =
           exchange.answered
-          ∙ ap (λ e. answer_of e settled.Withdrawn) (stand number row asked is within)
+          ∙ ap (λ e. settlement_of e settled.Withdrawn) (stand number row asked is within)
           ∙ taken_is (was_lifted trail asked) (was_withdrawn trail asked)
 
       asked_stands : entry_in after word ≡ word_is (of_dealer number now) asked
       asked_stands =
-          exchange_answers_entry words after word settled.Withdrawn answer there exchange
+          exchange_answers_entry words after word settled.Withdrawn settlement there exchange
           ∙ ap (λ a. Some a) (exchange.answered
-          ∙ ap (λ e. answer_of e settled.Withdrawn) (stand number row asked is within))
+          ∙ ap (λ e. settlement_of e settled.Withdrawn) (stand number row asked is within))
           ∙ sym asked_grown
 
       left_stands : (other : ℕ) (row_too : DealerRow) (quote : ℕ)
@@ -181,7 +181,7 @@ module _ (config : Configuration) (facts : List Fact) (number : ℕ) (row : Deal
           ≡ word_is (of_dealer other now) quote
       left_stands other row_too quote is_too within_too differs same =
           exchange_keeps_others words after word (word_for config (dealer_of other row_too) quote)
-          settled.Withdrawn answer exchange differs
+          settled.Withdrawn settlement exchange differs
           ∙ stand other row_too quote is_too within_too
           ∙ sym same
 
@@ -274,20 +274,20 @@ module _ (config : Configuration) (facts : List Fact) (floor : Floor) (number : 
 
   -- what the code has done: by the word that is asked
   pub asks_does : (asked : Option ℕ) (desk : DeskEvents) (words : List (Option Settled))
-      → ((answer : Option Settled) (quote : ℕ) → list_any (withdraws quote)
-      (event_facts config.date found.row (book_by own_trail_of) (event answer))
-      ≡ withdraws_by asked answer quote)
-      → ((answer : Option Settled)
-      → IsDueSo config.date found.row own_trail_of (event answer))
+      → ((settlement : Option Settled) (quote : ℕ) → list_any (withdraws quote)
+      (event_facts config.date found.row (book_by own_trail_of) (event settlement))
+      ≡ withdraws_by asked settlement quote)
+      → ((settlement : Option Settled)
+      → IsDueSo config.date found.row own_trail_of (event settlement))
       → IfSome asked (λ quote. (1 ≤ quote) × (quote ≤ found.row.quotes))
       → AsksAtMost Exchanges entry_in floor.words
       (word_to_ask (length floor.words) (asked_word asked)) settled.Withdrawn words
       → desk ≡ (if has_word (length floor.words) (asked_word asked)
-      then with_event place.desk (event (answer_in (entry_in words) (asked_word asked)))
+      then with_event place.desk (event (settlement_in (entry_in words) (asked_word asked)))
       else place.desk)
       → Does config facts (effect_of asked) (floor_with desk words)
       (if has_word (length floor.words) (asked_word asked)
-      then left (answer_in (entry_in words) (asked_word asked)) else [])
+      then left (settlement_in (entry_in words) (asked_word asked)) else [])
   asks_does None desk words withdraws_so due_so inside exchange is = record {
     stands = subst (λ (w : List (Option Settled)).
         Stands config (facts ++ (effect_of None).facts) (floor_with desk w)) (sym exchange)
@@ -327,13 +327,13 @@ module _ (config : Configuration) (facts : List Fact) (floor : Floor) (number : 
               (left (Some (answer_to_dealer own_trail_of asked))))
               (floor_with desk words) (left entry)
           by_entry None entry_is settles now_is = absurd settles
-          by_entry (Some answer) entry_is settles now_is =
+          by_entry (Some settlement) entry_is settles now_is =
               let answered = answer_to_dealer own_trail_of asked in
               let within = in_day asked found.row.quotes inside.0 inside.1 in
               let in_row : word < length floor.words = grind (arith, nat_tests) in
               let so = λ (quote : ℕ). withdraws_so (Some answered) quote in
-              let same : answer ≡ answered = answer_is config facts number found.row found.row_is
-              (event (Some answered)) asked within so floor.words words answer before.words_are
+              let same : settlement ≡ answered = answer_is config facts number found.row found.row_is
+              (event (Some answered)) asked within so floor.words words settlement before.words_are
               settles in_row in
               let desk_is = now_is
               ∙ ap (λ (a : Settled). with_event place.desk (event (Some a))) same in
@@ -343,8 +343,8 @@ module _ (config : Configuration) (facts : List Fact) (floor : Floor) (number : 
                     (record place { desk = desk }) words stood
                     (event_stands config number found.row own_trail_of place desk
                     (event (Some answered)) found.stands desk_is (due_so (Some answered)))
-                    (exchange_keeps_count floor.words words word settled.Withdrawn answer settles)
+                    (exchange_keeps_count floor.words words word settled.Withdrawn settlement settles)
                     (words_asked config facts number found.row found.row_is (event (Some answered))
-                    asked within so floor.words words answer before.words_are settles in_row);
+                    asked within so floor.words words settlement before.words_are settles in_row);
                 leaves = ap (λ (a : Settled). left (Some a)) same;
               }

@@ -18,8 +18,8 @@ use Rattle.venue_places.specs.Placed as table
 use Rattle.venue_places.specs.Placed.{placed, swept, by_dealer, where_so}
 use Rattle.venue_places.specs.declared.actors.Actor.{Actor}
 use Rattle.venue_places.specs.declared.actors.Actor.TheVariants as actor
-use Rattle.venue_places.specs.declared.arrivals.Arrival.{Arrival}
-use Rattle.venue_places.specs.declared.arrivals.Arrival.TheVariants as arrival
+use Rattle.venue_places.specs.declared.arrivals.Placement.{Placement}
+use Rattle.venue_places.specs.declared.arrivals.Placement.TheVariants as arrival
 use Rattle.venue_places.specs.declared.arrivals.ForDealer.{ForDealer}
 use Rattle.venue_places.specs.declared.arrivals.ForDealer.TheVariants as to_dealer
 use Rattle.venue_places.specs.declared.arrivals.ForInvestor.{ForInvestor}
@@ -35,7 +35,7 @@ use Rattle.step_replay.specs.VenueFacts.{Fact, InRoom, of_room}
 
 module _ (config : Configuration) (facts : List Fact) where
   -- what comes to a place, where the venue has it
-  there : (may : Bool) (coming : Arrival) (effect : Effect)
+  there : (may : Bool) (coming : Placement) (effect : Effect)
       → effect ≡ arrival_effect config facts coming → (may ≡ false → effect ≡ nothing)
       → effect ≡ effect_where config facts (where_so may coming)
   there true coming effect is none = is
@@ -114,7 +114,7 @@ module _ (config : Configuration) (facts : List Fact) where
 
   -- The dealer that acts.
 
-  acting_comes : (by : Actor) (action : Dealer → Effect) (coming : Dealer → Option Arrival)
+  acting_comes : (by : Actor) (action : Dealer → Effect) (coming : Dealer → Option Placement)
       → ((dealer : Dealer) → acting_dealer config by ≡ Some dealer
       → action dealer ≡ effect_where config facts (coming dealer))
       → done_by (acting_dealer config by) action

@@ -27,14 +27,14 @@ use Rattle.dealer_desk.specs.DeskLaws.{withdraws}
 use Rattle.dealer_desk.specs.declared.verdicts.DealerVerdict.{DealerVerdict}
 use Rattle.dealer_desk.specs.declared.verdicts.DealerVerdict.TheVariants as verdict
 use Rattle.dealer_desk.specs.declared.events.DealerEvent.TheVariants as event
-use Rattle.venue_steps.specs.Words.{AsksAtMost, answer_in, has_word, word_of, word_to_ask}
+use Rattle.venue_steps.specs.Words.{AsksAtMost, settlement_in, has_word, word_of, word_to_ask}
 use Rattle.venue_steps.specs.DealerSteps.{own_word, desk_after_own, duties_of_own}
 use Rattle.venue_steps.specs.DealerSteps.{drop_word, desk_after_drop, duties_of_drop}
 use Rattle.step_replay.specs.DealerTrail.{DealerEntry, book_by, rooms_by, entries_of}
 use Rattle.step_replay.specs.DueList.{due_by_fact}
 use Rattle.step_replay.specs.VenueFacts.{Fact, of_dealer}
 use Rattle.step_replay.specs.Actions.{dealer_of, dealer_at, done_by, at_dealer}
-use Rattle.step_replay.specs.Actions.{nothing, first_word, said_by_dealer, dropped_by, told_to}
+use Rattle.step_replay.specs.Actions.{nothing, first_word, received_by_dealer, dropped_by, told_to}
 use Rattle.step_replay.specs.Actions.{told_of}
 use Rattle.step_replay.specs.Coming.{dealer_gets}
 use Rattle.venue_places.specs.Brought.{dealer_with}
@@ -77,10 +77,10 @@ or_false : (b : Bool) → (b || false) ≡ b
 or_false true = refl
 or_false false = refl
 
--- what a verdict withdraws, by the answer of the word that it asks
-said_withdraws : (v : DealerVerdict) (answer : Option Settled) (quote : ℕ)
-    → list_any (withdraws quote) (verdict_facts v answer) ≡ withdraws_by (word_asked v) answer quote
-said_withdraws (verdict.QuoteAccepted request id own None) answer quote = refl
+-- what a verdict withdraws, by the settlement of the word that it asks
+said_withdraws : (v : DealerVerdict) (settlement : Option Settled) (quote : ℕ)
+    → list_any (withdraws quote) (verdict_facts v settlement) ≡ withdraws_by (word_asked v) settlement quote
+said_withdraws (verdict.QuoteAccepted request id own None) settlement quote = refl
 said_withdraws (verdict.QuoteAccepted request id own (Some replaced)) None quote = refl
 said_withdraws (verdict.QuoteAccepted request id own (Some replaced)) (Some settled.Withdrawn) quote =
     or_false (replaced == quote)
@@ -89,8 +89,8 @@ said_withdraws (verdict.CancelAccepted id own request) None quote = refl
 said_withdraws (verdict.CancelAccepted id own request) (Some settled.Withdrawn) quote =
     or_false (own == quote)
 said_withdraws (verdict.CancelAccepted id own request) (Some settled.Lifted) quote = refl
-said_withdraws (verdict.DeclineAccepted request number) answer quote = refl
-said_withdraws other answer quote = refl
+said_withdraws (verdict.DeclineAccepted request number) settlement quote = refl
+said_withdraws other settlement quote = refl
 
 -- what a contract speaks of, at the desk and by the trail
 record Asking : Type 0 where
@@ -118,12 +118,12 @@ pub said_does : (config : Configuration) (facts : List Fact) (floor : Floor) (nu
     settled.Withdrawn words
     → desk ≡ desk_after_own place.desk moment bytes
     (has_word (length floor.words) (own_word place.first_word place.desk moment bytes))
-    (answer_in (entry_in words) (own_word place.first_word place.desk moment bytes))
+    (settlement_in (entry_in words) (own_word place.first_word place.desk moment bytes))
     → duties ≡ duties_of_own place.desk moment bytes
     (has_word (length floor.words) (own_word place.first_word place.desk moment bytes))
-    (answer_in (entry_in words) (own_word place.first_word place.desk moment bytes))
+    (settlement_in (entry_in words) (own_word place.first_word place.desk moment bytes))
     → Does config facts
-    (done_by (dealer_at config number) (said_by_dealer config facts moment bytes))
+    (done_by (dealer_at config number) (received_by_dealer config facts moment bytes))
     (record floor {
       dealers = with_item floor.dealers number (record place { desk = desk });
       words = words;
@@ -149,31 +149,31 @@ said_does config facts floor number place moment bytes desk words duties before 
     ∙ ap (λ (r : DealerRow). asking (first_word config (dealer_of number found.row)) v
     (rooms_by trail) r.quotes) found.stands.row_is in
     let left : Option Settled → List Duty =
-    λ answer. option_to_list (verdict_duty (rooms_by trail) moment v answer) in
+    λ settlement. option_to_list (verdict_duty (rooms_by trail) moment v settlement) in
     leaving config facts _ _ duties _
     (duties_are ∙ ap (λ (a : Asking). if has_word (length floor.words) (word_by a)
     then option_to_list (verdict_duty a.rooms moment a.verdict
-    (answer_in (entry_in words) (word_by a))) else []) same)
-    (by_found config facts number place found (said_by_dealer config facts moment bytes) _ _
+    (settlement_in (entry_in words) (word_by a))) else []) same)
+    (by_found config facts number place found (received_by_dealer config facts moment bytes) _ _
     (asks_does config facts floor number place before found stood
-    (λ answer. event.Own moment bytes answer) left (word_asked v) desk words
-    (λ answer quote. said_withdraws v answer quote)
-    (λ answer. ap (λ l. due.Own moment bytes ∷ l) (verdict_undue v answer))
+    (λ settlement. event.Received moment bytes settlement) left (word_asked v) desk words
+    (λ settlement quote. said_withdraws v settlement quote)
+    (λ settlement. ap (λ l. due.Own moment bytes ∷ l) (verdict_undue v settlement))
     (subst (λ (a : Asking). IfSome (word_asked a.verdict)
     (λ quote. (1 ≤ quote) × (quote ≤ a.quotes))) same inside)
     (subst (λ (a : Asking). AsksAtMost Exchanges entry_in floor.words
     (word_to_ask (length floor.words) (word_by a)) settled.Withdrawn words)
     same exchange)
     (desk_is ∙ ap (λ (a : Asking). if has_word (length floor.words) (word_by a)
-    then with_event place.desk (event.Own moment bytes
-    (answer_in (entry_in words) (word_by a))) else place.desk) same)))
+    then with_event place.desk (event.Received moment bytes
+    (settlement_in (entry_in words) (word_by a))) else place.desk) same)))
 
 -- A drop.
 
-drop_withdraws : (asked : Option ℕ) (answer : Option Settled) (quote : ℕ)
-    → list_any (withdraws quote) (settled_facts asked by.Cancel answer)
-    ≡ withdraws_by asked answer quote
-drop_withdraws None answer quote = refl
+drop_withdraws : (asked : Option ℕ) (settlement : Option Settled) (quote : ℕ)
+    → list_any (withdraws quote) (settled_facts asked by.Cancel settlement)
+    ≡ withdraws_by asked settlement quote
+drop_withdraws None settlement quote = refl
 drop_withdraws (Some asked) None quote = refl
 drop_withdraws (Some asked) (Some settled.Withdrawn) quote = or_false (asked == quote)
 drop_withdraws (Some asked) (Some settled.Lifted) quote = refl
@@ -204,10 +204,10 @@ pub drop_does : (config : Configuration) (facts : List Fact) (floor : Floor) (nu
     settled.Withdrawn words
     → desk ≡ desk_after_drop place.desk last moment
     (has_word (length floor.words) (drop_word place.first_word place.desk last))
-    (answer_in (entry_in words) (drop_word place.first_word place.desk last))
+    (settlement_in (entry_in words) (drop_word place.first_word place.desk last))
     → duties ≡ duties_of_drop place.desk last moment
     (has_word (length floor.words) (drop_word place.first_word place.desk last))
-    (answer_in (entry_in words) (drop_word place.first_word place.desk last))
+    (settlement_in (entry_in words) (drop_word place.first_word place.desk last))
     → Does config facts
     (done_by (dealer_at config number) (dropped_by config facts last moment))
     (record floor {
@@ -234,24 +234,24 @@ drop_does config facts floor number place last moment desk words duties before s
     place.desk.row.quotes) found.stands.rooms_are
     ∙ ap (λ (r : DealerRow). dropping (first_word config (dealer_of number row)) (book_by trail)
     (rooms_by trail) r.quotes) found.stands.row_is in
-    let due_so : (answer : Option Settled)
-    → IsDueSo config.date row trail (event.Drop last moment answer) =
-    λ answer. ap (λ l. due.Drop last moment ∷ l)
-    (settled_undue (number_to_drop (book_by trail) last) by.Cancel answer) in
-    let after : Option Settled → DealerBook = λ answer.
-    book_by (trail ++ entries_of config.date row trail (event.Drop last moment answer)) in
-    let after_is : (answer : Option Settled)
-    → book_at (with_event place.desk (event.Drop last moment answer)) ≡ after answer =
-    λ answer. book_is config number row _ (record place {
-      desk = with_event place.desk (event.Drop last moment answer);
+    let due_so : (settlement : Option Settled)
+    → IsDueSo config.date row trail (event.Drop last moment settlement) =
+    λ settlement. ap (λ l. due.Drop last moment ∷ l)
+    (settled_undue (number_to_drop (book_by trail) last) by.Cancel settlement) in
+    let after : Option Settled → DealerBook = λ settlement.
+    book_by (trail ++ entries_of config.date row trail (event.Drop last moment settlement)) in
+    let after_is : (settlement : Option Settled)
+    → book_at (with_event place.desk (event.Drop last moment settlement)) ≡ after settlement =
+    λ settlement. book_is config number row _ (record place {
+      desk = with_event place.desk (event.Drop last moment settlement);
     })
     (event_stands config number row trail place
-    (with_event place.desk (event.Drop last moment answer))
-    (event.Drop last moment answer) found.stands refl (due_so answer)) in
-    let left : Option Settled → List Duty = λ answer.
-    option_to_list (unpost_dropped (rooms_by trail) moment answer (quote_to_drop (book_by trail) last))
-    ++ option_to_list (further_drop (after answer) last moment) in
-    let answer_now : Option Settled = answer_in (entry_in words)
+    (with_event place.desk (event.Drop last moment settlement))
+    (event.Drop last moment settlement) found.stands refl (due_so settlement)) in
+    let left : Option Settled → List Duty = λ settlement.
+    option_to_list (unpost_dropped (rooms_by trail) moment settlement (quote_to_drop (book_by trail) last))
+    ++ option_to_list (further_drop (after settlement) last moment) in
+    let answer_now : Option Settled = settlement_in (entry_in words)
     (drop_word place.first_word place.desk last) in
     leaving config facts _ _ duties _
     (duties_are
@@ -261,15 +261,15 @@ drop_does config facts floor number place last moment desk words duties before s
     else []) (after_is answer_now)
     ∙ ap (λ (d : Dropping). if has_word (length floor.words) (word_to_drop last d)
     then option_to_list (unpost_dropped d.rooms moment
-    (answer_in (entry_in words) (word_to_drop last d)) (quote_to_drop d.book last))
+    (settlement_in (entry_in words) (word_to_drop last d)) (quote_to_drop d.book last))
     ++ option_to_list (further_drop
-    (after (answer_in (entry_in words) (word_to_drop last d))) last moment)
+    (after (settlement_in (entry_in words) (word_to_drop last d))) last moment)
     else []) same)
     (by_found config facts number place found (dropped_by config facts last moment) _ _
     (asks_does config facts floor number place before found stood
-    (λ answer. event.Drop last moment answer) left (number_to_drop (book_by trail) last)
+    (λ settlement. event.Drop last moment settlement) left (number_to_drop (book_by trail) last)
     desk words
-    (λ answer quote. drop_withdraws (number_to_drop (book_by trail) last) answer quote)
+    (λ settlement quote. drop_withdraws (number_to_drop (book_by trail) last) settlement quote)
     due_so
     (subst (λ (d : Dropping). IfSome (number_to_drop d.book last)
     (λ quote. (1 ≤ quote) × (quote ≤ d.quotes))) same inside)
@@ -278,7 +278,7 @@ drop_does config facts floor number place last moment desk words duties before s
     same exchange)
     (desk_is ∙ ap (λ (d : Dropping). if has_word (length floor.words) (word_to_drop last d)
     then with_event place.desk (event.Drop last moment
-    (answer_in (entry_in words) (word_to_drop last d))) else place.desk) same)))
+    (settlement_in (entry_in words) (word_to_drop last d))) else place.desk) same)))
 
 -- A closing notice.
 

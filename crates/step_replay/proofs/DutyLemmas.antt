@@ -6,10 +6,10 @@ use Rattle.std.specs.Prelude.{slice_get}
 use Rattle.venue_rows.specs.Rows.{Configuration}
 use Rattle.market_terms.specs.declared.duties.Duty.{Duty}
 use Rattle.step_replay.specs.VenueFacts.{Fact}
-use Rattle.venue_places.specs.declared.arrivals.Arrival.{Arrival}
+use Rattle.venue_places.specs.declared.arrivals.Placement.{Placement}
 use Rattle.step_replay.specs.Coming.{arrival_effect, effect_where}
 use Rattle.step_replay.specs.Actions.{Effect, message_effect, done_by, done_for}
-use Rattle.step_replay.specs.Actions.{dealer_at, said_by_dealer, said_by_investor}
+use Rattle.step_replay.specs.Actions.{dealer_at, received_by_dealer, received_by_investor}
 use Rattle.investor_desk.specs.InvestorOutput.{market_for}
 use Rattle.step_replay.specs.Standing.{ActsOnce, Does, Stands}
 use Rattle.step_replay.specs.declared.floor.Floor.{Floor}
@@ -23,7 +23,7 @@ where_ok P Q (Ok x) follows given = follows x given
 where_ok P Q (Err e) follows given = tt
 
 -- what is brought to a place of this kind does what comes there
-pub by_place : (coming kind : Arrival) (effect : Configuration → List Fact → Effect)
+pub by_place : (coming kind : Placement) (effect : Configuration → List Fact → Effect)
     (before after : Floor) (duties : List Duty) → coming ≡ kind
     → ((config : Configuration) (facts : List Fact)
     → arrival_effect config facts kind ≡ effect config facts)
@@ -35,18 +35,18 @@ by_place coming kind effect before after duties is line acts config facts stands
     (acts config facts stands one)
 
 -- An action by what the table gives for it, or gives not.
-module _ (effect : Configuration → List Fact → Effect) (placed : Configuration → Option Arrival)
+module _ (effect : Configuration → List Fact → Effect) (placed : Configuration → Option Placement)
     (line : (config : Configuration) (facts : List Fact)
     → effect config facts ≡ effect_where config facts (placed config))
     (before : Floor) where
-  given : (config : Configuration) (facts : List Fact) (coming : Option Arrival)
+  given : (config : Configuration) (facts : List Fact) (coming : Option Placement)
       → Stands config facts before → coming ≡ placed before.config
       → effect config facts ≡ effect_where config facts coming
   given config facts coming stands is =
       line config facts
       ∙ ap (effect_where config facts) (ap placed (sym stands.config_is) ∙ sym is)
 
-  pub something_comes : (after : Floor) (duties : List Duty) (coming : Arrival)
+  pub something_comes : (after : Floor) (duties : List Duty) (coming : Placement)
       → Some coming ≡ placed before.config
       → ActsOnce (λ config facts. arrival_effect config facts coming) before after duties
       → ActsOnce effect before after duties
@@ -71,7 +71,7 @@ get_there (x ∷ xs) (suc i) within =
 pub dealer_message : (config : Configuration) (facts : List Fact) (floor after : Floor)
     (firm moment : ℕ) (bytes : List ℕ) (duties : List Duty) → Stands config facts floor
     → firm < length floor.dealers.items
-    → Does config facts (done_by (dealer_at config firm) (said_by_dealer config facts moment bytes))
+    → Does config facts (done_by (dealer_at config firm) (received_by_dealer config facts moment bytes))
     after duties
     → Does config facts (message_effect config facts firm moment bytes) after duties
 unfolding message_effect
@@ -83,7 +83,7 @@ dealer_message config facts floor after firm moment bytes duties before within d
 pub investor_message : (config : Configuration) (facts : List Fact) (floor after : Floor)
     (firm moment : ℕ) (bytes : List ℕ) (duties : List Duty) → Stands config facts floor
     → length floor.dealers.items ≤ firm
-    → Does config facts (done_for (market_for config firm) (said_by_investor facts moment bytes))
+    → Does config facts (done_for (market_for config firm) (received_by_investor facts moment bytes))
     after duties
     → Does config facts (message_effect config facts firm moment bytes) after duties
 unfolding message_effect

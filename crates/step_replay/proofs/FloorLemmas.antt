@@ -60,10 +60,10 @@ or_false false = refl
 
 one_shown : (more : DealerEvent)
     → filter_map shown_room (more ∷ []) ≡ option_to_list (shown_room more)
-one_shown (event.Own moment bytes answer) = refl
+one_shown (event.Received moment bytes settlement) = refl
 one_shown (event.Shown room ask moment) = refl
 one_shown (event.Told request close moment) = refl
-one_shown (event.Drop last moment answer) = refl
+one_shown (event.Drop last moment settlement) = refl
 
 pub event_stands : (config : Configuration) (number : ℕ) (row : DealerRow)
     (trail : List DealerEntry) (place : DealerPlace) (desk : DeskEvents) (more : DealerEvent)

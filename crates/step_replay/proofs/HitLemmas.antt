@@ -8,7 +8,7 @@ use Rattle.std.specs.Prelude.{slice_get}
 use Rattle.std.specs.Vec.{with_item}
 use Rattle.std.proofs.lemmas.Bool.Decides.{nat_tests}
 use Rattle.std.proofs.lemmas.List.{append-nil, append_assoc, length-set}
-use Rattle.quote_word.specs.PlainWords.{entry_in, answer_of, Exchanges}
+use Rattle.quote_word.specs.PlainWords.{entry_in, settlement_of, Exchanges}
 use Rattle.quote_word.specs.PlainWordsLaws.{exchange_keeps_count}
 use Rattle.quote_word.specs.declared.settled.Settled.{Settled}
 use Rattle.quote_word.specs.declared.settled.Settled.TheVariants as settled
@@ -26,7 +26,7 @@ use Rattle.request_room.specs.declared.ends.End.{End}
 use Rattle.request_room.specs.declared.events.RoomEvent.{RoomEvent}
 use Rattle.request_room.specs.declared.events.RoomEvent.TheVariants as at_room
 use Rattle.venue_steps.specs.RoomSteps.{hit_word, word_asked_by, where_done, duties_of_hit, hit_duties}
-use Rattle.venue_steps.specs.Words.{AsksAtMost, SettlesSo, answer_in, has_word, word_to_ask}
+use Rattle.venue_steps.specs.Words.{AsksAtMost, SettlesSo, settlement_in, has_word, word_to_ask}
 use Rattle.step_replay.specs.DealerTrail.{DealerEntry}
 use Rattle.step_replay.specs.DealerTrail.{was_lifted, was_withdrawn, answer_to_investor}
 use Rattle.step_replay.specs.VenueFacts.{Fact, InRoom, of_dealer, of_room}
@@ -122,7 +122,7 @@ module _ (config : Configuration) (facts : List Fact) (floor : Floor) (at : Room
   asked_by refused = word_asked_by (word_or word refused)
 
   abbrev outcome_by : Option HitRefusal → Option Settled → Result End HitRefusal
-  outcome_by refused answer = hit_settled refused answer (award_of known word)
+  outcome_by refused settlement = hit_settled refused settlement (award_of known word)
 
   -- what a hit adds and leaves with this outcome
   abbrev effect_with : Result End HitRefusal → Effect
@@ -209,18 +209,18 @@ module _ (config : Configuration) (facts : List Fact) (floor : Floor) (at : Room
     leaves = refl;
   }
 
-  -- a hit that asks the word, with its answer
-  settled_does : (after : Floor) (answer : Settled)
-      → Exchanges floor.words word settled.Lifted answer words
+  -- a hit that asks the word, with its settlement
+  settled_does : (after : Floor) (settlement : Settled)
+      → Exchanges floor.words word settled.Lifted settlement words
       → (inside : nat_lt word (words_of config) ≡ true)
-      → room_after new ≡ known ++ end_by (outcome_by None (Some answer)) moment
-      → NotesWhere (awards (hit_duties known at response moment (outcome_by None (Some answer))))
+      → room_after new ≡ known ++ end_by (outcome_by None (Some settlement)) moment
+      → NotesWhere (awards (hit_duties known at response moment (outcome_by None (Some settlement))))
       word floor_hit after
       → Does config facts
       (effect_with (outcome_by None (option_map (answer_to_hit facts) (quote_with_word config word))))
-      after (hit_duties known at response moment (outcome_by None (Some answer)))
-  settled_does after answer exchange inside grown notes =
-      by_word (was_withdrawn trail owner.quote) refl answer exchange grown answer_is notes
+      after (hit_duties known at response moment (outcome_by None (Some settlement)))
+  settled_does after settlement exchange inside grown notes =
+      by_word (was_withdrawn trail owner.quote) refl settlement exchange grown answer_is notes
     where
       owner : WordOwner config word
       owner = word_owner config word inside
@@ -239,10 +239,10 @@ module _ (config : Configuration) (facts : List Fact) (floor : Floor) (at : Room
       at_word : word_for config (dealer_of owner.number owner.row) owner.quote < length floor.words
       at_word = subst (λ w. w < length floor.words) owner.word_is in_row
 
-      answer_is : answer ≡ answer_to_investor trail owner.quote
+      answer_is : settlement ≡ answer_to_investor trail owner.quote
       answer_is =
           exchange.answered
-          ∙ ap (λ e. answer_of e settled.Lifted)
+          ∙ ap (λ e. settlement_of e settled.Lifted)
           (ap (entry_in floor.words) owner.word_is
           ∙ before.words_are owner.number owner.row owner.quote owner.is owner.within)
           ∙ lift_answer (was_lifted trail owner.quote) (was_withdrawn trail owner.quote) both_not
@@ -397,11 +397,11 @@ module _ (config : Configuration) (facts : List Fact) (floor : Floor) (at : Room
       → AsksAtMost Exchanges entry_in floor.words
       (word_to_ask (length floor.words) (asked_by refused)) settled.Lifted words
       → room_after new ≡ known ++ (if has_word (length floor.words) (asked_by refused)
-      then end_by (outcome_by refused (answer_in (entry_in words) (asked_by refused))) moment
+      then end_by (outcome_by refused (settlement_in (entry_in words) (asked_by refused))) moment
       else [])
       → duties ≡ (if has_word (length floor.words) (asked_by refused)
       then hit_duties known at response moment
-      (outcome_by refused (answer_in (entry_in words) (asked_by refused)))
+      (outcome_by refused (settlement_in (entry_in words) (asked_by refused)))
       else [])
       → NotesWhere (awards duties) word floor_hit after
       → Does config facts (effect_by refused) after duties
@@ -450,9 +450,9 @@ module _ (config : Configuration) (facts : List Fact) (floor : Floor) (at : Room
               (option_map (answer_to_hit facts) (quote_with_word config word))))
               after duties
           by_entry None settles grown_so left_so = absurd settles
-          by_entry (Some answer) settles grown_so left_so =
+          by_entry (Some settlement) settles grown_so left_so =
               leaving config facts _ after duties _ left_so
-              (settled_does after answer settles there_too grown_so
+              (settled_does after settlement settles there_too grown_so
               (subst (λ (d : List Duty). NotesWhere (awards d) word floor_hit after) left_so
               notes))
             where
@@ -466,10 +466,10 @@ module _ (config : Configuration) (facts : List Fact) (floor : Floor) (at : Room
       settled.Lifted words
       → new ≡ where_done (has_word (length floor.words) (hit_word (room_after events) word moment))
       events (at_room.Hit word moment
-      (answer_in (entry_in words) (hit_word (room_after events) word moment)))
+      (settlement_in (entry_in words) (hit_word (room_after events) word moment)))
       → duties ≡ duties_of_hit (room_after events) at response word moment
       (has_word (length floor.words) (hit_word (room_after events) word moment))
-      (answer_in (entry_in words) (hit_word (room_after events) word moment))
+      (settlement_in (entry_in words) (hit_word (room_after events) word moment))
       → NotesWhere (awards duties) word floor_hit after
       → Does config facts (hit_in config facts at response word moment) after duties
   unfolding event_facts
@@ -483,11 +483,11 @@ module _ (config : Configuration) (facts : List Fact) (floor : Floor) (at : Room
       (pushed events new _ _ grown
       ∙ ap (λ (k : List RoomFact). k ++ (if has_word (length floor.words) (hit_word k word moment)
       then end_by (hit_settled (hit_refusal k word moment)
-      (answer_in (entry_in words) (hit_word k word moment)) (award_of k word)) moment
+      (settlement_in (entry_in words) (hit_word k word moment)) (award_of k word)) moment
       else [])) found.known)
       (leaves ∙ ap (λ (k : List RoomFact). duties_of_hit k at response word moment
       (has_word (length floor.words) (hit_word k word moment))
-      (answer_in (entry_in words) (hit_word k word moment))) found.known)
+      (settlement_in (entry_in words) (hit_word k word moment))) found.known)
       notes
 
   -- what the code does: by whether it found an award
@@ -498,10 +498,10 @@ module _ (config : Configuration) (facts : List Fact) (floor : Floor) (at : Room
       (grown : new ≡ where_done (has_word (length floor.words)
       (hit_word (room_after events) word moment))
       events (at_room.Hit word moment
-      (answer_in (entry_in words) (hit_word (room_after events) word moment))))
+      (settlement_in (entry_in words) (hit_word (room_after events) word moment))))
       (leaves : duties ≡ duties_of_hit (room_after events) at response word moment
       (has_word (length floor.words) (hit_word (room_after events) word moment))
-      (answer_in (entry_in words) (hit_word (room_after events) word moment)))
+      (settlement_in (entry_in words) (hit_word (room_after events) word moment)))
       (is_awarded : awarded ≡ awards duties) where
     pub noted_hit_does : awarded ≡ true → Notes word floor_hit after
         → Does config facts (hit_in config facts at response word moment) after duties

@@ -17,10 +17,10 @@ use Rattle.investor_desk.specs.InvestorOutput.{with_event, book_at, verdict_duty
 use Rattle.investor_desk.specs.InvestorOutput.{market_of, market_for}
 use Rattle.investor_desk.specs.declared.events.InvestorEvent.{InvestorEvent}
 use Rattle.investor_desk.specs.declared.events.InvestorEvent.TheVariants as event
-use Rattle.venue_steps.specs.InvestorSteps.{desk_after_own, duties_of_own, where_so, answers}
+use Rattle.venue_steps.specs.InvestorSteps.{desk_after_own, duties_of_own, where_so, replies_to}
 use Rattle.step_replay.specs.InvestorTrail.{book_by}
 use Rattle.step_replay.specs.VenueFacts.{Fact, AtInvestor, of_investor}
-use Rattle.step_replay.specs.Actions.{Effect, nothing, done_for, at_market, said_by_investor}
+use Rattle.step_replay.specs.Actions.{Effect, nothing, done_for, at_market, received_by_investor}
 use Rattle.step_replay.specs.Actions.{where_known}
 use Rattle.step_replay.specs.Coming.{investor_gets}
 use Rattle.venue_places.specs.Brought.{investor_with}
@@ -153,12 +153,12 @@ module _ (config : Configuration) (facts : List Fact) (floor : Floor) (number at
     pub said_does : (moment : ℕ) (bytes : List ℕ)
         → desk ≡ desk_after_own place.desk moment bytes
         → Does config facts
-        (done_for (market_for config number) (said_by_investor facts moment bytes))
+        (done_for (market_for config number) (received_by_investor facts moment bytes))
         after (duties_of_own place.desk moment bytes)
     said_does moment bytes same =
-        by_market (said_by_investor facts moment bytes) _
+        by_market (received_by_investor facts moment bytes) _
         (record {
-          stands = event_stands (event.Own moment bytes) same;
+          stands = event_stands (event.Received moment bytes) same;
           leaves = left found.stands.market_is;
         })
       where
@@ -212,9 +212,9 @@ module _ (config : Configuration) (facts : List Fact) (floor : Floor) (number at
     investor_does (to_investor.Answer request response reply moment) same =
         by_market (investor_gets facts (to_investor.Answer request response reply moment)) []
         (answer_if (knows (book_by (of_investor number facts)) request response.k)
-        (answers response.k reply) (event.Answered request response reply moment)
+        (replies_to response.k reply) (event.Answered request response reply moment)
         (same ∙ ap (λ (b : InvestorBook).
-        where_so (knows b request response.k && answers response.k reply) place.desk
+        where_so (knows b request response.k && replies_to response.k reply) place.desk
         (event.Answered request response reply moment)) book_is))
     investor_does (to_investor.Close request moment) same =
         known_does request (event.Closed request moment) _ refl same

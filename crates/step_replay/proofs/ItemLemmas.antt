@@ -25,7 +25,7 @@ use Rattle.step_replay.specs.DealerView.{is_withdrawn_at, no_room, sent_at}
 use Rattle.step_replay.specs.DealerView.{view_after, view_at_start, with_event_at_desk}
 use Rattle.step_replay.specs.RowOfWords.{AreWordsOf, GrowsByEvents, Happens, IsOfRow, Row}
 use Rattle.step_replay.specs.RowOfWords.{StandsFor}
-use Rattle.step_replay.specs.RowOfWords.{answer_in, with_asked, with_lifting, with_wish}
+use Rattle.step_replay.specs.RowOfWords.{settlement_in, with_asked, with_lifting, with_wish}
 use Rattle.step_replay.proofs.RowLemmas.{asked_stands, asks_at, lifting_desk, lifting_words}
 use Rattle.step_replay.proofs.RowLemmas.{unasked}
 
@@ -34,11 +34,11 @@ use Rattle.step_replay.proofs.RowLemmas.{unasked}
 -- an event that asks the word that the desk asks then, if it asks one
 module _ (grows : GrowsByEvents) (asked : DeskEvents → Option ℕ)
     (more : Option Settled → DealerEvent)
-    (asks : (desk : DeskEvents) (answer : Option Settled)
-    → asks_at desk (more answer) ≡ asked_word (asked desk) answer)
+    (asks : (desk : DeskEvents) (settlement : Option Settled)
+    → asks_at desk (more settlement) ≡ asked_word (asked desk) settlement)
     (desk after : DeskEvents) (words words_after : Row) (count : length words ≡ desk.row.quotes)
     (within : IfSome (asked desk) (IsOfRow desk.row.quotes))
-    (after_is : after ≡ with_event desk (more (option_map (answer_in words) (asked desk))))
+    (after_is : after ≡ with_event desk (more (option_map (settlement_in words) (asked desk))))
     (words_are : words_after ≡ with_asked words (asked desk)) where
   asking_stands : (view : DealerView) → StandsFor view desk words
       → StandsFor (with_event_at_desk view (more (option_map (answer_to view) (asked view.desk))))
@@ -53,43 +53,43 @@ module _ (grows : GrowsByEvents) (asked : DeskEvents → Option ℕ)
       record {
         desk_is = after_is
             ∙ ap (λ (d : DeskEvents).
-            with_event d (more (option_map (answer_in words) (asked d)))) same
+            with_event d (more (option_map (settlement_in words) (asked d)))) same
             ∙ now.desk_is;
         words_are = subst (AreWordsOf (with_event_at_desk view event))
             (sym (words_are ∙ ap (λ (d : DeskEvents). with_asked words (asked d)) same))
             now.words_are;
       }
 
--- a message of the dealer's own, with the answer of the row
+-- a message of the dealer's own, with the settlement of the row
 pub own_happens : GrowsByEvents → (desk after : DeskEvents) (words words_after : Row)
     → (moment : ℕ) (bytes : List ℕ)
     → length words ≡ desk.row.quotes
     → IfSome (word_asked (verdict_at desk moment bytes)) (IsOfRow desk.row.quotes)
-    → after ≡ with_event desk (event.Own moment bytes
-    (option_map (answer_in words) (word_asked (verdict_at desk moment bytes))))
+    → after ≡ with_event desk (event.Received moment bytes
+    (option_map (settlement_in words) (word_asked (verdict_at desk moment bytes))))
     → words_after ≡ with_asked words (word_asked (verdict_at desk moment bytes))
     → Happens (due.Own moment bytes) (record { desk = desk; words = words })
     (record { desk = after; words = words_after })
 unfolding after_due
 own_happens grows desk after words words_after moment bytes count within after_is words_are =
     asking_stands grows (λ d. word_asked (verdict_at d moment bytes))
-    (λ answer. event.Own moment bytes answer) (λ d answer. refl)
+    (λ settlement. event.Received moment bytes settlement) (λ d settlement. refl)
     desk after words words_after count within after_is words_are
 
--- a drop, with the answer of the row
+-- a drop, with the settlement of the row
 pub drop_happens : GrowsByEvents → (desk after : DeskEvents) (words words_after : Row)
     → (last moment : ℕ)
     → length words ≡ desk.row.quotes
     → IfSome (number_to_drop (book_at desk) last) (IsOfRow desk.row.quotes)
     → after ≡ with_event desk (event.Drop last moment
-    (option_map (answer_in words) (number_to_drop (book_at desk) last)))
+    (option_map (settlement_in words) (number_to_drop (book_at desk) last)))
     → words_after ≡ with_asked words (number_to_drop (book_at desk) last)
     → Happens (due.Drop last moment) (record { desk = desk; words = words })
     (record { desk = after; words = words_after })
 unfolding after_due
 drop_happens grows desk after words words_after last moment count within after_is words_are =
     asking_stands grows (λ d. number_to_drop (book_at d) last)
-    (λ answer. event.Drop last moment answer) (λ d answer. refl)
+    (λ settlement. event.Drop last moment settlement) (λ d settlement. refl)
     desk after words words_after count within after_is words_are
 
 -- a request that is shown

@@ -11,7 +11,7 @@ use Rattle.std.proofs.lemmas.Bool.Decides.{nat_tests}
 use Rattle.std.proofs.lemmas.List.{append-nil}
 use Rattle.std.proofs.lemmas.List.Elements.{filter_map-append}
 use Rattle.std.proofs.lemmas.List.Folds.{list_any-append}
-use Rattle.quote_word.specs.PlainWords.{entry_in, answer_of, Exchanges}
+use Rattle.quote_word.specs.PlainWords.{entry_in, settlement_of, Exchanges}
 use Rattle.quote_word.specs.PlainWordsLaws.{exchange_answers_entry, exchange_keeps_others}
 use Rattle.quote_word.specs.declared.settled.Settled.{Settled}
 use Rattle.quote_word.specs.declared.settled.Settled.TheVariants as settled
@@ -86,7 +86,7 @@ lifted_floor config facts floor number row quote place now words is before at st
 
 -- what a word answers to an investor, where it is not both
 pub lift_answer : (lifted withdrawn : Bool) → (lifted && withdrawn) ≡ false
-    → answer_of (word_if lifted withdrawn) settled.Lifted
+    → settlement_of (word_if lifted withdrawn) settled.Lifted
     ≡ (if withdrawn then settled.Withdrawn else settled.Lifted)
 lift_answer true true one = cc
 lift_answer true false one = refl
@@ -95,19 +95,19 @@ lift_answer false false one = refl
 
 -- the words after one exchange, by what becomes of the word that is asked
 exchanged_stand : (config : Configuration) (facts now : List Fact) (number : ℕ) (row : DealerRow)
-    (quote : ℕ) (words after : List (Option Settled)) (wish answer : Settled)
+    (quote : ℕ) (words after : List (Option Settled)) (wish settlement : Settled)
     → dealer_numbered config number ≡ Some row
     → (nat_le 1 quote && nat_le quote row.quotes) ≡ true
     → WordsStand config facts words
-    → Exchanges words (word_for config (dealer_of number row) quote) wish answer after
+    → Exchanges words (word_for config (dealer_of number row) quote) wish settlement after
     → word_for config (dealer_of number row) quote < length words
-    → Some answer ≡ word_is (of_dealer number now) quote
+    → Some settlement ≡ word_is (of_dealer number now) quote
     → ((other quote_too : ℕ) → (number == other) ≡ false
     → word_is (of_dealer other now) quote_too ≡ word_is (of_dealer other facts) quote_too)
     → ((quote_too : ℕ) → (quote == quote_too) ≡ false
     → word_is (of_dealer number now) quote_too ≡ word_is (of_dealer number facts) quote_too)
     → WordsStand config now after
-exchanged_stand config facts now number row quote words after wish answer is within stand exchange
+exchanged_stand config facts now number row quote words after wish settlement is within stand exchange
     there settled_so dealers quotes other row_too quote_too is_too within_too =
     by_dealer (number == other) refl
   where
@@ -120,12 +120,12 @@ exchanged_stand config facts now number row quote words after wish answer is wit
         ≡ word_is (of_dealer other now) quote_too
     kept differs same =
         exchange_keeps_others words after word (word_for config (dealer_of other row_too) quote_too)
-        wish answer exchange differs
+        wish settlement exchange differs
         ∙ stand other row_too quote_too is_too within_too
         ∙ sym same
 
     asked : entry_in after word ≡ word_is (of_dealer number now) quote
-    asked = exchange_answers_entry words after word wish answer there exchange ∙ settled_so
+    asked = exchange_answers_entry words after word wish settlement there exchange ∙ settled_so
 
     by_quote : number ≡ other → (same : Bool) → (quote == quote_too) ≡ same
         → entry_in after (word_for config (dealer_of other row_too) quote_too)

@@ -26,7 +26,7 @@ use Rattle.step_replay.specs.InvestorTrail as investor_trail
 use Rattle.step_replay.specs.LiveDays.{Sent, actor_of, is_dealer, live_steps}
 use Rattle.step_replay.specs.LiveDays.{live_trail, message_for, messages_for, messages_in}
 use Rattle.step_replay.specs.LiveDays.{sent_by_facts, sent_in, with_turns}
-use Rattle.step_replay.specs.LiveStanding.{TellsAllOf, TellsOf, VenueTells, after_turns, count_at}
+use Rattle.step_replay.specs.LiveStanding.{SendsAllOf, SendsOf, VenueSends, after_turns, count_at}
 use Rattle.step_replay.specs.LiveStanding.{desk_of_step, first_in, next_duty, sent_behind}
 use Rattle.step_replay.specs.LiveStanding.{sent_on_day, sent_on_floor}
 use Rattle.step_replay.specs.Queues.{is_known, queue_of}
@@ -449,7 +449,7 @@ pub tells_step : (config : Configuration) (trail : AuditTrail) (next : Step) (be
     → ReplayStands config trail before → ReplayStands config (after_step config trail next) after
     → desk ≡ desk_of_step next (next_duty before (actor_of next))
     → messages_in config trail.facts ≡ start ++ old
-    → TellsOf config (after_step config trail next) after
+    → SendsOf config (after_step config trail next) after
     (start ++ (old ++ sent_behind after.floor desk (count_at before.floor desk)))
 tells_step config trail next before after start old desk known stood stands is told =
     let adds = step_adds config trail next in
@@ -522,8 +522,8 @@ first_none (duty ∷ later) is = cc
 -- All duties are done.
 pub tells_all : (config : Configuration) (by : Actor) (trail : AuditTrail) (count : ℕ)
     (live : LiveVenue) (told : List Sent) → count ≤ MOST_TURNS_BEHIND → is_known config by ≡ true
-    → VenueTells config (after_turns config by count trail) live told
-    → next_duty live.replay by ≡ None → TellsAllOf config by trail live told
+    → VenueSends config (after_turns config by count trail) live told
+    → next_duty live.replay by ≡ None → SendsAllOf config by trail live told
 tells_all config by trail count live told within known tells none =
     let left : pending by (after_turns config by count trail) ≡ [] =
     first_none _ (sym (next_is config by (after_turns config by count trail) live.replay known
@@ -534,7 +534,7 @@ tells_all config by trail count live told within known tells none =
     ∙ turns_both config by count (MOST_TURNS_BEHIND - count) trail
     ∙ idle_turns config by (MOST_TURNS_BEHIND - count) (after_turns config by count trail) left in
     record {
-      tells = subst (λ (t : AuditTrail). VenueTells config t live told) (sym same) tells;
+      tells = subst (λ (t : AuditTrail). VenueSends config t live told) (sym same) tells;
       none_left = subst (λ (t : AuditTrail). pending by t ≡ []) (sym same) left;
     }
 

@@ -7,8 +7,8 @@ use Rattle.venue_rows.specs.Rows.{Configuration}
 use Rattle.step_replay.specs.Actions.{duty_effect, message_effect}
 use Rattle.step_replay.specs.AuditTrail.{AuditTrail, after_step, after_turn, no_steps, pending}
 use Rattle.step_replay.specs.LiveDays.{Sent, actor_of, live_trail, messages_in}
-use Rattle.step_replay.specs.LiveStanding.{Answers, IsAt, TellsAllOf, TellsOf, VenueStands}
-use Rattle.step_replay.specs.LiveStanding.{VenueTells, after_turns, next_duty, room_of_step}
+use Rattle.step_replay.specs.LiveStanding.{Answers, IsAt, SendsAllOf, SendsOf, VenueStands}
+use Rattle.step_replay.specs.LiveStanding.{VenueSends, after_turns, next_duty, room_of_step}
 use Rattle.step_replay.specs.OpenRooms.{IsEmpty, Notes, RoomsStand, deadline_by}
 use Rattle.step_replay.specs.Following.{ReplayStands}
 use Rattle.step_replay.specs.Queues.{is_known}
@@ -32,7 +32,7 @@ use Rattle.step_replay.proofs.StartLemmas.{said, turned}
 module _ (config : Configuration) (trail : AuditTrail) (next : Step) (before after : LiveVenue)
     (told : List Sent) (known : is_known config (actor_of next) ≡ true)
     (stood : VenueStands config trail before)
-    (tells : TellsOf config (after_step config trail next) after.replay told) where
+    (tells : SendsOf config (after_step config trail next) after.replay told) where
   room_is : (room : Option RoomRef) → room ≡ room_of_step next
       (next_duty before.replay (actor_of next))
       → AreOf room (step_adds config trail next).more
@@ -44,7 +44,7 @@ module _ (config : Configuration) (trail : AuditTrail) (next : Step) (before aft
   -- it takes place in no room
   pub plain_step : None ≡ room_of_step next (next_duty before.replay (actor_of next))
       → after.open_rooms ≡ before.open_rooms
-      → VenueTells config (after_step config trail next) after told
+      → VenueSends config (after_step config trail next) after told
   plain_step none same =
       let adds = step_adds config trail next in
       record {
@@ -67,7 +67,7 @@ module _ (config : Configuration) (trail : AuditTrail) (next : Step) (before aft
       → ((c : Configuration) (facts : List Fact) → Stands c facts after.replay.floor
       → now ≡ deadline_by c facts room)
       → Notes room had now before.open_rooms after.open_rooms
-      → VenueTells config (after_step config trail next) after told
+      → VenueSends config (after_step config trail next) after told
   noted_step room had now is had_is now_is notes =
       let adds = step_adds config trail next in
       let grown : Stands config (trail.facts ++ adds.more) after.replay.floor =
@@ -152,7 +152,7 @@ is_at_start config live stands empty =
 
 pub answered : (config : Configuration) (steps : List Step) (next : Step) (after : LiveVenue)
     (told : List Sent) → pending actor.Clock (live_trail config steps) ≡ []
-    → TellsAllOf config (actor_of next) (after_step config (live_trail config steps) next)
+    → SendsAllOf config (actor_of next) (after_step config (live_trail config steps) next)
     after (messages_in config (live_trail config steps).facts ++ told)
     → Answers config steps next after told
 answered config steps next after told idle all =

@@ -7,7 +7,7 @@ use Rattle.std.proofs.Common.{refl, sym, ap, ◌∙◌, subst, arith, eq-eqb}
 use Rattle.std.proofs.lemmas.Bool.Decides.{nat_tests}
 use Rattle.std.proofs.lemmas.List.Folds.{list_any-append}
 use Rattle.std.specs.List.{list_any}
-use Rattle.quote_word.specs.PlainWords.{answer_of, after_exchange, entry_in}
+use Rattle.quote_word.specs.PlainWords.{settlement_of, after_exchange, entry_in}
 use Rattle.quote_word.specs.PlainWordsLaws.{exchange_answers_entry, exchange_keeps_others}
 use Rattle.quote_word.specs.declared.settled.Settled.{Settled}
 use Rattle.quote_word.specs.declared.settled.Settled.TheVariants.{Withdrawn, Lifted}
@@ -20,7 +20,7 @@ use Rattle.step_replay.specs.DealerView.{is_lifted, is_withdrawn_at}
 use Rattle.step_replay.specs.DealerView.{with_event_at_desk}
 use Rattle.step_replay.specs.RowOfWords.{AreWordsOf, GrowsByEvents, IsOfRow, Row}
 use Rattle.step_replay.specs.RowOfWords.{StandsFor}
-use Rattle.step_replay.specs.RowOfWords.{answer_in, with_asked, with_wish}
+use Rattle.step_replay.specs.RowOfWords.{settlement_in, with_asked, with_wish}
 use Rattle.step_replay.specs.RowOfWords.{withdraws_by, word_if, word_of}
 
 -- Tests.
@@ -48,13 +48,13 @@ in_row quote count is = (grind (arith, nat_tests), grind (arith, nat_tests))
 -- the word of the quote is what is answered
 same_after : (words : Row) (quote : ℕ) (wish : Settled) → IsOfRow (length words) quote
     → entry_in (with_wish words quote wish) (quote - 1)
-    ≡ Some (answer_of (entry_in words (quote - 1)) wish)
+    ≡ Some (settlement_of (entry_in words (quote - 1)) wish)
 same_after words quote wish within =
     let low : 1 ≤ quote = within.0 in
     let high : quote ≤ length words = within.1 in
     let below : quote - 1 < length words = omega arith in
-    let answer = answer_of (entry_in words (quote - 1)) wish in
-    exchange_answers_entry words (with_wish words quote wish) (quote - 1) wish answer below
+    let settlement = settlement_of (entry_in words (quote - 1)) wish in
+    exchange_answers_entry words (with_wish words quote wish) (quote - 1) wish settlement below
     (record { answered = refl; changed = refl })
 
 -- and no other quote's word changes
@@ -63,8 +63,8 @@ other_after : (words : Row) (quote other : ℕ) (wish : Settled)
     → entry_in (with_wish words quote wish) (other - 1) ≡ entry_in words (other - 1)
 other_after words quote other wish low low_too differs =
     let apart : other - 1 ≢ quote - 1 = omega arith in
-    let answer = answer_of (entry_in words (quote - 1)) wish in
-    exchange_keeps_others words (with_wish words quote wish) (quote - 1) (other - 1) wish answer
+    let settlement = settlement_of (entry_in words (quote - 1)) wish in
+    exchange_keeps_others words (with_wish words quote wish) (quote - 1) (other - 1) wish settlement
     (record { answered = refl; changed = refl }) apart
 
 -- A withdrawal.
@@ -74,7 +74,7 @@ abbrev answer_if : Bool → Settled
 answer_if lifted = if lifted then Lifted else Withdrawn
 
 answer_of_word : (lifted withdrawn : Bool)
-    → answer_of (word_if lifted withdrawn) Withdrawn ≡ answer_if lifted
+    → settlement_of (word_if lifted withdrawn) Withdrawn ≡ answer_if lifted
 answer_of_word true withdrawn = refl
 answer_of_word false true = refl
 answer_of_word false false = refl
@@ -82,9 +82,9 @@ answer_of_word false false = refl
 -- what the row answers is what the view answers
 answers_agree : (view : DealerView) (words : Row) (quote : ℕ)
     → AreWordsOf view words → IsOfRow view.desk.row.quotes quote
-    → answer_in words quote ≡ answer_to view quote
+    → settlement_in words quote ≡ answer_to view quote
 answers_agree view words quote are within =
-    ap (λ (entry : Option Settled). answer_of entry Withdrawn) (are quote within)
+    ap (λ (entry : Option Settled). settlement_of entry Withdrawn) (are quote within)
     ∙ answer_of_word (is_lifted view quote) (is_withdrawn_at view.desk quote)
 
 -- the words of a view after one event more
@@ -123,8 +123,8 @@ word_taken true before quote same = refl
 word_taken false before quote same = ap (word_if false) (or_true before (quote == quote) same)
 
 -- the word of another quote
-word_left : (lifted before : Bool) (answer : Settled) (quote asked : ℕ) → (asked == quote) ≡ false
-    → word_if lifted (then_withdrawn before quote ((asked, answer) ∷ [])) ≡ word_if lifted before
+word_left : (lifted before : Bool) (settlement : Settled) (quote asked : ℕ) → (asked == quote) ≡ false
+    → word_if lifted (then_withdrawn before quote ((asked, settlement) ∷ [])) ≡ word_if lifted before
 word_left lifted before Withdrawn quote asked other =
     ap (word_if lifted) (or_none before true (asked == quote) other)
 word_left lifted before Lifted quote asked other =
@@ -155,7 +155,7 @@ module _ (grows : GrowsByEvents) (view : DealerView) (words : Row) (asked : ℕ)
   asked_word_is =
       let same : (asked == asked) ≡ true = eq-eqb asked asked refl in
       same_after words asked Withdrawn (within.0, rw count within.1)
-      ∙ ap (λ (answer : Settled). Some answer) (answers_agree view words asked are within)
+      ∙ ap (λ (settlement : Settled). Some settlement) (answers_agree view words asked are within)
       ∙ sym (word_taken (is_lifted view asked) (is_withdrawn_at view.desk asked) asked same)
       ∙ sym (word_now asked)
 
@@ -181,24 +181,24 @@ module _ (grows : GrowsByEvents) (view : DealerView) (words : Row) (asked : ℕ)
   asked_words : AreWordsOf (with_event_at_desk view more) (with_wish words asked Withdrawn)
   asked_words quote inside = each_word_is quote (asked == quote) refl inside
 
--- an event that asks this word, or none, with the answer of the row
+-- an event that asks this word, or none, with the settlement of the row
 pub asked_stands : GrowsByEvents → (view : DealerView) (words : Row) (asked : Option ℕ)
     → (more : Option Settled → DealerEvent)
-    → ((answer : Option Settled) → asks_at view.desk (more answer) ≡ asked_word asked answer)
+    → ((settlement : Option Settled) → asks_at view.desk (more settlement) ≡ asked_word asked settlement)
     → length words ≡ view.desk.row.quotes → IfSome asked (IsOfRow view.desk.row.quotes)
     → AreWordsOf view words
     → StandsFor (with_event_at_desk view (more (option_map (answer_to view) asked)))
-    (with_event view.desk (more (option_map (answer_in words) asked))) (with_asked words asked)
+    (with_event view.desk (more (option_map (settlement_in words) asked))) (with_asked words asked)
 asked_stands grows view words None more asks count within are = record {
   desk_is = refl;
   words_are = unasked grows view words (more None) (asks None) are;
 }
 asked_stands grows view words (Some quote) more asks count within are =
-    let answer : Option Settled = Some (answer_to view quote) in
+    let settlement : Option Settled = Some (answer_to view quote) in
     record {
       desk_is = ap (λ (given : Settled). with_event view.desk (more (Some given)))
           (answers_agree view words quote are within);
-      words_are = asked_words grows view words quote (more answer) (asks answer) count within are;
+      words_are = asked_words grows view words quote (more settlement) (asks settlement) count within are;
     }
 
 -- A lifting.
@@ -212,7 +212,7 @@ settled_stays false false words place wish is = cc
 
 -- where it is not withdrawn, the word is lifted afterwards
 answer_to_lifting : (lifted withdrawn : Bool) → withdrawn ≡ false
-    → answer_of (word_if lifted withdrawn) Lifted ≡ Lifted
+    → settlement_of (word_if lifted withdrawn) Lifted ≡ Lifted
 answer_to_lifting true withdrawn is = refl
 answer_to_lifting false true is = cc
 answer_to_lifting false false is = refl
@@ -254,8 +254,8 @@ module _ (view : DealerView) (words : Row) (quote : ℕ)
       let withdrawn = is_withdrawn_at view.desk quote in
       let same : (quote == quote) ≡ true = eq-eqb quote quote refl in
       same_after words quote Lifted (within.0, rw count within.1)
-      ∙ ap (λ (entry : Option Settled). Some (answer_of entry Lifted)) (are quote within)
-      ∙ ap (λ (answer : Settled). Some answer)
+      ∙ ap (λ (entry : Option Settled). Some (settlement_of entry Lifted)) (are quote within)
+      ∙ ap (λ (settlement : Settled). Some settlement)
       (answer_to_lifting (is_lifted view quote) withdrawn is)
       ∙ sym (word_lifted (is_lifted (with_lifted view quote) quote) withdrawn
       (lifted_now quote ∙ or_true (is_lifted view quote) (quote == quote) same))

@@ -20,7 +20,7 @@ use Rattle.venue_rows.specs.Rows.{Configuration, has_room}
 use Rattle.step_replay.specs.AuditTrail.{AuditTrail, after_step, pending}
 use Rattle.step_replay.specs.Deadlines.{deadline_of}
 use Rattle.step_replay.specs.LiveDays.{Sent, live_messages, live_trail, messages_in}
-use Rattle.step_replay.specs.LiveStanding.{AnswersSweeps, AnswersSweepsOf, IsAt, TellsAllOf}
+use Rattle.step_replay.specs.LiveStanding.{AnswersSweeps, AnswersSweepsOf, IsAt, SendsAllOf}
 use Rattle.step_replay.specs.LiveStanding.{VenueStands}
 use Rattle.step_replay.specs.OpenRooms.{AreDue, RoomsStand, room_cmp}
 use Rattle.step_replay.specs.StepFaults.{fault_of}
@@ -246,7 +246,7 @@ swept_none config steps moment live is_at =
 pub swept_more : (config : Configuration) (steps : List Step) (moment : ℕ) (done : List RoomRef)
     (room : RoomRef) (before after : LiveVenue) (told more : List Sent)
     → SweptSo config steps moment done before told
-    → TellsAllOf config actor.Clock (after_step config
+    → SendsAllOf config actor.Clock (after_step config
     (live_trail config (steps ++ sweeps_at moment done)) (step.Expire room moment)) after
     (live_messages config steps ++ more)
     → SweptSo config steps moment (done ++ room ∷ []) after more

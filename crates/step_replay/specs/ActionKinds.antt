@@ -21,14 +21,14 @@ use Rattle.investor_desk.specs.InvestorRules.{InvestorMarket}
 use Rattle.investor_desk.specs.declared.events.InvestorEvent.{InvestorEvent}
 use Rattle.request_room.specs.Book.{event_facts}
 use Rattle.request_room.specs.declared.events.RoomEvent.{RoomEvent}
-use Rattle.venue_steps.specs.InvestorSteps.{answers}
+use Rattle.venue_steps.specs.InvestorSteps.{replies_to}
 use Rattle.venue_steps.specs.RoomSteps.{hit_word}
 use Rattle.venue_places.specs.Dealers.{Dealer, acting_dealer, dealer_at, dealer_of}
 use Rattle.venue_places.specs.declared.actors.Actor.{Actor}
 use Rattle.venue_places.specs.declared.actors.Actor.TheVariants as actor
 use Rattle.step_replay.specs.Actions
 use Rattle.step_replay.specs.Actions.{Effect, nothing, done_by, done_for, at_dealer, at_market}
-use Rattle.step_replay.specs.Actions.{answer_of, answer_to_hit, drop_at, duty_effect, hit_in}
+use Rattle.step_replay.specs.Actions.{settlement_of, answer_to_hit, drop_at, duty_effect, hit_in}
 use Rattle.step_replay.specs.Actions.{hit_with, in_room, message_effect, quote_asked, sweep_effect}
 use Rattle.step_replay.specs.Actions.{told_of, where_known}
 use Rattle.step_replay.specs.DealerTrail.{DealerEntry, book_by}
@@ -39,8 +39,8 @@ use Rattle.step_replay.specs.VenueFacts.{Fact, InRoom, of_dealer, of_room}
 pub data Comes (date : List ℕ) (row : DealerRow) (trail : List DealerEntry) (event : DealerEvent)
     : Type 0 where
   said : (moment : ℕ) (bytes : List ℕ)
-      → event ≡ at_desk.Own moment bytes
-      (answer_of trail (dealer_verdict date row (book_by trail) moment bytes))
+      → event ≡ at_desk.Received moment bytes
+      (settlement_of trail (dealer_verdict date row (book_by trail) moment bytes))
       → Comes date row trail event
   dropped : (last moment : ℕ) → event ≡ drop_at trail last moment → Comes date row trail event
   shown : (room : RoomRef) (ask : Ask) (moment : ℕ) → event ≡ at_desk.Shown room ask moment
@@ -184,7 +184,7 @@ module _ (config : Configuration) (facts : List Fact) where
   duty_action by (duty.Pass room response moment) = in_a_room None room true _ _
   duty_action by (duty.Answer room response reply moment) =
       invested None room.investor (Actions.answered_by facts room response reply moment)
-      (λ row is. if_so (Some room.investor) None (answers response.k reply) _
+      (λ row is. if_so (Some room.investor) None (replies_to response.k reply) _
       (λ yes. known None room.investor room.n response.k _ row is))
   duty_action by (duty.Close room moment) = known_to None room.investor room.n _
   duty_action by (duty.Tell dealer room close moment) =
@@ -205,17 +205,18 @@ module _ (config : Configuration) (facts : List Fact) where
     where
       either : (b : Bool) → IsAction (Some firm) None
           (if b
-          then done_by (dealer_at config firm) (Actions.said_by_dealer config facts moment bytes)
-          else done_for (market_for config firm) (Actions.said_by_investor facts moment bytes))
+          then done_by (dealer_at config firm)
+          (Actions.received_by_dealer config facts moment bytes)
+          else done_for (market_for config firm) (Actions.received_by_investor facts moment bytes))
       either true =
-          numbered None firm (Actions.said_by_dealer config facts moment bytes)
+          numbered None firm (Actions.received_by_dealer config facts moment bytes)
           (λ row is. if_so (Some firm) None _ _
           (λ yes. by_dealer firm row _
           (Actions.left_by (of_dealer firm facts) moment
           (Actions.verdict_on config facts moment bytes (dealer_of firm row)))
           refl is (said moment bytes refl) refl))
       either false =
-          invested None firm (Actions.said_by_investor facts moment bytes)
+          invested None firm (Actions.received_by_investor facts moment bytes)
           (λ row is. by_investor firm row _
           (Actions.left_by_investor facts moment bytes (market_of config firm row)) refl is refl)
 

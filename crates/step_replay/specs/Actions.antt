@@ -32,7 +32,7 @@ use Rattle.request_room.specs.Book.{event_facts, hit_outcome}
 use Rattle.request_room.specs.declared.ends.End.{End}
 use Rattle.request_room.specs.declared.events.RoomEvent.{RoomEvent}
 use Rattle.request_room.specs.declared.events.RoomEvent.TheVariants as at_room
-use Rattle.venue_steps.specs.InvestorSteps.{answers}
+use Rattle.venue_steps.specs.InvestorSteps.{replies_to}
 use Rattle.venue_steps.specs.RoomSteps.{duties_of_open, duties_of_post, duties_of_unpost}
 use Rattle.venue_steps.specs.RoomSteps.{duties_of_decline, duties_of_hit, duties_of_pass}
 use Rattle.venue_steps.specs.RoomSteps.{duties_of_expire, hit_word}
@@ -75,21 +75,22 @@ at_dealer config facts dealer event duties = record {
 -- A message of a dealer: the word that its verdict asks is withdrawn where it is open, and the
 -- verdict leaves a post, an unpost, a decline, the first drop of a cancel of all, or nothing.
 
--- the answer of the word that a verdict asks, where it asks one
-abbrev pub answer_of : List DealerEntry → DealerVerdict → Option Settled
-answer_of trail verdict = option_map (answer_to_dealer trail) (word_asked verdict)
+-- the settlement of the word that a verdict asks, where it asks one
+abbrev pub settlement_of : List DealerEntry → DealerVerdict → Option Settled
+settlement_of trail verdict = option_map (answer_to_dealer trail) (word_asked verdict)
 
 -- what a verdict leaves
 abbrev pub left_by : List DealerEntry → ℕ → DealerVerdict → List Duty
 left_by trail moment verdict = option_to_list
-    (dealer_output.verdict_duty (rooms_by trail) moment verdict (answer_of trail verdict))
+    (dealer_output.verdict_duty (rooms_by trail) moment verdict (settlement_of trail verdict))
 
 -- a message with this verdict, where the venue has the word that it asks
-abbrev pub dealer_says : Configuration → List Fact → Dealer → ℕ → List ℕ → DealerVerdict → Effect
-dealer_says config facts dealer moment bytes verdict =
+abbrev pub dealer_receives : Configuration → List Fact → Dealer → ℕ → List ℕ → DealerVerdict
+    → Effect
+dealer_receives config facts dealer moment bytes verdict =
     let trail = of_dealer dealer.number facts in
     if has_word (words_of config) (option_map (word_for config dealer) (word_asked verdict))
-    then at_dealer config facts dealer (at_desk.Own moment bytes (answer_of trail verdict))
+    then at_dealer config facts dealer (at_desk.Received moment bytes (settlement_of trail verdict))
     (left_by trail moment verdict)
     else nothing
 
@@ -99,14 +100,14 @@ verdict_on config facts moment bytes dealer =
     dealer_verdict config.date dealer.row (book_by (of_dealer dealer.number facts)) moment bytes
 
 -- a message
-abbrev pub said_by_dealer : Configuration → List Fact → ℕ → List ℕ → Dealer → Effect
-said_by_dealer config facts moment bytes dealer =
-    dealer_says config facts dealer moment bytes (verdict_on config facts moment bytes dealer)
+abbrev pub received_by_dealer : Configuration → List Fact → ℕ → List ℕ → Dealer → Effect
+received_by_dealer config facts moment bytes dealer =
+    dealer_receives config facts dealer moment bytes (verdict_on config facts moment bytes dealer)
 
 -- A drop: the first quote of a cancel of all that can still be dropped is withdrawn where its word
 -- is open, and taken out of its room; where another one is left, the same drop follows.
 
--- the answer of its word, where there is such a quote
+-- the settlement of its word, where there is such a quote
 abbrev pub answer_to_drop : List DealerEntry → ℕ → Option Settled
 answer_to_drop trail last =
     option_map (answer_to_dealer trail) (number_to_drop (book_by trail) last)
@@ -198,7 +199,7 @@ declined_by config facts room moment dealer =
 
 -- A hit: where no check of the room refuses it, the word of the quote is lifted where it is open.
 
--- the answer of a quote's word to an investor that would lift it
+-- the settlement of a quote's word to an investor that would lift it
 abbrev pub answer_to_hit : List Fact → QuoteRef → Settled
 answer_to_hit facts hit = answer_to_investor (of_dealer hit.dealer facts) hit.quote
 
@@ -207,15 +208,15 @@ abbrev pub lifting : Option QuoteRef → Result End HitRefusal → List Fact
 lifting (Some hit) (Ok award) = AtDealer hit.dealer (Lifted hit.quote) ∷ []
 lifting hit outcome = []
 
--- a hit with the answer of the word that it asks, where it asks one
+-- a hit with the settlement of the word that it asks, where it asks one
 abbrev pub hit_with : Configuration → List Fact → RoomRef → ResponseRef → ℕ → ℕ → Option Settled
     → Effect
-hit_with config facts room response word moment answer =
+hit_with config facts room response word moment settlement =
     let known = of_room room facts in
     record {
-      facts = lifting (quote_with_word config word) (hit_outcome known word moment answer)
-          ++ map (InRoom room) (event_facts known (at_room.Hit word moment answer));
-      duties = duties_of_hit known room response word moment true answer;
+      facts = lifting (quote_with_word config word) (hit_outcome known word moment settlement)
+          ++ map (InRoom room) (event_facts known (at_room.Hit word moment settlement));
+      duties = duties_of_hit known room response word moment true settlement;
     }
 
 -- the word that a hit asks of the venue, where it asks one
@@ -250,9 +251,9 @@ left_by_investor facts moment bytes market =
     (investor_verdict market book moment bytes))
 
 -- a message of an investor
-abbrev pub said_by_investor : List Fact → ℕ → List ℕ → InvestorMarket → Effect
-said_by_investor facts moment bytes market =
-    at_market facts market (at_investor.Own moment bytes)
+abbrev pub received_by_investor : List Fact → ℕ → List ℕ → InvestorMarket → Effect
+received_by_investor facts moment bytes market =
+    at_market facts market (at_investor.Received moment bytes)
     (left_by_investor facts moment bytes market)
 
 -- an event at an investor's desk on its request with this number, where it knows that request and
@@ -276,7 +277,7 @@ at_investor_of config room action =
 -- the room's reply to a response
 abbrev pub answered_by : List Fact → RoomRef → ResponseRef → Reply → ℕ → InvestorMarket → Effect
 answered_by facts room response reply moment market =
-    if answers response.k reply
+    if replies_to response.k reply
     then where_known facts room.n response.k (at_investor.Answered room.n response reply moment)
     market
     else nothing
@@ -332,5 +333,5 @@ sweep_effect config facts room moment =
 unfoldable pub message_effect : Configuration → List Fact → ℕ → ℕ → List ℕ → Effect
 message_effect config facts firm moment bytes =
     if is_some (dealer_numbered config firm)
-    then done_by (dealer_at config firm) (said_by_dealer config facts moment bytes)
-    else done_for (investor_output.market_for config firm) (said_by_investor facts moment bytes)
+    then done_by (dealer_at config firm) (received_by_dealer config facts moment bytes)
+    else done_for (investor_output.market_for config firm) (received_by_investor facts moment bytes)

@@ -8,11 +8,11 @@ use Rattle.investor_desk.specs.InvestorRules.{InvestorMarket}
 use Rattle.investor_desk.specs.declared.events.InvestorEvent.TheVariants as at_investor
 use Rattle.request_room.specs.RoomFacts.{hears}
 use Rattle.request_room.specs.declared.events.RoomEvent.TheVariants as at_room
-use Rattle.venue_steps.specs.InvestorSteps.{answers}
+use Rattle.venue_steps.specs.InvestorSteps.{replies_to}
 use Rattle.venue_steps.specs.RoomSteps.{duties_of_post, duties_of_unpost, duties_of_decline}
 use Rattle.venue_steps.specs.RoomSteps.{duties_of_pass, duties_of_expire}
-use Rattle.venue_places.specs.declared.arrivals.Arrival.{Arrival}
-use Rattle.venue_places.specs.declared.arrivals.Arrival.TheVariants as arrival
+use Rattle.venue_places.specs.declared.arrivals.Placement.{Placement}
+use Rattle.venue_places.specs.declared.arrivals.Placement.TheVariants as arrival
 use Rattle.venue_places.specs.declared.arrivals.ForDealer.{ForDealer}
 use Rattle.venue_places.specs.declared.arrivals.ForDealer.TheVariants as to_dealer
 use Rattle.venue_places.specs.declared.arrivals.ForInvestor.{ForInvestor}
@@ -40,7 +40,7 @@ investor_gets facts (to_investor.Gone request word moment) market =
 investor_gets facts (to_investor.Declined request dealer moment) market =
     where_known facts request None (at_investor.DealerDeclined request dealer moment) market
 investor_gets facts (to_investor.Answer request response reply moment) market =
-    if answers response.k reply
+    if replies_to response.k reply
     then where_known facts request response.k (at_investor.Answered request response reply moment)
     market
     else nothing
@@ -71,7 +71,7 @@ room_gets config facts room (to_room.Expire moment) =
     (duties_of_expire (of_room room facts) room moment)
 
 -- what comes to a place
-unfoldable pub arrival_effect : Configuration → List Fact → Arrival → Effect
+unfoldable pub arrival_effect : Configuration → List Fact → Placement → Effect
 arrival_effect config facts (arrival.Dealer firm what) =
     done_by (dealer_at config firm) (dealer_gets config facts what)
 arrival_effect config facts (arrival.Drop firm last moment) =
@@ -83,6 +83,6 @@ arrival_effect config facts (arrival.Hit room response word moment) =
     hit_in config facts room response word moment
 
 -- the same, where something comes
-abbrev pub effect_where : Configuration → List Fact → Option Arrival → Effect
+abbrev pub effect_where : Configuration → List Fact → Option Placement → Effect
 effect_where config facts None = nothing
 effect_where config facts (Some coming) = arrival_effect config facts coming

@@ -62,7 +62,7 @@ no_room = record { investor = 0; n = 0 }
 unfoldable pub after_due : DealerView → Due → DealerView
 after_due view (due.Own moment message) =
     let asked = word_asked (verdict_at view.desk moment message) in
-    with_event_at_desk view (event.Own moment message (option_map (answer_to view) asked))
+    with_event_at_desk view (event.Received moment message (option_map (answer_to view) asked))
 after_due view (due.Shown ask moment) = with_event_at_desk view (event.Shown no_room ask moment)
 after_due view (due.Lifted quote) =
     if lifting_counts view quote then record view { lifted = view.lifted ++ quote ∷ [] } else view

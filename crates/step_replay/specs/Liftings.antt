@@ -20,10 +20,10 @@ use Rattle.step_replay.specs.declared.floor.Lifting.{Lifting}
 
 -- what was due by an event
 abbrev pub due_by_event : DealerEvent → Due
-due_by_event (at_desk.Own moment bytes answer) = due.Own moment bytes
+due_by_event (at_desk.Received moment bytes settlement) = due.Own moment bytes
 due_by_event (at_desk.Shown room ask moment) = due.Shown ask moment
 due_by_event (at_desk.Told request close moment) = due.Closed request close moment
-due_by_event (at_desk.Drop last moment answer) = due.Drop last moment
+due_by_event (at_desk.Drop last moment settlement) = due.Drop last moment
 
 -- what was due behind so many events: before each lifting the events that had come by then
 abbrev pub dues_behind : ℕ → List DealerEvent → List Lifting → List Due

@@ -145,49 +145,49 @@ count_at floor None = 0
 count_at floor (Some firm) = length (sent_on_floor floor firm)
 
 -- A step is done and what it sent is told, wherever the day stood and whatever was told before.
-pub record TellsOf (config : Configuration) (trail : AuditTrail) (after : Replay)
+pub record SendsOf (config : Configuration) (trail : AuditTrail) (after : Replay)
     (told : List Sent) : Type 0 where
   pub stands : ReplayStands config trail after
   pub told_is : messages_in config trail.facts ≡ told
 
-abbrev pub Tells : (Configuration → Type 0) → (Configuration → AuditTrail → AuditTrail) → Replay
+abbrev pub Sends : (Configuration → Type 0) → (Configuration → AuditTrail → AuditTrail) → Replay
     → Replay → List Sent → List Sent → Type 0
-Tells may next before after old new = (config : Configuration) (trail : AuditTrail)
+Sends may next before after old new = (config : Configuration) (trail : AuditTrail)
     (start : List Sent) → may config → ReplayStands config trail before
     → messages_in config trail.facts ≡ start ++ old
-    → TellsOf config (next config trail) after (start ++ new)
+    → SendsOf config (next config trail) after (start ++ new)
 
 -- the same, and the venue stands with the rooms that are opening or open
-pub record VenueTells (config : Configuration) (trail : AuditTrail) (after : LiveVenue)
+pub record VenueSends (config : Configuration) (trail : AuditTrail) (after : LiveVenue)
     (told : List Sent) : Type 0 where
   pub stands : VenueStands config trail after
   pub told_is : messages_in config trail.facts ≡ told
 
-abbrev pub TellsStep : Step → LiveVenue → LiveVenue → List Sent → List Sent → Type 0
-TellsStep next before after old new = (config : Configuration) (trail : AuditTrail)
+abbrev pub SendsStep : Step → LiveVenue → LiveVenue → List Sent → List Sent → Type 0
+SendsStep next before after old new = (config : Configuration) (trail : AuditTrail)
     (start : List Sent) → fault_of config 0 next ≡ None → VenueStands config trail before
     → messages_in config trail.facts ≡ start ++ old
-    → VenueTells config (after_step config trail next) after (start ++ new)
+    → VenueSends config (after_step config trail next) after (start ++ new)
 
 -- the day after so many turns of an actor
 unfoldable pub after_turns : Configuration → Actor → ℕ → AuditTrail → AuditTrail
 after_turns config by count trail = fold (after_step config) trail (replicate count (step.Turn by))
 
 -- all duties of an actor are done: as many turns as stand behind a step leave it none
-pub record TellsAllOf (config : Configuration) (by : Actor) (trail : AuditTrail)
+pub record SendsAllOf (config : Configuration) (by : Actor) (trail : AuditTrail)
     (after : LiveVenue) (told : List Sent) : Type 0 where
-  pub tells : VenueTells config (after_turns config by MOST_TURNS_BEHIND trail) after told
+  pub tells : VenueSends config (after_turns config by MOST_TURNS_BEHIND trail) after told
   pub none_left : pending by (after_turns config by MOST_TURNS_BEHIND trail) ≡ []
 
-abbrev pub TellsDuties : Actor → LiveVenue → LiveVenue → List Sent → List Sent → Type 0
-TellsDuties by before after old new = (config : Configuration) (trail : AuditTrail)
+abbrev pub SendsDuties : Actor → LiveVenue → LiveVenue → List Sent → List Sent → Type 0
+SendsDuties by before after old new = (config : Configuration) (trail : AuditTrail)
     (start : List Sent) → is_known config by ≡ true → VenueStands config trail before
     → messages_in config trail.facts ≡ start ++ old
-    → TellsAllOf config by trail after (start ++ new)
+    → SendsAllOf config by trail after (start ++ new)
 
 -- a step, and the duties of its actor behind it
-abbrev pub TellsAll : Step → LiveVenue → LiveVenue → List Sent → List Sent → Type 0
-TellsAll next before after old new = (config : Configuration) (trail : AuditTrail)
+abbrev pub SendsAll : Step → LiveVenue → LiveVenue → List Sent → List Sent → Type 0
+SendsAll next before after old new = (config : Configuration) (trail : AuditTrail)
     (start : List Sent) → fault_of config 0 next ≡ None → VenueStands config trail before
     → messages_in config trail.facts ≡ start ++ old
-    → TellsAllOf config (actor_of next) (after_step config trail next) after (start ++ new)
+    → SendsAllOf config (actor_of next) (after_step config trail next) after (start ++ new)

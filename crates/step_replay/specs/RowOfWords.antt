@@ -3,7 +3,7 @@ use Rattle.std.specs.Prelude.{◌≡◌, ◌≤◌, ℕ, ◌-◌, Bool, true, fa
 use Rattle.std.specs.Prelude.{List, length, Option, Some, None}
 use Rattle.std.specs.Prelude.{if◌then◌else◌}
 use Rattle.std.specs.List.{list_any}
-use Rattle.quote_word.specs.PlainWords.{entry_in, answer_of, after_exchange}
+use Rattle.quote_word.specs.PlainWords.{entry_in, settlement_of, after_exchange}
 use Rattle.quote_word.specs.declared.settled.Settled.{Settled}
 use Rattle.quote_word.specs.declared.settled.Settled.TheVariants.{Withdrawn, Lifted}
 use Rattle.dealer_desk.specs.DealerOutput.{DeskEvents, asked_by, book_at, with_event}
@@ -19,8 +19,8 @@ Row = List (Option Settled)
 
 -- what the word of a quote is from then on, where its dealer withdraws it: lifted where it was
 -- lifted before
-abbrev pub answer_in : Row → ℕ → Settled
-answer_in words quote = answer_of (entry_in words (quote - 1)) Withdrawn
+abbrev pub settlement_in : Row → ℕ → Settled
+settlement_in words quote = settlement_of (entry_in words (quote - 1)) Withdrawn
 
 -- the words after a wish for a quote's word
 abbrev pub with_wish : Row → ℕ → Settled → Row

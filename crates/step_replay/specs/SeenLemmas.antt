@@ -97,32 +97,33 @@ sent_is date row sent moment (Some message) = refl
 
 -- Nothing of what a message decides is due by itself.
 
-answers_undue : (quote : ℕ) (how : Withdrawal) (answer : Option Settled)
-    → filter_map due_by_fact (answer_facts quote how answer) ≡ []
+answers_undue : (quote : ℕ) (how : Withdrawal) (settlement : Option Settled)
+    → filter_map due_by_fact (answer_facts quote how settlement) ≡ []
 answers_undue quote how None = refl
 answers_undue quote how (Some settled.Withdrawn) = refl
 answers_undue quote how (Some settled.Lifted) = refl
 
-pub settled_undue : (asked : Option ℕ) (how : Withdrawal) (answer : Option Settled)
-    → filter_map due_by_fact (settled_facts asked how answer) ≡ []
-settled_undue None how answer = refl
-settled_undue (Some quote) how answer = answers_undue quote how answer
+pub settled_undue : (asked : Option ℕ) (how : Withdrawal) (settlement : Option Settled)
+    → filter_map due_by_fact (settled_facts asked how settlement) ≡ []
+settled_undue None how settlement = refl
+settled_undue (Some quote) how settlement = answers_undue quote how settlement
 
 kept_undue : (b : Bool) (quote : AcceptedQuote)
     → filter_map due_by_fact (if b then Quoted quote ∷ [] else []) ≡ []
 kept_undue true quote = refl
 kept_undue false quote = refl
 
-pub verdict_undue : (v : DealerVerdict) (answer : Option Settled)
-    → filter_map due_by_fact (verdict_facts v answer) ≡ []
-verdict_undue (verdict.QuoteAccepted request id quote replaced) answer =
-    filter_map-append due_by_fact (settled_facts replaced by.Replacement answer)
-    (if goes_through replaced answer then Quoted quote ∷ [] else [])
-    ∙ rw (settled_undue replaced by.Replacement answer) (kept_undue (goes_through replaced answer) quote)
-verdict_undue (verdict.CancelAccepted id quote request) answer =
-    answers_undue quote by.Cancel answer
-verdict_undue (verdict.DeclineAccepted request number) answer = refl
-verdict_undue other answer = refl
+pub verdict_undue : (v : DealerVerdict) (settlement : Option Settled)
+    → filter_map due_by_fact (verdict_facts v settlement) ≡ []
+verdict_undue (verdict.QuoteAccepted request id quote replaced) settlement =
+    filter_map-append due_by_fact (settled_facts replaced by.Replacement settlement)
+    (if goes_through replaced settlement then Quoted quote ∷ [] else [])
+    ∙ rw (settled_undue replaced by.Replacement settlement)
+    (kept_undue (goes_through replaced settlement) quote)
+verdict_undue (verdict.CancelAccepted id quote request) settlement =
+    answers_undue quote by.Cancel settlement
+verdict_undue (verdict.DeclineAccepted request number) settlement = refl
+verdict_undue other settlement = refl
 
 -- One event more.
 
@@ -233,29 +234,33 @@ module _ (date : List ℕ) (row : DealerRow) (trail : List DealerEntry) (before 
     abbrev asked_by_message : ℕ → List ℕ → DealerBook → Option ℕ
     asked_by_message moment bytes book = word_asked (dealer_verdict date row book moment bytes)
 
-    pub own_seen : (moment : ℕ) (bytes : List ℕ) (answer : Option Settled)
-        → answer ≡ option_map (answer_to_dealer trail) (asked_by_message moment bytes (book_by trail))
-        → Seen date row (trail ++ entries_of date row trail (event.Own moment bytes answer))
+    pub own_seen : (moment : ℕ) (bytes : List ℕ) (settlement : Option Settled)
+        → settlement ≡ option_map (answer_to_dealer trail)
+        (asked_by_message moment bytes (book_by trail))
+        → Seen date row (trail ++ entries_of date row trail
+        (event.Received moment bytes settlement))
     unfolding event_facts after_due
-    own_seen moment bytes answer is =
-        event_seen date row trail (event.Own moment bytes answer) (event.Own moment bytes answer)
+    own_seen moment bytes settlement is =
+        event_seen date row trail (event.Received moment bytes settlement)
+        (event.Received moment bytes settlement)
         (due.Own moment bytes)
         (ap (λ l. due.Own moment bytes ∷ l)
-        (verdict_undue (dealer_verdict date row (book_by trail) moment bytes) answer))
+        (verdict_undue (dealer_verdict date row (book_by trail) moment bytes) settlement))
         refl refl refl before
         (ap (λ (a : Option Settled).
-        view_of date row (before.events ++ event.Own moment bytes a ∷ []) before.lifted)
+        view_of date row (before.events ++ event.Received moment bytes a ∷ []) before.lifted)
         (answered (asked_by_message moment bytes) ∙ sym is))
 
-    pub drop_seen : (last moment : ℕ) (answer : Option Settled)
-        → answer ≡ option_map (answer_to_dealer trail) (number_to_drop (book_by trail) last)
-        → Seen date row (trail ++ entries_of date row trail (event.Drop last moment answer))
+    pub drop_seen : (last moment : ℕ) (settlement : Option Settled)
+        → settlement ≡ option_map (answer_to_dealer trail) (number_to_drop (book_by trail) last)
+        → Seen date row (trail ++ entries_of date row trail (event.Drop last moment settlement))
     unfolding event_facts after_due
-    drop_seen last moment answer is =
-        event_seen date row trail (event.Drop last moment answer) (event.Drop last moment answer)
+    drop_seen last moment settlement is =
+        event_seen date row trail (event.Drop last moment settlement)
+        (event.Drop last moment settlement)
         (due.Drop last moment)
         (ap (λ l. due.Drop last moment ∷ l)
-        (settled_undue (number_to_drop (book_by trail) last) by.Cancel answer))
+        (settled_undue (number_to_drop (book_by trail) last) by.Cancel settlement))
         refl refl refl before
         (ap (λ (a : Option Settled).
         view_of date row (before.events ++ event.Drop last moment a ∷ []) before.lifted)

@@ -47,7 +47,7 @@ use Rattle.step_replay.specs.Actions.{at_dealer, at_market, nothing}
 use Rattle.step_replay.specs.Actions.{quote_with_word, quote_asked, answer_to_hit}
 use Rattle.step_replay.specs.Actions.{lifting, hit_with, duty_effect, message_effect}
 use Rattle.dealer_desk.specs.DealerRules.{dealer_verdict}
-use Rattle.step_replay.specs.Actions.{answer_of, drop_at}
+use Rattle.step_replay.specs.Actions.{settlement_of, drop_at}
 use Rattle.step_replay.specs.Actions.{sweep_effect}
 use Rattle.venue_places.specs.declared.actors.Actor.{Actor}
 
@@ -55,8 +55,8 @@ use Rattle.venue_places.specs.declared.actors.Actor.{Actor}
 -- what can happen there.
 pub record IsKept (date : List ℕ) (row : DealerRow) (P : List DealerEntry → Type 0) : Type 0 where
   pub own : (trail : List DealerEntry) (moment : ℕ) (bytes : List ℕ) → P trail
-      → P (trail ++ entries_of date row trail (at_desk.Own moment bytes
-      (answer_of trail (dealer_verdict date row (book_by trail) moment bytes))))
+      → P (trail ++ entries_of date row trail (at_desk.Received moment bytes
+      (settlement_of trail (dealer_verdict date row (book_by trail) moment bytes))))
   pub drop : (trail : List DealerEntry) (last moment : ℕ) → P trail
       → P (trail ++ entries_of date row trail (drop_at trail last moment))
   pub shown : (trail : List DealerEntry) (room : RoomRef) (ask : Ask) (moment : ℕ) → P trail
@@ -204,9 +204,9 @@ module _ (config : Configuration) (own : ℕ) (row : DealerRow)
   asked_is word None = refl
   asked_is word (Some refused) = refl
 
-  -- what a hit lifts, by the word's answer
+  -- what a hit lifts, by the word's settlement
   abbrev lifted_by : Option HitRefusal → Option QuoteRef → Option Settled → End → List Fact
-  lifted_by refused found answer award = lifting found (hit_settled refused answer award)
+  lifted_by refused found settlement award = lifting found (hit_settled refused settlement award)
 
   hit_own : (facts : List Fact) (hit : QuoteRef) (award : End) (withdrawn : Bool)
       → was_withdrawn (of_dealer hit.dealer facts) hit.quote ≡ withdrawn
@@ -223,11 +223,12 @@ module _ (config : Configuration) (own : ℕ) (row : DealerRow)
       ap (λ (n : ℕ). was_withdrawn (of_dealer n facts) hit.quote) (sym equal) ∙ is in
       rw same (kept.lifted (trail facts) hit.quote within open_word before)
 
-  hit_other : (facts : List Fact) (hit : QuoteRef) (award : End) (answer : Option Settled)
+  hit_other : (facts : List Fact) (hit : QuoteRef) (award : End) (settlement : Option Settled)
       (refused : Option HitRefusal) → (hit.dealer == own) ≡ false
-      → trail (lifted_by refused (Some hit) answer award) ≡ []
+      → trail (lifted_by refused (Some hit) settlement award) ≡ []
   unfolding of_dealer
-  hit_other facts hit award answer refused other = by_outcome (hit_settled refused answer award)
+  hit_other facts hit award settlement refused other =
+      by_outcome (hit_settled refused settlement award)
     where
       by_outcome : (outcome : Result End HitRefusal) → trail (lifting (Some hit) outcome) ≡ []
       by_outcome (Ok end) = rw other refl
@@ -268,7 +269,8 @@ module _ (config : Configuration) (own : ℕ) (row : DealerRow)
       (quote_asked config (hit_word (of_room room facts) word moment))))
   unfolding of_dealer
   hit_with_keeps facts room response word moment =
-      keeps_by facts (hit_with config facts room response word moment (answer (quote_asked config asked)))
+      keeps_by facts (hit_with config facts room response word moment
+      (settlement (quote_asked config asked)))
       (trail (lifts (quote_asked config asked)))
       (filter_map-append (entry_at_dealer own) (lifts (quote_asked config asked))
       (map (InRoom room) happened)
@@ -291,14 +293,14 @@ module _ (config : Configuration) (own : ℕ) (row : DealerRow)
       asked : Option ℕ
       asked = hit_word known word moment
 
-      answer : Option QuoteRef → Option Settled
-      answer q = option_map (answer_to_hit facts) q
+      settlement : Option QuoteRef → Option Settled
+      settlement q = option_map (answer_to_hit facts) q
 
       happened : List RoomFact
-      happened = event_facts known (at_room.Hit word moment (answer (quote_asked config asked)))
+      happened = event_facts known (at_room.Hit word moment (settlement (quote_asked config asked)))
 
       lifts : Option QuoteRef → List Fact
-      lifts q = lifted_by refused (quote_with_word config word) (answer q) award
+      lifts q = lifted_by refused (quote_with_word config word) (settlement q) award
 
   -- All actions, by their kinds.
 

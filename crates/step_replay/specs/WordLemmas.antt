@@ -22,7 +22,7 @@ use Rattle.dealer_desk.specs.declared.events.DealerEvent.{DealerEvent}
 use Rattle.dealer_desk.specs.declared.events.DealerEvent.TheVariants as event
 use Rattle.step_replay.specs.DealerTrail.{DealerEntry, Lifted, facts_of, book_by, lifts, fact_in}
 use Rattle.step_replay.specs.DealerTrail.{was_lifted, was_withdrawn, answer_to_dealer, entries_of}
-use Rattle.step_replay.specs.Actions.{answer_of, drop_at}
+use Rattle.step_replay.specs.Actions.{settlement_of, drop_at}
 use Rattle.step_replay.specs.SeenLemmas.{facts_grown, lifted_grown}
 use Rattle.step_replay.specs.StepLemmas.{IsKept, kept_by_all}
 use Rattle.step_replay.specs.AuditTrail.{audit_trail}
@@ -94,7 +94,7 @@ module _ (trail : List DealerEntry) (quote : ℕ) where
   or_no false false never is = is
 
   said_facts : (v : DealerVerdict)
-      → list_any (withdraws quote) (verdict_facts v (answer_of trail v)) ≡ true
+      → list_any (withdraws quote) (verdict_facts v (settlement_of trail v)) ≡ true
       → was_lifted trail quote ≡ false
   said_facts (verdict.QuoteAccepted request id own replaced) withdrawn =
       asked_facts replaced by.Replacement
@@ -158,8 +158,8 @@ pub one_is_kept : (date : List ℕ) (row : DealerRow) → IsKept date row IsOneO
 unfolding event_facts
 one_is_kept date row = record {
   own = λ trail moment bytes before.
-      event_one date row trail (event.Own moment bytes
-      (answer_of trail (dealer_verdict date row (book_by trail) moment bytes)))
+      event_one date row trail (event.Received moment bytes
+      (settlement_of trail (dealer_verdict date row (book_by trail) moment bytes)))
       (λ quote withdrawn. said_facts trail quote
       (dealer_verdict date row (book_by trail) moment bytes) withdrawn)
       before;

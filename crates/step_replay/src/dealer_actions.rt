@@ -25,7 +25,7 @@ impl Floor {
     }
 
     /// A message of a dealer comes to its desk.
-    pub(crate) fn dealer_says(
+    pub(crate) fn dealer_receives(
         &mut self,
         dealer: u16,
         moment: Moment,
@@ -33,7 +33,7 @@ impl Floor {
     ) -> Result<Duties, Memory>
         ensures { IfOk result (λ duties. Acts (λ config facts.
             action.done_by (action.dealer_at config dealer)
-            (action.said_by_dealer config facts moment bytes.now))
+            (action.received_by_dealer config facts moment bytes.now))
             self.old self.new duties.items) }
     {
         what_is_asked_is_of_the_day();

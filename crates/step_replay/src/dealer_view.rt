@@ -10,7 +10,7 @@ ghost use Rattle.step_replay.specs.DealerView as spec;
 ghost use Rattle.step_replay.specs.RowOfWords as kept;
 
 use crate::Due;
-use dealer_desk::{DealerDesk, facts_say_how_words_were_answered, words_are_asked_event_by_event};
+use dealer_desk::{DealerDesk, facts_say_how_words_were_settled, words_are_asked_event_by_event};
 use fix_fields::{Date, Memory, Moment};
 use quote_messages::{RoomRef, SentMessage};
 use quote_word::{PlainWords, Settled, Words};
@@ -50,7 +50,7 @@ fn do_due(desk: &mut DealerDesk, words: &mut PlainWords, due: &Due) -> Result<()
     quotes_are_withdrawn_event_by_event();
     match due {
         Due::Own(moment, message) => {
-            take_own(desk, words, *moment, message.as_bytes())?;
+            receive_own(desk, words, *moment, message.as_bytes())?;
             Ok(())
         }
         Due::Shown(ask, moment) => {
@@ -75,8 +75,8 @@ fn do_due(desk: &mut DealerDesk, words: &mut PlainWords, due: &Due) -> Result<()
 /// The room of every request here: none is routed.
 const NO_ROOM: RoomRef = RoomRef { investor: 0, n: 0 };
 
-/// Takes a message of the dealer's own, with the answer of the word that it asks.
-fn take_own(
+/// Takes a message of the dealer's own, with the settlement of the word that it asks.
+fn receive_own(
     desk: &mut DealerDesk,
     words: &mut PlainWords,
     moment: Moment,
@@ -85,19 +85,19 @@ fn take_own(
     requires { length words.old ≡ desk.old.row.quotes }
     ensures ok { OnOk result (let asked = word_asked (verdict_at desk.old moment bytes.now) in
         desk.new ≡ with_event desk.old
-        (DealerEvent.Own moment bytes.now (option_map (kept.answer_in words.old) asked))) }
+        (DealerEvent.Received moment bytes.now (option_map (kept.settlement_in words.old) asked))) }
     ensures words { words.new
         ≡ kept.with_asked words.old (word_asked (verdict_at desk.old moment bytes.now)) }
     ensures asked { IfSome (word_asked (verdict_at desk.old moment bytes.now))
         (kept.IsOfRow desk.old.row.quotes) }
 {
     let verdict = desk.judge(moment, bytes);
-    let answer = ask(words, verdict.word_asked());
-    desk.take_judged(moment, bytes, verdict, answer)?;
+    let settlement = ask(words, verdict.word_asked());
+    desk.receive_judged(moment, bytes, verdict, settlement)?;
     Ok(())
 }
 
-/// Drops the next of the quotes up to `last`, with the answer of its word.
+/// Drops the next of the quotes up to `last`, with the settlement of its word.
 fn drop_next(
     desk: &mut DealerDesk,
     words: &mut PlainWords,
@@ -107,26 +107,26 @@ fn drop_next(
     requires { length words.old ≡ desk.old.row.quotes }
     ensures ok { OnOk result (let asked = number_to_drop (book_at desk.old) last in
         desk.new ≡ with_event desk.old
-        (DealerEvent.Drop last moment (option_map (kept.answer_in words.old) asked))) }
+        (DealerEvent.Drop last moment (option_map (kept.settlement_in words.old) asked))) }
     ensures words { words.new
         ≡ kept.with_asked words.old (number_to_drop (book_at desk.old) last) }
     ensures asked { IfSome (number_to_drop (book_at desk.old) last)
         (kept.IsOfRow desk.old.row.quotes) }
 {
-    let answer = ask(words, desk.question_drop(last));
-    desk.drop_one(last, moment, answer)?;
+    let settlement = ask(words, desk.question_drop(last));
+    desk.drop_one(last, moment, settlement)?;
     Ok(())
 }
 
 /// Withdraws the word of the quote that is asked, and answers what it is from then on.
 fn ask(words: &mut PlainWords, asked: Option<u32>) -> Option<Settled>
     requires { IfSome asked (kept.IsOfRow (length words.old)) }
-    ensures answer { result ≡ option_map (kept.answer_in words.old) asked }
+    ensures settlement { result ≡ option_map (kept.settlement_in words.old) asked }
     ensures words { words.new ≡ kept.with_asked words.old asked }
 {
     let quote = asked?;
-    let answer = words.withdraw(quote - 1);
-    Some(answer)
+    let settlement = words.withdraw(quote - 1);
+    Some(settlement)
 }
 
 /// Lifts the word of a quote, where the dealer can have that quote and its word is open.
@@ -146,7 +146,7 @@ fn quotes_are_withdrawn_event_by_event()
     ensures { kept.GrowsByEvents }
 {
     words_are_asked_event_by_event();
-    facts_say_how_words_were_answered();
+    facts_say_how_words_were_settled();
 }
 
 /// The dealer view is a function of the date, the dealer's row and the list: two lists that are

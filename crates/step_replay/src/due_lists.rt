@@ -51,7 +51,7 @@ fn due_by(alloc: Global, event: &DealerEvent) -> Result<Due, Memory>
     ensures { IfOk result (λ due. due ≡ kept.due_by_event event.now) }
 {
     match event {
-        DealerEvent::Own {
+        DealerEvent::Received {
             moment,
             message,
             ..

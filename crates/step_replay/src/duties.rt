@@ -7,7 +7,7 @@ ghost use Rattle.step_replay.specs.Coming as coming;
 use crate::floor::Floor;
 use fix_fields::{Memory, Moment};
 use market_terms::{Duty, RoomRef};
-use venue_places::{Actor, Arrival, placed, swept};
+use venue_places::{Actor, Placement, placed, swept};
 use venue_steps::Duties;
 
 /// An actor does a duty, at its one place.
@@ -39,17 +39,17 @@ pub(crate) fn sweep(floor: &mut Floor, room: RoomRef, moment: Moment) -> Result<
 /// What comes to a place is brought to it.
 // Inlined, so that what comes is not moved once more.
 #[inline(always)]
-fn bring(floor: &mut Floor, arrival: Arrival) -> Result<Duties, Memory>
+fn bring(floor: &mut Floor, arrival: Placement) -> Result<Duties, Memory>
     ensures { IfOk result (λ duties. ActsOnce
         (λ config facts. coming.arrival_effect config facts arrival)
         floor.old floor.new duties.items) }
 {
     match arrival {
-        Arrival::Dealer { firm, what } => floor.to_dealer(firm, what),
-        Arrival::Drop { firm, last, moment } => floor.drop_next(firm, last, moment),
-        Arrival::Investor { firm, what } => floor.to_investor(firm, what),
-        Arrival::Room { room, what } => floor.to_room(room, what),
-        Arrival::Hit {
+        Placement::Dealer { firm, what } => floor.to_dealer(firm, what),
+        Placement::Drop { firm, last, moment } => floor.drop_next(firm, last, moment),
+        Placement::Investor { firm, what } => floor.to_investor(firm, what),
+        Placement::Room { room, what } => floor.to_room(room, what),
+        Placement::Hit {
             room,
             response,
             word,
@@ -59,7 +59,7 @@ fn bring(floor: &mut Floor, arrival: Arrival) -> Result<Duties, Memory>
 }
 
 /// A message of a firm comes to its own desk, that of a dealer or of an investor.
-pub(crate) fn say(
+pub(crate) fn receive(
     floor: &mut Floor,
     firm: u16,
     moment: Moment,
@@ -70,9 +70,9 @@ pub(crate) fn say(
         floor.old floor.new duties.items) }
 {
     if usize::from(firm) < floor.dealers.len() {
-        let duties = floor.dealer_says(firm, moment, bytes)?;
+        let duties = floor.dealer_receives(firm, moment, bytes)?;
         return Ok(duties);
     }
-    let duties = floor.investor_says(firm, moment, bytes)?;
+    let duties = floor.investor_receives(firm, moment, bytes)?;
     Ok(duties)
 }

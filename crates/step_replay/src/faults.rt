@@ -4,7 +4,8 @@ ghost use Rattle.step_replay.specs.declared.faults.ReplayFault.TheVariants.{Memo
 ghost use Rattle.step_replay.specs.StepFaults as spec;
 
 use crate::steps::Step;
-use std::alloc::{AllocError, AllocFailed};
+use fix_fields::Memory;
+use std::alloc::AllocFailed;
 use venue_places::Actor;
 use venue_rows::VenueConfig;
 
@@ -21,10 +22,10 @@ pub enum ReplayFault {
     Memory,
 }
 
-impl From<AllocError> for ReplayFault {
+impl From<Memory> for ReplayFault {
     ghost from_gives = { λ _ fault. fault ≡ Memory };
 
-    fn from(_error: AllocError) -> ReplayFault {
+    fn from(_error: Memory) -> ReplayFault {
         ReplayFault::Memory
     }
 }

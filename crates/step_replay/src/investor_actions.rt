@@ -24,7 +24,7 @@ fn place_of(firm: u16, dealers: usize) -> Option<usize>
 
 impl Floor {
     /// A message of an investor comes to its desk.
-    pub(crate) fn investor_says(
+    pub(crate) fn investor_receives(
         &mut self,
         firm: u16,
         moment: Moment,
@@ -32,7 +32,7 @@ impl Floor {
     ) -> Result<Duties, Memory>
         ensures { IfOk result (λ duties. Acts (λ config facts.
             action.done_for (investor_output.market_for config firm)
-            (action.said_by_investor facts moment bytes.now))
+            (action.received_by_investor facts moment bytes.now))
             self.old self.new duties.items) }
     {
         let Some(at) = place_of(firm, self.dealers.len()) else {

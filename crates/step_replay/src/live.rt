@@ -8,8 +8,8 @@ ghost use Rattle.step_replay.specs.FirmDays.{FirmDay, firm_days};
 ghost use Rattle.step_replay.specs.FloorDays.{days_of_floor};
 ghost use Rattle.step_replay.specs.LiveDays as live;
 ghost use Rattle.step_replay.specs.LiveStanding as spec;
-ghost use Rattle.step_replay.specs.LiveStanding.{Answers, AnswersSweeps, IsAt, Tells, TellsAll};
-ghost use Rattle.step_replay.specs.LiveStanding.{TellsDuties, TellsStep};
+ghost use Rattle.step_replay.specs.LiveStanding.{Answers, AnswersSweeps, IsAt, Sends, SendsAll};
+ghost use Rattle.step_replay.specs.LiveStanding.{SendsDuties, SendsStep};
 ghost use Rattle.step_replay.specs.StepFaults as faults;
 ghost use Rattle.step_replay.specs.declared.steps.Step.{Step};
 ghost use Rattle.venue_rows.specs.Rows.{Configuration, dealer_numbered};
@@ -27,7 +27,7 @@ use crate::world::World;
 use fix_fields::{Memory, Moment};
 use market_terms::{Duty, RoomRef};
 use quote_messages::SentMessage;
-use std::alloc::{AllocError, Global};
+use std::alloc::Global;
 use venue_places::Actor;
 use venue_rows::VenueConfig;
 
@@ -53,7 +53,7 @@ impl LiveVenue {
     /// Takes a step, does it and then the duties of its actor, the oldest first, until it has none,
     /// and tells the messages that were sent with that, in their order. A step that names what the
     /// venue does not have is the fault, and changes nothing.
-    pub fn take(
+    pub fn step(
         &mut self,
         alloc: Global,
         config: &VenueConfig,
@@ -70,7 +70,7 @@ impl LiveVenue {
             return Err(fault);
         }
         let mut told = Vec::new(alloc);
-        answer(alloc, self, step, &mut told)?;
+        send_all(alloc, self, step, &mut told)?;
         Ok(told)
     }
 
@@ -87,7 +87,7 @@ impl LiveVenue {
         let mut told = Vec::new(alloc);
         for room in &due {
             let step = Step::Expire(*room, moment);
-            answer(alloc, self, &step, &mut told)?;
+            send_all(alloc, self, &step, &mut told)?;
         }
         Ok(told)
     }
@@ -125,17 +125,17 @@ impl LiveVenue {
 }
 
 /// A step and the duties behind it are done, and what is sent with them is told.
-fn answer(
+fn send_all(
     alloc: Global,
     venue: &mut LiveVenue,
     step: &Step,
     told: &mut Vec<SentTo>,
 ) -> Result<(), Memory>
     ensures { OnOk result
-        (TellsAll step.now venue.old venue.new told.old.items told.new.items) }
+        (SendsAll step.now venue.old venue.new told.old.items told.new.items) }
 {
     do_step(alloc, venue, step, told)?;
-    tell_duties(alloc, venue, actor_of(step), told)?;
+    send_duties(alloc, venue, actor_of(step), told)?;
     Ok(())
 }
 
@@ -152,13 +152,13 @@ fn actor_of(step: &Step) -> Actor
 
 /// An actor does its duties, one by one until none is left, and what is sent is told. It can't
 /// have as many as are refused here.
-fn tell_duties(
+fn send_duties(
     alloc: Global,
     venue: &mut LiveVenue,
     by: Actor,
     told: &mut Vec<SentTo>,
 ) -> Result<(), Memory>
-    ensures { OnOk result (TellsDuties by venue.old venue.new told.old.items told.new.items) }
+    ensures { OnOk result (SendsDuties by venue.old venue.new told.old.items told.new.items) }
 {
     for _ in 0..MOST_TURNS_BEHIND {
         let Some(_) = next_duty(&venue.replay, by) else {
@@ -167,7 +167,7 @@ fn tell_duties(
         let turn = Step::Turn(by);
         do_step(alloc, venue, &turn, told)?;
     }
-    Err(AllocError)
+    Err(Memory)
 }
 
 /// A step is done, what is sent with it is told, and where the deadline of its room is another
@@ -179,14 +179,14 @@ fn do_step(
     told: &mut Vec<SentTo>,
 ) -> Result<(), Memory>
     ensures { OnOk result
-        (TellsStep step.now venue.old venue.new told.old.items told.new.items) }
+        (SendsStep step.now venue.old venue.new told.old.items told.new.items) }
 {
     let Some(room) = room_of(&venue.replay, step) else {
-        tell_step(alloc, &mut venue.replay, step, told)?;
+        send_step(alloc, &mut venue.replay, step, told)?;
         return Ok(());
     };
     let before = deadline_at(&venue.replay.floor, room);
-    tell_step(alloc, &mut venue.replay, step, told)?;
+    send_step(alloc, &mut venue.replay, step, told)?;
     let after = deadline_at(&venue.replay.floor, room);
     venue.open_rooms.note(room, before, after)?;
     Ok(())
@@ -231,13 +231,13 @@ fn room_of_duty(duty: &Duty) -> Option<RoomRef>
 }
 
 /// A step is done, and what is sent with it told.
-fn tell_step(
+fn send_step(
     alloc: Global,
     replay: &mut Replay,
     step: &Step,
     told: &mut Vec<SentTo>,
 ) -> Result<(), Memory>
-    ensures { OnOk result (Tells (λ config. faults.fault_of config 0 step.now ≡ None)
+    ensures { OnOk result (Sends (λ config. faults.fault_of config 0 step.now ≡ None)
         (λ config trail. venue.after_step config trail step.now)
         replay.old replay.new told.old.items told.new.items) }
 {

@@ -7,7 +7,7 @@ ghost use Rattle.step_replay.specs.Following.{Follows, ReplayStands};
 ghost use Rattle.step_replay.specs.Queues.{is_known};
 ghost use Rattle.step_replay.specs.StepFaults.{fault_of};
 
-use crate::duties::{act, say, sweep};
+use crate::duties::{act, receive, sweep};
 use crate::floor::Floor;
 use crate::queues::leave;
 use crate::steps::Step;
@@ -47,7 +47,7 @@ impl Replay {
     {
         match step {
             Step::In(firm, moment, message) => {
-                self.says(*firm, *moment, message.as_bytes())?;
+                self.receive(*firm, *moment, message.as_bytes())?;
                 Ok(())
             }
             Step::Turn(by) => {
@@ -98,7 +98,7 @@ impl Replay {
     }
 
     /// A message of a firm comes to its own desk.
-    pub(crate) fn says(&mut self, firm: u16, moment: Moment, bytes: &[u8]) -> Result<(), Memory>
+    pub(crate) fn receive(&mut self, firm: u16, moment: Moment, bytes: &[u8]) -> Result<(), Memory>
         ensures { OnOk result (Follows (λ config. is_known config (Actor.Firm firm) ≡ true)
             (λ config trail. venue.with_effect (Actor.Firm firm) trail
             (message_effect config trail.facts firm moment bytes.now))
@@ -107,7 +107,7 @@ impl Replay {
         let Some(index) = self.index_of(Actor::Firm(firm)) else {
             return Ok(());
         };
-        let duties = say(&mut self.floor, firm, moment, bytes)?;
+        let duties = receive(&mut self.floor, firm, moment, bytes)?;
         let Some(queue) = self.queues.get_mut(index) else {
             return Ok(());
         };

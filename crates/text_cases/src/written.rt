@@ -2,10 +2,10 @@
 
 use crate::printing::{push_bytes_line, push_number, u32_of};
 use crate::written_to_dealers::{
-    cancel_answer, closing_notice, decline_answer, quote_answer, reject, shown_request,
+    cancel_report, closing_notice, decline_report, quote_report, reject, shown_request,
 };
 use crate::written_to_investors::{
-    dealer_declined, hit_answer, hit_unknown, pass_answer, quote_gone, request_accepted,
+    dealer_declined, hit_report, hit_unknown, pass_report, quote_gone, request_accepted,
     request_expired, request_refused, shown_quote,
 };
 use case_lines::{Call, CaseFault, Words, day, name_of};
@@ -101,18 +101,18 @@ fn message_of<'a>(name: &str, words: &mut Words<'a>) -> Result<OutMessage<'a>, C
     match name {
         "reject" => reject(words),
         "request" => shown_request(words),
-        "quote_answer" => quote_answer(words),
-        "cancel_answer" => cancel_answer(words),
-        "decline_answer" => decline_answer(words),
+        "quote_answer" => quote_report(words),
+        "cancel_answer" => cancel_report(words),
+        "decline_answer" => decline_report(words),
         "notice" => closing_notice(words),
         "accepted" => request_accepted(words),
         "refused" => request_refused(words),
         "quote" => shown_quote(words),
         "gone" => quote_gone(words),
         "declined" => dealer_declined(words),
-        "hit_answer" => hit_answer(words),
+        "hit_answer" => hit_report(words),
         "hit_unknown" => hit_unknown(words),
-        "pass_answer" => pass_answer(words),
+        "pass_answer" => pass_report(words),
         "expired" => request_expired(words),
         _ => Err(CaseFault::Form),
     }

@@ -47,11 +47,11 @@ pub(crate) fn shown_request<'a>(words: &mut Words<'a>) -> Result<OutMessage<'a>,
 }
 
 /// `quote_answer REQUEST ID REASON`.
-pub(crate) fn quote_answer<'a>(words: &mut Words<'a>) -> Result<OutMessage<'a>, CaseFault> {
+pub(crate) fn quote_report<'a>(words: &mut Words<'a>) -> Result<OutMessage<'a>, CaseFault> {
     let request = id_of(words)?;
     let id = id_of(words)?;
     let refusal = quote_reason_or_none(words)?;
-    Ok(OutMessage::QuoteAnswer {
+    Ok(OutMessage::QuoteReport {
         request,
         id,
         refusal,
@@ -59,10 +59,10 @@ pub(crate) fn quote_answer<'a>(words: &mut Words<'a>) -> Result<OutMessage<'a>, 
 }
 
 /// `cancel_answer ID STATUS`.
-pub(crate) fn cancel_answer<'a>(words: &mut Words<'a>) -> Result<OutMessage<'a>, CaseFault> {
+pub(crate) fn cancel_report<'a>(words: &mut Words<'a>) -> Result<OutMessage<'a>, CaseFault> {
     let id = id_or_none(words)?;
     let status = cancel_status_of(words.word()?)?;
-    Ok(OutMessage::CancelAnswer { id, status })
+    Ok(OutMessage::CancelReport { id, status })
 }
 
 /// What became of a cancel.
@@ -75,10 +75,10 @@ fn cancel_status_of(word: &str) -> Result<CancelStatus, CaseFault> {
 }
 
 /// `decline_answer REQUEST REASON`.
-pub(crate) fn decline_answer<'a>(words: &mut Words<'a>) -> Result<OutMessage<'a>, CaseFault> {
+pub(crate) fn decline_report<'a>(words: &mut Words<'a>) -> Result<OutMessage<'a>, CaseFault> {
     let request = id_of(words)?;
     let refusal = quote_reason_or_none(words)?;
-    Ok(OutMessage::DeclineAnswer { request, refusal })
+    Ok(OutMessage::DeclineReport { request, refusal })
 }
 
 /// `notice NUMBER CLOSE REQUEST ASK ID PRICE`.

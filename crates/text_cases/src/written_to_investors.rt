@@ -59,12 +59,12 @@ pub(crate) fn dealer_declined<'a>(words: &mut Words<'a>) -> Result<OutMessage<'a
 }
 
 /// `hit_answer ID REQUEST NUMBER REFUSAL`.
-pub(crate) fn hit_answer<'a>(words: &mut Words<'a>) -> Result<OutMessage<'a>, CaseFault> {
+pub(crate) fn hit_report<'a>(words: &mut Words<'a>) -> Result<OutMessage<'a>, CaseFault> {
     let id = id_of(words)?;
     let request = id_of(words)?;
     let quote = words.number()?;
     let refusal = refusal_or_none(words)?;
-    Ok(OutMessage::HitAnswer {
+    Ok(OutMessage::HitReport {
         id,
         request,
         quote,
@@ -89,11 +89,11 @@ pub(crate) fn hit_unknown<'a>(words: &mut Words<'a>) -> Result<OutMessage<'a>, C
 }
 
 /// `pass_answer ID REQUEST STATUS`.
-pub(crate) fn pass_answer<'a>(words: &mut Words<'a>) -> Result<OutMessage<'a>, CaseFault> {
+pub(crate) fn pass_report<'a>(words: &mut Words<'a>) -> Result<OutMessage<'a>, CaseFault> {
     let id = id_of(words)?;
     let request = id_of(words)?;
     let status = pass_status_of(words.word()?)?;
-    Ok(OutMessage::PassAnswer {
+    Ok(OutMessage::PassReport {
         id,
         request,
         status,

@@ -8,7 +8,7 @@ use Rattle.investor_desk.specs.InvestorOutput.{with_event}
 use Rattle.investor_desk.specs.InvestorRules.{InvestorMarket}
 use Rattle.investor_desk.specs.declared.events.InvestorEvent.{InvestorEvent}
 use Rattle.investor_desk.specs.declared.events.InvestorEvent.TheVariants as event
-use Rattle.venue_steps.specs.InvestorSteps.{answers, where_so}
+use Rattle.venue_steps.specs.InvestorSteps.{replies_to, where_so}
 use Rattle.venue_places.specs.Brought.{investor_with}
 use Rattle.venue_places.specs.declared.arrivals.ForInvestor.TheVariants as to_investor
 use Rattle.investor_views.specs.Comings.{Coming, Own, For, after_coming, desk_by}
@@ -52,7 +52,7 @@ after_fits desk (For (to_investor.Declined request dealer moment)) is =
     where_true (knows (book_at desk) request None) desk
     (event.DealerDeclined request dealer moment) is
 after_fits desk (For (to_investor.Answer request response reply moment)) is =
-    where_true (knows (book_at desk) request response.k && answers response.k reply) desk
+    where_true (knows (book_at desk) request response.k && replies_to response.k reply) desk
     (event.Answered request response reply moment) is
 after_fits desk (For (to_investor.Close request moment)) is =
     where_true (knows (book_at desk) request None) desk (event.Closed request moment) is
@@ -68,7 +68,7 @@ coming_back (For (to_investor.Answer request response reply moment)) = refl
 coming_back (For (to_investor.Close request moment)) = refl
 
 event_back : (one : InvestorEvent) → event_of (coming_of one) ≡ one
-event_back (event.Own moment bytes) = refl
+event_back (event.Received moment bytes) = refl
 event_back (event.QuoteCame request offer moment) = refl
 event_back (event.QuoteGone request word moment) = refl
 event_back (event.DealerDeclined request dealer moment) = refl

@@ -18,13 +18,13 @@ use Rattle.investor_desk.specs.InvestorFacts.{InvestorBook, knows}
 use Rattle.investor_desk.specs.InvestorOutput.{DeskEvents, book_at, market_for, market_of}
 use Rattle.investor_desk.specs.InvestorOutput.{no_events}
 use Rattle.investor_desk.specs.InvestorRules.{InvestorMarket}
-use Rattle.venue_steps.specs.InvestorSteps.{answers}
+use Rattle.venue_steps.specs.InvestorSteps.{replies_to}
 use Rattle.venue_places.specs.Dealers.{Dealer, acting_dealer, has_word_for, offer_of, word_for}
 use Rattle.venue_places.specs.Placed.{at_dealer, at_investor, declined, declines, drops, hit_in}
 use Rattle.venue_places.specs.Placed.{in_room, placed, posted, unposted, where_so}
 use Rattle.venue_places.specs.declared.actors.Actor.{Actor}
-use Rattle.venue_places.specs.declared.arrivals.Arrival.{Arrival}
-use Rattle.venue_places.specs.declared.arrivals.Arrival.TheVariants as arrival
+use Rattle.venue_places.specs.declared.arrivals.Placement.{Placement}
+use Rattle.venue_places.specs.declared.arrivals.Placement.TheVariants as arrival
 use Rattle.venue_places.specs.declared.arrivals.ForDealer.{ForDealer}
 use Rattle.venue_places.specs.declared.arrivals.ForDealer.TheVariants as to_dealer
 use Rattle.venue_places.specs.declared.arrivals.ForInvestor.{ForInvestor}
@@ -59,7 +59,7 @@ module _ (config : Configuration) (number : ℕ) (row : InvestorRow)
   book = book_by (of_investor number facts)
 
   -- what comes to the investor's desk of this, if anything, fits
-  abbrev Fits : Option Arrival → Type 0
+  abbrev Fits : Option Placement → Type 0
   Fits coming = fits_if book (at_desk_of number coming) ≡ true
 
   -- What comes to another place.
@@ -93,7 +93,7 @@ module _ (config : Configuration) (number : ℕ) (row : InvestorRow)
   word_fits false room what = refl
 
   -- what a dealer's act is, where a dealer acts
-  act_fits : (act : Dealer → Option Arrival) → ((dealer : Dealer) → Fits (act dealer))
+  act_fits : (act : Dealer → Option Placement) → ((dealer : Dealer) → Fits (act dealer))
       → (found : Option Dealer) → Fits (option_and_then act found)
   act_fits act each None = refl
   act_fits act each (Some dealer) = each dealer
@@ -177,7 +177,7 @@ module _ (config : Configuration) (number : ℕ) (row : InvestorRow)
       room_fits room (to_room.Pass response moment)
   duty_fits by (duty.Answer room response reply moment) met =
       investor_fits room.investor (to_investor.Answer room.n response reply moment)
-      (answer_fits room response (answers response.k reply) met)
+      (answer_fits room response (replies_to response.k reply) met)
   duty_fits by (duty.Close room moment) met =
       investor_fits room.investor (to_investor.Close room.n moment) (knows_it room None met)
   duty_fits by (duty.Tell dealer room close moment) met =

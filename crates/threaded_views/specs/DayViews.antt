@@ -8,7 +8,7 @@ use Rattle.investor_desk.specs.InvestorFacts.{InvestorBook, knows}
 use Rattle.investor_desk.specs.InvestorOutput.{DeskEvents, book_at, market_for, no_events}
 use Rattle.investor_desk.specs.InvestorRules.{InvestorMarket}
 use Rattle.venue_places.specs.declared.arrivals.ForInvestor.TheVariants as to_investor
-use Rattle.venue_steps.specs.InvestorSteps.{answers}
+use Rattle.venue_steps.specs.InvestorSteps.{replies_to}
 use Rattle.investor_views.specs.Comings.{Coming, Own, For, after_coming}
 use Rattle.investor_views.specs.DeskView.{coming_of, event_dues}
 use Rattle.investor_views.specs.declared.dues.InvestorDue.{InvestorDue}
@@ -37,7 +37,7 @@ fits book (For (to_investor.Relay request offer moment)) = knows book request No
 fits book (For (to_investor.Gone request word moment)) = knows book request None
 fits book (For (to_investor.Declined request dealer moment)) = knows book request None
 fits book (For (to_investor.Answer request response reply moment)) =
-    knows book request response.k && answers response.k reply
+    knows book request response.k && replies_to response.k reply
 fits book (For (to_investor.Close request moment)) = knows book request None
 
 -- whether all that comes to a desk does

@@ -55,10 +55,10 @@ memory_alone status streams (inr (inl help)) = absurd (false≢true help.0)
 memory_alone status streams (inr (inr mistake)) = absurd (false≢true mistake.0)
 
 -- no line was answered then
-before_lines : (form : LineForm) (word : List ℕ) (known : Option (List ℕ)) (status : ℕ) (streams : Streams) → EndsInMemory status streams.out streams.err
-    → IfSome known (λ all. EndsOver form word all status streams)
-before_lines form word None status streams memory = tt
-before_lines form word (Some all) status streams memory = inr (
+before_lines : (form : LineForm) (argument : List ℕ) (known : Option (List ℕ)) (status : ℕ) (streams : Streams) → EndsInMemory status streams.out streams.err
+    → IfSome known (λ all. EndsOver form argument all status streams)
+before_lines form argument None status streams memory = tt
+before_lines form argument (Some all) status streams memory = inr (
   memory.0,
   record {
     fault = Memory;
@@ -114,9 +114,9 @@ pub in_text : (form : Option LineForm) (command : Command) (status : ℕ) (strea
     → EndsInCommand command status streams → EndsOf form command status streams
 in_text form command status streams none ends = subst (λ (f : Option LineForm). EndsOf f command status streams) none ends
 
-pub in_live : (live_in : RustForm) (form : Option LineForm) (command : Command) (word : List ℕ) (status : ℕ) (streams : Streams)
-    → option_map meant_form (Some live_in) ≡ form → word ≡ word_of command
-    → EndsInLive (meant_form live_in) word status streams → EndsOf form command status streams
-in_live live_in form command word status streams some is ends =
+pub in_live : (live_in : RustForm) (form : Option LineForm) (command : Command) (argument : List ℕ) (status : ℕ) (streams : Streams)
+    → option_map meant_form (Some live_in) ≡ form → argument ≡ word_of command
+    → EndsInLive (meant_form live_in) argument status streams → EndsOf form command status streams
+in_live live_in form command argument status streams some is ends =
     subst (λ (f : Option LineForm). EndsOf f command status streams) some
     (subst (λ (w : List ℕ). EndsInLive (meant_form live_in) w status streams) is ends)

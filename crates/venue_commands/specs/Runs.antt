@@ -61,13 +61,13 @@ IsFaultOf (compared dealer) input fault = ⊥  -- line by line, too
 IsFaultOf (compare dealer) input fault = two_days (dealer_by dealer) input ≡ Err fault
 IsFaultOf (blotter firm) input fault = one_day (firm_by firm) input ≡ Err fault
 
--- the word in what is asked for at the end of a day
+-- the argument in what is asked for at the end of a day
 abbrev pub word_in : Wanted → List ℕ
 word_in (messages name frames) = unwrap_or name []
 word_in (dues dealer) = unwrap_or dealer []
 word_in (kept_days.blotter firm) = firm
 
--- the word of a command that names a firm; it is told where no firm has that name
+-- the argument of a command that names a firm; it is told where no firm has that name
 abbrev pub word_of : Command → List ℕ
 word_of (alone with_frames) = []
 word_of (replay None with_frames) = []

@@ -5,9 +5,9 @@ ghost use Rattle.venue_commands.specs.Runs.{line_form};
 ghost use Rattle.command_arguments.specs.Arguments.{meant};
 ghost use Rattle.venue_commands.specs.Runs as spec;
 
-use crate::texts::{command_text, command_word, line_form};
+use crate::texts::{command_argument, command_text, line_form};
 use clap::Error;
-use command_arguments::{Told, VenueCommand, read_command, told_by};
+use command_arguments::{Response, VenueCommand, read_command, response_to};
 use input_lines::ProgramFault;
 use live_runs::{print_text, read_input, report, run_live, write_text};
 use std::alloc::Global;
@@ -41,7 +41,7 @@ pub fn run_program<H: Threads + Wait + Sync, S: AsStr, R: Read, W: Write, E: Wri
     }
     match read_command(alloc, arguments) {
         Ok(command) => run_command(rt, alloc, &command, input, out, err),
-        Err(error) => tell(alloc, &error, out, err),
+        Err(error) => report_error(alloc, &error, out, err),
     }
 }
 
@@ -64,7 +64,7 @@ fn run_command<H: Threads + Wait + Sync, R: Read, W: Write, E: Write>(
     let Some(form) = line_form(command) else {
         return run_text_command(rt, alloc, command, input, out, err);
     };
-    run_live(alloc, form, command_word(command), input, out, err)
+    run_live(alloc, form, command_argument(command), input, out, err)
 }
 
 /// The same of a command that prints one text.
@@ -87,22 +87,22 @@ fn run_text_command<H: Threads + Wait + Sync, R: Read, W: Write, E: Write>(
     let Err(fault) = print_command(rt, alloc, command, input, out) else {
         return 0;
     };
-    report(err, command_word(command), &fault)
+    report(err, command_argument(command), &fault)
 }
 
 /// Prints the help that the arguments ask for, or says on `err` why they are wrong.
-fn tell<W: Write, E: Write>(alloc: Global, error: &Error, out: &mut W, err: &mut E) -> u8
+fn report_error<W: Write, E: Write>(alloc: Global, error: &Error, out: &mut W, err: &mut E) -> u8
     ensures { spec.EndsTold (kind_of error.now ∷ []) result
         (record { before = W.contents out.old; after = W.contents out.new })
         (record { before = E.contents err.old; after = E.contents err.new }) }
 {
-    match told_by(alloc, error) {
-        Told::Help(text) => print_help(text.as_bytes(), out, err),
-        Told::Wrong(text) => {
+    match response_to(alloc, error) {
+        Response::Help(text) => print_help(text.as_bytes(), out, err),
+        Response::Wrong(text) => {
             write_text(err, text.as_bytes());
             2
         }
-        Told::Memory => report(err, b"", &ProgramFault::Memory),
+        Response::Memory => report(err, b"", &ProgramFault::Memory),
     }
 }
 

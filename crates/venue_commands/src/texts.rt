@@ -7,7 +7,7 @@ ghost use Rattle.venue_commands.specs.Runs as spec;
 ghost use Rattle.venue_text.specs.KeptDays as kept;
 
 use crate::days::day_text;
-use command_arguments::{VenueCommand, word_bytes};
+use command_arguments::{VenueCommand, argument_bytes};
 use input_lines::ProgramFault;
 use live_runs::LineForm;
 use std::alloc::Global;
@@ -35,7 +35,7 @@ pub(crate) fn command_text<H: Threads + Wait + Sync>(
     match command {
         VenueCommand::Alone { frames } => alone_text(alloc, *frames, input),
         VenueCommand::Replay { firm, frames } => {
-            let only = word_bytes(*firm);
+            let only = argument_bytes(*firm);
             replay_text(alloc, only, *frames, input)
         }
         VenueCommand::Day { frames, woven } => day_text(rt, alloc, *frames, *woven, input),
@@ -43,7 +43,7 @@ pub(crate) fn command_text<H: Threads + Wait + Sync>(
         VenueCommand::Kept(_) => unreachable!(),
         VenueCommand::Compared { .. } => unreachable!(),
         VenueCommand::Due { dealer } => {
-            let only = word_bytes(*dealer);
+            let only = argument_bytes(*dealer);
             due_command_text(alloc, only, input)
         }
         VenueCommand::Compare { dealer } => compare_text(alloc, dealer.as_bytes(), input),
@@ -68,8 +68,8 @@ pub(crate) fn line_form<'a>(command: &VenueCommand<'a>) -> Option<LineForm<'a>>
     }
 }
 
-/// The word in what is asked for at the end of a day.
-fn wanted_word<'a>(wanted: Wanted<'a>) -> &'a [u8]
+/// The argument in what is asked for at the end of a day.
+fn wanted_argument<'a>(wanted: Wanted<'a>) -> &'a [u8]
     ensures { result.now ≡ spec.word_in (kept.meant wanted.entry) }
 {
     match wanted {
@@ -79,8 +79,8 @@ fn wanted_word<'a>(wanted: Wanted<'a>) -> &'a [u8]
     }
 }
 
-/// The word of a command that names a firm.
-pub(crate) fn command_word<'a>(command: &VenueCommand<'a>) -> &'a [u8]
+/// The argument of a command that names a firm.
+pub(crate) fn command_argument<'a>(command: &VenueCommand<'a>) -> &'a [u8]
     ensures { result.now ≡ spec.word_of (meant command.now) }
 {
     match command {
@@ -88,7 +88,7 @@ pub(crate) fn command_word<'a>(command: &VenueCommand<'a>) -> &'a [u8]
         VenueCommand::Replay { firm, .. } => firm.unwrap_or("").as_bytes(),
         VenueCommand::Day { .. } => b"",
         VenueCommand::Live { .. } => b"",
-        VenueCommand::Kept(wanted) => wanted_word(*wanted),
+        VenueCommand::Kept(wanted) => wanted_argument(*wanted),
         VenueCommand::Due { dealer } => dealer.unwrap_or("").as_bytes(),
         VenueCommand::Compare { dealer } => dealer.as_bytes(),
         VenueCommand::Compared { dealer } => dealer.as_bytes(),

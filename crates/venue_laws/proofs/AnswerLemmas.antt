@@ -25,9 +25,9 @@ use Rattle.dealer_desk.specs.declared.standing.Withdrawal.TheVariants as by
 use Rattle.dealer_desk.specs.declared.verdicts.DealerVerdict.{DealerVerdict}
 use Rattle.dealer_desk.specs.declared.verdicts.DealerVerdict.TheVariants as verdict
 use Rattle.dealer_desk.specs.declared.events.DealerEvent.TheVariants as event
-use Rattle.step_replay.specs.Actions.{answer_of, drop_at}
-use Rattle.venue_laws.specs.Answers.{asked_at, answer_in, next_answer}
-use Rattle.venue_laws.specs.Answers.{answer_by_view}
+use Rattle.step_replay.specs.Actions.{settlement_of, drop_at}
+use Rattle.venue_laws.specs.Answers.{asked_at, settlement_in, next_settlement}
+use Rattle.venue_laws.specs.Answers.{settlement_by_view}
 use Rattle.step_replay.specs.AuditTrail.{audit_trail}
 use Rattle.step_replay.specs.DealerTrail.{DealerEntry, AtDesk, ShownIn, Lifted, Sent, book_by}
 use Rattle.step_replay.specs.DealerTrail.{answer_to_dealer, entries_of, message_by}
@@ -49,9 +49,9 @@ module _ (date : List ℕ) (row : DealerRow) where
   pub record IsAnswered (before : List DealerEntry) (entry : DealerEntry) (after : List DealerEntry)
       : Type 0 where
     pub asked : (quote : ℕ) → asked_at date row before entry ≡ Some quote
-        → next_answer after ≡ Some (quote, answer_by_view date row before quote)
-    pub answered : (quote : ℕ) (answer : Settled) → answer_in entry ≡ Some (quote, answer)
-        → answer ≡ answer_by_view date row before quote
+        → next_settlement after ≡ Some (quote, settlement_by_view date row before quote)
+    pub answered : (quote : ℕ) (settlement : Settled) → settlement_in entry ≡ Some (quote, settlement)
+        → settlement ≡ settlement_by_view date row before quote
 
   -- the view of a trail so far
   abbrev view_at : List DealerEntry → DealerView
@@ -62,8 +62,8 @@ module _ (date : List ℕ) (row : DealerRow) where
     asks : (before : List DealerEntry) → asked_at date row before entry ≡ None
     view : (before : List DealerEntry)
         → (view_at (before ++ entry ∷ [])).lifted ≡ (view_at before).lifted
-    answers : (quote : ℕ) (answer : Settled) → answer_in entry ≡ Some (quote, answer)
-        → answer ≡ (if list_any (λ (one : ℕ). one == quote) lifted
+    answers : (quote : ℕ) (settlement : Settled) → settlement_in entry ≡ Some (quote, settlement)
+        → settlement ≡ (if list_any (λ (one : ℕ). one == quote) lifted
         then settled.Lifted else settled.Withdrawn)
 
   -- Liftings.
@@ -111,7 +111,7 @@ module _ (date : List ℕ) (row : DealerRow) where
   each_quiet lifted before (entry ∷ entries) is quiet = (
     record {
       asked = λ quote asks. never quote (sym (quiet.0.asks before) ∙ asks);
-      answered = λ quote answer says. quiet.0.answers quote answer says
+      answered = λ quote settlement says. quiet.0.answers quote settlement says
           ∙ ap (λ (l : List ℕ). if list_any (λ (one : ℕ). one == quote) l
           then settled.Lifted else settled.Withdrawn) (sym is);
     },
@@ -126,11 +126,11 @@ module _ (date : List ℕ) (row : DealerRow) where
       → ((before : List DealerEntry) → asked_at date row before entry ≡ None)
       → ((before : List DealerEntry)
       → (view_at (before ++ entry ∷ [])).lifted ≡ (view_at before).lifted)
-      → answer_in entry ≡ None → IsQuiet lifted entry
+      → settlement_in entry ≡ None → IsQuiet lifted entry
   silent lifted entry asks view none = record {
     asks = asks;
     view = view;
-    answers = λ quote answer says. never (quote, answer) (sym none ∙ says);
+    answers = λ quote settlement says. never (quote, settlement) (sym none ∙ says);
   }
     where
       never : {A : Type 0} (word : ℕ × Settled) → None ≡ Some word → A
@@ -166,14 +166,14 @@ module _ (date : List ℕ) (row : DealerRow) where
 
   -- Answers.
 
-  module _ (lifted : List ℕ) (answer : ℕ → Settled)
-      (answer_is : (quote : ℕ) → answer quote
+  module _ (lifted : List ℕ) (settlement : ℕ → Settled)
+      (answer_is : (quote : ℕ) → settlement quote
       ≡ (if list_any (λ (one : ℕ). one == quote) lifted then settled.Lifted else settled.Withdrawn))
     where
-      -- the entry that is the answer of a word
+      -- the entry that is the settlement of a word
       answering : (entry : DealerEntry) (quote : ℕ) (given : Settled)
           → ((before : List DealerEntry) → asked_at date row before entry ≡ None)
-          → due_by entry ≡ None → answer_in entry ≡ Some (quote, given) → given ≡ answer quote
+          → due_by entry ≡ None → settlement_in entry ≡ Some (quote, given) → given ≡ settlement quote
           → IsQuiet lifted entry
       answering entry quote given asks undue says is = record {
         asks = asks;
@@ -191,7 +191,7 @@ module _ (date : List ℕ) (row : DealerRow) where
           pair_of None = (quote, given)
           pair_of (Some pair) = pair
 
-      answer_quiet : (quote : ℕ) (how : Withdrawal) (given : Settled) → given ≡ answer quote
+      answer_quiet : (quote : ℕ) (how : Withdrawal) (given : Settled) → given ≡ settlement quote
           → Every (IsQuiet lifted) (map AtDesk (answer_facts quote how (Some given)))
       answer_quiet quote how settled.Withdrawn is = (
         answering (AtDesk (Withdrawn quote how)) quote settled.Withdrawn (λ before. refl)
@@ -202,9 +202,9 @@ module _ (date : List ℕ) (row : DealerRow) where
           (answering (AtDesk (Late quote)) quote settled.Lifted (λ before. refl) refl refl is, tt)
 
       settled_quiet : (asked : Option ℕ) (how : Withdrawal)
-          → Every (IsQuiet lifted) (map AtDesk (settled_facts asked how (option_map answer asked)))
+          → Every (IsQuiet lifted) (map AtDesk (settled_facts asked how (option_map settlement asked)))
       settled_quiet None how = tt
-      settled_quiet (Some quote) how = answer_quiet quote how (answer quote) refl
+      settled_quiet (Some quote) how = answer_quiet quote how (settlement quote) refl
 
       kept_quiet : (b : Bool) (own : AcceptedQuote)
           → Every (IsQuiet lifted) (map AtDesk (if b then Quoted own ∷ [] else []))
@@ -223,14 +223,14 @@ module _ (date : List ℕ) (row : DealerRow) where
 
       verdict_quiet : (v : DealerVerdict)
           → Every (IsQuiet lifted)
-          (map AtDesk (verdict_facts v (option_map answer (word_asked v))))
+          (map AtDesk (verdict_facts v (option_map settlement (word_asked v))))
       verdict_quiet (verdict.QuoteAccepted request id quote replaced) =
-          desk_append (settled_facts replaced by.Replacement (option_map answer replaced))
-          (if goes_through replaced (option_map answer replaced) then Quoted quote ∷ [] else [])
+          desk_append (settled_facts replaced by.Replacement (option_map settlement replaced))
+          (if goes_through replaced (option_map settlement replaced) then Quoted quote ∷ [] else [])
           (settled_quiet replaced by.Replacement)
-          (kept_quiet (goes_through replaced (option_map answer replaced)) quote)
+          (kept_quiet (goes_through replaced (option_map settlement replaced)) quote)
       verdict_quiet (verdict.CancelAccepted id quote request) =
-          answer_quiet quote by.Cancel (answer quote) refl
+          answer_quiet quote by.Cancel (settlement quote) refl
       verdict_quiet (verdict.DeclineAccepted request number) = (
         silent lifted (AtDesk (Declined number)) (λ before. refl)
             (λ before. undue_keeps before (AtDesk (Declined number)) refl) refl,
@@ -238,22 +238,22 @@ module _ (date : List ℕ) (row : DealerRow) where
       )
       verdict_quiet other = tt
 
-      -- the answer of a word that is asked stands next
+      -- the settlement of a word that is asked stands next
       next_is : (quote : ℕ) (how : Withdrawal) (given : Settled) (more : List DealerFact)
           (rooms : List RoomRef) (messages : List (List ℕ))
-          → next_answer (map AtDesk (answer_facts quote how (Some given) ++ more)
+          → next_settlement (map AtDesk (answer_facts quote how (Some given) ++ more)
           ++ map ShownIn rooms ++ map Sent messages) ≡ Some (quote, given)
       next_is quote how settled.Withdrawn more rooms messages = refl
       next_is quote how settled.Lifted more rooms messages = refl
 
       next_settled : (asked : Option ℕ) (how : Withdrawal) (more : List DealerFact)
           (rooms : List RoomRef) (messages : List (List ℕ)) (quote : ℕ) → asked ≡ Some quote
-          → next_answer (map AtDesk (settled_facts asked how (option_map answer asked) ++ more)
-          ++ map ShownIn rooms ++ map Sent messages) ≡ Some (quote, answer quote)
+          → next_settlement (map AtDesk (settled_facts asked how (option_map settlement asked) ++ more)
+          ++ map ShownIn rooms ++ map Sent messages) ≡ Some (quote, settlement quote)
       next_settled None how more rooms messages quote is = cc
       next_settled (Some asked) how more rooms messages quote is =
-          next_is asked how (answer asked) more rooms messages
-          ∙ ap (λ (q : ℕ). Some (q, answer q)) (ap value is)
+          next_is asked how (settlement asked) more rooms messages
+          ∙ ap (λ (q : ℕ). Some (q, settlement q)) (ap value is)
         where
           value : Option ℕ → ℕ
           value None = 0
@@ -261,37 +261,37 @@ module _ (date : List ℕ) (row : DealerRow) where
 
       next_verdict : (v : DealerVerdict) (rooms : List RoomRef) (messages : List (List ℕ))
           (quote : ℕ) → word_asked v ≡ Some quote
-          → next_answer (map AtDesk (verdict_facts v (option_map answer (word_asked v)))
-          ++ map ShownIn rooms ++ map Sent messages) ≡ Some (quote, answer quote)
+          → next_settlement (map AtDesk (verdict_facts v (option_map settlement (word_asked v)))
+          ++ map ShownIn rooms ++ map Sent messages) ≡ Some (quote, settlement quote)
       next_verdict (verdict.QuoteAccepted request id own replaced) rooms messages quote is =
           next_settled replaced by.Replacement
-          (if goes_through replaced (option_map answer replaced) then Quoted own ∷ [] else [])
+          (if goes_through replaced (option_map settlement replaced) then Quoted own ∷ [] else [])
           rooms messages quote is
       next_verdict (verdict.CancelAccepted id own request) rooms messages quote is =
           ap (λ (facts : List DealerFact).
-          next_answer (map AtDesk facts ++ map ShownIn rooms ++ map Sent messages))
-          (sym (append-nil (answer_facts own by.Cancel (Some (answer own)))))
+          next_settlement (map AtDesk facts ++ map ShownIn rooms ++ map Sent messages))
+          (sym (append-nil (answer_facts own by.Cancel (Some (settlement own)))))
           ∙ next_settled (Some own) by.Cancel [] rooms messages quote is
       next_verdict other rooms messages quote is = cc
 
   -- One event more.
 
-  next_stays : (answer : ℕ × Settled) (after more : List DealerEntry)
-      → next_answer after ≡ Some answer → next_answer (after ++ more) ≡ Some answer
-  next_stays answer [] more is = cc
-  next_stays answer (entry ∷ after) more is =
-      by_answer (answer_in entry) refl (λ later. next_stays answer after more later)
+  next_stays : (settlement : ℕ × Settled) (after more : List DealerEntry)
+      → next_settlement after ≡ Some settlement → next_settlement (after ++ more) ≡ Some settlement
+  next_stays settlement [] more is = cc
+  next_stays settlement (entry ∷ after) more is =
+      by_answer (settlement_in entry) refl (λ later. next_stays settlement after more later)
     where
-      by_answer : (found : Option (ℕ × Settled)) → answer_in entry ≡ found
-          → (next_answer after ≡ Some answer → next_answer (after ++ more) ≡ Some answer)
-          → next_answer (entry ∷ after ++ more) ≡ Some answer
+      by_answer : (found : Option (ℕ × Settled)) → settlement_in entry ≡ found
+          → (next_settlement after ≡ Some settlement → next_settlement (after ++ more) ≡ Some settlement)
+          → next_settlement (entry ∷ after ++ more) ≡ Some settlement
       by_answer (Some said) found later = rw found (rw found at is)
       by_answer None found later = rw found (later (rw found at is))
 
   answered_stays : Stays IsAnswered
   answered_stays before entry after more holds = record {
     asked = λ quote asks.
-        next_stays (quote, answer_by_view date row before quote) after more
+        next_stays (quote, settlement_by_view date row before quote) after more
         (holds.asked quote asks);
     answered = holds.answered;
   }
@@ -313,7 +313,7 @@ module _ (date : List ℕ) (row : DealerRow) where
     lifted_is = ap (λ (view : DealerView). view.lifted) seen.view_is
 
     answer_is_view : (quote : ℕ)
-        → answer_to_dealer trail quote ≡ answer_by_view date row trail quote
+        → answer_to_dealer trail quote ≡ settlement_by_view date row trail quote
     answer_is_view quote = dealer_answer quote
         ∙ ap (λ (l : List ℕ). if list_any (λ (one : ℕ). one == quote) l
         then settled.Lifted else settled.Withdrawn) (sym lifted_is)
@@ -321,9 +321,9 @@ module _ (date : List ℕ) (row : DealerRow) where
     -- an event whose first fact asks, and whose other entries are quiet
     asking_each : (first : DealerFact) (rest : List DealerFact) (messages : List (List ℕ))
         (item : Due) → due_by (AtDesk first) ≡ Some item → is_lifting item ≡ false
-        → answer_in (AtDesk first) ≡ None
+        → settlement_in (AtDesk first) ≡ None
         → ((quote : ℕ) → asked_at date row trail (AtDesk first) ≡ Some quote
-        → next_answer (map AtDesk rest ++ [] ++ map Sent messages)
+        → next_settlement (map AtDesk rest ++ [] ++ map Sent messages)
         ≡ Some (quote, answer_to_dealer trail quote))
         → Every (IsQuiet seen.lifted) (map AtDesk rest)
         → Each IsAnswered trail (map AtDesk (first ∷ rest) ++ [] ++ map Sent messages)
@@ -331,7 +331,7 @@ module _ (date : List ℕ) (row : DealerRow) where
       record {
         asked = λ quote asks. next quote asks
             ∙ ap (λ (s : Settled). Some (quote, s)) (answer_is_view quote);
-        answered = λ quote answer says. never (quote, answer) (sym none ∙ says);
+        answered = λ quote settlement says. never (quote, settlement) (sym none ∙ says);
       },
       each_quiet seen.lifted (trail ++ AtDesk first ∷ [])
           (map AtDesk rest ++ [] ++ map Sent messages)
@@ -343,14 +343,14 @@ module _ (date : List ℕ) (row : DealerRow) where
         never word is = cc
 
     own_each : (moment : ℕ) (bytes : List ℕ)
-        → Each IsAnswered trail (entries_of date row trail (event.Own moment bytes
-        (answer_of trail (dealer_verdict date row (book_by trail) moment bytes))))
+        → Each IsAnswered trail (entries_of date row trail (event.Received moment bytes
+        (settlement_of trail (dealer_verdict date row (book_by trail) moment bytes))))
     unfolding entries_of event_facts
     own_each moment bytes =
         let v = dealer_verdict date row (book_by trail) moment bytes in
         let messages = option_to_list (message_by date row trail
-        (event.Own moment bytes (answer_of trail v))) in
-        asking_each (Came moment bytes (uses_number v)) (verdict_facts v (answer_of trail v))
+        (event.Received moment bytes (settlement_of trail v))) in
+        asking_each (Came moment bytes (uses_number v)) (verdict_facts v (settlement_of trail v))
         messages (due.Own moment bytes) refl refl refl
         (λ quote asks. next_verdict seen.lifted (answer_to_dealer trail) dealer_answer v []
         messages quote asks)
@@ -366,7 +366,7 @@ module _ (date : List ℕ) (row : DealerRow) where
         asking_each (Dropped last moment) facts
         messages (due.Drop last moment) refl refl refl
         (λ quote asks.
-        ap (λ (l : List DealerFact). next_answer (map AtDesk l ++ [] ++ map Sent messages))
+        ap (λ (l : List DealerFact). next_settlement (map AtDesk l ++ [] ++ map Sent messages))
         (sym (append-nil facts))
         ∙ next_settled seen.lifted (answer_to_dealer trail) dealer_answer asked by.Cancel []
         [] messages quote asks)
@@ -415,7 +415,7 @@ module _ (date : List ℕ) (row : DealerRow) where
     lifted_each quote = (
       record {
         asked = λ other asks. cc;
-        answered = λ other answer says. cc;
+        answered = λ other settlement says. cc;
       },
       tt,
     )

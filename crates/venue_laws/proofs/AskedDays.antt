@@ -36,7 +36,7 @@ use Rattle.step_replay.specs.DealerTrail.{rooms_by}
 use Rattle.step_replay.specs.InvestorTrail as investor_trail
 use Rattle.step_replay.specs.VenueFacts.{Fact, of_dealer, of_investor}
 use Rattle.step_replay.specs.Actions.{Effect, Dealer, done_for, dealer_at, left_by}
-use Rattle.step_replay.specs.Actions.{verdict_on, answer_of, said_by_dealer, said_by_investor}
+use Rattle.step_replay.specs.Actions.{verdict_on, settlement_of, received_by_dealer, received_by_investor}
 use Rattle.step_replay.specs.Actions.{left_by_investor, message_effect, nothing}
 use Rattle.step_replay.specs.AuditTrail.{AuditTrail, Caused, pending, after_turn, after_step}
 use Rattle.step_replay.specs.AuditTrail.{duty_of, is_same_actor, with_effect}
@@ -124,22 +124,22 @@ module _ (config : Configuration) (firm : ℕ) (row : InvestorRow) where
 
 module _ (config : Configuration) (facts : List Fact) where
   dealer_bears : (moment : ℕ) (bytes : List ℕ) (dealer : Dealer)
-      → Bears config (said_by_dealer config facts moment bytes dealer)
+      → Bears config (received_by_dealer config facts moment bytes dealer)
   dealer_bears moment bytes dealer =
       let trail = of_dealer dealer.number facts in
       let v = verdict_on config facts moment bytes dealer in
       if_bears config _ _ nothing
-      (desk_bears config facts dealer (at_desk.Own moment bytes (answer_of trail v))
+      (desk_bears config facts dealer (at_desk.Received moment bytes (settlement_of trail v))
       (left_by trail moment v) tt
-      (left_bears config (rooms_by trail) moment v (answer_of trail v)))
+      (left_bears config (rooms_by trail) moment v (settlement_of trail v)))
       (nothing_bears config)
 
   investor_bears : (firm moment : ℕ) (bytes : List ℕ) (found : Option InvestorRow)
       → Bears config (done_for (option_map (market_of config firm) found)
-      (said_by_investor facts moment bytes))
+      (received_by_investor facts moment bytes))
   investor_bears firm moment bytes None = nothing_bears config
   investor_bears firm moment bytes (Some row) =
-      market_bears config facts (market_of config firm row) (at_investor.Own moment bytes)
+      market_bears config facts (market_of config firm row) (at_investor.Received moment bytes)
       (left_by_investor facts moment bytes (market_of config firm row))
       (verdict_bears config firm row (investor_trail.book_by (of_investor firm facts)) moment bytes)
 

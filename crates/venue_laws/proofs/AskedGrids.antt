@@ -152,30 +152,30 @@ module _ (config : Configuration) where
   abbrev Bear : List DealerFact → Type 0
   Bear facts = AllByRecursion (DeskBearsGrid config) facts
 
-  answer_bears : (quote : ℕ) (how : Withdrawal) (answer : Option Settled)
-      → Bear (answer_facts quote how answer)
+  answer_bears : (quote : ℕ) (how : Withdrawal) (settlement : Option Settled)
+      → Bear (answer_facts quote how settlement)
   answer_bears quote how None = tt
   answer_bears quote how (Some settled.Withdrawn) = (tt, tt)
   answer_bears quote how (Some settled.Lifted) = (tt, tt)
 
-  settled_bears : (asked : Option ℕ) (how : Withdrawal) (answer : Option Settled)
-      → Bear (settled_facts asked how answer)
-  settled_bears None how answer = tt
-  settled_bears (Some quote) how answer = answer_bears quote how answer
+  settled_bears : (asked : Option ℕ) (how : Withdrawal) (settlement : Option Settled)
+      → Bear (settled_facts asked how settlement)
+  settled_bears None how settlement = tt
+  settled_bears (Some quote) how settlement = answer_bears quote how settlement
 
   quoted_bears : (b : Bool) (quote : AcceptedQuote) → Bear (if b then Quoted quote ∷ [] else [])
   quoted_bears true quote = (tt, tt)
   quoted_bears false quote = tt
 
-  verdict_bears : (v : DealerVerdict) (answer : Option Settled) → Bear (verdict_facts v answer)
-  verdict_bears (verdict.QuoteAccepted request id quote replaced) answer =
-      every_append (DeskBearsGrid config) (settled_facts replaced by.Replacement answer) _
-      (settled_bears replaced by.Replacement answer)
-      (quoted_bears (goes_through replaced answer) quote)
-  verdict_bears (verdict.CancelAccepted id quote request) answer =
-      answer_bears quote by.Cancel answer
-  verdict_bears (verdict.DeclineAccepted request number) answer = (tt, tt)
-  verdict_bears other answer = tt
+  verdict_bears : (v : DealerVerdict) (settlement : Option Settled) → Bear (verdict_facts v settlement)
+  verdict_bears (verdict.QuoteAccepted request id quote replaced) settlement =
+      every_append (DeskBearsGrid config) (settled_facts replaced by.Replacement settlement) _
+      (settled_bears replaced by.Replacement settlement)
+      (quoted_bears (goes_through replaced settlement) quote)
+  verdict_bears (verdict.CancelAccepted id quote request) settlement =
+      answer_bears quote by.Cancel settlement
+  verdict_bears (verdict.DeclineAccepted request number) settlement = (tt, tt)
+  verdict_bears other settlement = tt
 
   told_bears : (b : Bool) (request : ℕ) (close : Close) (moment : ℕ)
       → Bear (if b then Told request close moment ∷ [] else [])
@@ -190,13 +190,13 @@ module _ (config : Configuration) where
   event_bears : (date : List ℕ) (row : DealerRow) (book : DealerBook) (more : DealerEvent)
       → EventBearsGrid more → Bear (event_facts date row book more)
   unfolding event_facts
-  event_bears date row book (event.Own moment bytes answer) bears =
-      (tt, verdict_bears (dealer_verdict date row book moment bytes) answer)
+  event_bears date row book (event.Received moment bytes settlement) bears =
+      (tt, verdict_bears (dealer_verdict date row book moment bytes) settlement)
   event_bears date row book (event.Shown room ask moment) bears = (bears, tt)
   event_bears date row book (event.Told request close moment) bears =
       told_bears (is_some (closable book request)) request close moment
-  event_bears date row book (event.Drop last moment answer) bears =
-      (tt, settled_bears (number_to_drop book last) by.Cancel answer)
+  event_bears date row book (event.Drop last moment settlement) bears =
+      (tt, settled_bears (number_to_drop book last) by.Cancel settlement)
 
   pub entries_bear : (number : ℕ) (date : List ℕ) (row : DealerRow) (trail : List DealerEntry)
       (more : DealerEvent) → EventBearsGrid more

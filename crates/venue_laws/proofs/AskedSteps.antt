@@ -31,7 +31,7 @@ use Rattle.request_room.specs.Book.{event_facts, hit_outcome, may_expire, passed
 use Rattle.request_room.specs.declared.ends.End.{End}
 use Rattle.request_room.specs.declared.events.RoomEvent.{RoomEvent}
 use Rattle.request_room.specs.declared.events.RoomEvent.TheVariants as at_room
-use Rattle.venue_steps.specs.InvestorSteps.{answers}
+use Rattle.venue_steps.specs.InvestorSteps.{replies_to}
 use Rattle.venue_steps.specs.RoomSteps.{where_follows, duties_of_open, shown_then_ready}
 use Rattle.venue_steps.specs.RoomSteps.{close_for, dealers_of, told_to_each, hit_duties}
 use Rattle.step_replay.specs.DealerTrail.{book_by, rooms_by, entries_of}
@@ -102,18 +102,18 @@ module _ (config : Configuration) where
   follows_bears true more bears = (bears, tt)
   follows_bears false more bears = tt
 
-  pub left_bears : (rooms : List RoomRef) (moment : ℕ) (v : DealerVerdict) (answer : Option Settled)
-      → Bear (option_to_list (dealer_output.verdict_duty rooms moment v answer))
-  left_bears rooms moment (verdict.QuoteAccepted request id quote replaced) answer =
-      by_test (goes_through replaced answer) (room_of rooms quote.request)
+  pub left_bears : (rooms : List RoomRef) (moment : ℕ) (v : DealerVerdict) (settlement : Option Settled)
+      → Bear (option_to_list (dealer_output.verdict_duty rooms moment v settlement))
+  left_bears rooms moment (verdict.QuoteAccepted request id quote replaced) settlement =
+      by_test (goes_through replaced settlement) (room_of rooms quote.request)
     where
       by_test : (b : Bool) (room : Option RoomRef)
           → Bear (option_to_list (if b then option_map (post_of quote) room else None))
       by_test true None = tt
       by_test true (Some room) = (tt, tt)
       by_test false room = tt
-  left_bears rooms moment (verdict.CancelAccepted id quote request) answer =
-      by_test (is_withdrawn answer) (room_of rooms request)
+  left_bears rooms moment (verdict.CancelAccepted id quote request) settlement =
+      by_test (is_withdrawn settlement) (room_of rooms request)
     where
       by_test : (b : Bool) (room : Option RoomRef)
           → Bear (option_to_list
@@ -121,22 +121,22 @@ module _ (config : Configuration) where
       by_test true None = tt
       by_test true (Some room) = (tt, tt)
       by_test false room = tt
-  left_bears rooms moment (verdict.DropsFollow last) answer = (tt, tt)
-  left_bears rooms moment (verdict.DeclineAccepted request number) answer =
+  left_bears rooms moment (verdict.DropsFollow last) settlement = (tt, tt)
+  left_bears rooms moment (verdict.DeclineAccepted request number) settlement =
       by_room (room_of rooms number)
     where
       by_room : (room : Option RoomRef)
           → Bear (option_to_list (option_map (λ room. duty.Decline room moment) room))
       by_room None = tt
       by_room (Some room) = (tt, tt)
-  left_bears rooms moment other answer = tt
+  left_bears rooms moment other settlement = tt
 
-  unpost_bears : (rooms : List RoomRef) (moment : ℕ) (answer : Option Settled)
+  unpost_bears : (rooms : List RoomRef) (moment : ℕ) (settlement : Option Settled)
       (found : Option StandingQuote)
-      → Bear (option_to_list (unpost_dropped rooms moment answer found))
-  unpost_bears rooms moment answer None = tt
-  unpost_bears rooms moment answer (Some own) =
-      by_test (is_withdrawn answer) (room_of rooms own.quote.request)
+      → Bear (option_to_list (unpost_dropped rooms moment settlement found))
+  unpost_bears rooms moment settlement None = tt
+  unpost_bears rooms moment settlement (Some own) =
+      by_test (is_withdrawn settlement) (room_of rooms own.quote.request)
     where
       by_test : (b : Bool) (room : Option RoomRef)
           → Bear (option_to_list
@@ -214,18 +214,18 @@ module _ (config : Configuration) where
     lifting_bears (Some hit) (Err refused) = tt
 
     hit_with_bears : (room : RoomRef) (response : ResponseRef) (word moment : ℕ)
-        (answer : Option Settled)
-        → Bears config (hit_with config facts room response word moment answer)
-    hit_with_bears room response word moment answer =
-        let outcome = hit_outcome (of_room room facts) word moment answer in
+        (settlement : Option Settled)
+        → Bears config (hit_with config facts room response word moment settlement)
+    hit_with_bears room response word moment settlement =
+        let outcome = hit_outcome (of_room room facts) word moment settlement in
         record {
           facts_bear = every_append (FactBearsGrid config)
               (lifting (quote_with_word config word) outcome)
               (map (InRoom room)
-              (event_facts (of_room room facts) (at_room.Hit word moment answer)))
+              (event_facts (of_room room facts) (at_room.Hit word moment settlement)))
               (lifting_bears (quote_with_word config word) outcome)
               (every_map (FactBearsGrid config) (InRoom room) (λ fact. tt)
-              (event_facts (of_room room facts) (at_room.Hit word moment answer)));
+              (event_facts (of_room room facts) (at_room.Hit word moment settlement)));
           duties_bear = hit_bears (of_room room facts) room response moment outcome;
         }
 
@@ -233,13 +233,13 @@ module _ (config : Configuration) where
         → Bear (left_by_drop config facts last moment dealer)
     drop_bears dealer last moment =
         let trail = of_dealer dealer.number facts in
-        let answer = answer_to_drop trail last in
+        let settlement = answer_to_drop trail last in
         let found = quote_to_drop (book_by trail) last in
         let after = trail ++ entries_of config.date dealer.row trail (drop_at trail last moment) in
         every_append (DutyBearsGrid config)
-        (option_to_list (unpost_dropped (rooms_by trail) moment answer found))
+        (option_to_list (unpost_dropped (rooms_by trail) moment settlement found))
         (option_to_list (further_drop (book_by after) last moment))
-        (unpost_bears (rooms_by trail) moment answer found)
+        (unpost_bears (rooms_by trail) moment settlement found)
         (further_bears (book_by after) last moment)
 
     -- All duties, line by line.
@@ -280,7 +280,7 @@ module _ (config : Configuration) where
         )
     duty_bears by (duty.Answer room response reply moment) bears =
         for_bears (investor_output.market_for config room.investor) _
-        (λ market. if_bears (answers response.k reply) _ nothing
+        (λ market. if_bears (replies_to response.k reply) _ nothing
         (known_bears room.n response.k _ market) nothing_bears)
     duty_bears by (duty.Close room moment) bears =
         for_bears (investor_output.market_for config room.investor) _ (known_bears room.n None _)

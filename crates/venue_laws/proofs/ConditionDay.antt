@@ -24,11 +24,11 @@ use Rattle.investor_desk.specs.declared.verdicts.InvestorVerdict.{InvestorVerdic
 use Rattle.investor_desk.specs.declared.verdicts.InvestorVerdict.TheVariants as verdict
 use Rattle.request_room.specs.Book.{event_facts, may_unpost, quote_posted}
 use Rattle.request_room.specs.RoomFacts.{Noted, Posted, Readied, Unposted, is_opening, takes_quotes}
-use Rattle.venue_steps.specs.InvestorSteps.{answers}
+use Rattle.venue_steps.specs.InvestorSteps.{replies_to}
 use Rattle.venue_steps.specs.RoomSteps.{hit_word}
 use Rattle.step_replay.specs.Actions.{Dealer, Effect, acting_dealer, answer_to_hit, dealer_of}
 use Rattle.step_replay.specs.Actions.{done_by, duty_effect, left_by_investor}
-use Rattle.step_replay.specs.Actions.{message_effect, quote_asked, said_by_investor, shown_to}
+use Rattle.step_replay.specs.Actions.{message_effect, quote_asked, received_by_investor, shown_to}
 use Rattle.step_replay.specs.Actions.{sweep_effect, told_to, word_for}
 use Rattle.step_replay.specs.AuditTrail.{AuditTrail, after_step, after_turn, audit_trail, no_steps}
 use Rattle.step_replay.specs.AuditTrail.{pending}
@@ -142,16 +142,16 @@ module _ (config : Configuration) where
           investor_first config venue by did room.investor _ (λ row is.
           known_first config venue by did room.n None _ _))
       turn_first (duty.Hit room response word moment) fits just =
-          let answer = option_map (answer_to_hit venue.facts)
+          let settlement = option_map (answer_to_hit venue.facts)
           (quote_asked config (hit_word (of_room room venue.facts) word moment)) in
           when_first config venue by did _ _ (λ test.
-          hit_first config venue stood fit by did room response word moment answer
-          (λ award is. (awards_in (of_room room venue.facts) word moment answer award is).was_open))
+          hit_first config venue stood fit by did room response word moment settlement
+          (λ award is. (awards_in (of_room room venue.facts) word moment settlement award is).was_open))
       turn_first (duty.Pass room response moment) fits just =
           passed_first config venue stood fit by did room response moment
       turn_first (duty.Answer room response reply moment) fits just =
           investor_first config venue by did room.investor _ (λ row is.
-          when_first config venue by did (answers response.k reply) _ (λ test.
+          when_first config venue by did (replies_to response.k reply) _ (λ test.
           known_first config venue by did room.n response.k _ _))
       turn_first (duty.Close room moment) fits just =
           investor_first config venue by did room.investor _ (λ row is.
@@ -211,9 +211,9 @@ module _ (config : Configuration) where
 
       asked_first : (bytes : List ℕ)
           → BringsFirst config venue (actor.Firm firm) did
-          (said_by_investor venue.facts moment bytes market)
+          (received_by_investor venue.facts moment bytes market)
       asked_first bytes =
-          market_first config venue (actor.Firm firm) did market (at_investor.Own moment bytes)
+          market_first config venue (actor.Firm firm) did market (at_investor.Received moment bytes)
           (left_by_investor venue.facts moment bytes market)
           (left_once (investor_verdict market (book_of desk_facts) moment bytes)
           (verdict_fits config firm row (has_room config firm) desk_facts (fit.desks firm) moment

@@ -231,7 +231,7 @@ module _ (config : Configuration) (firm : ℕ) (row : InvestorRow) (may : ℕ �
       → may number ≡ true)
       → (more : InvestorEvent) → DeskFit may (facts ++ event_facts market book more)
   unfolding event_facts
-  event_fits day (event.Own moment bytes) =
+  event_fits day (event.Received moment bytes) =
       said_desk moment bytes (investor_verdict market book moment bytes)
       (verdict_fits moment bytes) day
   event_fits day (event.QuoteCame request offer moment) =

@@ -23,7 +23,7 @@ use Rattle.request_room.specs.declared.ends.EndKind.{EndKind}
 use Rattle.request_room.specs.declared.ends.EndKind.TheVariants as ends
 use Rattle.request_room.specs.declared.events.RoomEvent.TheVariants as at_room
 use Rattle.request_room.specs.declared.requests.RoomRequest.{RoomRequest}
-use Rattle.venue_steps.specs.InvestorSteps.{answers}
+use Rattle.venue_steps.specs.InvestorSteps.{replies_to}
 use Rattle.venue_steps.specs.RoomSteps.{close_for, dealers_of, duties_of_expire}
 use Rattle.venue_steps.specs.RoomSteps.{duties_of_pass}
 use Rattle.venue_steps.specs.RoomSteps.{reply_to_pass}
@@ -54,10 +54,10 @@ pub record AwardsIn (known : List RoomFact) (award : End) : Type 0 where
 abbrev award_ok : End → Result End HitRefusal
 award_ok end = Ok end
 
-pub awards_in : (known : List RoomFact) (word moment : ℕ) (answer : Option Settled) (award : End)
-    → hit_outcome known word moment answer ≡ Ok award → AwardsIn known award
+pub awards_in : (known : List RoomFact) (word moment : ℕ) (settlement : Option Settled) (award : End)
+    → hit_outcome known word moment settlement ≡ Ok award → AwardsIn known award
 unfolding hit_refusal
-awards_in known word moment answer award is =
+awards_in known word moment settlement award is =
     by_refusal (hit_refusal known word moment) refl is
   where
     kind_of : Result End HitRefusal → EndKind
@@ -78,10 +78,10 @@ awards_in known word moment answer award is =
     by_lift false none found = cc
 
     by_refusal : (refused : Option HitRefusal) → hit_refusal known word moment ≡ refused
-        → hit_settled refused answer (award_of known word) ≡ award_ok award
+        → hit_settled refused settlement (award_of known word) ≡ award_ok award
         → AwardsIn known award
     by_refusal (Some why) refused found = cc
-    by_refusal None refused found = by_lift (is_lift answer) refused found
+    by_refusal None refused found = by_lift (is_lift settlement) refused found
 
 module _ (config : Configuration) (facts : List Fact) (caused : List Caused)
     (before : Fit config facts caused) (by : Actor) (room : RoomRef) where
@@ -133,7 +133,7 @@ module _ (config : Configuration) (facts : List Fact) (caused : List Caused)
         duties = left b;
       }
 
-      answers_so : (b : Bool) → answers None (reply_to_pass b) ≡ true
+      answers_so : (b : Bool) → replies_to None (reply_to_pass b) ≡ true
       answers_so true = refl
       answers_so false = refl
 
@@ -141,7 +141,7 @@ module _ (config : Configuration) (facts : List Fact) (caused : List Caused)
           → DutyFit config (with_facts added) by
           (duty.Answer room response (reply_to_pass b) moment)
       answered b added = record {
-        answers_it = ap (λ (k : Option ℕ). answers k (reply_to_pass b)) passes.none ∙ answers_so b;
+        answers_it = ap (λ (k : Option ℕ). replies_to k (reply_to_pass b)) passes.none ∙ answers_so b;
         known = known_stays config facts (map (InRoom room) added) room response.k passes.known;
       }
 
@@ -214,12 +214,12 @@ module _ (config : Configuration) (facts : List Fact) (caused : List Caused)
   lifting_desk (Some hit) (Ok award) investor = refl
   lifting_desk (Some hit) (Err why) investor = refl
 
-  pub hit_fits : (response : ResponseRef) (word moment : ℕ) (answer : Option Settled)
+  pub hit_fits : (response : ResponseRef) (word moment : ℕ) (settlement : Option Settled)
       → HitsIn config facts by room response
-      → Brings (hit_with config facts room response word moment answer)
+      → Brings (hit_with config facts room response word moment settlement)
   unfolding event_facts
-  hit_fits response word moment answer hits =
-      by_outcome (hit_outcome known word moment answer) refl
+  hit_fits response word moment settlement hits =
+      by_outcome (hit_outcome known word moment settlement) refl
     where
       lifts : Result End HitRefusal → List Fact
       lifts outcome = lifting (quote_with_word config word) outcome
@@ -232,7 +232,7 @@ module _ (config : Configuration) (facts : List Fact) (caused : List Caused)
           ∷ told_of_hit known room moment outcome
 
       answers_so : (outcome : Result End HitRefusal) (quote : ℕ)
-          → answers (Some quote) (reply_of outcome) ≡ true
+          → replies_to (Some quote) (reply_of outcome) ≡ true
       answers_so (Ok award) quote = refl
       answers_so (Err why) quote = refl
 
@@ -240,7 +240,7 @@ module _ (config : Configuration) (facts : List Fact) (caused : List Caused)
           → DutyFit config (facts ++ added outcome) by
           (duty.Answer room response (reply_of outcome) moment)
       answered outcome = record {
-        answers_it = ap (λ (k : Option ℕ). answers k (reply_of outcome)) hits.quote_is
+        answers_it = ap (λ (k : Option ℕ). replies_to k (reply_of outcome)) hits.quote_is
             ∙ answers_so outcome hits.quote;
         known = known_stays config facts (added outcome) room response.k hits.known;
       }
@@ -273,18 +273,18 @@ module _ (config : Configuration) (facts : List Fact) (caused : List Caused)
       ended_fit (Err why) = tt
 
       told_too : (outcome : Result End HitRefusal)
-          → hit_outcome known word moment answer ≡ outcome
+          → hit_outcome known word moment settlement ≡ outcome
           → Every (DutyFit config (facts ++ added outcome) by)
           (told_of_hit known room moment outcome)
       told_too (Ok award) is =
-          let so = awards_in known word moment answer award is in
+          let so = awards_in known word moment settlement award is in
           told_fit (facts ++ added (Ok award)) award moment
           (end_now (facts ++ added (Ok award)) award moment (room_then award) so.was_open)
           (closes_so award.kind so.kind_is)
       told_too (Err why) is = tt
 
       by_outcome : (outcome : Result End HitRefusal)
-          → hit_outcome known word moment answer ≡ outcome
+          → hit_outcome known word moment settlement ≡ outcome
           → Brings (record { facts = added outcome; duties = left outcome })
       by_outcome outcome is = record {
         facts_fit = every_both (FactFit config (facts ++ added outcome)) (lifts outcome)

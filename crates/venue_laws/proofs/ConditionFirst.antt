@@ -27,10 +27,10 @@ use Rattle.investor_desk.specs.declared.events.InvestorEvent.{InvestorEvent}
 use Rattle.request_room.specs.RoomFacts.{RoomFact}
 use Rattle.request_room.specs.Book.{where_so}
 use Rattle.venue_steps.specs.RoomSteps.{where_follows}
-use Rattle.step_replay.specs.Actions.{Dealer, Effect, answer_of, answer_to_drop, at_dealer}
+use Rattle.step_replay.specs.Actions.{Dealer, Effect, settlement_of, answer_to_drop, at_dealer}
 use Rattle.step_replay.specs.Actions.{at_market}
 use Rattle.step_replay.specs.Actions.{dealer_at, dealer_of, done_by, done_for, drop_at, dropped_by}
-use Rattle.step_replay.specs.Actions.{left_by, left_by_drop, nothing, said_by_dealer}
+use Rattle.step_replay.specs.Actions.{left_by, left_by_drop, nothing, received_by_dealer}
 use Rattle.step_replay.specs.Actions.{where_known}
 use Rattle.step_replay.specs.AuditTrail.{AuditTrail}
 use Rattle.venue_laws.specs.Conditions.{is_room}
@@ -81,27 +81,27 @@ if_free : (b : Bool) (left : Option Duty) → AreFree (option_to_list left)
 if_free true left free = free
 if_free false left free = tt
 
-said_free : (rooms : List RoomRef) (moment : ℕ) (v : DealerVerdict) (answer : Option Settled)
-    → AreFree (option_to_list (verdict_duty rooms moment v answer))
-said_free rooms moment (verdict.QuoteAccepted name id quote replaced) answer =
-    if_free (goes_through replaced answer)
+said_free : (rooms : List RoomRef) (moment : ℕ) (v : DealerVerdict) (settlement : Option Settled)
+    → AreFree (option_to_list (verdict_duty rooms moment v settlement))
+said_free rooms moment (verdict.QuoteAccepted name id quote replaced) settlement =
+    if_free (goes_through replaced settlement)
     (option_map (post_of quote) (room_of rooms quote.request))
     (map_free (room_of rooms quote.request) (post_of quote) (λ room. refl))
-said_free rooms moment (verdict.CancelAccepted id quote request) answer =
-    if_free (is_withdrawn answer)
+said_free rooms moment (verdict.CancelAccepted id quote request) settlement =
+    if_free (is_withdrawn settlement)
     (option_map (λ room. duty.Unpost room quote moment) (room_of rooms request))
     (map_free (room_of rooms request) (λ room. duty.Unpost room quote moment) (λ room. refl))
-said_free rooms moment (verdict.DeclineAccepted name number) answer =
+said_free rooms moment (verdict.DeclineAccepted name number) settlement =
     map_free (room_of rooms number) (λ room. duty.Decline room moment) (λ room. refl)
-said_free rooms moment (verdict.DropsFollow last) answer = (refl, tt)
-said_free rooms moment other answer = tt
+said_free rooms moment (verdict.DropsFollow last) settlement = (refl, tt)
+said_free rooms moment other settlement = tt
 
-dropped_free : (rooms : List RoomRef) (moment : ℕ) (answer : Option Settled)
+dropped_free : (rooms : List RoomRef) (moment : ℕ) (settlement : Option Settled)
     (own : Option StandingQuote)
-    → AreFree (option_to_list (unpost_dropped rooms moment answer own))
-dropped_free rooms moment answer None = tt
-dropped_free rooms moment answer (Some own) =
-    if_free (is_withdrawn answer)
+    → AreFree (option_to_list (unpost_dropped rooms moment settlement own))
+dropped_free rooms moment settlement None = tt
+dropped_free rooms moment settlement (Some own) =
+    if_free (is_withdrawn settlement)
     (option_map (λ room. duty.Unpost room own.quote.number moment)
     (room_of rooms own.quote.request))
     (map_free (room_of rooms own.quote.request) (λ room. duty.Unpost room own.quote.number moment)
@@ -246,27 +246,27 @@ module _ (config : Configuration) (venue : AuditTrail) (by : Actor) (did : Actor
     trail_now = of_dealer dealer venue.facts
 
     pub said_first : (moment : ℕ) (bytes : List ℕ)
-        → BringsFirst (said_by_dealer config venue.facts moment bytes (dealer_of dealer row))
+        → BringsFirst (received_by_dealer config venue.facts moment bytes (dealer_of dealer row))
     unfolding event_facts
     said_first moment bytes =
         let v = dealer_verdict config.date row (book_by trail_now) moment bytes in
-        let answer = answer_of trail_now v in
-        let said = event.Own moment bytes answer in
+        let settlement = settlement_of trail_now v in
+        let said = event.Received moment bytes settlement in
         let left = left_by trail_now moment v in
         when_first _ _ (λ test.
         desk_first dealer row said left
         (silent_said (venue.facts
         ++ (at_dealer config venue.facts (dealer_of dealer row) said left).facts) dealer
         (event_facts config.date row (book_by trail_now) said)
-        (refl, verdict_silent v answer)) tt
-        (said_free (rooms_by trail_now) moment v answer))
+        (refl, verdict_silent v settlement)) tt
+        (said_free (rooms_by trail_now) moment v settlement))
 
     pub dropped_first : (last moment : ℕ)
         → BringsFirst (dropped_by config venue.facts last moment (dealer_of dealer row))
     unfolding event_facts
     dropped_first last moment =
         let own = quote_to_drop (book_by trail_now) last in
-        let answer = answer_to_drop trail_now last in
+        let settlement = answer_to_drop trail_now last in
         let drop = drop_at trail_now last moment in
         let left = left_by_drop config venue.facts last moment (dealer_of dealer row) in
         when_first _ _ (λ test.
@@ -274,9 +274,9 @@ module _ (config : Configuration) (venue : AuditTrail) (by : Actor) (did : Actor
         (silent_said (venue.facts
         ++ (at_dealer config venue.facts (dealer_of dealer row) drop left).facts) dealer
         (event_facts config.date row (book_by trail_now) drop)
-        (refl, settled_silent (number_to_drop (book_by trail_now) last) by_way.Cancel answer)) tt
+        (refl, settled_silent (number_to_drop (book_by trail_now) last) by_way.Cancel settlement)) tt
         (every_both (λ one. is_free one ≡ true) _ _
-        (dropped_free (rooms_by trail_now) moment answer own) (further_free _ last moment)))
+        (dropped_free (rooms_by trail_now) moment settlement own) (further_free _ last moment)))
 
   -- In a room.
 

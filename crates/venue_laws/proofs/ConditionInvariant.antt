@@ -18,7 +18,7 @@ use Rattle.request_room.specs.declared.ends.End.{End}
 use Rattle.request_room.specs.declared.ends.EndKind.{EndKind}
 use Rattle.request_room.specs.declared.ends.EndKind.TheVariants as ends
 use Rattle.request_room.specs.declared.requests.RoomRequest.{RoomRequest}
-use Rattle.venue_steps.specs.InvestorSteps.{answers}
+use Rattle.venue_steps.specs.InvestorSteps.{replies_to}
 use Rattle.step_replay.specs.Actions.{Effect}
 use Rattle.step_replay.specs.AuditTrail.{Caused}
 use Rattle.venue_laws.specs.Conditions.{is_room}
@@ -110,7 +110,7 @@ module _ (config : Configuration) where
 
   pub record AnswersIn (facts : List Fact) (room : RoomRef) (response : ResponseRef) (reply : Reply)
       : Type 0 where
-    pub answers_it : answers response.k reply ≡ true
+    pub answers_it : replies_to response.k reply ≡ true
     pub known : KnownIn facts room response.k
 
   pub record TellsBy (facts : List Fact) (by : Actor) (room : RoomRef) : Type 0 where

@@ -21,9 +21,9 @@ use Rattle.request_room.specs.Book.{book_of, hit_checks, hit_refusal, quote_mean
 use Rattle.request_room.specs.Book.{word_or}
 use Rattle.request_room.specs.RoomFacts.{Opened, Posted, RoomFact, first_said, is_named, is_vacant}
 use Rattle.request_room.specs.RoomFacts.{opened_for, request_of}
-use Rattle.request_room.specs.declared.quotes.StandingQuote.{StandingQuote as BookQuote}
+use Rattle.request_room.specs.declared.quotes.PostedQuote.{PostedQuote as BookQuote}
 use Rattle.request_room.specs.declared.requests.RoomRequest.{RoomRequest}
-use Rattle.venue_steps.specs.InvestorSteps.{answers}
+use Rattle.venue_steps.specs.InvestorSteps.{replies_to}
 use Rattle.venue_steps.specs.RoomSteps.{hit_word, word_asked_by}
 use Rattle.venue_steps.specs.Words.{has_word}
 use Rattle.step_replay.specs.Actions.{Dealer, acting_dealer, dealer_of, has_word_for, quotes_of}
@@ -300,7 +300,7 @@ module _ (config : Configuration) (venue : AuditTrail) (stood : VenueOk config v
       fits.known.has (hit_asks room word moment)
   met drops by (duty.Pass room response moment) lasts fits ok = fits.known.has
   met drops by (duty.Answer room response reply moment) lasts fits ok =
-      both_so (answers response.k reply) (is_known config venue.facts room response.k)
+      both_so (replies_to response.k reply) (is_known config venue.facts room response.k)
       fits.answers_it (is_known_in room response.k fits.known)
   met drops by (duty.Close room moment) lasts fits ok =
       is_known_in room None (known_opened room fits)

@@ -21,8 +21,8 @@ use Rattle.dealer_desk.specs.declared.standing.StandingQuote.{StandingQuote}
 use Rattle.dealer_desk.specs.declared.verdicts.DealerVerdict.{DealerVerdict}
 use Rattle.dealer_desk.specs.declared.verdicts.DealerVerdict.TheVariants as verdict
 use Rattle.request_room.specs.RoomFacts.{is_named}
-use Rattle.step_replay.specs.Actions.{answer_of, answer_to_drop, at_dealer, dealer_of, drop_at}
-use Rattle.step_replay.specs.Actions.{dropped_by, left_by, left_by_drop, said_by_dealer}
+use Rattle.step_replay.specs.Actions.{settlement_of, answer_to_drop, at_dealer, dealer_of, drop_at}
+use Rattle.step_replay.specs.Actions.{dropped_by, left_by, left_by_drop, received_by_dealer}
 use Rattle.step_replay.specs.AuditTrail.{Caused}
 use Rattle.step_replay.specs.DealerTrail.{AtDesk, DealerEntry, Lifted, Sent, ShownIn, book_by}
 use Rattle.step_replay.specs.DealerTrail.{room_in, rooms_by}
@@ -174,34 +174,34 @@ module _ (config : Configuration) (facts : List Fact) (caused : List Caused)
     if_fit true left fit = fit
     if_fit false left fit = tt
 
-    said_fit : (moment : ℕ) (v : DealerVerdict) (answer : Option Settled)
+    said_fit : (moment : ℕ) (v : DealerVerdict) (settlement : Option Settled)
         → IfSome (word_asked v) (OfRow row)
-        → Every FitNow (option_to_list (verdict_duty rooms moment v answer))
-    said_fit moment (verdict.QuoteAccepted name id quote replaced) answer of_day =
-        if_fit (goes_through replaced answer)
+        → Every FitNow (option_to_list (verdict_duty rooms moment v settlement))
+    said_fit moment (verdict.QuoteAccepted name id quote replaced) settlement of_day =
+        if_fit (goes_through replaced settlement)
         (option_map (post_of quote) (room_of rooms quote.request))
         (map_fit (room_of rooms quote.request) (post_of quote)
         (λ room found. record { who = who; named = named_now quote.request room found }))
-    said_fit moment (verdict.CancelAccepted id quote request) answer of_day =
-        if_fit (is_withdrawn answer)
+    said_fit moment (verdict.CancelAccepted id quote request) settlement of_day =
+        if_fit (is_withdrawn settlement)
         (option_map (λ room. duty.Unpost room quote moment) (room_of rooms request))
         (map_fit (room_of rooms request) (λ room. duty.Unpost room quote moment)
         (λ room found. record {
           named = record { who = who; named = named_now request room found };
           within = within_row quote of_day;
         }))
-    said_fit moment (verdict.DropsFollow last) answer of_day = (who, tt)
-    said_fit moment (verdict.DeclineAccepted name number) answer of_day =
+    said_fit moment (verdict.DropsFollow last) settlement of_day = (who, tt)
+    said_fit moment (verdict.DeclineAccepted name number) settlement of_day =
         map_fit (room_of rooms number) (λ room. duty.Decline room moment)
         (λ room found. record { who = who; named = named_now number room found })
-    said_fit moment other answer of_day = tt
+    said_fit moment other settlement of_day = tt
 
-    dropped_fit : (moment : ℕ) (answer : Option Settled) (own : Option StandingQuote)
+    dropped_fit : (moment : ℕ) (settlement : Option Settled) (own : Option StandingQuote)
         → IfSome (option_map (λ (o : StandingQuote). o.quote.number) own) (OfRow row)
-        → Every FitNow (option_to_list (unpost_dropped rooms moment answer own))
-    dropped_fit moment answer None of_day = tt
-    dropped_fit moment answer (Some own) of_day =
-        if_fit (is_withdrawn answer)
+        → Every FitNow (option_to_list (unpost_dropped rooms moment settlement own))
+    dropped_fit moment settlement None of_day = tt
+    dropped_fit moment settlement (Some own) of_day =
+        if_fit (is_withdrawn settlement)
         (option_map (λ room. duty.Unpost room own.quote.number moment)
         (room_of rooms own.quote.request))
         (map_fit (room_of rooms own.quote.request)
@@ -218,15 +218,15 @@ module _ (config : Configuration) (facts : List Fact) (caused : List Caused)
 
   module _ (seen : Seen config.date row trail_now) where
     pub said_fits : AsksOfDay → (moment : ℕ) (bytes : List ℕ)
-        → Fits config facts me (said_by_dealer config facts moment bytes (dealer_of dealer row))
+        → Fits config facts me (received_by_dealer config facts moment bytes (dealer_of dealer row))
     said_fits asks moment bytes =
         let v = dealer_verdict config.date row (book_by trail_now) moment bytes in
-        let answer = answer_of trail_now v in
-        let said = event.Own moment bytes answer in
+        let settlement = settlement_of trail_now v in
+        let said = event.Received moment bytes settlement in
         let left = left_by trail_now moment v in
         when_fits config facts caused before me _ _ (λ test.
         desk_fits config facts caused before me dealer row said left tt
-        (said_fit (at_dealer config facts (dealer_of dealer row) said left).facts moment v answer
+        (said_fit (at_dealer config facts (dealer_of dealer row) said left).facts moment v settlement
         (asks_of_day config.date row trail_now seen asks moment bytes)))
 
     pub dropped_fits : DropsOfDay → (last moment : ℕ)

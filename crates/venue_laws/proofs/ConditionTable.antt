@@ -22,12 +22,12 @@ use Rattle.investor_desk.specs.InvestorRules.{InvestorMarket, investor_verdict}
 use Rattle.investor_desk.specs.declared.events.InvestorEvent.TheVariants as at_investor
 use Rattle.investor_desk.specs.declared.verdicts.InvestorVerdict.{InvestorVerdict}
 use Rattle.investor_desk.specs.declared.verdicts.InvestorVerdict.TheVariants as verdict
-use Rattle.venue_steps.specs.InvestorSteps.{answers}
+use Rattle.venue_steps.specs.InvestorSteps.{replies_to}
 use Rattle.venue_steps.specs.RoomSteps.{hit_word}
 use Rattle.step_replay.specs.Actions.{Dealer, Effect, acting_dealer, answer_to_hit, at_dealer}
 use Rattle.step_replay.specs.Actions.{at_market, dealer_of, done_by, dropped_by, duty_effect}
 use Rattle.step_replay.specs.Actions.{left_by_investor, message_effect, nothing, quote_asked}
-use Rattle.step_replay.specs.Actions.{said_by_investor, shown_to, sweep_effect, told_of, told_to}
+use Rattle.step_replay.specs.Actions.{received_by_investor, shown_to, sweep_effect, told_of, told_to}
 use Rattle.step_replay.specs.AuditTrail.{AuditTrail, Caused, after_step, after_turn, audit_trail}
 use Rattle.step_replay.specs.AuditTrail.{is_same_actor, no_steps, pending}
 use Rattle.step_replay.specs.DealerTrail.{rooms_by}
@@ -167,7 +167,7 @@ module _ (config : Configuration) where
         passed_fits config venue.facts venue.caused fit by room response moment ok
     turn_fits (duty.Answer room response reply moment) ok =
         investor_fits config venue.facts venue.caused fit by room.investor _ (λ row is.
-        when_fits config venue.facts venue.caused fit by (answers response.k reply) _ (λ test.
+        when_fits config venue.facts venue.caused fit by (replies_to response.k reply) _ (λ test.
         known_fits config venue.facts venue.caused fit by room.investor row is room.n response.k _))
     turn_fits (duty.Close room moment) ok =
         investor_fits config venue.facts venue.caused fit by room.investor _ (λ row is.
@@ -258,11 +258,11 @@ module _ (config : Configuration) where
       left_fit now other fits follows = tt
 
       investor_said : Fits config venue.facts (actor.Firm firm)
-          (said_by_investor venue.facts moment bytes market)
+          (received_by_investor venue.facts moment bytes market)
       unfolding event_facts
       investor_said =
           let left = left_by_investor venue.facts moment bytes market in
-          let own = at_investor.Own moment bytes in
+          let own = at_investor.Received moment bytes in
           let now = venue.facts ++ (at_market venue.facts market own left).facts in
           market_fits config venue.facts venue.caused fit (actor.Firm firm) firm row is own left
           (left_fit now (investor_verdict market (book_of desk_facts) moment bytes)

@@ -261,13 +261,13 @@ module _ (config : Configuration) (venue : AuditTrail) (stood : VenueOk config v
   lifting_done now (Some hit) (Err why) = tt
 
   pub hit_first : (room : RoomRef) (response : ResponseRef) (word moment : ℕ)
-      (answer : Option Settled)
-      → ((award : End) → hit_outcome (known room) word moment answer ≡ Ok award
+      (settlement : Option Settled)
+      → ((award : End) → hit_outcome (known room) word moment settlement ≡ Ok award
       → is_open (known room) ≡ true)
-      → Brings (hit_with config venue.facts room response word moment answer)
+      → Brings (hit_with config venue.facts room response word moment settlement)
   unfolding event_facts
-  hit_first room response word moment answer was_open =
-      by_outcome (hit_outcome (known room) word moment answer) refl
+  hit_first room response word moment settlement was_open =
+      by_outcome (hit_outcome (known room) word moment settlement) refl
     where
       added : Result End HitRefusal → List Fact
       added outcome = lifting (quote_with_word config word) outcome
@@ -293,7 +293,7 @@ module _ (config : Configuration) (venue : AuditTrail) (stood : VenueOk config v
           (lifting_done now (quote_with_word config word) outcome) (ended now outcome)
 
       by_outcome : (outcome : Result End HitRefusal)
-          → hit_outcome (known room) word moment answer ≡ outcome → Brings (effect outcome)
+          → hit_outcome (known room) word moment settlement ≡ outcome → Brings (effect outcome)
       by_outcome (Ok award) is = record {
         order = ended_order room award moment
             (duty.Answer room response (reply_of (Ok award)) moment) refl (λ dealer. refl)

@@ -18,7 +18,7 @@ use Rattle.dealer_desk.specs.declared.standing.StandingRequest.{StandingRequest}
 use Rattle.dealer_desk.specs.declared.standing.Withdrawal.TheVariants as by
 use Rattle.dealer_desk.specs.declared.events.DealerEvent.{DealerEvent}
 use Rattle.dealer_desk.specs.declared.events.DealerEvent.TheVariants as event
-use Rattle.step_replay.specs.Actions.{answer_of, drop_at}
+use Rattle.step_replay.specs.Actions.{settlement_of, drop_at}
 use Rattle.step_replay.specs.DealerTrail.{DealerEntry, Lifted, book_by, entries_of, facts_of}
 use Rattle.step_replay.specs.DealerTrail.{fact_in, room_in, rooms_by}
 use Rattle.venue_laws.specs.Notices.{was_shown}
@@ -66,10 +66,10 @@ module _ (date : List ℕ) (row : DealerRow) where
   counted_is_kept = record {
     own = λ trail moment bytes before.
         let v = dealer_verdict date row (book_by trail) moment bytes in
-        event_counted trail (event.Own moment bytes (answer_of trail v)) before
-        (none_counted (verdict_facts v (answer_of trail v))
+        event_counted trail (event.Received moment bytes (settlement_of trail v)) before
+        (none_counted (verdict_facts v (settlement_of trail v))
         (verdict_each (λ fact. shown_in fact ≡ None) (λ quote how. refl) (λ quote. refl)
-        (λ quote. refl) (λ request. refl) v (answer_of trail v)));
+        (λ quote. refl) (λ request. refl) v (settlement_of trail v)));
     drop = λ trail last moment before.
         let asked = number_to_drop (book_by trail) last in
         event_counted trail (drop_at trail last moment) before

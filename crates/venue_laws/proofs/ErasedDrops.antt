@@ -74,12 +74,12 @@ trail_twice own trail =
 
 -- A drop.
 
-unposted_same : (rooms : List RoomRef) (moment : ℕ) (answer : Option Settled)
+unposted_same : (rooms : List RoomRef) (moment : ℕ) (settlement : Option Settled)
     (found : Option StandingQuote)
-    → unpost_dropped rooms moment answer (option_map erase_standing found)
-    ≡ unpost_dropped rooms moment answer found
-unposted_same rooms moment answer None = refl
-unposted_same rooms moment answer (Some own) = refl
+    → unpost_dropped rooms moment settlement (option_map erase_standing found)
+    ≡ unpost_dropped rooms moment settlement found
+unposted_same rooms moment settlement None = refl
+unposted_same rooms moment settlement (Some own) = refl
 
 further_same : (book : DealerBook) (last moment : ℕ)
     → further_drop (erase_book book) last moment ≡ further_drop book last moment
@@ -123,8 +123,8 @@ module _ (config : Configuration) (own : ℕ) (facts : List Fact) (dealer : Deal
   added_same =
       entries.drop_same own_dealer config.date dealer.row trail last moment
       (answer_to_drop trail last)
-      ∙ ap (λ (answer : Option Settled). map (erase_entry own_dealer) (entries_of config.date
-      dealer.row (map (erase_entry own_dealer) trail) (at_desk.Drop last moment answer)))
+      ∙ ap (λ (settlement : Option Settled). map (erase_entry own_dealer) (entries_of config.date
+      dealer.row (map (erase_entry own_dealer) trail) (at_desk.Drop last moment settlement)))
       (sym answer_known)
 
   -- a trail after the drop
@@ -173,7 +173,7 @@ module _ (config : Configuration) (own : ℕ) (facts : List Fact) (dealer : Deal
   unposted_known =
       ap (λ (rooms : List RoomRef). unpost_dropped rooms moment (answer_to_drop trail last)
       (quote_to_drop (book_by trail) last)) (sym (rooms_known config own facts dealer.number))
-      ∙ ap (λ (answer : Option Settled). unpost_dropped (rooms_by known) moment answer
+      ∙ ap (λ (settlement : Option Settled). unpost_dropped (rooms_by known) moment settlement
       (quote_to_drop (book_by trail) last)) (sym answer_known)
       ∙ sym (ap (λ (b : DealerBook). unpost_dropped (rooms_by known) moment
       (answer_to_drop known last) (quote_to_drop b last))
@@ -222,45 +222,45 @@ module _ (config : Configuration) (own : ℕ) (facts : List Fact) (room : RoomRe
   there_is : there ≡ map erase_room_fact here
   there_is = room_same config own facts room
 
-  with_alike : (answer : Option Settled)
-      → AreAlike own (hit_with config facts room response word moment answer)
-      (hit_with config (erased config own facts) room response word moment answer)
-  with_alike answer = record {
+  with_alike : (settlement : Option Settled)
+      → AreAlike own (hit_with config facts room response word moment settlement)
+      (hit_with config (erased config own facts) room response word moment settlement)
+  with_alike settlement = record {
     facts_are =
-        map-append (erase own) (lifting found (hit_outcome here word moment answer))
-        (map (InRoom room) (event_facts here (at_room.Hit word moment answer)))
+        map-append (erase own) (lifting found (hit_outcome here word moment settlement))
+        (map (InRoom room) (event_facts here (at_room.Hit word moment settlement)))
         ∙ ap (λ (l : List Fact). map (erase own) l ++ map (erase own) (happened here))
-        (sym (lifting_same found (hit_outcome here word moment answer))
+        (sym (lifting_same found (hit_outcome here word moment settlement))
         ∙ ap (lifting found) outcome_is
-        ∙ lifting_same found (hit_outcome there word moment answer))
+        ∙ lifting_same found (hit_outcome there word moment settlement))
         ∙ ap (λ (l : List Fact).
-        map (erase own) (lifting found (hit_outcome there word moment answer))
+        map (erase own) (lifting found (hit_outcome there word moment settlement))
         ++ l)
-        (at_room_same config own facts room (event_facts here (at_room.Hit word moment answer))
-        ∙ ap (map (InRoom room)) (happens_same here (at_room.Hit word moment answer)
+        (at_room_same config own facts room (event_facts here (at_room.Hit word moment settlement))
+        ∙ ap (map (InRoom room)) (happens_same here (at_room.Hit word moment settlement)
         ∙ ap (λ (l : List RoomFact).
-        map erase_room_fact (event_facts l (at_room.Hit word moment answer))) (sym there_is))
+        map erase_room_fact (event_facts l (at_room.Hit word moment settlement))) (sym there_is))
         ∙ sym (at_room_same config own facts room
-        (event_facts there (at_room.Hit word moment answer))))
-        ∙ sym (map-append (erase own) (lifting found (hit_outcome there word moment answer))
+        (event_facts there (at_room.Hit word moment settlement))))
+        ∙ sym (map-append (erase own) (lifting found (hit_outcome there word moment settlement))
         (happened there));
     duties_are =
-        hit_duties_same here room response word moment answer
+        hit_duties_same here room response word moment settlement
         ∙ ap (λ (l : List RoomFact).
-        map erase_duty (duties_of_hit l room response word moment true answer)) (sym there_is);
+        map erase_duty (duties_of_hit l room response word moment true settlement)) (sym there_is);
   }
     where
       found : Option QuoteRef
       found = quote_with_word config word
 
       happened : List RoomFact → List Fact
-      happened l = map (InRoom room) (event_facts l (at_room.Hit word moment answer))
+      happened l = map (InRoom room) (event_facts l (at_room.Hit word moment settlement))
 
-      outcome_is : erase_outcome (hit_outcome here word moment answer)
-          ≡ erase_outcome (hit_outcome there word moment answer)
+      outcome_is : erase_outcome (hit_outcome here word moment settlement)
+          ≡ erase_outcome (hit_outcome there word moment settlement)
       outcome_is =
-          sym (outcome_same here word moment answer)
-          ∙ ap (λ (l : List RoomFact). erase_outcome (hit_outcome l word moment answer))
+          sym (outcome_same here word moment settlement)
+          ∙ ap (λ (l : List RoomFact). erase_outcome (hit_outcome l word moment settlement))
           (sym there_is)
 
   asked_known : hit_word there word moment ≡ hit_word here word moment
@@ -282,7 +282,7 @@ module _ (config : Configuration) (own : ℕ) (facts : List Fact) (room : RoomRe
   answers_same None = refl
   answers_same (Some hit) = ap (λ (s : Settled). Some s) (answer_same hit)
 
-  -- the answer of the word that a hit asks
+  -- the settlement of the word that a hit asks
   abbrev answer_by : List Fact → Option ℕ → Option Settled
   answer_by l asked = option_map (answer_to_hit l) (quote_asked config asked)
 
@@ -292,10 +292,10 @@ module _ (config : Configuration) (own : ℕ) (facts : List Fact) (room : RoomRe
       if_alike config own facts _ _ _ _
       (ap (λ (q : Option ℕ).
       has_room config room.investor room.n && has_word (words_of config) q) (sym asked_known))
-      (subst (λ (answer : Option Settled).
+      (subst (λ (settlement : Option Settled).
       AreAlike own (hit_with config facts room response word moment
       (answer_by facts (hit_word here word moment)))
-      (hit_with config (erased config own facts) room response word moment answer))
+      (hit_with config (erased config own facts) room response word moment settlement))
       (sym (answers_same (quote_asked config (hit_word here word moment)))
       ∙ ap (answer_by (erased config own facts)) (sym asked_known))
       (with_alike (answer_by facts (hit_word here word moment))))

@@ -145,15 +145,15 @@ module _ (facts : List RoomFact) (at : RoomRef) where
       (told_same award moment)
   outcome_left response moment (Err refused) = refl
 
-  pub hit_duties_same : (response : ResponseRef) (word moment : ℕ) (answer : Option Settled)
-      → map erase_duty (duties_of_hit facts at response word moment true answer)
-      ≡ map erase_duty (duties_of_hit erased at response word moment true answer)
-  hit_duties_same response word moment answer =
-      let one = hit_outcome facts word moment answer in
-      let other = hit_outcome erased word moment answer in
+  pub hit_duties_same : (response : ResponseRef) (word moment : ℕ) (settlement : Option Settled)
+      → map erase_duty (duties_of_hit facts at response word moment true settlement)
+      ≡ map erase_duty (duties_of_hit erased at response word moment true settlement)
+  hit_duties_same response word moment settlement =
+      let one = hit_outcome facts word moment settlement in
+      let other = hit_outcome erased word moment settlement in
       hit_left facts at response moment one
       ∙ ap (λ (r : Result End HitRefusal). map erase_duty (hit_duties facts at response moment r))
-      (sym (outcome_same facts word moment answer))
+      (sym (outcome_same facts word moment settlement))
       ∙ ap (λ (l : List Duty). map erase_duty l)
       (outcome_left response moment (erase_outcome other))
       ∙ sym (hit_left erased at response moment other)

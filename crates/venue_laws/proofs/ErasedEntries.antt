@@ -115,16 +115,16 @@ uses_same : (v : DealerVerdict) → uses_number (erase_verdict v) ≡ uses_numbe
 uses_same (verdict.QuoteAccepted request id quote replaced) = refl
 uses_same other = refl
 
-answers_fact_same : (own : Bool) (quote : ℕ) (how : Withdrawal) (answer : Option Settled)
-    → map (erase_fact own) (answer_facts quote how answer) ≡ answer_facts quote how answer
+answers_fact_same : (own : Bool) (quote : ℕ) (how : Withdrawal) (settlement : Option Settled)
+    → map (erase_fact own) (answer_facts quote how settlement) ≡ answer_facts quote how settlement
 answers_fact_same own quote how None = refl
 answers_fact_same own quote how (Some settled.Withdrawn) = refl
 answers_fact_same own quote how (Some settled.Lifted) = refl
 
-settled_same : (own : Bool) (asked : Option ℕ) (how : Withdrawal) (answer : Option Settled)
-    → map (erase_fact own) (settled_facts asked how answer) ≡ settled_facts asked how answer
-settled_same own None how answer = refl
-settled_same own (Some quote) how answer = answers_fact_same own quote how answer
+settled_same : (own : Bool) (asked : Option ℕ) (how : Withdrawal) (settlement : Option Settled)
+    → map (erase_fact own) (settled_facts asked how settlement) ≡ settled_facts asked how settlement
+settled_same own None how settlement = refl
+settled_same own (Some quote) how settlement = answers_fact_same own quote how settlement
 
 quoted_same : (own b : Bool) (quote : AcceptedQuote)
     → map (erase_fact own) (if b then Quoted (erase_quote quote) ∷ [] else [])
@@ -132,23 +132,23 @@ quoted_same : (own b : Bool) (quote : AcceptedQuote)
 quoted_same own true quote = refl
 quoted_same own false quote = refl
 
-verdict_facts_same : (own : Bool) (v : DealerVerdict) (answer : Option Settled)
-    → map (erase_fact own) (verdict_facts (erase_verdict v) answer)
-    ≡ map (erase_fact own) (verdict_facts v answer)
-verdict_facts_same own (verdict.QuoteAccepted request id quote replaced) answer =
-    let settled = settled_facts replaced by.Replacement answer in
+verdict_facts_same : (own : Bool) (v : DealerVerdict) (settlement : Option Settled)
+    → map (erase_fact own) (verdict_facts (erase_verdict v) settlement)
+    ≡ map (erase_fact own) (verdict_facts v settlement)
+verdict_facts_same own (verdict.QuoteAccepted request id quote replaced) settlement =
+    let settled = settled_facts replaced by.Replacement settlement in
     map-append (erase_fact own) settled
-    (if goes_through replaced answer then Quoted (erase_quote quote) ∷ [] else [])
+    (if goes_through replaced settlement then Quoted (erase_quote quote) ∷ [] else [])
     ∙ ap (λ l. map (erase_fact own) settled ++ l)
-    (quoted_same own (goes_through replaced answer) quote)
+    (quoted_same own (goes_through replaced settlement) quote)
     ∙ sym (map-append (erase_fact own) settled
-    (if goes_through replaced answer then Quoted quote ∷ [] else []))
-verdict_facts_same own other answer = refl
+    (if goes_through replaced settlement then Quoted quote ∷ [] else []))
+verdict_facts_same own other settlement = refl
 
-message_same : (v : DealerVerdict) (answer : Option Settled)
-    → verdict_message (erase_verdict v) answer ≡ verdict_message v answer
-message_same (verdict.QuoteAccepted request id quote replaced) answer = refl
-message_same other answer = refl
+message_same : (v : DealerVerdict) (settlement : Option Settled)
+    → verdict_message (erase_verdict v) settlement ≡ verdict_message v settlement
+message_same (verdict.QuoteAccepted request id quote replaced) settlement = refl
+message_same other settlement = refl
 
 posted_same : (b : Bool) (quote : AcceptedQuote) (room : Option RoomRef)
     → option_map erase_duty (if b then option_map (post_of (erase_quote quote)) room else None)
@@ -158,12 +158,12 @@ posted_same true quote (Some room) = refl
 posted_same false quote room = refl
 
 pub verdict_duty_same : (rooms : List RoomRef) (moment : ℕ) (v : DealerVerdict)
-    (answer : Option Settled)
-    → option_map erase_duty (verdict_duty rooms moment (erase_verdict v) answer)
-    ≡ option_map erase_duty (verdict_duty rooms moment v answer)
-verdict_duty_same rooms moment (verdict.QuoteAccepted request id quote replaced) answer =
-    posted_same (goes_through replaced answer) quote (room_of rooms quote.request)
-verdict_duty_same rooms moment other answer = refl
+    (settlement : Option Settled)
+    → option_map erase_duty (verdict_duty rooms moment (erase_verdict v) settlement)
+    ≡ option_map erase_duty (verdict_duty rooms moment v settlement)
+verdict_duty_same rooms moment (verdict.QuoteAccepted request id quote replaced) settlement =
+    posted_same (goes_through replaced settlement) quote (room_of rooms quote.request)
+verdict_duty_same rooms moment other settlement = refl
 
 -- Two verdicts that are one but for the price.
 
@@ -171,39 +171,39 @@ module _ (v w : DealerVerdict) (alike : erase_verdict v ≡ erase_verdict w) whe
   pub asked_alike : word_asked v ≡ word_asked w
   asked_alike = sym (asked_same v) ∙ ap word_asked alike ∙ asked_same w
 
-  pub duty_alike : (rooms : List RoomRef) (moment : ℕ) (answer : Option Settled)
-      → option_map erase_duty (verdict_duty rooms moment v answer)
-      ≡ option_map erase_duty (verdict_duty rooms moment w answer)
-  duty_alike rooms moment answer =
-      sym (verdict_duty_same rooms moment v answer)
-      ∙ ap (λ (u : DealerVerdict). option_map erase_duty (verdict_duty rooms moment u answer)) alike
-      ∙ verdict_duty_same rooms moment w answer
+  pub duty_alike : (rooms : List RoomRef) (moment : ℕ) (settlement : Option Settled)
+      → option_map erase_duty (verdict_duty rooms moment v settlement)
+      ≡ option_map erase_duty (verdict_duty rooms moment w settlement)
+  duty_alike rooms moment settlement =
+      sym (verdict_duty_same rooms moment v settlement)
+      ∙ ap (λ (u : DealerVerdict). option_map erase_duty (verdict_duty rooms moment u settlement)) alike
+      ∙ verdict_duty_same rooms moment w settlement
 
-  message_alike : (answer : Option Settled) → verdict_message v answer ≡ verdict_message w answer
-  message_alike answer =
-      sym (message_same v answer) ∙ ap (λ (u : DealerVerdict). verdict_message u answer) alike
-      ∙ message_same w answer
+  message_alike : (settlement : Option Settled) → verdict_message v settlement ≡ verdict_message w settlement
+  message_alike settlement =
+      sym (message_same v settlement) ∙ ap (λ (u : DealerVerdict). verdict_message u settlement) alike
+      ∙ message_same w settlement
 
-  facts_alike : (own : Bool) (answer : Option Settled)
-      → map (erase_fact own) (verdict_facts v answer)
-      ≡ map (erase_fact own) (verdict_facts w answer)
-  facts_alike own answer =
-      sym (verdict_facts_same own v answer)
-      ∙ ap (λ (u : DealerVerdict). map (erase_fact own) (verdict_facts u answer)) alike
-      ∙ verdict_facts_same own w answer
+  facts_alike : (own : Bool) (settlement : Option Settled)
+      → map (erase_fact own) (verdict_facts v settlement)
+      ≡ map (erase_fact own) (verdict_facts w settlement)
+  facts_alike own settlement =
+      sym (verdict_facts_same own v settlement)
+      ∙ ap (λ (u : DealerVerdict). map (erase_fact own) (verdict_facts u settlement)) alike
+      ∙ verdict_facts_same own w settlement
 
-  came_alike : (own : Bool) (moment : ℕ) (bytes others : List ℕ) (answer : Option Settled)
+  came_alike : (own : Bool) (moment : ℕ) (bytes others : List ℕ) (settlement : Option Settled)
       → (if own then bytes else []) ≡ (if own then others else [])
-      → map (erase_fact own) (came moment bytes v answer)
-      ≡ map (erase_fact own) (came moment others w answer)
-  came_alike own moment bytes others answer same =
+      → map (erase_fact own) (came moment bytes v settlement)
+      ≡ map (erase_fact own) (came moment others w settlement)
+  came_alike own moment bytes others settlement same =
       ap (λ (kept : List ℕ). Came moment kept (uses_number v)
-      ∷ map (erase_fact own) (verdict_facts v answer)) same
+      ∷ map (erase_fact own) (verdict_facts v settlement)) same
       ∙ ap (λ (used : Bool). Came moment (if own then others else []) used
-      ∷ map (erase_fact own) (verdict_facts v answer))
+      ∷ map (erase_fact own) (verdict_facts v settlement))
       (sym (uses_same v) ∙ ap uses_number alike ∙ uses_same w)
       ∙ ap (λ l. Came moment (if own then others else []) (uses_number w) ∷ l)
-      (facts_alike own answer)
+      (facts_alike own settlement)
 
 -- What an event adds.
 
@@ -271,24 +271,24 @@ module _ (own : Bool) (date : List ℕ) (row : DealerRow) (trail : List DealerEn
       (sym (book_by_same own trail))
       ∙ sym (added_is (map (erase_entry own) trail) other)
 
-  pub own_same : (moment : ℕ) (bytes others : List ℕ) (answer : Option Settled)
+  pub own_same : (moment : ℕ) (bytes others : List ℕ) (settlement : Option Settled)
       → erase_verdict (dealer_verdict date row book moment bytes)
       ≡ erase_verdict (dealer_verdict date row book moment others)
       → (if own then bytes else []) ≡ (if own then others else [])
-      → map (erase_entry own) (entries_of date row trail (event.Own moment bytes answer))
+      → map (erase_entry own) (entries_of date row trail (event.Received moment bytes settlement))
       ≡ map (erase_entry own) (entries_of date row (map (erase_entry own) trail)
-      (event.Own moment others answer))
+      (event.Received moment others settlement))
   unfolding event_facts event_message
-  own_same moment bytes others answer alike same =
+  own_same moment bytes others settlement alike same =
       let v = dealer_verdict date row book moment bytes in
       let w = dealer_verdict date row book moment others in
       let w_is = sym (verdict_same book date row moment others) in
-      added_same (event.Own moment bytes answer) (event.Own moment others answer)
-      (came_alike v w alike own moment bytes others answer same
-      ∙ ap (λ (u : DealerVerdict). map (erase_fact own) (came moment others u answer)) w_is)
+      added_same (event.Received moment bytes settlement) (event.Received moment others settlement)
+      (came_alike v w alike own moment bytes others settlement same
+      ∙ ap (λ (u : DealerVerdict). map (erase_fact own) (came moment others u settlement)) w_is)
       refl
-      (ap (λ (m : Option OutMessage). is_some m) (message_alike v w alike answer)
-      ∙ ap (λ (u : DealerVerdict). is_some (verdict_message u answer)) w_is)
+      (ap (λ (m : Option OutMessage). is_some m) (message_alike v w alike settlement)
+      ∙ ap (λ (u : DealerVerdict). is_some (verdict_message u settlement)) w_is)
 
   pub shown_same : (room : RoomRef) (ask : Ask) (moment : ℕ)
       → map (erase_entry own) (entries_of date row trail (event.Shown room ask moment))
@@ -325,18 +325,18 @@ module _ (own : Bool) (date : List ℕ) (row : DealerRow) (trail : List DealerEn
       ∙ sym (some_map (notice_of (erase_book book) (erase_close close))
       (closable (erase_book book) request)))
 
-  pub drop_same : (last moment : ℕ) (answer : Option Settled)
-      → map (erase_entry own) (entries_of date row trail (event.Drop last moment answer))
+  pub drop_same : (last moment : ℕ) (settlement : Option Settled)
+      → map (erase_entry own) (entries_of date row trail (event.Drop last moment settlement))
       ≡ map (erase_entry own) (entries_of date row (map (erase_entry own) trail)
-      (event.Drop last moment answer))
+      (event.Drop last moment settlement))
   unfolding event_facts event_message
-  drop_same last moment answer =
-      added_same (event.Drop last moment answer) (event.Drop last moment answer)
+  drop_same last moment settlement =
+      added_same (event.Drop last moment settlement) (event.Drop last moment settlement)
       (ap (λ (q : Option ℕ). map (erase_fact own)
-      (Dropped last moment ∷ settled_facts q by.Cancel answer))
+      (Dropped last moment ∷ settled_facts q by.Cancel settlement))
       (sym (number_to_drop_same book last)))
       refl
-      (some_map (drop_message answer) (quote_to_drop book last)
-      ∙ sym (some_map (drop_message answer) (quote_to_drop (erase_book book) last)
+      (some_map (drop_message settlement) (quote_to_drop book last)
+      ∙ sym (some_map (drop_message settlement) (quote_to_drop (erase_book book) last)
       ∙ ap (λ (o : Option StandingQuote). is_some o) (to_drop book last)
       ∙ some_map _ (quote_to_drop book last)))

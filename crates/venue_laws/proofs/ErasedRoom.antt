@@ -22,7 +22,7 @@ use Rattle.request_room.specs.declared.ends.End.{End}
 use Rattle.request_room.specs.declared.ends.EndKind.TheVariants as ends
 use Rattle.request_room.specs.declared.events.RoomEvent.{RoomEvent}
 use Rattle.request_room.specs.declared.events.RoomEvent.TheVariants as event
-use Rattle.request_room.specs.declared.quotes.StandingQuote.{StandingQuote}
+use Rattle.request_room.specs.declared.quotes.PostedQuote.{PostedQuote}
 use Rattle.request_room.specs.declared.requests.RoomRequest.{RoomRequest}
 use Rattle.venue_steps.specs.RoomSteps.{word_asked_by, hit_word}
 use Rattle.venue_laws.proofs.Erasing.{erase_posted, erase_cover, erase_room_fact}
@@ -46,7 +46,7 @@ readied_same (Posted quote) = refl
 readied_same (Ended end moment) = refl
 readied_same fact = refl
 
-takes_out_same : (quote : StandingQuote) (fact : RoomFact)
+takes_out_same : (quote : PostedQuote) (fact : RoomFact)
     → takes_out (erase_posted quote) (erase_room_fact fact) ≡ takes_out quote fact
 takes_out_same quote (Posted next) = refl
 takes_out_same quote (Ended end moment) = refl
@@ -60,8 +60,8 @@ or_map : {X Y : Type 0} (e : X → Y) (one other : Option X)
 or_map e None other = refl
 or_map e (Some x) other = refl
 
-if_same : (e : StandingQuote → StandingQuote) (b : Bool) (quote : StandingQuote)
-    (rest : List StandingQuote)
+if_same : (e : PostedQuote → PostedQuote) (b : Bool) (quote : PostedQuote)
+    (rest : List PostedQuote)
     → (if b then map e rest else e quote ∷ map e rest) ≡ map e (if b then rest else quote ∷ rest)
 if_same e true quote rest = refl
 if_same e false quote rest = refl
@@ -124,7 +124,7 @@ module _ (facts : List RoomFact) where
   stands_same : (dealer word : ℕ)
       → stands (book_of erased) dealer word ≡ stands (book_of facts) dealer word
   stands_same dealer word =
-      ap (λ (book : List StandingQuote). stands book dealer word) (book_same facts)
+      ap (λ (book : List PostedQuote). stands book dealer word) (book_same facts)
       ∙ any_erased erase_posted (is_quote_of dealer word) (is_quote_of dealer word) (λ quote. refl)
       (book_of facts)
 
@@ -132,11 +132,11 @@ module _ (facts : List RoomFact) where
       → quote_meant (book_of erased) word
       ≡ option_map erase_posted (quote_meant (book_of facts) word)
   meant_same word =
-      ap (λ (book : List StandingQuote). quote_meant book word) (book_same facts)
-      ∙ find_erased erase_posted (λ (quote : StandingQuote). quote.word == word)
-      (λ (quote : StandingQuote). quote.word == word) (λ quote. refl) (book_of facts)
+      ap (λ (book : List PostedQuote). quote_meant book word) (book_same facts)
+      ∙ find_erased erase_posted (λ (quote : PostedQuote). quote.word == word)
+      (λ (quote : PostedQuote). quote.word == word) (λ quote. refl) (book_of facts)
 
-  expired_same : (meant : Option StandingQuote) (moment : ℕ)
+  expired_same : (meant : Option PostedQuote) (moment : ℕ)
       → is_expired (option_map erase_posted meant) moment ≡ is_expired meant moment
   expired_same None moment = refl
   expired_same (Some quote) moment = refl
@@ -162,14 +162,14 @@ module _ (facts : List RoomFact) where
   gone_same : (word : ℕ)
       → is_some (quote_meant (book_of erased) word) ≡ is_some (quote_meant (book_of facts) word)
   gone_same word =
-      ap (λ (o : Option StandingQuote). is_some o) (meant_same word)
+      ap (λ (o : Option PostedQuote). is_some o) (meant_same word)
       ∙ some_map erase_posted (quote_meant (book_of facts) word)
 
   validity_same : (word moment : ℕ)
       → is_expired (quote_meant (book_of erased) word) moment
       ≡ is_expired (quote_meant (book_of facts) word) moment
   validity_same word moment =
-      ap (λ (o : Option StandingQuote). is_expired o moment) (meant_same word)
+      ap (λ (o : Option PostedQuote). is_expired o moment) (meant_same word)
       ∙ expired_same (quote_meant (book_of facts) word) moment
 
   pub hit_refusal_same : (word moment : ℕ)
@@ -203,9 +203,9 @@ module _ (facts : List RoomFact) where
   award_same word =
       ap (λ (winner : Option (ℕ × ℕ)).
       record { kind = ends.Awarded; winner = winner; cover = None })
-      (ap (option_map (λ (quote : StandingQuote). (quote.dealer, quote.word))) (meant_same word)
-      ∙ map_twice erase_posted (λ (quote : StandingQuote). (quote.dealer, quote.word))
-      (λ (quote : StandingQuote). (quote.dealer, quote.word)) (λ quote. refl)
+      (ap (option_map (λ (quote : PostedQuote). (quote.dealer, quote.word))) (meant_same word)
+      ∙ map_twice erase_posted (λ (quote : PostedQuote). (quote.dealer, quote.word))
+      (λ (quote : PostedQuote). (quote.dealer, quote.word)) (λ quote. refl)
       (quote_meant (book_of facts) word))
 
 -- Outcomes.
@@ -222,22 +222,22 @@ lift_same : (b : Bool) (refused : HitRefusal) (one other : End)
 lift_same true refused one other same = ap (λ (end : End). Ok end) same
 lift_same false refused one other same = refl
 
-settled_same : (refused : Option HitRefusal) (answer : Option Settled) (one other : End)
+settled_same : (refused : Option HitRefusal) (settlement : Option Settled) (one other : End)
     → erase_cover one ≡ erase_cover other
-    → erase_outcome (hit_settled refused answer one)
-    ≡ erase_outcome (hit_settled refused answer other)
-settled_same (Some refused) answer one other same = refl
-settled_same None answer one other same =
-    lift_same (is_lift answer) refusal.Withdrawn one other same
+    → erase_outcome (hit_settled refused settlement one)
+    ≡ erase_outcome (hit_settled refused settlement other)
+settled_same (Some refused) settlement one other same = refl
+settled_same None settlement one other same =
+    lift_same (is_lift settlement) refusal.Withdrawn one other same
 
-pub outcome_same : (facts : List RoomFact) (word moment : ℕ) (answer : Option Settled)
-    → erase_outcome (hit_outcome (map erase_room_fact facts) word moment answer)
-    ≡ erase_outcome (hit_outcome facts word moment answer)
-outcome_same facts word moment answer =
+pub outcome_same : (facts : List RoomFact) (word moment : ℕ) (settlement : Option Settled)
+    → erase_outcome (hit_outcome (map erase_room_fact facts) word moment settlement)
+    ≡ erase_outcome (hit_outcome facts word moment settlement)
+outcome_same facts word moment settlement =
     ap (λ (r : Option HitRefusal).
-    erase_outcome (hit_settled r answer (award_of (map erase_room_fact facts) word)))
+    erase_outcome (hit_settled r settlement (award_of (map erase_room_fact facts) word)))
     (hit_refusal_same facts word moment)
-    ∙ settled_same (hit_refusal facts word moment) answer
+    ∙ settled_same (hit_refusal facts word moment) settlement
     (award_of (map erase_room_fact facts) word) (award_of facts word) (award_same facts word)
 
 -- What an event adds.
@@ -281,11 +281,11 @@ happens_same facts (event.Unpost dealer word) =
     (sym (may_unpost_same facts dealer word))
 happens_same facts (event.Decline dealer) =
     ap (λ (b : Bool). map erase_room_fact (where_so b (Noted dealer))) (sym (takes_same facts))
-happens_same facts (event.Hit word moment answer) =
-    sym (end_by_same (hit_outcome facts word moment answer) moment)
+happens_same facts (event.Hit word moment settlement) =
+    sym (end_by_same (hit_outcome facts word moment settlement) moment)
     ∙ ap (λ (r : Result End HitRefusal). map erase_room_fact (end_by r moment))
-    (sym (outcome_same facts word moment answer))
-    ∙ end_by_same (hit_outcome (map erase_room_fact facts) word moment answer) moment
+    (sym (outcome_same facts word moment settlement))
+    ∙ end_by_same (hit_outcome (map erase_room_fact facts) word moment settlement) moment
 happens_same facts (event.Pass moment) =
     ap (λ (b : Bool). map erase_room_fact (where_so b (Ended passed moment)))
     (sym (open_same facts))

@@ -220,7 +220,7 @@ module _ (book : InvestorBook) where
       → map erase_investor_fact (event_facts market known (erase_event more))
       ≡ map erase_investor_fact (event_facts market book more)
   unfolding event_facts
-  event_facts_same market (event.Own moment bytes) =
+  event_facts_same market (event.Received moment bytes) =
       ap (λ (v : InvestorVerdict). map erase_investor_fact (own_facts moment bytes v))
       (verdict_same book market moment bytes)
   event_facts_same market (event.QuoteCame request offer moment) =
@@ -247,7 +247,7 @@ module _ (book : InvestorBook) where
       → map sent (event_messages market known (erase_event more))
       ≡ map sent (event_messages market book more)
   unfolding event_messages
-  event_messages_same market (event.Own moment bytes) =
+  event_messages_same market (event.Received moment bytes) =
       ap (λ (v : InvestorVerdict). map sent (option_to_list (verdict_message v)))
       (verdict_same book market moment bytes)
   event_messages_same market (event.QuoteCame request offer moment) =

@@ -25,7 +25,7 @@ use Rattle.investor_desk.specs.declared.verdicts.InvestorVerdict.{InvestorVerdic
 use Rattle.request_room.specs.RoomFacts.{RoomFact, hears}
 use Rattle.request_room.specs.declared.events.RoomEvent.{RoomEvent}
 use Rattle.request_room.specs.declared.events.RoomEvent.TheVariants as at_room
-use Rattle.venue_steps.specs.InvestorSteps.{answers}
+use Rattle.venue_steps.specs.InvestorSteps.{replies_to}
 use Rattle.venue_steps.specs.RoomSteps.{duties_of_open, duties_of_post, duties_of_unpost}
 use Rattle.venue_steps.specs.RoomSteps.{duties_of_decline, duties_of_pass, duties_of_expire}
 use Rattle.venue_steps.specs.Words.{has_word}
@@ -36,8 +36,8 @@ use Rattle.step_replay.specs.InvestorTrail.{InvestorEntry}
 use Rattle.step_replay.specs.VenueFacts.{Fact, of_dealer, of_room, of_investor}
 use Rattle.step_replay.specs.Actions.{Effect, Dealer, dealer_at, acting_dealer}
 use Rattle.step_replay.specs.Actions.{in_room, words_of, word_for, has_word_for, offer_of}
-use Rattle.step_replay.specs.Actions.{answer_of, left_by, dealer_says, verdict_on, said_by_dealer}
-use Rattle.step_replay.specs.Actions.{posted_by, unposted_by, declined_by, said_by_investor}
+use Rattle.step_replay.specs.Actions.{settlement_of, left_by, dealer_receives, verdict_on, received_by_dealer}
+use Rattle.step_replay.specs.Actions.{posted_by, unposted_by, declined_by, received_by_investor}
 use Rattle.step_replay.specs.Actions.{left_by_investor, answered_by, duty_effect}
 use Rattle.step_replay.specs.Actions.{sweep_effect, message_effect}
 use Rattle.venue_places.specs.declared.actors.Actor.{Actor}
@@ -133,15 +133,15 @@ module _ (config : Configuration) (own : ℕ) (facts : List Fact) where
       → AreAlike own (answered_by facts room response reply moment market)
       (answered_by known room response reply moment market)
   answered_alike room response reply moment market =
-      if_alike config own facts (answers response.k reply) (answers response.k reply) _ _ refl
+      if_alike config own facts (replies_to response.k reply) (replies_to response.k reply) _ _ refl
       (known_alike config own facts room.n response.k
       (at_investor.Answered room.n response reply moment) market)
 
   said_to_investor : (moment : ℕ) (bytes : List ℕ) (market : InvestorMarket)
-      → AreAlike own (said_by_investor facts moment bytes market)
-      (said_by_investor known moment bytes market)
+      → AreAlike own (received_by_investor facts moment bytes market)
+      (received_by_investor known moment bytes market)
   said_to_investor moment bytes market =
-      investor_alike config own facts market (at_investor.Own moment bytes)
+      investor_alike config own facts market (at_investor.Received moment bytes)
       (left_by_investor facts moment bytes market) (left_by_investor known moment bytes market)
       (ap (λ (v : InvestorVerdict).
       map erase_duty (option_to_list (investor_output.verdict_duty market moment v)))
@@ -236,7 +236,7 @@ module _ (config : Configuration) (own : ℕ) (facts : List Fact) where
         (book_known config own facts dealer.number)
         ∙ book.verdict_same (book_by trail) config.date dealer.row moment others
 
-    answer_is : answer_of trail v ≡ answer_of after w
+    answer_is : settlement_of trail v ≡ settlement_of after w
     answer_is =
         ap (option_map (answer_to_dealer trail)) (entries.asked_alike v w alike)
         ∙ sym (ap (λ (l : List DealerEntry). option_map (answer_to_dealer l) (word_asked w))
@@ -247,32 +247,32 @@ module _ (config : Configuration) (own : ℕ) (facts : List Fact) where
     left_is =
         list_of erase_duty _
         ∙ ap (λ (d : Option Duty). option_to_list d)
-        (entries.duty_alike v w alike (rooms_by trail) moment (answer_of trail v)
-        ∙ ap (λ (answer : Option Settled). option_map erase_duty
-        (dealer_output.verdict_duty (rooms_by trail) moment w answer)) answer_is
+        (entries.duty_alike v w alike (rooms_by trail) moment (settlement_of trail v)
+        ∙ ap (λ (settlement : Option Settled). option_map erase_duty
+        (dealer_output.verdict_duty (rooms_by trail) moment w settlement)) answer_is
         ∙ ap (λ (rooms : List RoomRef). option_map erase_duty
-        (dealer_output.verdict_duty rooms moment w (answer_of after w)))
+        (dealer_output.verdict_duty rooms moment w (settlement_of after w)))
         (sym (rooms_known config own facts dealer.number)))
         ∙ sym (list_of erase_duty _)
 
-    pub said_alike : AreAlike own (said_by_dealer config facts moment bytes dealer)
-        (said_by_dealer config known moment others dealer)
+    pub said_alike : AreAlike own (received_by_dealer config facts moment bytes dealer)
+        (received_by_dealer config known moment others dealer)
     said_alike =
-        subst (λ (u : DealerVerdict). AreAlike own (dealer_says config facts dealer moment bytes v)
-        (dealer_says config known dealer moment others u)) (sym verdict_is)
+        subst (λ (u : DealerVerdict). AreAlike own (dealer_receives config facts dealer moment bytes v)
+        (dealer_receives config known dealer moment others u)) (sym verdict_is)
         (if_alike config own facts _ _ _ _
         (ap (λ (q : Option ℕ). has_word (words_of config) (option_map (word_for config dealer) q))
         (entries.asked_alike v w alike))
         (desk_alike config own facts dealer
-        (at_desk.Own moment bytes (answer_of trail v))
-        (at_desk.Own moment others (answer_of after w))
+        (at_desk.Received moment bytes (settlement_of trail v))
+        (at_desk.Received moment others (settlement_of after w))
         (left_by trail moment v) (left_by after moment w)
         (entries.own_same (is_own config own facts dealer.number) config.date dealer.row trail
-        moment bytes others (answer_of trail v) alike kept
-        ∙ ap (λ (answer : Option Settled).
+        moment bytes others (settlement_of trail v) alike kept
+        ∙ ap (λ (settlement : Option Settled).
         map (erase_entry (is_own config own facts dealer.number)) (entries_of config.date dealer.row
         (map (erase_entry (is_own config own facts dealer.number)) trail)
-        (at_desk.Own moment others answer))) answer_is)
+        (at_desk.Received moment others settlement))) answer_is)
         left_is))
 
   either_alike : (b : Bool) (one other one_too other_too : Effect) → AreAlike own one one_too

@@ -21,7 +21,7 @@ use Rattle.investor_desk.specs.declared.standing.RequestClose.TheVariants as req
 use Rattle.investor_desk.specs.declared.standing.ShownOffer.{ShownOffer}
 use Rattle.request_room.specs.RoomFacts.{RoomFact, Posted, Ended}
 use Rattle.request_room.specs.declared.ends.End.{End}
-use Rattle.request_room.specs.declared.quotes.StandingQuote.{StandingQuote as PostedQuote}
+use Rattle.request_room.specs.declared.quotes.PostedQuote.{PostedQuote}
 use Rattle.step_replay.specs.DealerTrail.{DealerEntry, AtDesk, Sent}
 use Rattle.step_replay.specs.InvestorTrail.{InvestorEntry, AtDesk as AtInvestorsDesk}
 use Rattle.step_replay.specs.InvestorTrail.{Sent as SentToInvestor}

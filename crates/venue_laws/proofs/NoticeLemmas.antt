@@ -28,7 +28,7 @@ use Rattle.dealer_desk.specs.declared.verdicts.DealerVerdict.{DealerVerdict}
 use Rattle.dealer_desk.specs.declared.verdicts.DealerVerdict.TheVariants as verdict
 use Rattle.dealer_desk.specs.declared.events.DealerEvent.{DealerEvent}
 use Rattle.dealer_desk.specs.declared.events.DealerEvent.TheVariants as event
-use Rattle.step_replay.specs.Actions.{answer_of, drop_at}
+use Rattle.step_replay.specs.Actions.{settlement_of, drop_at}
 use Rattle.step_replay.specs.AuditTrail.{audit_trail}
 use Rattle.step_replay.specs.DealerTrail.{DealerEntry, AtDesk, ShownIn, Lifted, Sent, book_by}
 use Rattle.step_replay.specs.DealerTrail.{entries_of, message_by, facts_of, fact_in}
@@ -366,44 +366,44 @@ module _ (Q : DealerFact → Type 0)
     (withdrawn : (quote : ℕ) (how : Withdrawal) → Q (Withdrawn quote how))
     (late : (quote : ℕ) → Q (Late quote)) (quoted : (quote : AcceptedQuote) → Q (Quoted quote))
     (declined : (request : ℕ) → Q (Declined request)) where
-  answers_each : (quote : ℕ) (how : Withdrawal) (answer : Option Settled)
-      → Every Q (answer_facts quote how answer)
+  answers_each : (quote : ℕ) (how : Withdrawal) (settlement : Option Settled)
+      → Every Q (answer_facts quote how settlement)
   answers_each quote how None = tt
   answers_each quote how (Some settled.Withdrawn) = (withdrawn quote how, tt)
   answers_each quote how (Some settled.Lifted) = (late quote, tt)
 
-  pub settled_each : (asked : Option ℕ) (how : Withdrawal) (answer : Option Settled)
-      → Every Q (settled_facts asked how answer)
-  settled_each None how answer = tt
-  settled_each (Some quote) how answer = answers_each quote how answer
+  pub settled_each : (asked : Option ℕ) (how : Withdrawal) (settlement : Option Settled)
+      → Every Q (settled_facts asked how settlement)
+  settled_each None how settlement = tt
+  settled_each (Some quote) how settlement = answers_each quote how settlement
 
   kept_each : (b : Bool) (quote : AcceptedQuote) → Every Q (if b then Quoted quote ∷ [] else [])
   kept_each true quote = (quoted quote, tt)
   kept_each false quote = tt
 
-  pub verdict_each : (v : DealerVerdict) (answer : Option Settled)
-      → Every Q (verdict_facts v answer)
-  verdict_each (verdict.QuoteAccepted request id quote replaced) answer =
-      every_both Q (settled_facts replaced by.Replacement answer)
-      (if goes_through replaced answer then Quoted quote ∷ [] else [])
-      (settled_each replaced by.Replacement answer)
-      (kept_each (goes_through replaced answer) quote)
-  verdict_each (verdict.CancelAccepted id quote request) answer =
-      answers_each quote by.Cancel answer
-  verdict_each (verdict.DeclineAccepted request number) answer = (declined number, tt)
-  verdict_each other answer = tt
+  pub verdict_each : (v : DealerVerdict) (settlement : Option Settled)
+      → Every Q (verdict_facts v settlement)
+  verdict_each (verdict.QuoteAccepted request id quote replaced) settlement =
+      every_both Q (settled_facts replaced by.Replacement settlement)
+      (if goes_through replaced settlement then Quoted quote ∷ [] else [])
+      (settled_each replaced by.Replacement settlement)
+      (kept_each (goes_through replaced settlement) quote)
+  verdict_each (verdict.CancelAccepted id quote request) settlement =
+      answers_each quote by.Cancel settlement
+  verdict_each (verdict.DeclineAccepted request number) settlement = (declined number, tt)
+  verdict_each other settlement = tt
 
-pub settled_silent : (asked : Option ℕ) (how : Withdrawal) (answer : Option Settled)
-    → Every (λ fact. told_in fact ≡ None) (settled_facts asked how answer)
-settled_silent asked how answer =
+pub settled_silent : (asked : Option ℕ) (how : Withdrawal) (settlement : Option Settled)
+    → Every (λ fact. told_in fact ≡ None) (settled_facts asked how settlement)
+settled_silent asked how settlement =
     settled_each (λ fact. told_in fact ≡ None) (λ quote how. refl) (λ quote. refl) (λ quote. refl)
-    (λ request. refl) asked how answer
+    (λ request. refl) asked how settlement
 
-pub verdict_silent : (v : DealerVerdict) (answer : Option Settled)
-    → Every (λ fact. told_in fact ≡ None) (verdict_facts v answer)
-verdict_silent v answer =
+pub verdict_silent : (v : DealerVerdict) (settlement : Option Settled)
+    → Every (λ fact. told_in fact ≡ None) (verdict_facts v settlement)
+verdict_silent v settlement =
     verdict_each (λ fact. told_in fact ≡ None) (λ quote how. refl) (λ quote. refl) (λ quote. refl)
-    (λ request. refl) v answer
+    (λ request. refl) v settlement
 
 -- Events.
 
@@ -517,8 +517,8 @@ module _ (date : List ℕ) (row : DealerRow) where
   noticed_is_kept = record {
     own = λ trail moment bytes before.
         let v = dealer_verdict date row (book_by trail) moment bytes in
-        event_noticed trail (event.Own moment bytes (answer_of trail v)) before
-        (refl, verdict_silent v (answer_of trail v));
+        event_noticed trail (event.Received moment bytes (settlement_of trail v)) before
+        (refl, verdict_silent v (settlement_of trail v));
     drop = λ trail last moment before.
         event_noticed trail (drop_at trail last moment) before
         (refl, settled_silent (number_to_drop (book_by trail) last) by.Cancel _);

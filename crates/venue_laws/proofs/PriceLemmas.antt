@@ -15,8 +15,8 @@ use Rattle.investor_desk.specs.InvestorOutput.{market_for}
 use Rattle.step_replay.specs.DealerTrail.{DealerEntry, AtDesk, Lifted, book_by}
 use Rattle.step_replay.specs.DueList.{due_by, due_list}
 use Rattle.step_replay.specs.VenueFacts.{Fact, of_dealer}
-use Rattle.step_replay.specs.Actions.{Effect, dealer_of, done_by, done_for, said_by_dealer}
-use Rattle.step_replay.specs.Actions.{said_by_investor, duty_effect, message_effect, sweep_effect}
+use Rattle.step_replay.specs.Actions.{Effect, dealer_of, done_by, done_for, received_by_dealer}
+use Rattle.step_replay.specs.Actions.{received_by_investor, duty_effect, message_effect, sweep_effect}
 use Rattle.step_replay.specs.AuditTrail.{AuditTrail, Caused, no_steps, duty_of, is_same_actor}
 use Rattle.step_replay.specs.AuditTrail.{pending, with_effect, after_turn, after_step, audit_trail}
 use Rattle.step_replay.specs.AuditTrail.{due_to}
@@ -162,12 +162,12 @@ module _ (config : Configuration) (own : ℕ) where
   message_is : (facts : List Fact) (firm moment : ℕ) (bytes : List ℕ) (row : DealerRow)
       → dealer_numbered config firm ≡ Some row
       → message_effect config facts firm moment bytes
-      ≡ said_by_dealer config facts moment bytes (dealer_of firm row)
+      ≡ received_by_dealer config facts moment bytes (dealer_of firm row)
   unfolding message_effect
   message_is facts firm moment bytes row is =
       ap (λ (o : Option DealerRow). if is_some o
-      then done_by (option_map (dealer_of firm) o) (said_by_dealer config facts moment bytes)
-      else done_for (market_for config firm) (said_by_investor facts moment bytes)) is
+      then done_by (option_map (dealer_of firm) o) (received_by_dealer config facts moment bytes)
+      else done_for (market_for config firm) (received_by_investor facts moment bytes)) is
 
   -- that frames are read
   module _ (reads : (bytes : List ℕ) (fields : List Field) → IsFrame bytes fields
@@ -188,7 +188,7 @@ module _ (config : Configuration) (own : ℕ) where
         (subst (λ (e : Effect). AreAlike own e (message_effect config known firm moment others))
         (sym (message_is one.facts firm moment bytes row is))
         (subst (λ (e : Effect). AreAlike own
-        (said_by_dealer config one.facts moment bytes (dealer_of firm row)) e)
+        (received_by_dealer config one.facts moment bytes (dealer_of firm row)) e)
         (sym (message_is known firm moment others row is))
         (said_alike config own one.facts moment bytes others (dealer_of firm row)
         (verdicts_alike config config.date row (book_by (of_dealer firm one.facts)) moment

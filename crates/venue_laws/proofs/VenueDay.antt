@@ -34,7 +34,7 @@ use Rattle.investor_desk.specs.declared.events.InvestorEvent.TheVariants as at_i
 use Rattle.investor_desk.specs.declared.standing.ShownOffer.{ShownOffer}
 use Rattle.investor_desk.specs.declared.verdicts.InvestorVerdict.{InvestorVerdict}
 use Rattle.investor_desk.specs.declared.verdicts.InvestorVerdict.TheVariants as verdict
-use Rattle.step_replay.specs.Actions.{done_for, left_by_investor, message_effect, said_by_investor}
+use Rattle.step_replay.specs.Actions.{done_for, left_by_investor, message_effect, received_by_investor}
 use Rattle.step_replay.specs.Actions.{duty_effect, sweep_effect}
 use Rattle.step_replay.specs.AuditTrail.{AuditTrail, after_step, after_turn, audit_trail, no_steps}
 use Rattle.step_replay.specs.AuditTrail.{is_same_actor, pending}
@@ -164,13 +164,13 @@ module _ (config : Configuration) where
     said_at_market : (firm moment : ℕ) (bytes : List ℕ) (found : Option InvestorRow)
         → Brings config venue (actor.Firm firm) before
         (done_for (option_map (market_of config firm) found)
-        (said_by_investor venue.facts moment bytes))
+        (received_by_investor venue.facts moment bytes))
     said_at_market firm moment bytes None = nothing_brings config venue (actor.Firm firm) before
     said_at_market firm moment bytes (Some row) =
         let market_too = market_of config firm row in
         let book = investor_trail.book_by (of_investor firm venue.facts) in
         market_brings config venue (actor.Firm firm) before market_too
-        (at_investor.Own moment bytes)
+        (at_investor.Received moment bytes)
         (left_by_investor venue.facts moment bytes market_too)
         (left_fine firm row book moment _ (actor.Firm firm)
         (investor_verdict market_too book moment bytes)

@@ -41,9 +41,9 @@ use Rattle.dealer_desk.specs.declared.standing.StandingRequest.{StandingRequest}
 use Rattle.dealer_desk.specs.declared.standing.Withdrawal.TheVariants as by_way
 use Rattle.dealer_desk.specs.declared.verdicts.DealerVerdict.{DealerVerdict}
 use Rattle.dealer_desk.specs.declared.verdicts.DealerVerdict.TheVariants as verdict
-use Rattle.step_replay.specs.Actions.{Effect, answer_of, answer_to_drop, dealer_of}
+use Rattle.step_replay.specs.Actions.{Effect, settlement_of, answer_to_drop, dealer_of}
 use Rattle.step_replay.specs.Actions.{drop_at, dropped_by, left_by, left_by_drop, nothing}
-use Rattle.step_replay.specs.Actions.{said_by_dealer}
+use Rattle.step_replay.specs.Actions.{received_by_dealer}
 use Rattle.step_replay.specs.AuditTrail.{AuditTrail}
 use Rattle.step_replay.specs.DealerTrail.{AtDesk, DealerEntry, Sent, ShownIn, book_by, entries_of}
 use Rattle.step_replay.specs.DealerTrail.{fact_in, facts_of, message_by, rooms_by}
@@ -248,38 +248,38 @@ module _ (config : Configuration) (venue : AuditTrail) where
           unready = refl;
         }
 
-    said_fine : (moment : ℕ) (v : DealerVerdict) (answer : Option Settled) → AcceptOk row v
-        → ((quote : AcceptedQuote) → In (Quoted quote) (verdict_facts v answer)
+    said_fine : (moment : ℕ) (v : DealerVerdict) (settlement : Option Settled) → AcceptOk row v
+        → ((quote : AcceptedQuote) → In (Quoted quote) (verdict_facts v settlement)
         → In (Quoted quote) (facts_of (of_dealer dealer now)))
-        → Every FineNow (option_to_list (verdict_duty (rooms_by (trail_of dealer)) moment v answer))
-    said_fine moment (verdict.QuoteAccepted name id quote replaced) answer accepts quoted =
-        if_fine (goes_through replaced answer)
+        → Every FineNow (option_to_list (verdict_duty (rooms_by (trail_of dealer)) moment v settlement))
+    said_fine moment (verdict.QuoteAccepted name id quote replaced) settlement accepts quoted =
+        if_fine (goes_through replaced settlement)
         (room_of (rooms_by (trail_of dealer)) quote.request) (post_of quote)
         (λ room goes found. post_fine quote room accepts.0 accepts.1
-        (quoted quote (in_right (Quoted quote) (settled_facts replaced by_way.Replacement answer) _
+        (quoted quote (in_right (Quoted quote) (settled_facts replaced by_way.Replacement settlement) _
         (subst (λ (b : Bool). In (Quoted quote) (if b then Quoted quote ∷ [] else [])) (sym goes)
         (inl refl)))) found)
-    said_fine moment (verdict.CancelAccepted id quote request) answer accepts quoted =
-        if_fine (is_withdrawn answer) (room_of (rooms_by (trail_of dealer)) request)
+    said_fine moment (verdict.CancelAccepted id quote request) settlement accepts quoted =
+        if_fine (is_withdrawn settlement) (room_of (rooms_by (trail_of dealer)) request)
         (λ room. duty.Unpost room quote moment)
         (λ room goes found.
         plain_fine config now (actor.Firm dealer) (duty.Unpost room quote moment)
         refl)
-    said_fine moment (verdict.DeclineAccepted name number) answer accepts quoted =
+    said_fine moment (verdict.DeclineAccepted name number) settlement accepts quoted =
         map_fine (room_of (rooms_by (trail_of dealer)) number) (λ room. duty.Decline room moment)
         (λ room. plain_fine config now (actor.Firm dealer) (duty.Decline room moment) refl)
-    said_fine moment (verdict.DropsFollow last) answer accepts quoted =
+    said_fine moment (verdict.DropsFollow last) settlement accepts quoted =
         (plain_fine config now (actor.Firm dealer) (duty.Drop last moment) refl, tt)
-    said_fine moment other answer accepts quoted = tt
+    said_fine moment other settlement accepts quoted = tt
 
     -- A drop.
 
-    dropped_fine : (moment : ℕ) (answer : Option Settled) (own : Option StandingQuote)
+    dropped_fine : (moment : ℕ) (settlement : Option Settled) (own : Option StandingQuote)
         → Every FineNow (option_to_list
-        (unpost_dropped (rooms_by (trail_of dealer)) moment answer own))
-    dropped_fine moment answer None = tt
-    dropped_fine moment answer (Some own) =
-        if_fine (is_withdrawn answer) (room_of (rooms_by (trail_of dealer)) own.quote.request)
+        (unpost_dropped (rooms_by (trail_of dealer)) moment settlement own))
+    dropped_fine moment settlement None = tt
+    dropped_fine moment settlement (Some own) =
+        if_fine (is_withdrawn settlement) (room_of (rooms_by (trail_of dealer)) own.quote.request)
         (λ room. duty.Unpost room own.quote.number moment)
         (λ room goes found. plain_fine config now (actor.Firm dealer)
         (duty.Unpost room own.quote.number moment) refl)
@@ -297,16 +297,16 @@ module _ (config : Configuration) (venue : AuditTrail) where
     BringsOwn effect = Brings config venue (actor.Firm dealer) before effect
 
     pub said_brings : (moment : ℕ) (bytes : List ℕ)
-        → BringsOwn (said_by_dealer config venue.facts moment bytes (dealer_of dealer row))
+        → BringsOwn (received_by_dealer config venue.facts moment bytes (dealer_of dealer row))
     unfolding entries_of event_facts
     said_brings moment bytes =
         if_brings config venue (actor.Firm dealer) before _ _ nothing
         (desk_plain config venue (actor.Firm dealer) before dealer row more
         (left_by trail moment v) entries is refl
-        (event_plain facts messages (refl, verdict_silent v answer))
+        (event_plain facts messages (refl, verdict_silent v settlement))
         (said_fine dealer row (before.desks dealer row is).numbered now
         (λ room number found. number_for_grown venue.facts (map (AtDealer dealer) entries) dealer
-        room number found) is moment v answer (verdict_accepts row (facts_of trail) moment
+        room number found) is moment v settlement (verdict_accepts row (facts_of trail) moment
         config.date bytes)
         (λ quote quoted. subst (In (Quoted quote)) (sym (facts_with dealer facts [] messages))
         (in_right (Quoted quote) (facts_of trail) facts
@@ -319,15 +319,15 @@ module _ (config : Configuration) (venue : AuditTrail) where
         v : DealerVerdict
         v = dealer_verdict config.date row (book_by trail) moment bytes
 
-        answer : Option Settled
-        answer = answer_of trail v
+        settlement : Option Settled
+        settlement = settlement_of trail v
 
         more : DealerEvent
-        more = event.Own moment bytes answer
+        more = event.Received moment bytes settlement
 
         facts : List DealerFact
         facts = Came moment bytes (uses_number v)
-            ∷ verdict_facts v answer
+            ∷ verdict_facts v settlement
 
         messages : List (List ℕ)
         messages = option_to_list (message_by config.date row trail more)
@@ -345,9 +345,9 @@ module _ (config : Configuration) (venue : AuditTrail) where
         if_brings config venue (actor.Firm dealer) before _ _ nothing
         (desk_plain config venue (actor.Firm dealer) before dealer row more
         (left_by_drop config venue.facts last moment (dealer_of dealer row)) entries is refl
-        (event_plain facts messages (refl, settled_silent asked by_way.Cancel answer))
+        (event_plain facts messages (refl, settled_silent asked by_way.Cancel settlement))
         (every_both (Fine config now (actor.Firm dealer)) _ _
-        (dropped_fine dealer row numbered now stay is moment answer
+        (dropped_fine dealer row numbered now stay is moment settlement
         (quote_to_drop (book_by trail) last))
         (further_fine dealer row numbered now stay is _ last moment)))
         (nothing_brings config venue (actor.Firm dealer) before)
@@ -361,14 +361,14 @@ module _ (config : Configuration) (venue : AuditTrail) where
         asked : Option ℕ
         asked = number_to_drop (book_by trail) last
 
-        answer : Option Settled
-        answer = answer_to_drop trail last
+        settlement : Option Settled
+        settlement = answer_to_drop trail last
 
         more : DealerEvent
         more = drop_at trail last moment
 
         facts : List DealerFact
-        facts = Dropped last moment ∷ settled_facts asked by_way.Cancel answer
+        facts = Dropped last moment ∷ settled_facts asked by_way.Cancel settlement
 
         messages : List (List ℕ)
         messages = option_to_list (message_by config.date row trail more)

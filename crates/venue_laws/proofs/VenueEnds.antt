@@ -22,7 +22,7 @@ use Rattle.request_room.specs.Book.{is_past_deadline, may_expire, passed, quote_
 use Rattle.request_room.specs.Book.{reply_of, takes_out, where_so}
 use Rattle.request_room.specs.declared.ends.End.{End}
 use Rattle.request_room.specs.declared.events.RoomEvent.TheVariants as at_room
-use Rattle.request_room.specs.declared.quotes.StandingQuote.{StandingQuote as BookQuote}
+use Rattle.request_room.specs.declared.quotes.PostedQuote.{PostedQuote as BookQuote}
 use Rattle.request_room.specs.declared.requests.RoomRequest.{RoomRequest}
 use Rattle.venue_steps.specs.RoomSteps.{close_for, dealers_of, duties_of_expire}
 use Rattle.venue_steps.specs.RoomSteps.{duties_of_pass, is_winner, is_cover, reply_to_pass, told_in}
@@ -65,9 +65,9 @@ ok_same one other is = ap value is
     value (Ok end) = end
     value (Err why) = one
 
-awards : (facts : List RoomFact) (word moment : ℕ) (answer : Option Settled) (award : End)
-    → hit_outcome facts word moment answer ≡ Ok award → Awards facts word moment award
-awards facts word moment answer award is =
+awards : (facts : List RoomFact) (word moment : ℕ) (settlement : Option Settled) (award : End)
+    → hit_outcome facts word moment settlement ≡ Ok award → Awards facts word moment award
+awards facts word moment settlement award is =
     by_refusal (hit_refusal facts word moment) refl is
   where
     by_lift : (b : Bool) → hit_refusal facts word moment ≡ None
@@ -80,10 +80,10 @@ awards facts word moment answer award is =
     by_lift false none found = cc
 
     by_refusal : (refused : Option HitRefusal) → hit_refusal facts word moment ≡ refused
-        → hit_settled refused answer (award_of facts word) ≡ Ok award
+        → hit_settled refused settlement (award_of facts word) ≡ Ok award
         → Awards facts word moment award
     by_refusal (Some why) refused found = cc
-    by_refusal None refused found = by_lift (is_lift answer) refused found
+    by_refusal None refused found = by_lift (is_lift settlement) refused found
 
 -- a quote of the book was posted
 posted_fact : (P : RoomFact → Type 0) (word : ℕ) (facts : List RoomFact) (quote : BookQuote)
@@ -270,13 +270,13 @@ module _ (config : Configuration) (venue : AuditTrail) (before : VenueOk config 
         (duties_of_pass (known_in room) room response moment)
         (by_test (is_open (known_in room)) refl)
       where
-        answer : Duty
-        answer = duty.Answer room response (reply_to_pass (is_open (known_in room))) moment
+        reply : Duty
+        reply = duty.Answer room response (reply_to_pass (is_open (known_in room))) moment
 
         effect : Bool → Effect
         effect b = record {
           facts = in_place room (where_so b (Ended passed moment));
-          duties = answer ∷ (if b then told_in (known_in room) room passed moment else []);
+          duties = reply ∷ (if b then told_in (known_in room) room passed moment else []);
         }
 
         never : (dealer : ℕ) → close_for passed dealer ≡ closes.Hit → {A : Type 0} → A
@@ -284,11 +284,11 @@ module _ (config : Configuration) (venue : AuditTrail) (before : VenueOk config 
 
         by_test : (b : Bool) → is_open (known_in room) ≡ b → BringsHere (effect b)
         by_test true is =
-            ended_brings room passed moment answer refl [] tt (none_here room) is
+            ended_brings room passed moment reply refl [] tt (none_here room) is
             (λ dealer hit. never dealer hit)
         by_test false is =
-            room_brings config venue before by room [] (answer ∷ []) tt
-            (plain_fine config _ by answer refl, tt)
+            room_brings config venue before by room [] (reply ∷ []) tt
+            (plain_fine config _ by reply refl, tt)
 
     pub expired_brings : (room : RoomRef) (moment : ℕ)
         → BringsHere (sweep_effect config venue.facts room moment)
@@ -402,11 +402,11 @@ module _ (config : Configuration) (venue : AuditTrail) (before : VenueOk config 
             (lift quote stood.1))
 
     pub hit_brings : (room : RoomRef) (response : ResponseRef) (word moment : ℕ)
-        (answer : Option Settled)
-        → BringsHere (hit_with config venue.facts room response word moment answer)
+        (settlement : Option Settled)
+        → BringsHere (hit_with config venue.facts room response word moment settlement)
     unfolding event_facts hit_refusal
-    hit_brings room response word moment answer =
-        by_outcome (hit_outcome (known_in room) word moment answer) refl
+    hit_brings room response word moment settlement =
+        by_outcome (hit_outcome (known_in room) word moment settlement) refl
       where
         replied : Result End HitRefusal → Duty
         replied outcome = duty.Answer room response (reply_of outcome) moment
@@ -429,10 +429,10 @@ module _ (config : Configuration) (venue : AuditTrail) (before : VenueOk config 
             is_so false is = cc
 
         by_outcome : (outcome : Result End HitRefusal)
-            → hit_outcome (known_in room) word moment answer ≡ outcome
+            → hit_outcome (known_in room) word moment settlement ≡ outcome
             → BringsHere (effect outcome)
         by_outcome (Ok award) is =
-            let so = awards (known_in room) word moment answer award is in
+            let so = awards (known_in room) word moment settlement award is in
             ended_brings room award moment (replied (Ok award)) refl
             (lifting (quote_with_word config word) (Ok award))
             (lifting_plain (quote_with_word config word) (Ok award))

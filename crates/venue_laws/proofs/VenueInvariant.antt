@@ -19,7 +19,7 @@ use Rattle.request_room.specs.RoomFacts.{RoomFact, Opened, Readied, Posted, Ende
 use Rattle.request_room.specs.RoomFacts.{request_of, end_of, is_ready, is_named, is_readied}
 use Rattle.request_room.specs.RoomFacts.{ended_as, opened_for}
 use Rattle.request_room.specs.declared.ends.End.{End}
-use Rattle.request_room.specs.declared.quotes.StandingQuote.{StandingQuote as BookQuote}
+use Rattle.request_room.specs.declared.quotes.PostedQuote.{PostedQuote as BookQuote}
 use Rattle.request_room.specs.declared.requests.RoomRequest.{RoomRequest}
 use Rattle.venue_steps.specs.RoomSteps.{close_for}
 use Rattle.step_replay.specs.Actions.{dealer_of, word_for}

@@ -8,7 +8,7 @@ use Rattle.market_terms.specs.declared.duties.Duty.TheVariants as duty
 use Rattle.market_terms.specs.declared.rooms.RoomRef.{RoomRef}
 use Rattle.venue_rows.specs.Rows.{Configuration, dealer_numbered}
 use Rattle.venue_rows.specs.declared.dealer_rows.DealerRow.{DealerRow}
-use Rattle.venue_steps.specs.InvestorSteps.{answers}
+use Rattle.venue_steps.specs.InvestorSteps.{replies_to}
 use Rattle.step_replay.specs.Actions.{Dealer, Effect, acting_dealer, dealer_at, dealer_of, done_by}
 use Rattle.step_replay.specs.Actions.{duty_effect, nothing, quote_asked, answer_to_hit}
 use Rattle.step_replay.specs.Actions.{dropped_by, shown_to, told_to}
@@ -225,7 +225,7 @@ module _ (lone : LoneQuotes) (config : Configuration) where
       }
       turn_does (duty.Answer room response reply moment) ok front order done = record {
         brings = investor_brings config venue by before _ _ (λ market.
-            if_brings config venue by before (answers response.k reply) _ nothing
+            if_brings config venue by before (replies_to response.k reply) _ nothing
             (known_brings config venue by before room.n response.k _ market)
             (nothing_brings config venue by before));
         done = tt;

@@ -6,7 +6,7 @@ use Rattle.quote_word.specs.declared.settled.Settled.{Settled}
 use Rattle.venue_rows.specs.declared.dealer_rows.DealerRow.{DealerRow}
 use Rattle.dealer_desk.specs.DealerFacts.{DealerFact, Came, Dropped, DealerBook, number_to_drop}
 use Rattle.dealer_desk.specs.DealerRules.{dealer_verdict}
-use Rattle.dealer_desk.specs.DealerOutput.{word_asked, answered_word}
+use Rattle.dealer_desk.specs.DealerOutput.{word_asked, settled_word}
 use Rattle.step_replay.specs.DealerTrail.{DealerEntry, AtDesk, book_by}
 use Rattle.step_replay.specs.DealerView.{answer_to, view_after}
 use Rattle.step_replay.specs.DueList.{due_list}
@@ -25,16 +25,16 @@ asked_at date row before (AtDesk fact) = asked_by_fact date row (book_by before)
 asked_at date row before entry = None
 
 -- the quote whose word an entry says was answered, and the answer
-abbrev pub answer_in : DealerEntry → Option (ℕ × Settled)
-answer_in (AtDesk fact) = answered_word fact
-answer_in entry = None
+abbrev pub settlement_in : DealerEntry → Option (ℕ × Settled)
+settlement_in (AtDesk fact) = settled_word fact
+settlement_in entry = None
 
 -- the first answer that stands in some entries
-abbrev pub next_answer : List DealerEntry → Option (ℕ × Settled)
-next_answer [] = None
-next_answer (entry ∷ later) = option_or (answer_in entry) (next_answer later)
+abbrev pub next_settlement : List DealerEntry → Option (ℕ × Settled)
+next_settlement [] = None
+next_settlement (entry ∷ later) = option_or (settlement_in entry) (next_settlement later)
 
 -- what the dealer view of a trail so far answers of a quote's word: lifted exactly where a lifting
 -- of the quote that counts stands in its due list, else withdrawn
-abbrev pub answer_by_view : List ℕ → DealerRow → List DealerEntry → ℕ → Settled
-answer_by_view date row before quote = answer_to (view_after date row (due_list before)) quote
+abbrev pub settlement_by_view : List ℕ → DealerRow → List DealerEntry → ℕ → Settled
+settlement_by_view date row before quote = answer_to (view_after date row (due_list before)) quote

@@ -15,7 +15,7 @@ use Rattle.investor_desk.specs.InvestorFacts.{knows}
 use Rattle.investor_desk.specs.InvestorOutput.{market_for}
 use Rattle.investor_desk.specs.InvestorRules.{InvestorMarket}
 use Rattle.request_room.specs.RoomFacts.{hears, is_opening, is_vacant}
-use Rattle.venue_steps.specs.InvestorSteps.{answers}
+use Rattle.venue_steps.specs.InvestorSteps.{replies_to}
 use Rattle.venue_steps.specs.RoomSteps.{hit_word}
 use Rattle.venue_steps.specs.Words.{has_word}
 use Rattle.step_replay.specs.Actions.{Dealer, acting_dealer, dealer_at, has_word_for, verdict_on}
@@ -93,9 +93,9 @@ is_known config facts room quote =
     holds_for (market_for config room.investor) (is_known_to facts room.n quote)
 
 -- whether a reply to a response may come to the investor of a room
-abbrev pub may_answer : Configuration → List Fact → RoomRef → ResponseRef → Reply → Bool
-may_answer config facts room response reply =
-    answers response.k reply && is_known config facts room response.k
+abbrev pub may_reply : Configuration → List Fact → RoomRef → ResponseRef → Reply → Bool
+may_reply config facts room response reply =
+    replies_to response.k reply && is_known config facts room response.k
 
 -- All duties.
 
@@ -120,7 +120,7 @@ is_met config facts actor (duty.Hit room response word moment) =
     may_hit config facts room word moment
 is_met config facts actor (duty.Pass room response moment) = is_room config room
 is_met config facts actor (duty.Answer room response reply moment) =
-    may_answer config facts room response reply
+    may_reply config facts room response reply
 is_met config facts actor (duty.Close room moment) = is_known config facts room None
 is_met config facts actor (duty.Tell dealer room close moment) =
     holds_for (dealer_at config dealer) (is_untold facts room)

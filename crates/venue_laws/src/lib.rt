@@ -6,7 +6,7 @@
 //!
 //! - [`price_law`]: where two days are one but for the prices of other dealers, what was due to a
 //!   dealer is one in both, but that Cover may stand against Done Away.
-//! - [`words_are_answered_as_the_view_says`]: a message or a drop that asks a quote's word is
+//! - [`words_are_settled_as_the_view_says`]: a message or a drop that asks a quote's word is
 //!   answered as the dealer view answers it.
 //! - [`notices_come_once_after_their_requests`], [`each_named_dealer_is_told_once`]: a closing
 //!   notice comes after its request was shown, and at most once; where no duty is left and a room
@@ -29,7 +29,7 @@ mod worked_days;
 pub use condition_laws::steps_meet_their_tests;
 pub use notice_laws::{
     a_hit_notice_names_the_lifted_quote, each_named_dealer_is_told_once,
-    notices_come_once_after_their_requests, words_are_answered_as_the_view_says,
+    notices_come_once_after_their_requests, words_are_settled_as_the_view_says,
 };
 pub use priced_days::definitions_give_the_priced_days;
 pub use prices::price_law;

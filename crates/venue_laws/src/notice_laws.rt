@@ -10,7 +10,8 @@ ghost use Rattle.dealer_desk.specs.DealerFacts.{Told};
 ghost use Rattle.request_room.specs.RoomFacts.{end_of, is_named};
 ghost use Rattle.request_room.specs.declared.ends.End.{End};
 ghost use Rattle.venue_steps.specs.RoomSteps.{close_for};
-ghost use Rattle.venue_laws.specs.Answers.{answer_by_view, answer_in, asked_at, next_answer};
+ghost use Rattle.venue_laws.specs.Answers.{settlement_by_view, settlement_in, asked_at};
+ghost use Rattle.venue_laws.specs.Answers.{next_settlement};
 ghost use Rattle.step_replay.specs.AuditTrail as venue;
 ghost use Rattle.step_replay.specs.DealerTrail.{AtDesk, DealerEntry};
 ghost use Rattle.venue_laws.specs.Notices.{IsToldOnce, NamesLiftedQuote, notices_of};
@@ -26,19 +27,19 @@ use dealer_desk::limits_are_kept;
 /// answer that stands behind it is of that quote, and it is *lifted* where a lifting of the quote
 /// that counts stands before it in what was due to the dealer, else *withdrawn*. No other answer
 /// stands anywhere in the dealer's trail. It does nothing.
-pub fn words_are_answered_as_the_view_says()
+pub fn words_are_settled_as_the_view_says()
     ensures asked { (config : Configuration) (steps : List Step) (dealer : ℕ) (row : DealerRow)
         (before after : List DealerEntry) (entry : DealerEntry) (quote : ℕ)
         → dealer_numbered config dealer ≡ Some row
         → of_dealer dealer (venue.audit_trail config steps).facts ≡ before ++ entry ∷ after
         → asked_at config.date row before entry ≡ Some quote
-        → next_answer after ≡ Some (quote, answer_by_view config.date row before quote) }
+        → next_settlement after ≡ Some (quote, settlement_by_view config.date row before quote) }
     ensures answered { (config : Configuration) (steps : List Step) (dealer : ℕ) (row : DealerRow)
-        (before after : List DealerEntry) (entry : DealerEntry) (quote : ℕ) (answer : Settled)
+        (before after : List DealerEntry) (entry : DealerEntry) (quote : ℕ) (settlement : Settled)
         → dealer_numbered config dealer ≡ Some row
         → of_dealer dealer (venue.audit_trail config steps).facts ≡ before ++ entry ∷ after
-        → answer_in entry ≡ Some (quote, answer)
-        → answer ≡ answer_by_view config.date row before quote }
+        → settlement_in entry ≡ Some (quote, settlement)
+        → settlement ≡ settlement_by_view config.date row before quote }
 {}
 
 /// A law: a closing notice of a request comes after the dealer was shown the request, and at most

@@ -11,8 +11,8 @@ use Rattle.venue_rows.specs.Rows.{Configuration, dealer_numbered, has_room, inve
 use Rattle.venue_places.specs.Dealers.{Dealer, acting_dealer, has_word_for, offer_of, word_for}
 use Rattle.venue_places.specs.Dealers.{words_of}
 use Rattle.venue_places.specs.declared.actors.Actor.{Actor}
-use Rattle.venue_places.specs.declared.arrivals.Arrival.{Arrival}
-use Rattle.venue_places.specs.declared.arrivals.Arrival.TheVariants as arrival
+use Rattle.venue_places.specs.declared.arrivals.Placement.{Placement}
+use Rattle.venue_places.specs.declared.arrivals.Placement.TheVariants as arrival
 use Rattle.venue_places.specs.declared.arrivals.ForDealer.{ForDealer}
 use Rattle.venue_places.specs.declared.arrivals.ForDealer.TheVariants as to_dealer
 use Rattle.venue_places.specs.declared.arrivals.ForInvestor.{ForInvestor}
@@ -21,7 +21,7 @@ use Rattle.venue_places.specs.declared.arrivals.ForRoom.{ForRoom}
 use Rattle.venue_places.specs.declared.arrivals.ForRoom.TheVariants as to_room
 
 -- something, where it may be
-abbrev pub where_so : Bool → Arrival → Option Arrival
+abbrev pub where_so : Bool → Placement → Option Placement
 where_so may coming = if may then Some coming else None
 
 -- a word, where the venue has it
@@ -31,33 +31,33 @@ word_within config word = if nat_lt word (words_of config) then Some word else N
 -- Places.
 
 -- at the desk of the dealer with this number
-abbrev pub at_dealer : Configuration → ℕ → ForDealer → Option Arrival
+abbrev pub at_dealer : Configuration → ℕ → ForDealer → Option Placement
 at_dealer config firm what =
     where_so (is_some (dealer_numbered config firm)) (arrival.Dealer firm what)
 
 -- at the desk of the investor with this number
-abbrev pub at_investor : Configuration → ℕ → ForInvestor → Option Arrival
+abbrev pub at_investor : Configuration → ℕ → ForInvestor → Option Placement
 at_investor config firm what =
     where_so (is_some (investor_numbered config firm)) (arrival.Investor firm what)
 
 -- in a room
-abbrev pub in_room : Configuration → RoomRef → ForRoom → Option Arrival
+abbrev pub in_room : Configuration → RoomRef → ForRoom → Option Placement
 in_room config room what =
     where_so (has_room config room.investor room.n) (arrival.Room room what)
 
 -- in a room that is hit
-abbrev pub hit_in : Configuration → RoomRef → ResponseRef → ℕ → ℕ → Option Arrival
+abbrev pub hit_in : Configuration → RoomRef → ResponseRef → ℕ → ℕ → Option Placement
 hit_in config room response word moment =
     where_so (has_room config room.investor room.n) (arrival.Hit room response word moment)
 
 -- The dealer that acts.
 
 -- what a dealer's act is, where a dealer acts
-abbrev pub by_dealer : Configuration → Actor → (Dealer → Option Arrival) → Option Arrival
+abbrev pub by_dealer : Configuration → Actor → (Dealer → Option Placement) → Option Placement
 by_dealer config by act = option_and_then act (acting_dealer config by)
 
 -- a post of its quote, where the venue has the quote's word
-abbrev pub posted : Configuration → RoomRef → ℕ → ℕ → Option ℕ → ℕ → Dealer → Option Arrival
+abbrev pub posted : Configuration → RoomRef → ℕ → ℕ → Option ℕ → ℕ → Dealer → Option Placement
 posted config room quote price valid_until moment dealer =
     if has_word_for config dealer quote
     then in_room config room
@@ -65,29 +65,29 @@ posted config room quote price valid_until moment dealer =
     else None
 
 -- an unpost of its quote, where the venue has the quote's word
-abbrev pub unposted : Configuration → RoomRef → ℕ → ℕ → Dealer → Option Arrival
+abbrev pub unposted : Configuration → RoomRef → ℕ → ℕ → Dealer → Option Placement
 unposted config room quote moment dealer =
     if has_word_for config dealer quote
     then in_room config room (to_room.Unpost dealer.number (word_for config dealer quote) moment)
     else None
 
 -- its decline of a request
-abbrev pub declines : Configuration → RoomRef → ℕ → Dealer → Option Arrival
+abbrev pub declines : Configuration → RoomRef → ℕ → Dealer → Option Placement
 declines config room moment dealer = in_room config room (to_room.Decline dealer.number moment)
 
 -- what the investor is told of its decline
-abbrev pub declined : Configuration → RoomRef → ℕ → Dealer → Option Arrival
+abbrev pub declined : Configuration → RoomRef → ℕ → Dealer → Option Placement
 declined config room moment dealer =
     at_investor config room.investor (to_investor.Declined room.n dealer.row.name moment)
 
 -- a drop of its next quote
-abbrev pub drops : ℕ → ℕ → Dealer → Option Arrival
+abbrev pub drops : ℕ → ℕ → Dealer → Option Placement
 drops last moment dealer = Some (arrival.Drop dealer.number last moment)
 
 -- The table.
 
 -- where a duty of an actor is done, and what comes to that place
-unfoldable pub placed : Configuration → Actor → Duty → Option Arrival
+unfoldable pub placed : Configuration → Actor → Duty → Option Placement
 placed config by (duty.Open room ask dealers moment) =
     in_room config room (to_room.Open ask dealers moment)
 placed config by (duty.Show dealer room ask moment) =
@@ -115,5 +115,5 @@ placed config by (duty.Tell dealer room close moment) =
 placed config by (duty.Drop last moment) = by_dealer config by (drops last moment)
 
 -- where a sweep comes
-abbrev pub swept : Configuration → RoomRef → ℕ → Option Arrival
+abbrev pub swept : Configuration → RoomRef → ℕ → Option Placement
 swept config room moment = in_room config room (to_room.Expire moment)

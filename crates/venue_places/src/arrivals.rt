@@ -6,7 +6,7 @@ use venue_rows::Name;
 /// What comes to a place of the venue, with the place. A drop and a hit ask a word there, where one
 /// is to be asked; nothing else does.
 #[derive(Drop)]
-pub enum Arrival {
+pub enum Placement {
     /// At a dealer's desk.
     Dealer {
         /// The dealer's number among the firms.

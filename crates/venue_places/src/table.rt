@@ -4,7 +4,7 @@ ghost use Rattle.venue_places.specs.Dealers.{dealer_of};
 ghost use Rattle.venue_places.specs.Placed as spec;
 
 use crate::actors::Actor;
-use crate::arrivals::{Arrival, ForDealer, ForInvestor, ForRoom};
+use crate::arrivals::{ForDealer, ForInvestor, ForRoom, Placement};
 use crate::words::word_of;
 use bond_prices::Ticks;
 use fix_fields::Moment;
@@ -14,7 +14,7 @@ use venue_rows::VenueConfig;
 /// Where a duty of an actor is done, and what comes to that place. It takes no memory.
 // Inlined, so that a duty is not moved for it.
 #[inline(always)]
-pub fn placed(config: &VenueConfig, by: Actor, duty: Duty) -> Option<Arrival>
+pub fn placed(config: &VenueConfig, by: Actor, duty: Duty) -> Option<Placement>
     ensures { result ≡ spec.placed config.now by duty }
 {
     match duty {
@@ -134,40 +134,40 @@ pub fn placed(config: &VenueConfig, by: Actor, duty: Duty) -> Option<Arrival>
 }
 
 /// Where a sweep comes. It takes no memory.
-pub fn swept(config: &VenueConfig, room: RoomRef, moment: Moment) -> Option<Arrival>
+pub fn swept(config: &VenueConfig, room: RoomRef, moment: Moment) -> Option<Placement>
     ensures { result ≡ spec.swept config.now room moment }
 {
     in_room(config, room, ForRoom::Expire { moment })
 }
 
 /// At the desk of a dealer.
-fn at_dealer(config: &VenueConfig, firm: u16, what: ForDealer) -> Option<Arrival>
+fn at_dealer(config: &VenueConfig, firm: u16, what: ForDealer) -> Option<Placement>
     ensures { result ≡ spec.at_dealer config.now firm what }
 {
     if config.dealer(firm).is_none() {
         return None;
     }
-    Some(Arrival::Dealer { firm, what })
+    Some(Placement::Dealer { firm, what })
 }
 
 /// At the desk of an investor.
-fn at_investor(config: &VenueConfig, firm: u16, what: ForInvestor) -> Option<Arrival>
+fn at_investor(config: &VenueConfig, firm: u16, what: ForInvestor) -> Option<Placement>
     ensures { result ≡ spec.at_investor config.now firm what }
 {
     if config.investor(firm).is_none() {
         return None;
     }
-    Some(Arrival::Investor { firm, what })
+    Some(Placement::Investor { firm, what })
 }
 
 /// In a room.
-fn in_room(config: &VenueConfig, room: RoomRef, what: ForRoom) -> Option<Arrival>
+fn in_room(config: &VenueConfig, room: RoomRef, what: ForRoom) -> Option<Placement>
     ensures { result ≡ spec.in_room config.now room what }
 {
     if !config.has_room(room.investor, room.n) {
         return None;
     }
-    Some(Arrival::Room { room, what })
+    Some(Placement::Room { room, what })
 }
 
 /// In a room that is hit.
@@ -177,13 +177,13 @@ fn hit_in(
     response: ResponseRef,
     word: u32,
     moment: Moment,
-) -> Option<Arrival>
+) -> Option<Placement>
     ensures { result ≡ spec.hit_in config.now room response word moment }
 {
     if !config.has_room(room.investor, room.n) {
         return None;
     }
-    Some(Arrival::Hit {
+    Some(Placement::Hit {
         room,
         response,
         word,
@@ -200,7 +200,7 @@ fn posted(
     price: Ticks,
     valid_until: Option<Moment>,
     moment: Moment,
-) -> Option<Arrival>
+) -> Option<Placement>
     ensures { result ≡ spec.by_dealer config.now by
         (spec.posted config.now room quote price valid_until moment) }
 {
@@ -233,7 +233,7 @@ fn unposted(
     room: RoomRef,
     quote: u32,
     moment: Moment,
-) -> Option<Arrival>
+) -> Option<Placement>
     ensures { result ≡ spec.by_dealer config.now by (spec.unposted config.now room quote moment) }
 {
     let Actor::Firm(dealer) = by else {
@@ -253,7 +253,7 @@ fn unposted(
 }
 
 /// The acting dealer's decline of a request.
-fn declines(config: &VenueConfig, by: Actor, room: RoomRef, moment: Moment) -> Option<Arrival>
+fn declines(config: &VenueConfig, by: Actor, room: RoomRef, moment: Moment) -> Option<Placement>
     ensures { result ≡ spec.by_dealer config.now by (spec.declines config.now room moment) }
 {
     let Actor::Firm(dealer) = by else {
@@ -264,7 +264,7 @@ fn declines(config: &VenueConfig, by: Actor, room: RoomRef, moment: Moment) -> O
 }
 
 /// What the investor is told of the acting dealer's decline.
-fn declined(config: &VenueConfig, by: Actor, room: RoomRef, moment: Moment) -> Option<Arrival>
+fn declined(config: &VenueConfig, by: Actor, room: RoomRef, moment: Moment) -> Option<Placement>
     ensures { result ≡ spec.by_dealer config.now by (spec.declined config.now room moment) }
 {
     let Actor::Firm(dealer) = by else {
@@ -280,14 +280,14 @@ fn declined(config: &VenueConfig, by: Actor, room: RoomRef, moment: Moment) -> O
 }
 
 /// A drop of the acting dealer's next quote.
-fn drops(config: &VenueConfig, by: Actor, last: u32, moment: Moment) -> Option<Arrival>
+fn drops(config: &VenueConfig, by: Actor, last: u32, moment: Moment) -> Option<Placement>
     ensures { result ≡ spec.by_dealer config.now by (spec.drops last moment) }
 {
     let Actor::Firm(dealer) = by else {
         return None;
     };
     let _row = config.dealer(dealer)?;
-    Some(Arrival::Drop {
+    Some(Placement::Drop {
         firm: dealer,
         last,
         moment,

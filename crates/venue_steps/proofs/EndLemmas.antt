@@ -143,46 +143,46 @@ unfolding hit_refusal
 open_at_hit facts word moment none = open_if (is_open facts) (open_checks facts word moment) none
 
 -- an award was refused by no check
-no_refusal : (refused : Option HitRefusal) (answer : Option Settled) (award end : End)
-    → hit_settled refused answer award ≡ Ok end → refused ≡ None
-no_refusal None answer award end is = refl
-no_refusal (Some refused) answer award end is = absurd (cc)
+no_refusal : (refused : Option HitRefusal) (settlement : Option Settled) (award end : End)
+    → hit_settled refused settlement award ≡ Ok end → refused ≡ None
+no_refusal None settlement award end is = refl
+no_refusal (Some refused) settlement award end is = absurd (cc)
 
-hit_adds : (facts : List RoomFact) (word moment : ℕ) (answer : Option Settled) (end : End)
-    → hit_outcome facts word moment answer ≡ Ok end
-    → event_facts facts (event.Hit word moment answer) ≡ Ended end moment ∷ []
+hit_adds : (facts : List RoomFact) (word moment : ℕ) (settlement : Option Settled) (end : End)
+    → hit_outcome facts word moment settlement ≡ Ok end
+    → event_facts facts (event.Hit word moment settlement) ≡ Ended end moment ∷ []
 unfolding event_facts
-hit_adds facts word moment answer end is = rw is refl
+hit_adds facts word moment settlement end is = rw is refl
 
-hit_told : (events new : List RoomEvent) (at : RoomRef) (word moment : ℕ) (answer : Option Settled) (outcome : Result End HitRefusal)
-    → hit_outcome (room_after events) word moment answer ≡ outcome
-    → new ≡ events ++ event.Hit word moment answer ∷ []
+hit_told : (events new : List RoomEvent) (at : RoomRef) (word moment : ℕ) (settlement : Option Settled) (outcome : Result End HitRefusal)
+    → hit_outcome (room_after events) word moment settlement ≡ outcome
+    → new ≡ events ++ event.Hit word moment settlement ∷ []
     → cond (is_award (reply_of outcome)) (told_of_end (room_after new) at moment) [] ≡ told_of_hit (room_after events) at moment outcome
-hit_told events new at word moment answer (Err refused) is more = refl
-hit_told events new at word moment answer (Ok award) is more =
+hit_told events new at word moment settlement (Err refused) is more = refl
+hit_told events new at word moment settlement (Ok award) is more =
     let facts = room_after events in
-    let none = no_refusal (hit_refusal facts word moment) answer (award_of facts word) award is in
+    let none = no_refusal (hit_refusal facts word moment) settlement (award_of facts word) award is in
     ap (λ (es : List RoomEvent). told_of_end (room_after es) at moment) more
-    ∙ told_after events (event.Hit word moment answer) award moment at moment (hit_adds facts word moment answer award is)
+    ∙ told_after events (event.Hit word moment settlement) award moment at moment (hit_adds facts word moment settlement award is)
     (not_ended facts (open_at_hit facts word moment none))
 
 -- the word was there, and was answered so
-was_asked : (has : Bool) (given answer : Option Settled) → cond has (Some given) None ≡ Some answer → (has ≡ true) × (given ≡ answer)
-was_asked true given answer is = (refl, ap (λ (o : Option (Option Settled)). unwrap_or o given) is)
-was_asked false given answer is = absurd (cc)
+was_asked : (has : Bool) (given settlement : Option Settled) → cond has (Some given) None ≡ Some settlement → (has ≡ true) × (given ≡ settlement)
+was_asked true given settlement is = (refl, ap (λ (o : Option (Option Settled)). unwrap_or o given) is)
+was_asked false given settlement is = absurd (cc)
 
-pub hit_duties_are : (events new : List RoomEvent) (at : RoomRef) (response : ResponseRef) (word moment : ℕ) (has : Bool) (given answer : Option Settled) (said : Reply) (items : List Duty)
-    → cond has (Some given) None ≡ Some answer
-    → said ≡ reply_of (hit_outcome (room_after events) word moment answer)
-    → new ≡ events ++ event.Hit word moment answer ∷ []
+pub hit_duties_are : (events new : List RoomEvent) (at : RoomRef) (response : ResponseRef) (word moment : ℕ) (has : Bool) (given settlement : Option Settled) (said : Reply) (items : List Duty)
+    → cond has (Some given) None ≡ Some settlement
+    → said ≡ reply_of (hit_outcome (room_after events) word moment settlement)
+    → new ≡ events ++ event.Hit word moment settlement ∷ []
     → items ≡ duty.Answer at response said moment ∷ cond (is_award said) (told_of_end (room_after new) at moment) []
     → items ≡ duties_of_hit (room_after events) at response word moment has given
-hit_duties_are events new at response word moment has given answer said items asked says more are =
+hit_duties_are events new at response word moment has given settlement said items asked says more are =
     let facts = room_after events in
-    let outcome = hit_outcome facts word moment answer in
-    let was = was_asked has given answer asked in
+    let outcome = hit_outcome facts word moment settlement in
+    let was = was_asked has given settlement asked in
     are
     ∙ ap (λ (s : Reply). duty.Answer at response s moment ∷ cond (is_award s) (told_of_end (room_after new) at moment) []) says
-    ∙ ap (λ (ds : List Duty). duty.Answer at response (reply_of outcome) moment ∷ ds) (hit_told events new at word moment answer outcome refl more)
+    ∙ ap (λ (ds : List Duty). duty.Answer at response (reply_of outcome) moment ∷ ds) (hit_told events new at word moment settlement outcome refl more)
     ∙ ap (λ (a : Option Settled). hit_duties facts at response moment (hit_outcome facts word moment a)) (sym was.1)
     ∙ sym (ap (λ (b : Bool). cond b (hit_duties facts at response moment (hit_outcome facts word moment given)) []) was.0)

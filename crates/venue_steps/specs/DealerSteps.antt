@@ -22,15 +22,16 @@ own_word first desk moment bytes =
 
 -- the desk after a message, where the row has the word that it asks
 abbrev pub desk_after_own : DeskEvents → ℕ → List ℕ → Bool → Option Settled → DeskEvents
-desk_after_own desk moment bytes has answer =
-    if has then with_event desk (event.Own moment bytes answer) else desk
+desk_after_own desk moment bytes has settlement =
+    if has then with_event desk (event.Received moment bytes settlement) else desk
 
 -- what a message leaves: a post, an unpost, a decline, the first drop of a cancel of all, or
 -- nothing
 abbrev pub duties_of_own : DeskEvents → ℕ → List ℕ → Bool → Option Settled → List Duty
-duties_of_own desk moment bytes has answer =
+duties_of_own desk moment bytes has settlement =
     if has
-    then option_to_list (verdict_duty (rooms_at desk) moment (verdict_at desk moment bytes) answer)
+    then option_to_list (verdict_duty (rooms_at desk) moment (verdict_at desk moment bytes)
+    settlement)
     else []
 
 -- A drop: the next quote of a cancel of all.
@@ -41,16 +42,18 @@ drop_word first desk last = option_map (word_of first) (number_to_drop (book_at 
 
 -- the desk after a drop, where the row has the word that it asks
 abbrev pub desk_after_drop : DeskEvents → ℕ → ℕ → Bool → Option Settled → DeskEvents
-desk_after_drop desk last moment has answer =
-    if has then with_event desk (event.Drop last moment answer) else desk
+desk_after_drop desk last moment has settlement =
+    if has then with_event desk (event.Drop last moment settlement) else desk
 
 -- what a drop leaves: the unpost of the quote where it is withdrawn, then the further drop where
 -- another quote is left
 abbrev pub duties_of_drop : DeskEvents → ℕ → ℕ → Bool → Option Settled → List Duty
-duties_of_drop desk last moment has answer =
+duties_of_drop desk last moment has settlement =
     if has
-    then option_to_list (unpost_dropped (rooms_at desk) moment answer (quote_to_drop (book_at desk) last))
-    ++ option_to_list (further_drop (book_at (with_event desk (event.Drop last moment answer))) last moment)
+    then option_to_list (unpost_dropped (rooms_at desk) moment settlement
+    (quote_to_drop (book_at desk) last))
+    ++ option_to_list (further_drop (book_at (with_event desk (event.Drop last moment settlement)))
+    last moment)
     else []
 
 -- A request that is shown.

@@ -19,7 +19,7 @@ use Rattle.investor_desk.specs.declared.events.InvestorEvent.TheVariants as even
 
 -- the desk after a message
 abbrev pub desk_after_own : DeskEvents → ℕ → List ℕ → DeskEvents
-desk_after_own desk moment bytes = with_event desk (event.Own moment bytes)
+desk_after_own desk moment bytes = with_event desk (event.Received moment bytes)
 
 -- what a message leaves: the opening of an accepted request's room, a hit, a pass, or nothing
 abbrev pub duties_of_own : DeskEvents → ℕ → List ℕ → List Duty
@@ -57,26 +57,26 @@ is_not_open NotOpen = true
 is_not_open refusal = false
 
 -- whether a reply answers a hit: it is awarded or refused
-abbrev pub answers_hit : Reply → Bool
-answers_hit reply.Awarded = true
-answers_hit reply.Passed = false
-answers_hit (reply.Refused refusal) = true
+abbrev pub replies_to_hit : Reply → Bool
+replies_to_hit reply.Awarded = true
+replies_to_hit reply.Passed = false
+replies_to_hit (reply.Refused refusal) = true
 
 -- whether a reply answers a pass: it is passed, or refused because the request is not open
-abbrev pub answers_pass : Reply → Bool
-answers_pass reply.Awarded = false
-answers_pass reply.Passed = true
-answers_pass (reply.Refused refusal) = is_not_open refusal
+abbrev pub replies_to_pass : Reply → Bool
+replies_to_pass reply.Awarded = false
+replies_to_pass reply.Passed = true
+replies_to_pass (reply.Refused refusal) = is_not_open refusal
 
 -- whether a reply answers a response, to this quote or to the request
-abbrev pub answers : Option ℕ → Reply → Bool
-answers (Some quote) reply = answers_hit reply
-answers None reply = answers_pass reply
+abbrev pub replies_to : Option ℕ → Reply → Bool
+replies_to (Some quote) reply = replies_to_hit reply
+replies_to None reply = replies_to_pass reply
 
 -- the desk after a hit or a pass is answered
 abbrev pub desk_after_answer : DeskEvents → ℕ → ResponseRef → Reply → ℕ → DeskEvents
 desk_after_answer desk request response reply moment =
-    where_so (knows (book_at desk) request response.k && answers response.k reply) desk
+    where_so (knows (book_at desk) request response.k && replies_to response.k reply) desk
     (event.Answered request response reply moment)
 
 -- the desk after a request expired

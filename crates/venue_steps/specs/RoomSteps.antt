@@ -146,8 +146,8 @@ word_asked_by (Err refused) = None
 abbrev pub hit_word : List RoomFact → ℕ → ℕ → Option ℕ
 hit_word facts word moment = word_asked_by (hit_question facts word moment)
 
--- what a hit leaves with the answer of its word: the investor is answered, then each named dealer
--- is told where the hit awards
+-- what a hit leaves with the settlement of its word: the investor is answered, then each named
+-- dealer is told where the hit awards
 abbrev pub hit_duties : List RoomFact → RoomRef → ResponseRef → ℕ → Result End HitRefusal
     → List Duty
 hit_duties facts at response moment outcome =
@@ -156,8 +156,9 @@ hit_duties facts at response moment outcome =
 -- the same, where the row has the word that the hit asks
 abbrev pub duties_of_hit : List RoomFact → RoomRef → ResponseRef → ℕ → ℕ → Bool → Option Settled
     → List Duty
-duties_of_hit facts at response word moment has answer =
-    if has then hit_duties facts at response moment (hit_outcome facts word moment answer) else []
+duties_of_hit facts at response word moment has settlement =
+    if has then hit_duties facts at response moment
+    (hit_outcome facts word moment settlement) else []
 
 -- what the investor is answered to a pass
 abbrev pub reply_to_pass : Bool → Reply

@@ -4,7 +4,7 @@ ghost use Rattle.std.specs.Prelude.{vec_len, vec_capacity};
 ghost use Rattle.std.specs.Option.{option_to_list};
 ghost use Rattle.dealer_desk.specs.DealerOutput.{number_in, rooms_at, with_notice_in};
 ghost use Rattle.venue_steps.specs.DealerSteps as spec;
-ghost use Rattle.venue_steps.specs.Words.{AsksAtMost, answer_in, has_word, word_to_ask};
+ghost use Rattle.venue_steps.specs.Words.{AsksAtMost, settlement_in, has_word, word_to_ask};
 
 use crate::Duties;
 use crate::words::{ask, word_of_asked};
@@ -31,20 +31,20 @@ pub fn own_dealer<W: Words>(
         Settled.Withdrawn words.new }
     ensures ok { OnOk result (desk.new ≡ spec.desk_after_own desk.old moment bytes.now
         (has_word (W.count words.old) (spec.own_word first_word desk.old moment bytes.now))
-        (answer_in (W.entry words.new) (spec.own_word first_word desk.old moment bytes.now))) }
+        (settlement_in (W.entry words.new) (spec.own_word first_word desk.old moment bytes.now))) }
     ensures duties { IfOk result (λ duties. duties.items ≡
         spec.duties_of_own desk.old moment bytes.now
         (has_word (W.count words.old) (spec.own_word first_word desk.old moment bytes.now))
-        (answer_in (W.entry words.new) (spec.own_word first_word desk.old moment bytes.now))) }
+        (settlement_in (W.entry words.new) (spec.own_word first_word desk.old moment bytes.now))) }
     ensures err { OnErr result (desk.new ≡ desk.old) }
 {
     let verdict = desk.judge(moment, bytes);
     let word = word_of_asked(first_word, verdict.word_asked());
-    let Some(answer) = ask(words, word, Settled::Withdrawn) else {
+    let Some(settlement) = ask(words, word, Settled::Withdrawn) else {
         return Ok(Duties::new(desk.alloc()));
     };
     let duties = Duties::with_capacity(desk.alloc(), 1)?;
-    let duty = desk.take_judged(moment, bytes, verdict, answer)?;
+    let duty = desk.receive_judged(moment, bytes, verdict, settlement)?;
     Ok(with_duty(duties, duty))
 }
 
@@ -66,19 +66,19 @@ pub fn do_drop<W: Words>(
         Settled.Withdrawn words.new }
     ensures ok { OnOk result (desk.new ≡ spec.desk_after_drop desk.old last moment
         (has_word (W.count words.old) (spec.drop_word first_word desk.old last))
-        (answer_in (W.entry words.new) (spec.drop_word first_word desk.old last))) }
+        (settlement_in (W.entry words.new) (spec.drop_word first_word desk.old last))) }
     ensures duties { IfOk result (λ duties. duties.items ≡
         spec.duties_of_drop desk.old last moment
         (has_word (W.count words.old) (spec.drop_word first_word desk.old last))
-        (answer_in (W.entry words.new) (spec.drop_word first_word desk.old last))) }
+        (settlement_in (W.entry words.new) (spec.drop_word first_word desk.old last))) }
     ensures err { OnErr result (desk.new ≡ desk.old) }
 {
     let word = word_of_asked(first_word, desk.question_drop(last));
-    let Some(answer) = ask(words, word, Settled::Withdrawn) else {
+    let Some(settlement) = ask(words, word, Settled::Withdrawn) else {
         return Ok(Duties::new(desk.alloc()));
     };
     let duties = Duties::with_capacity(desk.alloc(), 2)?;
-    let (unpost, further) = desk.drop_one(last, moment, answer)?;
+    let (unpost, further) = desk.drop_one(last, moment, settlement)?;
     Ok(with_duty(with_duty(duties, unpost), further))
 }
 

@@ -4,7 +4,7 @@ ghost use Rattle.std.specs.Prelude.{if◌then◌else◌, vec_capacity};
 ghost use Rattle.request_room.specs.Book.{room_after};
 ghost use Rattle.request_room.specs.declared.events.RoomEvent.TheVariants as event;
 ghost use Rattle.venue_steps.specs.RoomSteps as spec;
-ghost use Rattle.venue_steps.specs.Words.{AsksAtMost, answer_in, has_word, word_to_ask};
+ghost use Rattle.venue_steps.specs.Words.{AsksAtMost, settlement_in, has_word, word_to_ask};
 
 use crate::Duties;
 use crate::words::ask;
@@ -36,19 +36,19 @@ pub fn do_hit<W: Words>(
     ensures ok { OnOk result (room.new ≡ spec.where_done
         (has_word (W.count words.old) (spec.hit_word (room_after room.old) word moment)) room.old
         (event.Hit word moment
-        (answer_in (W.entry words.new) (spec.hit_word (room_after room.old) word moment)))) }
+        (settlement_in (W.entry words.new) (spec.hit_word (room_after room.old) word moment)))) }
     ensures duties { IfOk result (λ duties. duties.items ≡
         spec.duties_of_hit (room_after room.old) at response word moment
         (has_word (W.count words.old) (spec.hit_word (room_after room.old) word moment))
-        (answer_in (W.entry words.new) (spec.hit_word (room_after room.old) word moment))) }
+        (settlement_in (W.entry words.new) (spec.hit_word (room_after room.old) word moment))) }
     ensures err { OnErr result (room.new ≡ room.old) }
 {
     let asked = word_of_hit(room, word, moment);
-    let Some(answer) = ask(words, asked, Settled::Lifted) else {
+    let Some(settlement) = ask(words, asked, Settled::Lifted) else {
         return Ok(Duties::new(room.alloc()));
     };
     let duties = room_for_told(room)?;
-    let reply = room.hit(word, moment, answer)?;
+    let reply = room.hit(word, moment, settlement)?;
     let answered = Duty::Answer {
         room: at,
         response,

@@ -104,7 +104,7 @@ pub fn do_answer(
     ensures duties { IfOk result (λ duties. duties.items ≡ []) }
     ensures err { OnErr result (desk.new ≡ desk.old) }
 {
-    if !may_answer(desk, request, response.k, reply) {
+    if !may_reply(desk, request, response.k, reply) {
         return Ok(Duties::new(desk.alloc()));
     }
     desk.answered(request, response, reply, moment)?;
@@ -113,28 +113,28 @@ pub fn do_answer(
 
 /// Whether a desk knows a request and the quote, where one was hit, and the reply answers such a
 /// response.
-fn may_answer(desk: &InvestorDesk, request: u32, quote: Option<u64>, reply: Reply) -> bool
-    ensures { result ≡ knows (book_at desk.now) request quote && spec.answers quote reply }
+fn may_reply(desk: &InvestorDesk, request: u32, quote: Option<u64>, reply: Reply) -> bool
+    ensures { result ≡ knows (book_at desk.now) request quote && spec.replies_to quote reply }
 {
     if !desk.knows(request, quote) {
         return false;
     }
-    answers(quote, reply)
+    replies_to(quote, reply)
 }
 
 /// Whether a reply answers a response, to this quote or to the request.
-fn answers(quote: Option<u64>, reply: Reply) -> bool
-    ensures { result ≡ spec.answers quote reply }
+fn replies_to(quote: Option<u64>, reply: Reply) -> bool
+    ensures { result ≡ spec.replies_to quote reply }
 {
     match quote {
-        Some(_) => answers_hit(reply),
-        None => answers_pass(reply),
+        Some(_) => replies_to_hit(reply),
+        None => replies_to_pass(reply),
     }
 }
 
 /// Whether a reply answers a hit.
-fn answers_hit(reply: Reply) -> bool
-    ensures { result ≡ spec.answers_hit reply }
+fn replies_to_hit(reply: Reply) -> bool
+    ensures { result ≡ spec.replies_to_hit reply }
 {
     match reply {
         Reply::Awarded => true,
@@ -144,8 +144,8 @@ fn answers_hit(reply: Reply) -> bool
 }
 
 /// Whether a reply answers a pass.
-fn answers_pass(reply: Reply) -> bool
-    ensures { result ≡ spec.answers_pass reply }
+fn replies_to_pass(reply: Reply) -> bool
+    ensures { result ≡ spec.replies_to_pass reply }
 {
     match reply {
         Reply::Awarded => false,

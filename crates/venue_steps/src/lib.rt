@@ -24,7 +24,7 @@
 //!   vacant not opened, a dealer that is not named not heard, a word beyond the row not asked, an
 //!   investor not told of a request that was not accepted. Then nothing changes and no duty
 //!   follows.
-//! - It asks one word at most, and what it does is by the answer of that word.
+//! - It asks one word at most, and what it does is by the settlement of that word.
 //! - The duties that follow, in their order, are those of `specs/DealerSteps`,
 //!   `specs/InvestorSteps` and `specs/RoomSteps`, which say them for each step from the place as it
 //!   was.

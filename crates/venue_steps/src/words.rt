@@ -23,8 +23,8 @@ pub(crate) fn ask<W: Words>(
 ) -> Option<Option<Settled>>
     ensures words { spec.AsksAtMost W.settles W.entry words.old
         (spec.word_to_ask (W.count words.old) word) wish words.new }
-    ensures answer { result ≡ (if spec.has_word (W.count words.old) word
-        then Some (spec.answer_in (W.entry words.new) word) else None) }
+    ensures settlement { result ≡ (if spec.has_word (W.count words.old) word
+        then Some (spec.settlement_in (W.entry words.new) word) else None) }
 {
     let Some(word) = word else {
         return Some(None);

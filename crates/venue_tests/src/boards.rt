@@ -2,8 +2,9 @@
 ghost use Rattle.std.specs.Prelude.{◌≡◌, ◌<◌, IfOk, All};
 ghost use Rattle.quote_word.specs.Board.{Answered};
 
+use fix_fields::Memory;
 use quote_word::{Board, BoardSeen, Receipt, Settled};
-use std::alloc::{AllocError, Global};
+use std::alloc::Global;
 use std::process::Abort;
 use std::sync::atomic::{AtomicU64, Ordering};
 use std::test::Fail;
@@ -31,7 +32,7 @@ fn settles_all(
     seen: BoardSeen,
     wish: Settled,
     here: &AtomicU64,
-) -> Result<Vec<Receipt>, AllocError>
+) -> Result<Vec<Receipt>, Memory>
     requires { seen.board ≡ board.now }
     ensures { IfOk result (λ v. All (λ (r : Answered). r.seen.board ≡ board.now) v.items) }
 {

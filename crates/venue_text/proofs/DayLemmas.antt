@@ -13,8 +13,8 @@ use Rattle.std.specs.Option.{option_map}
 use Rattle.step_replay.specs.FirmDays.{FirmDay}
 use Rattle.venue_text.specs.MessageLines.{messages_text}
 use Rattle.venue_text.specs.ReplayText.{one_at, firm_text}
-use Rattle.venue_text.specs.DueCommand.{word_line}
-use Rattle.venue_text.specs.DueCuts.{words_behind}
+use Rattle.venue_text.specs.DueCommand.{part_line}
+use Rattle.venue_text.specs.DueCuts.{parts_behind}
 
 take_suc : {A : Type 0} (xs : List A) (n : ℕ) → take (suc n) xs ≡ take n xs ++ one_at n xs
 take_suc [] zero = refl
@@ -100,7 +100,7 @@ one_at_none (a ∷ xs) zero is = cc
 one_at_none (a ∷ xs) (suc n) is = one_at_none xs n is
 
 -- words with one space between each two: each but the first stands behind a space
-pub spaced_words : (first : List ℕ) (words : List (List ℕ)) → join_with_byte 32 (first ∷ words) ≡ first ++ words_behind words
+pub spaced_words : (first : List ℕ) (words : List (List ℕ)) → join_with_byte 32 (first ∷ words) ≡ first ++ parts_behind words
 spaced_words first [] = sym (append-nil first)
 spaced_words first (word ∷ words) = ap (λ rest. first ++ 32 ∷ rest) (spaced_words word words)
 
@@ -121,9 +121,9 @@ length_names config =
     ∙ ap (λ n. length config.dealers + n) (length-map config.investors (λ (row : InvestorRow). row.name))
 
 -- the word at a place, behind its space
-pub word_at : (words : List (List ℕ)) (n : ℕ) (word : List ℕ) → Some word ≡ slice_get words n → 32 ∷ word ≡ words_behind (one_at n words)
+pub word_at : (words : List (List ℕ)) (n : ℕ) (word : List ℕ) → Some word ≡ slice_get words n → 32 ∷ word ≡ parts_behind (one_at n words)
 word_at words n word is =
-    ap (λ w. 32 ∷ w) (sym (append-nil word)) ∙ ap words_behind (sym (one_at_some words n word (sym is)))
+    ap (λ w. 32 ∷ w) (sym (append-nil word)) ∙ ap parts_behind (sym (one_at_some words n word (sym is)))
 
 regrouped : (space end text first second third fourth behind : List ℕ)
     → text ++ (first ++ (space ++ second) ++ (space ++ third) ++ (space ++ fourth)) ++ behind ++ end
@@ -132,8 +132,8 @@ regrouped space end text first second third fourth behind = simp append_assoc
 
 -- a line of four words and more, put together as the code writes it
 pub line_joined : (text first second third fourth : List ℕ) (words : List (List ℕ))
-    → text ++ (first ++ 32 ∷ second ++ 32 ∷ third ++ 32 ∷ fourth) ++ words_behind words ++ 10 ∷ []
-    ≡ text ++ word_line (first ∷ second ∷ third ∷ fourth ∷ words)
+    → text ++ (first ++ 32 ∷ second ++ 32 ∷ third ++ 32 ∷ fourth) ++ parts_behind words ++ 10 ∷ []
+    ≡ text ++ part_line (first ∷ second ∷ third ∷ fourth ∷ words)
 line_joined text first second third fourth words =
-    regrouped (32 ∷ []) (10 ∷ []) text first second third fourth (words_behind words)
+    regrouped (32 ∷ []) (10 ∷ []) text first second third fourth (parts_behind words)
     ∙ ap (λ t. text ++ (first ++ 32 ∷ (second ++ 32 ∷ (third ++ 32 ∷ t)) ++ 10 ∷ [])) (sym (spaced_words fourth words))

@@ -15,7 +15,7 @@ use Rattle.step_replay.specs.declared.steps.Step.{Step}
 use Rattle.venue_text.specs.AskedDays.{dealer_by}
 use Rattle.venue_text.specs.KeptDays.{Keeps, KeepsMore, OpensKept, Wanted, asked_in, asked_venue}
 use Rattle.venue_text.specs.KeptDays.{dues, kept_text, text_if, text_of_asked}
-use Rattle.venue_text.specs.LiveAnswers.{Goes, Opens, Tells}
+use Rattle.venue_text.specs.LiveAnswers.{Goes, Opens, Sends}
 use Rattle.venue_text.specs.LiveLines.{Taken}
 use Rattle.input_lines.specs.ResultSteps.{◌>>=◌}
 use Rattle.input_lines.specs.StepLines.{asked, dealer_named}
@@ -70,7 +70,7 @@ not_asked wanted form text day fault opens is =
 pub kept_more : (wanted : Wanted) (config : Configuration) (taken : Taken) (k : ℕ) (line : List ℕ)
     (before after : KeptDay) (messages : List Sent) (told fault : Option ProgramFault)
     → Keeps wanted config taken before
-    → Tells before.day.form config taken k line after.day messages told
+    → Sends before.day.form config taken k line after.day messages told
     → after.asked ≡ before.asked → fault ≡ told
     → KeepsMore wanted config taken k line after fault
 kept_more wanted config taken k line before after messages told fault keeps tells stays same = record {

@@ -15,7 +15,7 @@ use Rattle.step_replay.specs.declared.live.LiveVenue.{LiveVenue}
 use Rattle.step_replay.specs.declared.steps.Step.{Step}
 use Rattle.input_lines.specs.DueText.{Lines}
 use Rattle.input_lines.specs.Lines.{is_skipped, spoken_from}
-use Rattle.venue_text.specs.LiveAnswers.{AreTold, Gives, Goes, Tells}
+use Rattle.venue_text.specs.LiveAnswers.{AreTold, Gives, Goes, Sends}
 use Rattle.venue_text.specs.LiveInput.{as_part, lines_text, numbered_from, numbered_in, taken_in, taken_of, text_in}
 use Rattle.venue_text.specs.LiveLines.{Taken, done_mark, fault_in, gained_messages, line_fault, line_text, live_steps_of}
 use Rattle.venue_text.specs.LiveLines.{live_text, nothing_taken, read_text, sent_line, sent_text, told_text}
@@ -126,7 +126,7 @@ fault_spoken config taken k line spoken = rw spoken refl
 pub tells_nothing : (form : LiveForm) (config : Configuration) (taken : Taken) (k : ℕ)
     (line : List ℕ) (day : LiveDay) (messages : List Sent) (fault : Option ProgramFault)
     → Goes form config taken day → is_skipped line ≡ true → messages ≡ [] → fault ≡ None
-    → Tells form config taken k line day messages fault
+    → Sends form config taken k line day messages fault
 tells_nothing form config taken k line day messages fault goes skipped empty none =
     let same = any_skipped config taken k line skipped in
     record {
@@ -153,7 +153,7 @@ pub tells_done : (form : LiveForm) (config : Configuration) (taken : Taken) (k :
     → ((steps : List Step) → IsAt before.config steps before.venue
     → AreTold before.config steps more after.venue messages)
     → fault ≡ None → after.form ≡ before.form → after.config ≡ before.config
-    → Tells form config taken k line after messages fault
+    → Sends form config taken k line after messages fault
 tells_done form config taken k line before after messages fault more goes spoken spelled done none
     form_same config_same =
     let read = read_as form config taken k line before _ goes spelled in
@@ -180,7 +180,7 @@ pub tells_refused : (form : LiveForm) (config : Configuration) (taken : Taken) (
     → live_steps_of (values_of before.config) before.heard k line ≡ Err what
     → fault ≡ Some what → messages ≡ []
     → after.form ≡ before.form → after.config ≡ before.config → after.venue ≡ before.venue
-    → after.heard ≡ before.heard → Tells form config taken k line after messages fault
+    → after.heard ≡ before.heard → Sends form config taken k line after messages fault
 tells_refused form config taken k line before after what messages fault goes spoken spelled told
     empty form_same config_same venue_same heard_same =
     let read = read_as form config taken k line before _ goes spelled in
@@ -266,7 +266,7 @@ faults_told config taken k line =
 
 pub gives : (form : LiveForm) (config : Configuration) (taken : Taken) (k : ℕ) (line : List ℕ)
     (after : LiveDay) (messages : List Sent) (told fault : Option ProgramFault) (printed : List ℕ)
-    → Tells form config taken k line after messages told → fault ≡ told
+    → Sends form config taken k line after messages told → fault ≡ told
     → ((steps : List Step) → IsAt after.config steps after.venue
     → printed ≡ told_text after.form after.config steps k messages told)
     → Gives form config taken k line after printed fault

@@ -11,17 +11,17 @@ use Rattle.venue_text.specs.ReplayText.{those_asked}
 use Rattle.venue_text.specs.WrittenDues.{due_lines}
 
 -- a line of words, with one space between each two
-abbrev pub word_line : List (List ℕ) → List ℕ
-word_line words = join_with_byte 32 words ++ 10 ∷ []
+abbrev pub part_line : List (List ℕ) → List ℕ
+part_line parts = join_with_byte 32 parts ++ 10 ∷ []
 
 -- `date YYYYMMDD`
 abbrev pub date_line : List ℕ → List ℕ
-date_line date = word_line (codes "date" ∷ date ∷ [])
+date_line date = part_line (codes "date" ∷ date ∷ [])
 
 -- `dealer NAME QUOTES EXPOSURE TRADER ..`
 abbrev pub dealer_line : DealerRow → List ℕ
 dealer_line row =
-    word_line (codes "dealer" ∷ row.name ∷ decimal row.quotes ∷ decimal row.exposure ∷ row.traders)
+    part_line (codes "dealer" ∷ row.name ∷ decimal row.quotes ∷ decimal row.exposure ∷ row.traders)
 
 -- the due text of a dealer's day
 abbrev pub due_text : List ℕ → DealerRow → List Due → List ℕ

@@ -4,8 +4,8 @@ use Rattle.std.specs.List.{flat_map}
 use Rattle.venue_rows.specs.declared.dealer_rows.DealerRow.{DealerRow}
 
 -- words, each behind a space
-abbrev pub words_behind : List (List ℕ) → List ℕ
-words_behind words = flat_map (λ word. 32 ∷ word) words
+abbrev pub parts_behind : List (List ℕ) → List ℕ
+parts_behind parts = flat_map (λ part. 32 ∷ part) parts
 
 -- `dealer NAME QUOTES EXPOSURE`
 abbrev pub limits_text : DealerRow → List ℕ

@@ -45,7 +45,7 @@ pub record Gives (form : LiveForm) (config : Configuration) (taken : Taken) (k :
       ≡ taken.faults ++ option_to_list fault
 
 -- What the line with this number brings, before it is printed.
-pub record Tells (form : LiveForm) (config : Configuration) (taken : Taken) (k : ℕ)
+pub record Sends (form : LiveForm) (config : Configuration) (taken : Taken) (k : ℕ)
     (line : List ℕ) (after : LiveDay) (messages : List Sent) (fault : Option ProgramFault)
     : Type 0 where
   pub goes : Goes form config (with_any_line (values_of config) taken (k, line)) after

@@ -121,7 +121,7 @@ fn push_date_line(text: &mut Vec<u8>, date: &Date) -> Result<(), Memory>
     ensures { OnOk result (text.new.items ≡ text.old.items ++ spec.date_line date.now) }
 {
     text.extend_from_slice(b"date")?;
-    push_word(text, date.digits().as_slice())?;
+    push_part(text, date.digits().as_slice())?;
     text.push(b'\n')?;
     Ok(())
 }
@@ -141,7 +141,7 @@ fn push_limits(text: &mut Vec<u8>, row: &DealerRow) -> Result<(), Memory>
     ensures { OnOk result (text.new.items ≡ text.old.items ++ cuts.limits_text row.now) }
 {
     text.extend_from_slice(b"dealer")?;
-    push_word(text, row.name.as_bytes())?;
+    push_part(text, row.name.as_bytes())?;
     push_number(text, u64::from(row.quotes))?;
     push_number(text, row.exposure)?;
     Ok(())
@@ -149,7 +149,7 @@ fn push_limits(text: &mut Vec<u8>, row: &DealerRow) -> Result<(), Memory>
 
 /// The names of traders, each behind a space.
 fn push_traders(text: &mut Vec<u8>, traders: &Traders) -> Result<(), Memory>
-    ensures { OnOk result (text.new.items ≡ text.old.items ++ cuts.words_behind traders.now) }
+    ensures { OnOk result (text.new.items ≡ text.old.items ++ cuts.parts_behind traders.now) }
 {
     for place in 0..traders.len() {
         push_trader(text, traders, place)?;
@@ -160,21 +160,21 @@ fn push_traders(text: &mut Vec<u8>, traders: &Traders) -> Result<(), Memory>
 /// The name of the trader at a place, behind a space.
 fn push_trader(text: &mut Vec<u8>, traders: &Traders, place: usize) -> Result<(), Memory>
     ensures { OnOk result (text.new.items
-        ≡ text.old.items ++ cuts.words_behind (one_at place traders.now)) }
+        ≡ text.old.items ++ cuts.parts_behind (one_at place traders.now)) }
 {
     let Some(name) = traders.get(place) else {
         return Ok(());
     };
-    push_word(text, name)?;
+    push_part(text, name)?;
     Ok(())
 }
 
 /// A word behind a space.
-fn push_word(text: &mut Vec<u8>, word: &[u8]) -> Result<(), Memory>
-    ensures { OnOk result (text.new.items ≡ text.old.items ++ 32 ∷ word.now) }
+fn push_part(text: &mut Vec<u8>, part: &[u8]) -> Result<(), Memory>
+    ensures { OnOk result (text.new.items ≡ text.old.items ++ 32 ∷ part.now) }
 {
     text.push(b' ')?;
-    text.extend_from_slice(word)?;
+    text.extend_from_slice(part)?;
     Ok(())
 }
 
@@ -183,6 +183,6 @@ fn push_number(text: &mut Vec<u8>, number: u64) -> Result<(), Memory>
     ensures { OnOk result (text.new.items ≡ text.old.items ++ 32 ∷ decimal number) }
 {
     let mut digits = Buffer::new();
-    push_word(text, digits.format(number).as_bytes())?;
+    push_part(text, digits.format(number).as_bytes())?;
     Ok(())
 }

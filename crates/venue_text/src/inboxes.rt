@@ -8,7 +8,7 @@ ghost use Rattle.input_lines.specs.StepLines.{names_of_firms};
 
 use fix_fields::Memory;
 use input_lines::{
-    Heard, MOST_INPUT, ProgramFault, SpokenLines, cut_part, day_parts, push_spelled, read_line,
+    Heard, MOST_INPUT, NumberedLines, ProgramFault, cut_part, day_parts, push_spelled, read_line,
     read_venue, same_text,
 };
 use quote_messages::Message;
@@ -82,7 +82,7 @@ fn count_firms(config: &VenueConfig) -> u16
 fn read_arrivals(
     alloc: Global,
     config: &VenueConfig,
-    lines: SpokenLines<'_>,
+    lines: NumberedLines<'_>,
 ) -> Result<Vec<Step>, ProgramFault>
     ensures ok { IfOk result (λ steps.
         spec.arrivals_of (values_of config.now) lines.entry ≡ Ok steps.items) }

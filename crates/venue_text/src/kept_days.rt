@@ -71,7 +71,7 @@ impl KeptDay {
 
     /// The line with this number comes, and is taken. Its fault is answered, if it has one, and then
     /// it brings nothing else. After an error the day can't go on.
-    pub fn take(
+    pub fn keep(
         &mut self,
         alloc: Global,
         line: usize,
@@ -81,7 +81,7 @@ impl KeptDay {
             (taken : Taken) → spec.Keeps wanted config taken self.old
             → spec.KeepsMore wanted config taken line text.now self.new fault) }
     {
-        let told = self.day.tell(alloc, line, text)?;
+        let told = self.day.send(alloc, line, text)?;
         Ok(told.fault)
     }
 

@@ -53,7 +53,7 @@ pub use live_laws::{
     a_firm_is_printed_what_live_prints_of_it, lines_bring_the_same_however_they_come,
     without_marks_a_day_is_its_messages,
 };
-pub use live_lines::{LineAnswer, LineTold, LiveDay};
+pub use live_lines::{LineOutput, LineSent, LiveDay};
 pub use message_lines::messages_text;
 pub use read_back::what_was_due_is_read_back;
 pub use record_lines::{record_text, woven_line};

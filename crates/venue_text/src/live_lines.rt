@@ -20,7 +20,7 @@ use input_lines::{
     Heard, ProgramFault, Spelled, count_line, cut_part, is_skipped, push_steps, read_line,
     read_venue, same_text,
 };
-use std::alloc::{AllocError, Global};
+use std::alloc::Global;
 use step_replay::{LiveVenue, SentTo, Step};
 use venue_rows::VenueConfig;
 
@@ -29,7 +29,7 @@ const USUAL_ANSWER: usize = 512;
 
 /// What a line brings.
 #[derive(Drop)]
-pub struct LineTold {
+pub struct LineSent {
     /// The messages that are sent in its steps, in their order.
     pub messages: Vec<SentTo>,
     /// What is wrong with it, if it is at fault.
@@ -38,7 +38,7 @@ pub struct LineTold {
 
 /// What is printed of a line.
 #[derive(Drop)]
-pub struct LineAnswer {
+pub struct LineOutput {
     /// What is printed for it: its messages, and its mark.
     pub text: Vec<u8>,
     /// What is wrong with it, if it is at fault.
@@ -81,14 +81,14 @@ impl LiveDay {
     /// ([`ProgramFault::Form`], [`ProgramFault::UnknownFirm`], [`ProgramFault::UnknownRoom`] or
     /// [`ProgramFault::Stream`]) changes nothing, and the day goes on; so does an empty line or a
     /// comment. After an error it can't: memory was refused, or the firm has said 10^15 lines.
-    pub fn tell(&mut self, alloc: Global, line: usize, text: &[u8]) -> Result<LineTold, Memory>
+    pub fn send(&mut self, alloc: Global, line: usize, text: &[u8]) -> Result<LineSent, Memory>
         ensures { IfOk result (λ told. (form : LiveForm) (config : Configuration)
             (taken : Taken) → spec.Goes form config taken self.old
-            → spec.Tells form config taken line text.now self.new told.messages.items
+            → spec.Sends form config taken line text.now self.new told.messages.items
             told.fault) }
     {
         if is_skipped(text) {
-            return Ok(LineTold {
+            return Ok(LineSent {
                 messages: Vec::new(alloc),
                 fault: None,
             });
@@ -98,7 +98,7 @@ impl LiveDay {
             Err(fault) => return refused(alloc, fault),
         };
         let messages = done(alloc, &self.config, &mut self.venue, spelled)?;
-        Ok(LineTold {
+        Ok(LineSent {
             messages,
             fault: None,
         })
@@ -106,22 +106,22 @@ impl LiveDay {
 
     /// The same, and the messages are printed, a line each, and behind them the line's mark where
     /// the form has marks; of a line at fault its mark alone.
-    pub fn answer(&mut self, alloc: Global, line: usize, text: &[u8]) -> Result<LineAnswer, Memory>
-        ensures { IfOk result (λ answer. (form : LiveForm) (config : Configuration)
+    pub fn output(&mut self, alloc: Global, line: usize, text: &[u8]) -> Result<LineOutput, Memory>
+        ensures { IfOk result (λ output. (form : LiveForm) (config : Configuration)
             (taken : Taken) → spec.Goes form config taken self.old
-            → spec.Gives form config taken line text.now self.new answer.text.items
-            answer.fault) }
+            → spec.Gives form config taken line text.now self.new output.text.items
+            output.fault) }
     {
-        let told = self.tell(alloc, line, text)?;
-        let answer = self.printed(alloc, line, &told)?;
-        Ok(answer)
+        let told = self.send(alloc, line, text)?;
+        let output = self.printed(alloc, line, &told)?;
+        Ok(output)
     }
 
     /// The text of what was told of the line with this number.
-    fn printed(&self, alloc: Global, line: usize, told: &LineTold) -> Result<LineAnswer, Memory>
-        ensures fault { IfOk result (λ answer. answer.fault ≡ told.now.fault) }
-        ensures text { IfOk result (λ answer. (steps : List Step)
-            → IsAt self.now.config steps self.now.venue → answer.text.items
+    fn printed(&self, alloc: Global, line: usize, told: &LineSent) -> Result<LineOutput, Memory>
+        ensures fault { IfOk result (λ output. output.fault ≡ told.now.fault) }
+        ensures text { IfOk result (λ output. (steps : List Step)
+            → IsAt self.now.config steps self.now.venue → output.text.items
             ≡ lines.told_text self.now.form self.now.config steps line told.now.messages.items
             told.now.fault) }
     {
@@ -130,10 +130,10 @@ impl LiveDay {
             let messages = told.messages.as_slice();
             push_sent(&mut text, self.form.frames, &self.config, messages)?;
             push_done_mark(&mut text, self.form, line, self.venue.next_deadline())?;
-            return Ok(LineAnswer { text, fault: None });
+            return Ok(LineOutput { text, fault: None });
         };
         let text = fault_mark(alloc, self.form, line, fault)?;
-        Ok(LineAnswer {
+        Ok(LineOutput {
             text,
             fault: Some(*fault),
         })
@@ -141,15 +141,15 @@ impl LiveDay {
 }
 
 /// What is told of a line at fault: nothing is sent.
-fn refused(alloc: Global, fault: ProgramFault) -> Result<LineTold, Memory>
+fn refused(alloc: Global, fault: ProgramFault) -> Result<LineSent, Memory>
     ensures told { IfOk result (λ told. told.fault ≡ Some fault) }
     ensures none { IfOk result (λ told. told.messages.items ≡ []) }
     ensures other { IfOk result (λ _. fault ≢ ProgramFault.Memory) }
 {
     if matches!(fault, ProgramFault::Memory) {
-        return Err(AllocError);
+        return Err(Memory);
     }
-    Ok(LineTold {
+    Ok(LineSent {
         messages: Vec::new(alloc),
         fault: Some(fault),
     })
@@ -249,8 +249,8 @@ fn taken_all(
 {
     let mut told = Vec::new(alloc);
     for step in steps {
-        let Ok(mut sent) = venue.take(alloc, config, step) else {
-            return Err(AllocError);
+        let Ok(mut sent) = venue.step(alloc, config, step) else {
+            return Err(Memory);
         };
         told.append(&mut sent)?;
     }

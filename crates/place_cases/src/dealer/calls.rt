@@ -97,7 +97,7 @@ fn take(opened: &mut Opened, call: &mut Call<'_>) -> Result<(), CaseFault> {
 /// `TRADER TIME TYPE BODY`.
 fn judge(opened: &mut Opened, call: &mut Call<'_>) -> Result<(), CaseFault> {
     let came = opened.speaker.say(call)?;
-    let taken = opened.take_judged(&came)?;
+    let taken = opened.receive_judged(&came)?;
     push_taken(call.alloc, &mut call.answer, &taken)
 }
 

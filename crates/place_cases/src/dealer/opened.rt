@@ -50,48 +50,48 @@ impl Opened {
     }
 
     /// What the word of a quote answers to a withdrawal.
-    fn answer_of(&self, quote: u32) -> Settled {
+    fn settlement_of(&self, quote: u32) -> Settled {
         if self.lifted.contains(&quote) {
             return Settled::Lifted;
         }
         Settled::Withdrawn
     }
 
-    /// The desk takes what comes, with the answer of the word that it asks.
+    /// The desk takes what comes, with the settlement of the word that it asks.
     pub(crate) fn take(&mut self, came: &Came) -> Result<Taken, CaseFault> {
         let bytes = came.bytes.as_slice();
         let Some(quote) = self.desk.question(came.moment, bytes) else {
             let left = self.desk.take(came.moment, bytes, None)?;
             return Ok((None, left));
         };
-        let answer = self.answer_of(quote);
-        let left = self.desk.take(came.moment, bytes, Some(answer))?;
+        let settlement = self.settlement_of(quote);
+        let left = self.desk.take(came.moment, bytes, Some(settlement))?;
         Ok((Some(quote), left))
     }
 
     /// The same, judged once.
-    pub(crate) fn take_judged(&mut self, came: &Came) -> Result<Taken, CaseFault> {
+    pub(crate) fn receive_judged(&mut self, came: &Came) -> Result<Taken, CaseFault> {
         let bytes = came.bytes.as_slice();
         let verdict = self.desk.judge(came.moment, bytes);
         let Some(quote) = verdict.word_asked() else {
-            let left = self.desk.take_judged(came.moment, bytes, verdict, None)?;
+            let left = self.desk.receive_judged(came.moment, bytes, verdict, None)?;
             return Ok((None, left));
         };
-        let answer = self.answer_of(quote);
+        let settlement = self.settlement_of(quote);
         let left = self
             .desk
-            .take_judged(came.moment, bytes, verdict, Some(answer))?;
+            .receive_judged(came.moment, bytes, verdict, Some(settlement))?;
         Ok((Some(quote), left))
     }
 
-    /// The desk drops the next quote up to `last`, with the answer of the word that it asks.
+    /// The desk drops the next quote up to `last`, with the settlement of the word that it asks.
     pub(crate) fn drop_one(&mut self, last: u32, moment: Moment) -> Result<Dropped, CaseFault> {
         let Some(quote) = self.desk.question_drop(last) else {
             let (unpost, further) = self.desk.drop_one(last, moment, None)?;
             return Ok((None, unpost, further));
         };
-        let answer = self.answer_of(quote);
-        let (unpost, further) = self.desk.drop_one(last, moment, Some(answer))?;
+        let settlement = self.settlement_of(quote);
+        let (unpost, further) = self.desk.drop_one(last, moment, Some(settlement))?;
         Ok((Some(quote), unpost, further))
     }
 }

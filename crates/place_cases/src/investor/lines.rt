@@ -53,7 +53,7 @@ pub(crate) fn push_event(
     let (kind, moment) = kind_of(event);
     answer.push_str(kind)?;
     push_time(answer, moment)?;
-    if let InvestorEvent::Own { message, .. } = event {
+    if let InvestorEvent::Received { message, .. } = event {
         answer.push(' ')?;
         push_bytes(answer, message.as_bytes())?;
     }
@@ -64,7 +64,7 @@ pub(crate) fn push_event(
 /// The call that brought an event, and its moment.
 fn kind_of(event: &InvestorEvent) -> (&'static str, Moment) {
     match event {
-        InvestorEvent::Own { moment, .. } => ("own", *moment),
+        InvestorEvent::Received { moment, .. } => ("own", *moment),
         InvestorEvent::QuoteCame { moment, .. } => ("quote_came", *moment),
         InvestorEvent::QuoteGone { moment, .. } => ("quote_gone", *moment),
         InvestorEvent::DealerDeclined { moment, .. } => ("dealer_declined", *moment),

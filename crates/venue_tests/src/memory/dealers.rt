@@ -218,7 +218,7 @@ fn sum(bytes: &[u8]) -> u32 {
 }
 
 /// What the word of a quote answers to a withdrawal.
-fn answer_of(quote: u32, lifted: u32) -> Settled {
+fn settlement_of(quote: u32, lifted: u32) -> Settled {
     if quote == lifted {
         Settled::Lifted
     } else {
@@ -238,7 +238,7 @@ fn takes(
         let left = desk.take(moment, bytes, None)?;
         return Ok((0, left.is_some()));
     };
-    let left = desk.take(moment, bytes, Some(answer_of(quote, lifted)))?;
+    let left = desk.take(moment, bytes, Some(settlement_of(quote, lifted)))?;
     Ok((quote, left.is_some()))
 }
 
@@ -254,7 +254,7 @@ fn drops(
         let (unpost, _) = desk.drop_one(last, moment, None)?;
         return Ok((0, unpost.is_some()));
     };
-    let (unpost, _) = desk.drop_one(last, moment, Some(answer_of(quote, lifted)))?;
+    let (unpost, _) = desk.drop_one(last, moment, Some(settlement_of(quote, lifted)))?;
     Ok((quote, unpost.is_some()))
 }
 

@@ -1,7 +1,7 @@
 //! A configuration and a frame.
 use case_lines::VENUE;
 use fix_fields::{FrameWriter, Memory};
-use std::alloc::{AllocError, Global};
+use std::alloc::Global;
 use std::test::Fail;
 use venue_config::{ConfigFault, read_config};
 use venue_rows::VenueConfig;
@@ -15,7 +15,7 @@ fn read_at_last(alloc: Global) -> Result<VenueConfig, ConfigFault> {
 }
 
 /// A copy of it, in the same way.
-fn copied_at_last(alloc: Global, config: &VenueConfig) -> Result<VenueConfig, AllocError> {
+fn copied_at_last(alloc: Global, config: &VenueConfig) -> Result<VenueConfig, Memory> {
     match config.copy(alloc) {
         Ok(copy) => Ok(copy),
         Err(_) => config.copy(alloc),

@@ -1,10 +1,11 @@
 //! Rows of words.
+use fix_fields::Memory;
 use quote_word::{Board, BoardSeen, PlainWords, Words};
-use std::alloc::{AllocError, Global};
+use std::alloc::Global;
 use std::test::Fail;
 
 /// Opens a board, and again where memory was refused.
-fn opened_at_last(alloc: Global, n: u32) -> Result<(Board, BoardSeen), AllocError> {
+fn opened_at_last(alloc: Global, n: u32) -> Result<(Board, BoardSeen), Memory> {
     match Board::open(alloc, n) {
         Ok(opened) => Ok(opened),
         Err(_) => Board::open(alloc, n),
@@ -12,7 +13,7 @@ fn opened_at_last(alloc: Global, n: u32) -> Result<(Board, BoardSeen), AllocErro
 }
 
 /// Makes words in a list, and again where memory was refused.
-fn made_at_last(alloc: Global, n: u32) -> Result<PlainWords, AllocError> {
+fn made_at_last(alloc: Global, n: u32) -> Result<PlainWords, Memory> {
     match PlainWords::new(alloc, n) {
         Ok(words) => Ok(words),
         Err(_) => PlainWords::new(alloc, n),

@@ -70,4 +70,4 @@ returns-clause-ok g c =
       live = flag_is found (codes "live") c.get_flag-live.result c.get_flag-live.ensures.none c.get_flag-live.ensures.value c.get_flag-live.ensures.other;
     }) in
     let firm = c.get_str.ensures ∙ first_value-rows found (codes "firm") in
-    asked ∙ ap (λ word. Some (named_command c.in-Some.name.now word flags)) (sym firm) ∙ ap (λ command. Some command) (sym c.command_named-command.ensures)
+    asked ∙ ap (λ argument. Some (named_command c.in-Some.name.now argument flags)) (sym firm) ∙ ap (λ command. Some command) (sym c.command_named-command.ensures)

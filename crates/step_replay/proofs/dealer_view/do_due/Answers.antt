@@ -10,17 +10,17 @@ use Rattle.step_replay.proofs.ItemLemmas.{closed_happens, drop_happens, lifted_h
 use Rattle.step_replay.proofs.ItemLemmas.{own_happens, shown_happens}
 use Rattle.step_replay.proofs.dealer_view.do_due.Goals as goal
 
-pub returns-in_ok-take_own-in-Own-clause-ok : goal.returns-in_ok-take_own-in-Own-clause-ok
-returns-in_ok-take_own-in-Own-clause-ok c =
+pub returns-in_ok-receive_own-in-Own-clause-ok : goal.returns-in_ok-receive_own-in-Own-clause-ok
+returns-in_ok-receive_own-in-Own-clause-ok c =
     let moment = c.in-Own.moment in
     let before : DeskAndWords = record { desk = c.args.desk.now; words = c.args.words.now } in
     let after : DeskAndWords =
-    record { desk = c.take_own.new.desk; words = c.take_own.new.words } in
+    record { desk = c.receive_own.new.desk; words = c.receive_own.new.words } in
     let is = ap (λ (bytes : List ℕ). due.Own moment bytes) c.as_bytes.ensures ∙ sym c.in-Own.is in
     subst (λ (d : Due). Happens d before after) is
     (own_happens c.quotes_are_withdrawn_event_by_event.ensures before.desk after.desk
-    before.words after.words moment c.as_bytes.result.now c.requires c.take_own.ensures.asked
-    c.in_ok-take_own-in-Own.ensures.ok c.take_own.ensures.words)
+    before.words after.words moment c.as_bytes.result.now c.requires c.receive_own.ensures.asked
+    c.in_ok-receive_own-in-Own.ensures.ok c.receive_own.ensures.words)
 
 pub returns-in_ok-show-in-Shown-clause-ok : goal.returns-in_ok-show-in-Shown-clause-ok
 returns-in_ok-show-in-Shown-clause-ok c =

@@ -1,5 +1,5 @@
 use Rattle.std.proofs.Common.{refl}
-use Rattle.venue_places.specs.declared.arrivals.Arrival.TheVariants as arrival
+use Rattle.venue_places.specs.declared.arrivals.Placement.TheVariants as arrival
 use Rattle.step_replay.specs.Coming.{arrival_effect}
 use Rattle.step_replay.proofs.DutyLemmas.{where_ok, by_place}
 use Rattle.step_replay.proofs.duties.bring.Goals as goal

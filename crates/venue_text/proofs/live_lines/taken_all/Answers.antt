@@ -18,10 +18,10 @@ loop-step-preserved c taken at =
     let index = c.loop-step.step-index in
     let next = c.step-item.result in
     let had = c.loop-step.invariant taken at in
-    subst (λ (l : List Step). AreTold config taken l c.take.new.self c.append.new.self.items)
+    subst (λ (l : List Step). AreTold config taken l c.step.new.self c.append.new.self.items)
     (sym (one_more steps index next c.loop-step-test.true c.step-item.is))
-    (subst (λ (l : List Sent). AreTold config taken (take index steps ++ next ∷ []) c.take.new.self l)
+    (subst (λ (l : List Sent). AreTold config taken (take index steps ++ next ∷ []) c.step.new.self l)
     (sym c.in_ok-append.ensures.items)
-    (told_more config taken (take index steps) next c.loop-step.venue c.take.new.self
+    (told_more config taken (take index steps) next c.loop-step.venue c.step.new.self
     c.loop-step.told.items c.in-Ok.sent.items had
     (c.in-Ok.ensures.ok (taken ++ take index steps) had.stands)))

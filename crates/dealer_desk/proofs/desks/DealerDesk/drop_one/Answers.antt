@@ -14,9 +14,9 @@ invariant_of-self-2 c =
     let desk = c.self.inside in
     rw (c.in_ok-push.ensures.items, c.in_ok-reserve.ensures.items, c.push_some.ensures.items, c.in_ok-reserve-2.ensures.items)
     (kept_drop desk.date desk.row desk.events.items desk.sent.items desk.index c.note_drop.new.index
-    c.args.last c.args.moment c.args.answer c.drop_answer-answered.result c.in_ok-sent.sent
+    c.args.last c.args.moment c.args.settlement c.drop_message-output.result c.in_ok-sent.sent
     c.self.invariant
-    c.drop_answer-answered.ensures
+    c.drop_message-output.ensures
     (rw c.deref.ensures.value at c.in_ok-sent.ensures)
     c.note_drop.ensures)
 

@@ -1,6 +1,6 @@
 use Rattle.std.proofs.Common.{◌++◌, ap, ◌∙◌}
 use Rattle.std.specs.Option.{option_to_list}
-use Rattle.investor_desk.specs.RuleCuts.{own_outcome}
+use Rattle.investor_desk.specs.RuleCuts.{received_outcome}
 use Rattle.investor_desk.proofs.KeptLemmas.{verdict_seen, own_lawful, own_facts_owed, own_sent_owed}
 use Rattle.investor_desk.proofs.desks.InvestorDesk.take.Goals as goal
 
@@ -8,16 +8,16 @@ pub keep-requires-clause-lawful : goal.keep-requires-clause-lawful
 keep-requires-clause-lawful c =
     let desk = c.self.inside in
     let bytes = c.args.bytes.now in
-    own_lawful c.args.self.now c.args.moment bytes c.own_outcome-outcome.result
-    (c.own_outcome-outcome.ensures ∙ ap own_outcome (c.investor_verdict-verdict.ensures
+    own_lawful c.args.self.now c.args.moment bytes c.received_outcome-outcome.result
+    (c.received_outcome-outcome.ensures ∙ ap received_outcome (c.investor_verdict-verdict.ensures
     ∙ verdict_seen desk.market desk.events.items desk.sent.items desk.index c.args.self.now c.args.moment bytes c.self.invariant c.self.view_is))
 
 pub keep-requires-clause-facts : goal.keep-requires-clause-facts
 keep-requires-clause-facts c =
     let desk = c.self.inside in
     let bytes = c.args.bytes.now in
-    own_facts_owed c.args.self.now c.args.moment bytes c.in_ok-message.message c.own_outcome-outcome.result c.in_ok-message.ensures
-    (c.own_outcome-outcome.ensures ∙ ap own_outcome (c.investor_verdict-verdict.ensures
+    own_facts_owed c.args.self.now c.args.moment bytes c.in_ok-message.message c.received_outcome-outcome.result c.in_ok-message.ensures
+    (c.received_outcome-outcome.ensures ∙ ap received_outcome (c.investor_verdict-verdict.ensures
     ∙ verdict_seen desk.market desk.events.items desk.sent.items desk.index c.args.self.now c.args.moment bytes c.self.invariant c.self.view_is))
 
 pub keep-requires-clause-sent : goal.keep-requires-clause-sent
@@ -25,5 +25,5 @@ keep-requires-clause-sent c =
     let desk = c.self.inside in
     let sent = c.in_ok-sent.sent in
     own_sent_owed desk.market desk.events.items desk.sent.items desk.index c.args.self.now c.args.moment c.args.bytes.now c.in_ok-message.message
-    c.investor_verdict-verdict.result c.own_outcome-outcome.result (option_to_list sent.first ++ option_to_list sent.second)
-    c.self.invariant c.self.view_is c.in_ok-message.ensures c.investor_verdict-verdict.ensures c.own_outcome-outcome.ensures c.in_ok-sent.ensures
+    c.investor_verdict-verdict.result c.received_outcome-outcome.result (option_to_list sent.first ++ option_to_list sent.second)
+    c.self.invariant c.self.view_is c.in_ok-message.ensures c.investor_verdict-verdict.ensures c.received_outcome-outcome.ensures c.in_ok-sent.ensures

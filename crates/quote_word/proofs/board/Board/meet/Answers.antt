@@ -20,7 +20,7 @@ returns-clause-second_entry c =
     entry_stays_later c.args.second.seen.log log c.args.second.word c.settled-two.result goes_on
     c.settled-two.ensures.entry
 
-pub returns-clause-one_answer : goal.returns-clause-one_answer
-returns-clause-one_answer c =
+pub returns-clause-one_settlement : goal.returns-clause-one_settlement
+returns-clause-one_settlement c =
     one_entry c.both-front.result.log c.args.first.word c.args.second.word c.settled-one.result
     c.settled-two.result (returns-clause-first_entry c) (returns-clause-second_entry c)

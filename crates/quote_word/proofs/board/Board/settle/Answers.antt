@@ -27,7 +27,7 @@ compare_exchange-found-requires c =
     )
 
 -- what the caller knows afterwards
-told : (c : goal.After-answer-settled)
+told : (c : goal.After-settlement_of-settled)
     → Told c.seen.inside.seen.book c.seen.inside.seen.log c.args.w c.args.wish
     c.compare_exchange-found.result c.compare_exchange-found.new.seen.log
 told c =
@@ -41,11 +41,11 @@ told c =
     (ap (λ w. w.key) (named c.before.before).is) (ap (λ s. s.settled) c.plain-offer.ensures.1)
     c.compare_exchange-found.ensures.7
 
-settles : (c : goal.After-answer-settled)
-    → SettlesOnBoard c.args.seen c.args.w c.args.wish c.answer-settled.result
+settles : (c : goal.After-settlement_of-settled)
+    → SettlesOnBoard c.args.seen c.args.w c.args.wish c.settlement_of-settled.result
     (front_of c.compare_exchange-found.new.seen.book c.compare_exchange-found.new.seen.log)
 settles c =
-    rw (c.compare_exchange-found.ensures.0, c.answer-settled.ensures, ← c.seen.view_is)
+    rw (c.compare_exchange-found.ensures.0, c.settlement_of-settled.ensures, ← c.seen.view_is)
     (told c).settles
 
 pub invariant_of-result : goal.invariant_of-result

@@ -6,31 +6,31 @@ use Rattle.request_room.proofs.rooms.Room.hit.Goals as goal
 pub invariant_of-self-in-Err : goal.invariant_of-self-in-Err
 invariant_of-self-in-Err c =
     let room = c.self.inside in
-    let outcome : hit_outcome (room_after room.events.items) c.args.w c.args.moment c.args.answer
+    let outcome : hit_outcome (room_after room.events.items) c.args.w c.args.moment c.args.settlement
     ≡ Err c.in-Err.refused =
-    ap (λ events. hit_outcome (room_after events) c.args.w c.args.moment c.args.answer)
+    ap (λ events. hit_outcome (room_after events) c.args.w c.args.moment c.args.settlement)
     c.self.view_is
     ∙ sym (c.settled-outcome.ensures
-    ∙ ap (λ refusal. hit_settled refusal c.args.answer c.award_of.result) c.hit_refusal.ensures
+    ∙ ap (λ refusal. hit_settled refusal c.args.settlement c.award_of.result) c.hit_refusal.ensures
     ∙ ap (hit_settled (hit_refusal (room_after c.args.self.now) c.args.w c.args.moment)
-    c.args.answer) c.award_of.ensures)
+    c.args.settlement) c.award_of.ensures)
     ∙ c.in-Err.is in
     rw (c.in_ok-push.ensures.items, c.in_ok-reserve.ensures.items)
-    (room_hit_refused room.events.items c.self.invariant c.args.w c.args.moment c.args.answer
+    (room_hit_refused room.events.items c.self.invariant c.args.w c.args.moment c.args.settlement
     c.in-Err.refused outcome)
 
 pub invariant_of-self-2 : goal.invariant_of-self-2
 invariant_of-self-2 c =
     let room = c.self.inside in
-    let outcome : hit_outcome (room_after room.events.items) c.args.w c.args.moment c.args.answer
+    let outcome : hit_outcome (room_after room.events.items) c.args.w c.args.moment c.args.settlement
     ≡ Ok c.in-Ok.award =
-    ap (λ events. hit_outcome (room_after events) c.args.w c.args.moment c.args.answer)
+    ap (λ events. hit_outcome (room_after events) c.args.w c.args.moment c.args.settlement)
     c.self.view_is
     ∙ sym (c.settled-outcome.ensures
-    ∙ ap (λ refusal. hit_settled refusal c.args.answer c.award_of.result) c.hit_refusal.ensures
+    ∙ ap (λ refusal. hit_settled refusal c.args.settlement c.award_of.result) c.hit_refusal.ensures
     ∙ ap (hit_settled (hit_refusal (room_after c.args.self.now) c.args.w c.args.moment)
-    c.args.answer) c.award_of.ensures)
+    c.args.settlement) c.award_of.ensures)
     ∙ c.in-Ok.is in
     rw (c.in_ok-push.ensures.items, c.in_ok-reserve.ensures.items)
-    (room_hit room.events.items c.self.invariant c.args.w c.args.moment c.args.answer c.in-Ok.award
+    (room_hit room.events.items c.self.invariant c.args.w c.args.moment c.args.settlement c.in-Ok.award
     outcome)

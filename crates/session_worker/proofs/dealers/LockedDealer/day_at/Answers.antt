@@ -25,7 +25,7 @@ returns-clause-keeps g c =
     kept (sym firm_is ∙ here) c.into_day-day.ensures.day
     (subst (λ events. came_from_dealer events ≡ c.args.session.inbox.items) events_are own)
 
--- each answer at the desk stands in what the lock had seen
+-- each settlement at the desk stands in what the lock had seen
 pub returns-clause-stands : goal.returns-clause-stands
 returns-clause-stands g c =
     let seen_is : c.self.inside.seen.log ≡ c.args.self.seen.log =

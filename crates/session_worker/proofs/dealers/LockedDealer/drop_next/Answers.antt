@@ -28,12 +28,12 @@ invariant_of-self-in_err-duties g c =
     c.do_drop-done.ensures.words)
     c.in_err-duties.ensures.err)
 
--- the answer of the word that is asked is its entry in the log of the later token
+-- the settlement of the word that is asked is its entry in the log of the later token
 pub invariant_of-self-2 : goal.invariant_of-self-2
 invariant_of-self-2 g c =
     let laws : DeskLaws = record {
       asks = c.words_are_asked_event_by_event.ensures;
-      answered = c.events_are_answered_one_by_one.ensures.more;
+      answered = c.events_are_settled_one_by_one.ensures.more;
     } in
     let i = c.self.inside in
     let word = drop_word i.first_word i.desk c.args.last in
@@ -50,7 +50,7 @@ invariant_of-self-2 g c =
     same (asks_on_board before after (word_to_ask count word) Withdrawn
     c.do_drop-done.ensures.words) c.in_ok-duties.ensures.ok)
 
--- what was asked is noted with its answer
+-- what was asked is noted with its settlement
 pub returns-clause-word : goal.returns-clause-word
 returns-clause-word g c =
     let i = c.self.inside in

@@ -28,7 +28,7 @@ invariant_of-self-in_err-duties g c =
     c.do_hit-done.ensures.words)
     c.in_err-duties.ensures.err)
 
--- the answer of the word that is asked is its entry in the log of the later token
+-- the settlement of the word that is asked is its entry in the log of the later token
 pub invariant_of-self-2 : goal.invariant_of-self-2
 invariant_of-self-2 g c =
     let i = c.self.inside in
@@ -46,7 +46,7 @@ invariant_of-self-2 g c =
     c.do_hit-done.ensures.words)
     c.in_ok-duties.ensures.ok)
 
--- what was asked is noted with its answer
+-- what was asked is noted with its settlement
 pub returns-clause-word : goal.returns-clause-word
 returns-clause-word g c =
     let i = c.self.inside in

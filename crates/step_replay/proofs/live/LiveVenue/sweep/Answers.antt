@@ -32,12 +32,12 @@ loop-room-preserved c = record {
       c.in-Some.is c.next.ensures.steps in
       let none = room_known config steps c.args.self.now c.args.moment c.in_ok-due.due
       (length c.loop-room.yielded) room is_at c.in_ok-due.ensures there.1 in
-      subst (λ (l : List RoomRef). SweptSo config steps c.args.moment l c.answer.new.venue
-      c.answer.new.told.items)
+      subst (λ (l : List RoomRef). SweptSo config steps c.args.moment l c.send_all.new.venue
+      c.send_all.new.told.items)
       (sym (map-append deref c.loop-room.yielded (c.in-Some.room ∷ [])))
-      (swept_more config steps c.args.moment done room c.loop-room.self c.answer.new.venue
-      c.loop-room.told.items c.answer.new.told.items had
-      (c.in_ok-answer.ensures config
+      (swept_more config steps c.args.moment done room c.loop-room.self c.send_all.new.venue
+      c.loop-room.told.items c.send_all.new.told.items had
+      (c.in_ok-send_all.ensures config
       (live_trail config (steps ++ sweeps_at c.args.moment done)) (live_messages config steps) none
       had.answers.stands.stands had.answers.told_is));
 }

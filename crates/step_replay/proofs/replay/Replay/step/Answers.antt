@@ -7,9 +7,9 @@ use Rattle.venue_places.specs.declared.actors.Actor.TheVariants as actor
 use Rattle.step_replay.proofs.StartLemmas.{known_firm, known_actor, said, swept, turned}
 use Rattle.step_replay.proofs.replay.Replay.step.Goals as goal
 
-pub returns-in_ok-says-in-In : goal.returns-in_ok-says-in-In
-returns-in_ok-says-in-In c config trail none before =
-    let after = c.says.new.self in
+pub returns-in_ok-receive-in-In : goal.returns-in_ok-receive-in-In
+returns-in_ok-receive-in-In c config trail none before =
+    let after = c.receive.new.self in
     let firm = c.in-In.firm in
     let moment = c.in-In.moment in
     let message = c.in-In.message in
@@ -18,7 +18,7 @@ returns-in_ok-says-in-In c config trail none before =
     (subst (λ t. ReplayStands config t after) (sym (said config trail firm moment message))
     (subst (λ b. ReplayStands config (with_effect (actor.Firm firm) trail
     (message_effect config trail.facts firm moment b)) after) c.as_bytes.ensures
-    (c.in_ok-says-in-In.ensures config trail known before)))
+    (c.in_ok-receive-in-In.ensures config trail known before)))
 
 pub returns-in_ok-turn-in-Turn : goal.returns-in_ok-turn-in-Turn
 returns-in_ok-turn-in-Turn c config trail none before =

@@ -1,0 +1,30 @@
+use Rattle.std.proofs.Common.{◌<◌, [], arith, length}
+use Rattle.std.proofs.lemmas.Bool.Decides.{nat_tests}
+use Rattle.step_replay.specs.Actions.{received_by_dealer}
+use Rattle.step_replay.specs.PlaceLemmas.{lent, not_lent}
+use Rattle.step_replay.proofs.FloorLemmas.{by_number, leaving, no_dealer_does}
+use Rattle.step_replay.proofs.DealerActionLemmas.{said_does}
+use Rattle.step_replay.proofs.floor.Floor.dealer_receives.Goals as goal
+
+pub returns-in_default : goal.returns-in_default
+returns-in_default c config facts stands =
+    let action = received_by_dealer config facts c.args.moment c.args.bytes.now in
+    leaving config facts _ _ c.nothing.result.items [] c.nothing.ensures
+    (by_number config facts c.from.result c.args.dealer action _ [] c.from.ensures
+    (no_dealer_does config facts c.args.self.now c.from.result action stands
+    (not_lent c.args.self.now.dealers.items c.from.result c.in_default.ensures.item.3)))
+
+pub returns : goal.returns
+returns c config facts stands =
+    let action = received_by_dealer config facts c.args.moment c.args.bytes.now in
+    let within : c.from.result < length c.args.self.now.dealers.items =
+    grind (arith, nat_tests, c.in-Some.ensures.item.0) in
+    let stood = lent c.args.self.now.dealers.items c.from.result c.in-Some.place.now within
+    c.in-Some.ensures.item.1 in
+    by_number config facts c.from.result c.args.dealer action _ _ c.from.ensures
+    (said_does config facts c.args.self.now c.from.result c.in-Some.place.now c.args.moment
+    c.args.bytes.now c.own_dealer.new.desk c.own_dealer.new.words
+    c.in_ok-duties.duties.items stands stood
+    (c.what_is_asked_is_of_the_day.ensures.message c.in-Some.place.now.desk c.args.moment
+    c.args.bytes.now)
+    c.own_dealer.ensures.words c.in_ok-duties.ensures.ok c.in_ok-duties.ensures.duties)

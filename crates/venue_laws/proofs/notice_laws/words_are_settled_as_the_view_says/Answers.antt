@@ -1,0 +1,10 @@
+use Rattle.venue_laws.proofs.AnswerLemmas.{is_answered}
+use Rattle.venue_laws.proofs.notice_laws.words_are_settled_as_the_view_says.Goals as goal
+
+pub returns-clause-asked : goal.returns-clause-asked
+returns-clause-asked c config steps dealer row before after entry quote is splits asks =
+    (is_answered config steps dealer row before after entry is splits).asked quote asks
+
+pub returns-clause-answered : goal.returns-clause-answered
+returns-clause-answered c config steps dealer row before after entry quote settlement is splits says =
+    (is_answered config steps dealer row before after entry is splits).answered quote settlement says
