@@ -108,7 +108,7 @@ fn standing_refusal(shown: &RequestRow) -> Option<QuoteRejectReason>
     None
 }
 
-/// The price of a quote whose terms answer the ask, or the reason of the first of these checks that
+/// The price of a quote whose terms fit the ask, or the reason of the first of these checks that
 /// refuses it.
 fn price_by_terms(moment: Moment, quote: &Quote, ask: &Ask) -> Result<Ticks, QuoteRejectReason>
     ensures { MatchResult result
