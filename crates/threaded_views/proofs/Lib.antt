@@ -1,3 +1,0 @@
-mod DayLemmas
-mod FitLemmas
-mod ReplayFits
