@@ -34,7 +34,7 @@ row_found : (config : Configuration) (number : ℕ) (row : InvestorRow) (b : Boo
     → (if b then slice_get config.investors (number - length config.dealers) else None) ≡ Some row
     → (b ≡ true) × (slice_get config.investors (number - length config.dealers) ≡ Some row)
 row_found config number row true is = (refl, is)
-row_found config number row false is = cc
+row_found config number row false is = absurd cc
 
 behind_dealers : (config : Configuration) (number : ℕ) (row : InvestorRow)
     → investor_numbered config number ≡ Some row → length config.dealers ≤ number

@@ -59,42 +59,42 @@ module _ (config : Configuration) (number : ℕ) (row : InvestorRow)
   book = book_by (of_investor number facts)
 
   -- what comes to the investor's desk of this, if anything, fits
-  abbrev Fits : Option Placement → Type 0
-  Fits coming = fits_if book (at_desk_of number coming) ≡ true
+  abbrev FitsHere : Option Placement → Type 0
+  FitsHere coming = fits_if book (at_desk_of number coming) ≡ true
 
   -- What comes to another place.
 
-  room_fits : (room : RoomRef) (what : ForRoom) → Fits (in_room config room what)
+  room_fits : (room : RoomRef) (what : ForRoom) → FitsHere (in_room config room what)
   room_fits room what = by_place (has_room config room.investor room.n)
     where
-      by_place : (b : Bool) → Fits (where_so b (arrival.Room room what))
+      by_place : (b : Bool) → FitsHere (where_so b (arrival.Room room what))
       by_place true = refl
       by_place false = refl
 
   hit_fits : (room : RoomRef) (response : ResponseRef) (word moment : ℕ)
-      → Fits (hit_in config room response word moment)
+      → FitsHere (hit_in config room response word moment)
   hit_fits room response word moment = by_place (has_room config room.investor room.n)
     where
-      by_place : (b : Bool) → Fits (where_so b (arrival.Hit room response word moment))
+      by_place : (b : Bool) → FitsHere (where_so b (arrival.Hit room response word moment))
       by_place true = refl
       by_place false = refl
 
-  dealer_fits : (firm : ℕ) (what : ForDealer) → Fits (at_dealer config firm what)
+  dealer_fits : (firm : ℕ) (what : ForDealer) → FitsHere (at_dealer config firm what)
   dealer_fits firm what = by_place (is_some (dealer_numbered config firm))
     where
-      by_place : (b : Bool) → Fits (where_so b (arrival.Dealer firm what))
+      by_place : (b : Bool) → FitsHere (where_so b (arrival.Dealer firm what))
       by_place true = refl
       by_place false = refl
 
   -- what a dealer does in a room with a word that the venue has
   word_fits : (b : Bool) (room : RoomRef) (what : ForRoom)
-      → Fits (if b then in_room config room what else None)
+      → FitsHere (if b then in_room config room what else None)
   word_fits true room what = room_fits room what
   word_fits false room what = refl
 
   -- what a dealer's act is, where a dealer acts
-  act_fits : (act : Dealer → Option Placement) → ((dealer : Dealer) → Fits (act dealer))
-      → (found : Option Dealer) → Fits (option_and_then act found)
+  act_fits : (act : Dealer → Option Placement) → ((dealer : Dealer) → FitsHere (act dealer))
+      → (found : Option Dealer) → FitsHere (option_and_then act found)
   act_fits act each None = refl
   act_fits act each (Some dealer) = each dealer
 
@@ -102,7 +102,7 @@ module _ (config : Configuration) (number : ℕ) (row : InvestorRow)
 
   investor_fits : (firm : ℕ) (what : ForInvestor)
       → ((firm == number) ≡ true → fits book (For what) ≡ true)
-      → Fits (at_investor config firm what)
+      → FitsHere (at_investor config firm what)
   investor_fits firm what fit = by_place (is_some (investor_numbered config firm))
     where
       by_firm : (same : Bool) → (firm == number) ≡ same
@@ -110,7 +110,7 @@ module _ (config : Configuration) (number : ℕ) (row : InvestorRow)
       by_firm true is = fit is
       by_firm false is = refl
 
-      by_place : (b : Bool) → Fits (where_so b (arrival.Investor firm what))
+      by_place : (b : Bool) → FitsHere (where_so b (arrival.Investor firm what))
       by_place true = by_firm (firm == number) refl
       by_place false = refl
 
@@ -126,7 +126,7 @@ module _ (config : Configuration) (number : ℕ) (row : InvestorRow)
   -- of a dealer that declined
   declined_fits : (room : RoomRef) (moment : ℕ) (found : Option Dealer)
       → (is_some found && is_known config facts room None) ≡ true
-      → Fits (option_and_then (declined config room moment) found)
+      → FitsHere (option_and_then (declined config room moment) found)
   unfolding fits
   declined_fits room moment None met = refl
   declined_fits room moment (Some dealer) met =
@@ -146,7 +146,7 @@ module _ (config : Configuration) (number : ℕ) (row : InvestorRow)
   -- All duties.
 
   pub duty_fits : (by : Actor) (left : Duty) → is_met config facts by left ≡ true
-      → Fits (placed config by left)
+      → FitsHere (placed config by left)
   unfolding placed is_met fits
   duty_fits by (duty.Open room ask dealers moment) met =
       room_fits room (to_room.Open ask dealers moment)
@@ -226,11 +226,11 @@ module _ (meet : DutiesMeet) (books : BooksAre) (config : Configuration) (number
       duty_fits config number row is_investor (audit_trail config front).facts by first
       (meet config front by first later is)
 
-  own_fits : (book : InvestorBook) (moment : ℕ) (bytes : List ℕ) (same : Bool)
-      → fits_if book (if same then Some (Own moment bytes) else None) ≡ true
+  own_fits : (stood : InvestorBook) (moment : ℕ) (bytes : List ℕ) (same : Bool)
+      → fits_if stood (if same then Some (Own moment bytes) else None) ≡ true
   unfolding fits
-  own_fits book moment bytes true = refl
-  own_fits book moment bytes false = refl
+  own_fits stood moment bytes true = refl
+  own_fits stood moment bytes false = refl
 
   step_fits : (front : List Step) (more : Step)
       → fits_if (book_after front) (comes_next front more) ≡ true
@@ -275,10 +275,10 @@ module _ (meet : DutiesMeet) (books : BooksAre) (config : Configuration) (number
       (comings_from config number (audit_trail config (front ++ more ∷ [])) rest) ≡ true
       → all_fit desk
       (comings_from config number (after_step config (audit_trail config front) more) rest) ≡ true
-  rest_fits front rest more desk at fit =
+  rest_fits front rest more desk same fit =
       subst (λ (d : DeskEvents). all_fit d
       (comings_from config number (after_step config (audit_trail config front) more) rest) ≡ true)
-      at
+      same
       (subst (λ (trail : AuditTrail). all_fit (desk_at (front ++ more ∷ []))
       (comings_from config number trail rest) ≡ true) (trail_more front more) fit)
 
