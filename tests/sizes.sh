@@ -1,6 +1,6 @@
 #!/bin/sh
 # Writes docs/SIZES.md: for each crate its lines that are not blank, and its wrong bodies; and, from
-# a log of the gate that ended, how it ended and how long it took. Sizes and times stand nowhere else.
+# a log of the gate that ended, how it ended and how long it took. Other pages round them.
 # usage: tests/sizes.sh [LOG]     LOG as written by: { time rt ci; } >LOG 2>&1
 set -eu
 root=$(cd "$(dirname "$0")/.." && pwd)

@@ -3,7 +3,7 @@
 # investor trade by stock QuickFIX initiators, prints what each was sent and what stands in the log, and ends all that it
 # started. usage: examples/gateway/run.sh [FOLDER]    where the day is kept: a new folder that is removed if none is named.
 #
-# VENUE has the words of the venue's program, crates/rfq_venue/out/rfq_venue if it is not set; GATEWAY the gateway,
+# VENUE is the command line of the venue's program, crates/rfq_venue/out/rfq_venue if it is not set; GATEWAY the gateway,
 # gateway/out/mireseason-gateway if it is not set.
 set -eu
 here=$(cd "$(dirname "$0")" && pwd)

@@ -27,7 +27,7 @@ impl Commands {
         }
     }
 
-    /// Runs the program with these words.
+    /// Runs the program with these arguments.
     fn run<H: Threads + Wait + Sync>(
         &mut self,
         rt: &H,
@@ -40,7 +40,7 @@ impl Commands {
         Ok(())
     }
 
-    /// `run WORDS`: the status, what was told, and what was printed.
+    /// `run ARGUMENTS`: the status, what was told, and what was printed.
     fn show<H: Threads + Wait + Sync>(
         &mut self,
         rt: &H,
@@ -50,7 +50,7 @@ impl Commands {
         self.last.show(call.alloc, &mut call.answer)
     }
 
-    /// `ends FIRST LAST WORDS`: the same with the first and the last lines of what was printed.
+    /// `ends FIRST LAST ARGUMENTS`: the same with the first and the last lines of what was printed.
     fn show_ends<H: Threads + Wait + Sync>(
         &mut self,
         rt: &H,
@@ -63,8 +63,8 @@ impl Commands {
             .show_ends(call.alloc, first, last, &mut call.answer)
     }
 
-    /// `in_step WORDS`: the same where each line of steps is given once the answer of the one before
-    /// it was flushed.
+    /// `in_step ARGUMENTS`: the same where each line of steps is given once the answer of the one
+    /// before it was flushed.
     fn show_in_step<H: Threads + Wait + Sync>(
         &mut self,
         rt: &H,
@@ -76,7 +76,7 @@ impl Commands {
         self.last.show(call.alloc, &mut call.answer)
     }
 
-    /// `process WORDS`: the same of a process with these arguments, which may be any bytes.
+    /// `process ARGUMENTS`: the same of a process with these arguments, which may be any bytes.
     fn show_process<H: Threads + Wait + Sync>(
         &mut self,
         rt: &H,

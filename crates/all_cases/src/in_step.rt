@@ -85,7 +85,7 @@ impl<'a> Write for Answering<'a> {
     }
 }
 
-/// Runs the program with these words over an input, line by line.
+/// Runs the program with these arguments over an input, line by line.
 pub(crate) fn ran_in_step<H: Threads + Wait + Sync>(
     rt: &H,
     alloc: Global,

@@ -10,9 +10,9 @@ use std::marker::Sync;
 use std::sync::Wait;
 use std::thread::Threads;
 
-/// `STEP WORDS`: runs the program once for each count of bytes, a multiple of the step, behind which
-/// its reader fails, up to all of them. Each answer stands behind the first and the last count that
-/// has it.
+/// `STEP ARGUMENTS`: runs the program once for each count of bytes, a multiple of the step, behind
+/// which its reader fails, up to all of them. Each answer stands behind the first and the last count
+/// that has it.
 fn each_read<H: Threads + Wait + Sync>(
     rt: &H,
     call: &mut Call<'_>,
@@ -32,7 +32,7 @@ fn each_read<H: Threads + Wait + Sync>(
     in_row.end(&mut call.answer)
 }
 
-/// `STEP WORDS`: the same with a writer that fails, or takes nothing any more. Each answer says
+/// `STEP ARGUMENTS`: the same with a writer that fails, or takes nothing any more. Each answer says
 /// whether the writer holds these first bytes of what is printed whole.
 fn each_write<H: Threads + Wait + Sync>(
     rt: &H,
@@ -55,8 +55,8 @@ fn each_write<H: Threads + Wait + Sync>(
     in_row.end(&mut call.answer)
 }
 
-/// `each read STEP WORDS`, `each write STEP WORDS` or `each stop STEP WORDS`: a run for each count of
-/// bytes behind which a stream fails.
+/// `each read STEP ARGUMENTS`, `each write STEP ARGUMENTS` or `each stop STEP ARGUMENTS`: a run for
+/// each count of bytes behind which a stream fails.
 pub(crate) fn each<H: Threads + Wait + Sync>(
     rt: &H,
     call: &mut Call<'_>,

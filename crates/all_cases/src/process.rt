@@ -59,7 +59,7 @@ pub(crate) fn ended_process<H: Threads + Wait + Sync>(
     })
 }
 
-/// The process with these words behind its name, in which `\xHH` stands for any byte.
+/// The process with these arguments behind its name, in which `\xHH` stands for any byte.
 fn process_of(alloc: Global, words: &str) -> Result<Process, CaseFault> {
     let mut arguments = Vec::new(alloc);
     arguments.push(bytes_of(alloc, "rfq_venue")?)?;

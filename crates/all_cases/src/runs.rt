@@ -35,7 +35,7 @@ impl Paces {
     }
 }
 
-/// Runs the program with these words over an input.
+/// Runs the program with these arguments over an input.
 pub(crate) fn ran<H: Threads + Wait + Sync>(
     rt: &H,
     alloc: Global,
@@ -54,7 +54,7 @@ pub(crate) fn ran<H: Threads + Wait + Sync>(
     }
 }
 
-/// The words of a command, divided by one space each; `""` stands for the empty one.
+/// The arguments of a command, divided by one space each; `""` stands for the empty one.
 pub(crate) fn words_of<'a>(alloc: Global, text: &'a str) -> Result<Vec<&'a str>, CaseFault> {
     let mut words = Vec::new(alloc);
     if text.is_empty() {

@@ -17,9 +17,9 @@
 //!
 //! What is proved, for every text and every price:
 //!
-//! - `read_price` answers a number exactly where the text spells that number of 256ths. Nothing is
+//! - `read_price` returns a number exactly where the text spells that number of 256ths. Nothing is
 //!   rounded, and nothing overflows.
-//! - Each [`PriceFault`] is answered exactly where its condition is the first that holds. So the
+//! - Each [`PriceFault`] is returned exactly where its condition is the first that holds. So the
 //!   three faults and the prices cover every text, and no two of them meet.
 //! - `price_text` prints one text for each price: whole points without leading zeros, then, unless
 //!   the fraction is zero, a point and the fraction without trailing zeros.

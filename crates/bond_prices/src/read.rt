@@ -11,7 +11,7 @@ use crate::ticks::{MAX_COUNT, Ticks};
 /// Leading zeros, zeros at the end, and a point before or behind all digits are read too:
 /// `099.5000`, `.5` and `5.` are prices.
 pub fn read_price(text: &[u8]) -> Result<Ticks, PriceFault>
-    // The text as a function, for callers that go on with the answer.
+    // The text as a function, for callers that go on with the result.
     ensures exact { result ≡ price_of text.now }
 
     // The text by its parts. The four cover every text, and no two meet.

@@ -46,25 +46,25 @@ pub data Command : Type 0 where
   -- the blotter of the firm with this name
   blotter : Text → Command
 
--- The words behind a command's name.
+-- The arguments behind a command's name.
 
--- a word behind which no word is a flag
+-- an argument behind which none is a flag
 abbrev pub is_dashes : Text → Bool
 is_dashes argument = bytes_eq argument (codes "--")
 
--- a word that is read as flags: a hyphen, and at least one character behind it
+-- an argument that is read as flags: a hyphen, and at least one character behind it
 abbrev pub is_flag : Text → Bool
 is_flag [] = false
 is_flag (first ∷ rest) = first == 45 && is_some (slice_get (chars rest) 0)
 
--- the flags among the words
+-- the flags among the arguments
 abbrev pub flags_in : List Text → List Text
 flags_in [] = []
 flags_in (argument ∷ rest) =
     if is_dashes argument then []
     else (if is_flag argument then argument ∷ flags_in rest else flags_in rest)
 
--- the other words
+-- the other arguments
 abbrev pub plain_in : List Text → List Text
 plain_in [] = []
 plain_in (argument ∷ rest) =
@@ -94,13 +94,13 @@ given flags = record {
   live = is_among (codes "--live") flags;
 }
 
--- How many words a command takes.
+-- How many arguments a command takes.
 pub data Words : Type 0 where
   no_word : Words
   one_or_none : Words
   one_word : Words
 
--- so many words there are
+-- so many arguments there are
 abbrev pub are_words : Words → List Text → Bool
 are_words no_word [] = true
 are_words one_or_none [] = true
@@ -110,8 +110,8 @@ are_words one_or_none (argument ∷ []) = true
 are_words one_word (argument ∷ []) = true
 are_words words (argument ∷ more ∷ rest) = false
 
--- The table of the commands: a command's name, the names of its flags, how many words it takes, and
--- what it asks for by its word and by the flags that are given.
+-- The table of the commands: a command's name, the names of its flags, how many arguments it takes,
+-- and what it asks for by its argument and by the flags that are given.
 pub record Line : Type 0 where
   pub name : Text
   pub flags : List Text
@@ -173,7 +173,7 @@ commands =
 abbrev pub line_of : Text → List Line → Option Line
 line_of name lines = find (λ l. bytes_eq l.name name) lines
 
--- what a line asks for by these words and flags, where they are its own
+-- what a line asks for by these arguments and flags, where they are its own
 abbrev pub asked_by : List Text → List Text → Line → Option Command
 asked_by words flags l =
     if are_words l.words words && are_flags (map spelled l.flags) flags
@@ -225,7 +225,7 @@ argument_rules no_word = []
 argument_rules one_or_none = argument_rule false ∷ []
 argument_rules one_word = argument_rule true ∷ []
 
--- a command of this name, with these flags and words
+-- a command of this name, with these flags and arguments
 abbrev pub leaf_app : Text → List Text → Words → App
 leaf_app name flags words =
     fold with_rule (new_app name) (map flag_rule flags ++ argument_rules words)
@@ -234,8 +234,8 @@ leaf_app name flags words =
 abbrev pub line_app : Line → App
 line_app l = leaf_app l.name l.flags l.words
 
--- how many words a command of the code's table takes, the command itself, and a program with such
--- commands more
+-- how many arguments a command of the code's table takes, the command itself, and a program with
+-- such commands more
 abbrev pub arguments_of : Option ArgumentLine → Words
 arguments_of None = no_word
 arguments_of (Some argument) = if argument.required then one_word else one_or_none

@@ -65,7 +65,7 @@ pub enum VenueCommand<'a> {
     },
 }
 
-/// What is told of arguments that are not those of a command.
+/// What the program prints for arguments that are not those of a command.
 #[derive(Drop)]
 pub enum Response {
     /// They ask for this help, or for the version.
@@ -296,7 +296,7 @@ fn with_commands<'a>(
     Ok(program)
 }
 
-/// What an error of the arguments is to tell.
+/// What the program prints for an error in its arguments.
 pub fn response_to(alloc: Global, error: &Error) -> Response
     ensures { spec.IsResponseTo (kind_of error.now) result }
 {

@@ -26,14 +26,14 @@ order_at day (site.Room room) =
 
 -- Words. A message and a drop wish to withdraw the quote whose word they ask, a hit to lift it.
 
--- whether an action of a kind is answered as it wishes
+-- whether an action of a kind is settled as it wishes
 abbrev pub is_as_wished : Kind → Settled → Bool
 is_as_wished kind.Hit settled.Lifted = true
 is_as_wished kind.Hit settled.Withdrawn = false
 is_as_wished other settled.Lifted = false
 is_as_wished other settled.Withdrawn = true
 
--- an action asked this word, and whether it was answered as it wished is this
+-- an action asked this word, and whether it was settled as it wished is this
 pub record Asked (word : ℕ) (wished : Bool) (action : Action) : Type 0 where
   pub settlement : Settled
   pub word_is : action.word ≡ Some (word, settlement)
@@ -62,7 +62,7 @@ pub record AtOneSite (day : RecordedDay) (one other : ActionRef) : Type 0 where
   pub one_is : StandsAt day at one_spot one
   pub other_is : StandsAt day at other_spot other
 
--- two actions that asked one word, of which the first was answered as it wished and the second was
+-- two actions that asked one word, of which the first was settled as it wished and the second was
 -- not
 pub record OfOneWord (day : RecordedDay) (one other : ActionRef) : Type 0 where
   pub word : ℕ
@@ -100,7 +100,7 @@ pub record IsCircle (day : RecordedDay) (actions : List ActionRef) : Type 0 wher
 abbrev pub is_by : Actor → Slot → Bool
 is_by actor slot = is_same_actor slot.action.0 actor
 
--- whether an action asked this word, and was not answered as it wished
+-- whether an action asked this word, and was not settled as it wished
 abbrev pub refuses : ℕ → Action → Bool
 refuses word action =
     option_map_or (λ (asked : ℕ × Settled).

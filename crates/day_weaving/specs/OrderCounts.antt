@@ -1,4 +1,4 @@
--- How the code counts what has come of an order: words of private functions alone.
+-- How the code counts what has come of an order: names for private functions alone.
 use Rattle.std.specs.Prelude.{◌≡◌, ◌≢◌, ℕ, ◌+◌, List, [], ◌∷◌, ◌++◌, take, count_by, nat_eq}
 use Rattle.std.specs.Prelude.{Option, Some, option_and_then, slice_get, unwrap_or}
 use Rattle.std.specs.HashMap.{get, HashMap}

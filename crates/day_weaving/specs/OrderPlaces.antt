@@ -1,4 +1,4 @@
--- How the code notes where each action stands: words of private functions alone.
+-- How the code notes where each action stands: names for private functions alone.
 use Rattle.std.specs.Prelude.{◌≡◌, ◌≢◌, ℕ, ◌==◌, Bool, true, ◌&&◌, Option, Some, is_some}
 use Rattle.std.specs.HashMap.{get, HashMap}
 use Rattle.std.specs.declared.hash.BuildHasherDefault.{BuildHasherDefault}

@@ -1,4 +1,4 @@
--- How the search for an order stands: words of private functions alone.
+-- How the search for an order stands: names for private functions alone.
 use Rattle.std.specs.Prelude.{◌≡◌, ◌<◌, ◌≤◌, ℕ, ◌+◌, ◌-◌, ◌==◌, Bool, true, false}
 use Rattle.std.specs.Prelude.{List, [], ◌∷◌, ◌++◌, length, take, slice_get, slice_set}
 use Rattle.std.specs.Prelude.{Option, Some, None, is_some}

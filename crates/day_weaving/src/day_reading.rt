@@ -41,7 +41,7 @@ pub(crate) fn action_at(day: &DayRecord, site: Site, spot: usize) -> Option<&(Ac
     order.get(spot)
 }
 
-/// Whether an action of a kind is answered as it wishes: a message and a drop wish to withdraw a
+/// Whether an action of a kind is settled as it wishes: a message and a drop wish to withdraw a
 /// quote, and a hit to lift it.
 pub(crate) fn is_as_wished(kind: Kind, settlement: Settled) -> bool
     ensures { result ≡ spec.is_as_wished kind settlement }

@@ -34,8 +34,8 @@ pub fn well_formed_days_are_not_malformed()
 {}
 
 /// A law: where a day of a venue has an order that is kept, what is true of a fault of its weaving
-/// is that a firm differs, or that memory was refused. So such a day is woven, or one of these is
-/// told; it is never told as malformed or as a cycle. It does nothing.
+/// is that a firm differs, or that memory was refused. So such a day is woven, or has one of these
+/// faults; it is never called malformed or a cycle. It does nothing.
 pub fn days_with_an_order_are_no_cycle()
     ensures { (config : Configuration) (day : RecordedDay) (slots : List Slot) (fault : WeaveFault)
         → form.IsWellFormed config day → spec.KeepsOrder day slots

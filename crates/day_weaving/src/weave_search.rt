@@ -61,7 +61,7 @@ impl Search {
     }
 
     /// Brings the action at a place of the table into the order, behind all that it waits for; or
-    /// answers actions of which each has one of them directly before it. A step is done for each
+    /// returns actions of which each has one of them directly before it. A step is done for each
     /// action that comes onto the way, and one for each that is placed.
     pub(crate) fn bring(
         &mut self,

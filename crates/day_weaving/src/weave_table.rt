@@ -109,7 +109,7 @@ fn put_action(
 }
 
 /// Notes an action as the last one that was granted its word, where it was granted one, with the
-/// place behind it; and answers where the last one before it stands.
+/// place behind it; and returns where the last one before it stands.
 fn put_grant(last: &mut HashMap<u64, u64>, action: &Action, behind: u64) -> Result<u64, Memory>
     ensures { IfOk result (λ below. sought.Links last.old last.new action.now behind below) }
 {

@@ -1,7 +1,12 @@
--- The first refusal of two lists of checks, one behind the other.
-use Rattle.std.proofs.Common.{◌≡◌, Bool, true, false, List, [], ◌∷◌, ◌++◌, Some, None, cond, refl}
+-- The first refusal of two lists of checks, one behind the other, and of those by the table's row of
+-- a request.
+use Rattle.std.proofs.Common.{◌≡◌, Bool, true, false, ◌||◌, List, [], ◌∷◌, ◌++◌, Some, None, cond, refl, ap}
 use Rattle.market_terms.specs.Checks.{first_refusal}
 use Rattle.quote_messages.specs.declared.reject_reasons.QuoteRejectReason.{QuoteRejectReason}
+use Rattle.quote_messages.specs.declared.reject_reasons.QuoteRejectReason.TheVariants.{TooLate, Other}
+use Rattle.dealer_desk.specs.DealerFacts.{DealerBook, has_lifted_quote}
+use Rattle.dealer_desk.specs.RuleCuts.{standing_checks, row_checks}
+use Rattle.dealer_desk.specs.declared.table.RequestRow.{RequestRow}
 
 abbrev pub Checks : Type 0
 Checks = List (Bool × QuoteRejectReason)
@@ -23,3 +28,8 @@ one_passes false at checks more rest h = rest h
 pub passed_first : (checks more : Checks) → first_refusal checks ≡ None → first_refusal (checks ++ more) ≡ first_refusal more
 passed_first [] more h = refl
 passed_first (check ∷ checks) more h = one_passes check.0 check.1 checks more (passed_first checks more) h
+
+-- what the table keeps of a request decides as the book does
+pub standing_by_row : (book : DealerBook) (row : RequestRow) → row.has_lifted ≡ has_lifted_quote book row.request.number → first_refusal (row_checks row) ≡ first_refusal (standing_checks book row.request)
+standing_by_row book row lifted =
+    ap (λ (known : Bool). first_refusal ((row.request.is_declined, Other) ∷ (row.request.is_told || known, TooLate) ∷ [])) lifted

@@ -62,7 +62,7 @@ abbrev pub if_on_grid : ℕ → Option ℕ → Option ℕ
 if_on_grid grid None = None
 if_on_grid grid (Some price) = if on_grid price grid then Some price else None
 
--- the price at which a quote answers an ask, if it is a lawful answer
+-- the price at which a quote answers an ask, if it does so lawfully
 unfoldable pub price_for : Ask → Quote → Option ℕ
 price_for ask quote =
     if_on_grid ask.grid (lone_price (asked_price ask.side quote) (other_price ask.side quote))
@@ -91,7 +91,7 @@ exposure_with book request =
 
 -- Quotes.
 
--- The checks of a quote in their order, line by line of the rule book's table: a condition, and the
+-- The checks of a quote in their order, line by line of MARKET.md's table: a condition, and the
 -- reason that it gives. The last line of that table is the word of the quote that this one would
 -- replace: the verdict names that quote, and its word is asked where none of these lines refuses.
 abbrev pub quote_checks : DealerRow → DealerBook → ℕ → Quote → Option StandingRequest
@@ -228,7 +228,7 @@ message_verdict row book moment (message.Quote quote) = quote_verdict row book m
 message_verdict row book moment (message.Cancel cancel) = cancel_verdict book cancel.scope
 message_verdict row book moment (message.Decline decline) = decline_verdict book decline.request
 
--- the verdict on what came: the session has the first word, and then the market
+-- the verdict on what came: the session's checks come first, and then the market's
 abbrev pub arrival_verdict : DealerRow → DealerBook → ℕ → Arrival DealerMessage → DealerVerdict
 arrival_verdict row book moment Dropped = verdict.Dropped
 arrival_verdict row book moment (OutOfSequence reject) = verdict.OutOfSequence reject

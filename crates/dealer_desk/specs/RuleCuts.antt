@@ -22,6 +22,7 @@ use Rattle.dealer_desk.specs.BookChanges.{FitsBook, IsLiveNumber}
 use Rattle.dealer_desk.specs.DealerTable.{IndexView, with_fact}
 use Rattle.dealer_desk.specs.declared.standing.StandingRequest.{StandingRequest}
 use Rattle.dealer_desk.specs.DealerOutput.{desk_after, rooms_of}
+use Rattle.dealer_desk.specs.declared.table.RequestRow.{RequestRow}
 use Rattle.dealer_desk.specs.declared.accepted.AcceptedQuote.{AcceptedQuote}
 use Rattle.dealer_desk.specs.declared.outcomes.Note.{Note}
 use Rattle.dealer_desk.specs.declared.outcomes.Note.TheVariants as note
@@ -37,6 +38,21 @@ abbrev pub standing_checks : DealerBook → StandingRequest → List (Bool × Qu
 standing_checks book shown =
     (shown.is_declined, Other)
     ∷ (shown.is_told || has_lifted_quote book shown.number, TooLate)
+    ∷ []
+
+-- the same, by what the table keeps of the request
+abbrev pub row_checks : RequestRow → List (Bool × QuoteRejectReason)
+row_checks row =
+    (row.request.is_declined, Other)
+    ∷ (row.request.is_told || row.has_lifted, TooLate)
+    ∷ []
+
+-- whether the request can be declined, by what the table keeps of it
+abbrev pub decline_row_checks : RequestRow → List (Bool × QuoteRejectReason)
+decline_row_checks row =
+    (row.request.is_declined, Other)
+    ∷ (row.request.is_told, TooLate)
+    ∷ (is_some row.live, Other)
     ∷ []
 
 -- what a quote says, beside what is asked for

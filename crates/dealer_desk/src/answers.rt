@@ -1,4 +1,4 @@
-//! How a verdict is answered, noted and handed on.
+//! What a desk sends for a verdict, what its index notes of it, and what is handed on.
 ghost use Rattle.std.specs.Prelude.{◌≡◌, ◌<◌, ◌+◌, ◌^◌, ℕ, List, ◌∷◌, Some, None, OnOk, OnErr};
 ghost use Rattle.std.specs.Prelude.{if◌then◌else◌};
 ghost use Rattle.std.specs.Option.{option_map};

@@ -2,8 +2,8 @@
 //! requests.
 ghost use Rattle.std.specs.Prelude.{◌≡◌, [], ◌∷◌, Some};
 ghost use Rattle.market_terms.specs.Checks.{first_refusal};
-ghost use Rattle.dealer_desk.specs.DealerFacts.{live_number_on};
 ghost use Rattle.dealer_desk.specs.DealerRules as spec;
+ghost use Rattle.dealer_desk.specs.RuleCuts.{decline_row_checks};
 
 use crate::index::DealerIndex;
 use crate::table::RequestRow;
@@ -89,7 +89,7 @@ pub(crate) fn decline_verdict<'a>(index: &DealerIndex, request: Id<'a>) -> Deale
     let Some(shown) = index.request_named(request.as_bytes()) else {
         return decline_refused(request, QuoteRejectReason::Other);
     };
-    if let Some(reason) = decline_refusal(index, shown) {
+    if let Some(reason) = decline_refusal(shown) {
         return decline_refused(request, reason);
     }
     DealerVerdict::DeclineAccepted {
@@ -99,10 +99,8 @@ pub(crate) fn decline_verdict<'a>(index: &DealerIndex, request: Id<'a>) -> Deale
 }
 
 /// Why a request that was shown can't be declined, if it can't.
-fn decline_refusal(_index: &DealerIndex, shown: &RequestRow) -> Option<QuoteRejectReason>
-    requires { shown.now.live ≡ live_number_on _index.now.book shown.now.request.number }
-    ensures { result
-        ≡ first_refusal (spec.decline_checks _index.now.book (Some shown.now.request)) }
+fn decline_refusal(shown: &RequestRow) -> Option<QuoteRejectReason>
+    ensures { result ≡ first_refusal (decline_row_checks shown.now) }
 {
     if shown.request.is_declined {
         return Some(QuoteRejectReason::Other);

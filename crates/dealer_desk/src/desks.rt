@@ -98,7 +98,7 @@ impl DealerDesk {
         quote
     }
 
-    /// Takes a message of the dealer's own, whatever its bytes are, with the settlement of the word
+    /// Receives a message of its dealer, whatever its bytes are, with the settlement of the word
     /// that it asks, and gives what is left to be done in the room of its request. After an error
     /// the desk is as before.
     pub fn take(
@@ -160,7 +160,7 @@ impl DealerDesk {
         Ok(duty)
     }
 
-    /// Shows the dealer a request, and answers the number that it has among those shown to this
+    /// Shows the dealer a request, and returns the number that it has among those shown to this
     /// dealer. A room is shown once: where one was shown before, it goes on to mean its first
     /// request. After an error the desk is as before.
     pub fn show(&mut self, room: RoomRef, ask: Ask, moment: Moment) -> Result<u64, Memory>
@@ -185,7 +185,7 @@ impl DealerDesk {
         Ok(number)
     }
 
-    /// Tells the dealer how the request of a room ended. It answers false, and changes nothing,
+    /// Tells the dealer how the request of a room ended. It returns false, and changes nothing,
     /// where that room was not shown or was told already. After an error the desk is as before.
     pub fn tell(&mut self, room: RoomRef, close: Close, moment: Moment) -> Result<bool, Memory>
         ensures told { IfOk result

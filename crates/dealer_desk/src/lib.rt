@@ -1,6 +1,5 @@
 //! The desk of one dealer of a blind multi-dealer RFQ venue: it shows the dealer requests for
-//! quotes, takes the dealer's messages and answers each of them, and tells the dealer how each
-//! request ended.
+//! quotes, receives the dealer's messages, and tells the dealer how each request ended.
 //!
 //! A desk sees nothing but its own dealer's row of the configuration and the events that come to
 //! it, and what it sends is a function of these. So whatever other dealers and investors do reaches
@@ -32,8 +31,9 @@
 //!
 //! # What is promised
 //!
-//! - [`DealerDesk::take`], [`DealerDesk::show`] and [`DealerDesk::drop_one`] add one event to
-//!   [`DealerDesk::events`] and change nothing else; [`DealerDesk::tell`] adds one, or answers
+//! - [`DealerDesk::take`] (or, of a message that was judged, [`DealerDesk::receive_judged`]),
+//!   [`DealerDesk::show`] and [`DealerDesk::drop_one`] add one event to [`DealerDesk::events`] and
+//!   change nothing else; [`DealerDesk::tell`] adds one, or returns
 //!   false and changes nothing. Where memory is refused they change nothing at all.
 //! - [`DealerDesk::sent`] is `dealer_output` of the day, the row and the events: one definition,
 //!   which says for each event which message it adds, byte by byte. MsgSeqNum (34) counts the
@@ -43,8 +43,8 @@
 //!   readable MsgSeqNum (34), are dropped; a message out of sequence and a session fault are
 //!   answered by a Reject; a Quote, a cancel or a decline is refused for the first of the market's
 //!   checks that it meets, in the order of `quote_checks`, `cancel_checks` and `decline_checks`,
-//!   and is accepted exactly where it meets none, but that a replacement and a cancel leave the
-//!   last word to the word of the quote.
+//!   and is accepted exactly where it meets none; a replacement and a cancel are decided by the
+//!   quote's word in the end.
 //! - [`DealerDesk::question`] is the quote whose word a message asks, one of the dealer's own, and
 //!   the duty that [`DealerDesk::take`] gives is `verdict_duty`: that of the definitions and no
 //!   other. [`DealerDesk::question_drop`] and [`DealerDesk::drop_one`] are the same of the drops of

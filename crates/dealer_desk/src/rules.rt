@@ -3,7 +3,7 @@ ghost use Rattle.std.specs.Prelude.{◌≡◌, ◌+◌, Some, None, MatchResult}
 ghost use Rattle.market_terms.specs.Checks.{first_refusal, is_not_after};
 ghost use Rattle.dealer_desk.specs.DealerRules as spec;
 ghost use Rattle.dealer_desk.specs.DealerFacts.{live_number_on, has_lifted_quote, quotes_accepted};
-ghost use Rattle.dealer_desk.specs.RuleCuts.{standing_checks, terms_checks, day_checks};
+ghost use Rattle.dealer_desk.specs.RuleCuts.{row_checks, terms_checks, day_checks};
 
 use crate::cancels::{cancel_verdict, decline_verdict};
 use crate::index::DealerIndex;
@@ -82,7 +82,7 @@ fn check_quote(
         (λ reason. spec.quote_refusal row.now index.now.book moment quote.now
         (Some shown.now.request) ≡ Some reason) }
 {
-    if let Some(reason) = standing_refusal(index, shown) {
+    if let Some(reason) = standing_refusal(shown) {
         return Err(reason);
     }
     let price = match price_by_terms(moment, quote, &shown.request.ask) {
@@ -96,9 +96,8 @@ fn check_quote(
 }
 
 /// Why a request takes no quote of this dealer at all, if it does not.
-fn standing_refusal(_index: &DealerIndex, shown: &RequestRow) -> Option<QuoteRejectReason>
-    requires { shown.now.has_lifted ≡ has_lifted_quote _index.now.book shown.now.request.number }
-    ensures { result ≡ first_refusal (standing_checks _index.now.book shown.now.request) }
+fn standing_refusal(shown: &RequestRow) -> Option<QuoteRejectReason>
+    ensures { result ≡ first_refusal (row_checks shown.now) }
 {
     if shown.request.is_declined {
         return Some(QuoteRejectReason::Other);
@@ -109,7 +108,7 @@ fn standing_refusal(_index: &DealerIndex, shown: &RequestRow) -> Option<QuoteRej
     None
 }
 
-/// The price of a quote whose terms answer the ask, or the reason of the first of these checks that
+/// The price of a quote whose terms fit the ask, or the reason of the first of these checks that
 /// refuses it.
 fn price_by_terms(moment: Moment, quote: &Quote, ask: &Ask) -> Result<Ticks, QuoteRejectReason>
     ensures { MatchResult result

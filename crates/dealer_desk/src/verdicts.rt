@@ -6,9 +6,9 @@ use crate::AcceptedQuote;
 use market_terms::Id;
 use quote_messages::{OutMessage, Reject};
 
-/// The verdict on a message that came to a dealer's desk. Two of them leave the last word to the
-/// word of a quote: a quote that replaces another, and a cancel, take effect where that word is
-/// withdrawn, and come too late where it is lifted.
+/// The verdict on a message that came to a dealer's desk. Of two of them a quote's word decides
+/// last: a quote that replaces another, and a cancel, take effect where that word is withdrawn, and
+/// come too late where it is lifted.
 #[derive(Drop)]
 pub enum DealerVerdict<'a> {
     /// The bytes are no frame, or have no readable MsgSeqNum (34): nothing is sent.

@@ -94,7 +94,7 @@ pub record Cutting : Type 0 where
   pub messages : List (List ℕ)
   pub rest : Result (List ℕ) StreamFault
 
--- bytes in which no fault stands are kept, and no fault stands where none is answered
+-- bytes in which no fault stands are kept, and no fault stands where none is returned
 abbrev pub Stands : Result (List ℕ) StreamFault → List ℕ → Type 0
 Stands (Ok kept) rest = (kept ≡ rest) × ((fault : StreamFault) → ¬ IsStreamFault fault rest)
 Stands (Err fault) rest = IsStreamFault fault rest

@@ -23,7 +23,7 @@ unwoven_name unwoven.Malformed = codes "Malformed"
 unwoven_name unwoven.Cycle = codes "Cycle"
 unwoven_name unwoven.Differs = codes "Differs"
 
--- a fault as standard error tells it, but for the word of an argument that names no firm
+-- a fault as standard error tells it, but for the argument that names no firm
 abbrev pub fault_text : ProgramFault → List ℕ
 fault_text Read = codes "read"
 fault_text Input = codes "input"
@@ -39,12 +39,12 @@ fault_text (Weave why) = codes "weave: " ++ unwoven_name why
 fault_text Memory = codes "memory"
 fault_text Write = codes "write"
 
--- the line that tells a fault; the word of an argument stands behind its front
+-- the line that tells a fault; an argument stands behind its front
 abbrev pub fault_line : ProgramFault → List ℕ
 fault_line Firm = codes "firm: "
 fault_line fault = fault_text fault ++ 10 ∷ []
 
--- the line that tells a fault of a run, whose argument FIRM or DEALER is this word
+-- the line that tells a fault of a run, whose argument FIRM or DEALER is this one
 abbrev pub told_line : List ℕ → ProgramFault → List ℕ
 told_line argument Firm = fault_line Firm ++ argument ++ 10 ∷ []
 told_line argument fault = fault_line fault

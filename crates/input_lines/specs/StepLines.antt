@@ -79,7 +79,7 @@ pub record Heard : Type 0 where
 abbrev pub nothing_heard : ℕ → Heard
 nothing_heard firms = record { numbers = replicate firms 1; streams = replicate firms [] }
 
--- the number of a firm's next `say` line; that of a word that names no firm would be the first
+-- the number of a firm's next `say` line; that of a part that names no firm would be the first
 abbrev pub number_for : Heard → Option ℕ → ℕ
 number_for heard None = 1
 number_for heard (Some firm) = slice_index heard.numbers firm
@@ -110,7 +110,7 @@ with_stream heard firm rest = record {
 abbrev pub is_filled : List ℕ → Bool
 is_filled part = not (length part == 0)
 
--- the word at the front of the line with this number
+-- the part at the front of the line with this number
 abbrev pub part_at : ℕ → List ℕ → Result (List ℕ) ProgramFault
 part_at k text = at_line k (text_if is_filled (first_part text))
 
@@ -119,7 +119,7 @@ abbrev pub of_known : {A : Type 0} → ℕ → Option A → Result A ProgramFaul
 of_known k None = Err (UnknownFirm k)
 of_known k (Some value) = Ok value
 
--- the firm that a word names
+-- the firm that a part names
 abbrev pub known_firm : ConfigValues → ℕ → List ℕ → Result ℕ ProgramFault
 known_firm config k part = of_known k (firm_named config part)
 
@@ -153,7 +153,7 @@ unbroken k (Ok rest) = Ok rest
 abbrev pub Read : Type 0
 Read = Result (List Step × Heard) ProgramFault
 
--- `say FIRM TRADER TIME TYPE BODY`: the message of these fields that the firm sends; a word with
+-- `say FIRM TRADER TIME TYPE BODY`: the message of these fields that the firm sends; a part with
 -- SOH, which no firm has as its name, is as long with a vertical bar in its place
 unfoldable pub said_step : ConfigValues → Heard → ℕ → List ℕ → Read
 said_step config heard k text = do

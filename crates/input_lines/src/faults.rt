@@ -77,7 +77,7 @@ pub enum ProgramFault {
     /// The configuration is none.
     Config(ConfigFault),
     /// An argument is the name of no firm, or of no dealer where a dealer is asked for. The
-    /// argument's word belongs to the line that tells the fault.
+    /// argument belongs to the line that tells the fault.
     Firm,
     /// A line is not of its form.
     Form {
@@ -150,7 +150,7 @@ impl<T: Drop> From<AllocFailed<T>> for ProgramFault {
 }
 
 /// The line that tells a fault, whole, with its line feed; of [`ProgramFault::Firm`] what stands
-/// before the argument's word, which is to be written behind it with a line feed. It takes no
+/// before the argument, which is to be written behind it with a line feed. It takes no
 /// memory.
 pub fn fault_line(fault: &ProgramFault) -> ArrayString<64>
     ensures { result.bytes ≡ spec.fault_line fault.now }

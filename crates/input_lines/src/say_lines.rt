@@ -101,7 +101,7 @@ impl<'a> SayLine<'a> {
     }
 
     /// The message as a firm with this part as its name would send it, with a vertical bar for each
-    /// SOH in the part. A word without one is not copied.
+    /// SOH in the part. A part without one is not copied.
     #[tactic(auto, using(crate::proofs::BarLemmas::barred_plain, crate::proofs::TagLemmas::value_is_plain))]
     pub(crate) fn message_by(
         &self,

@@ -46,7 +46,7 @@ verdict_facts (verdict.RequestAccepted id request) = Asked request ∷ []
 verdict_facts other = []
 
 -- The message that answers a verdict, if one does. A hit of a known quote and a pass of a known
--- request are answered once their room has decided.
+-- request get their reply once their room has decided.
 abbrev pub verdict_message : InvestorVerdict → Option OutMessage
 verdict_message verdict.Dropped = None
 verdict_message (verdict.OutOfSequence reject) = Some (out.Reject reject)
@@ -118,7 +118,7 @@ abbrev pub decline_messages : List ℕ → Option StandingRequest → List OutMe
 decline_messages dealer None = []
 decline_messages dealer (Some own) = out.DealerDeclined own.request.id dealer ∷ []
 
--- The room has answered a hit or a pass: what is not refused closes the request, a hit by the award
+-- The room's reply to a hit or a pass: what is not refused closes the request, a hit by the award
 -- of its quote.
 
 -- why a response is refused, where it is
@@ -137,7 +137,7 @@ abbrev pub close_by : InvestorBook → Option ℕ → Option RequestClose
 close_by book None = Some close.Passed
 close_by book (Some quote) = option_map award_of (offer_numbered book quote)
 
--- how the answer to a response closes its request, where it does
+-- how the reply to a response closes its request, where it does
 abbrev pub close_by_answer : InvestorBook → ResponseRef → Option HitRefusal → Option RequestClose
 close_by_answer book response None = close_by book response.k
 close_by_answer book response (Some refusal) = None
@@ -147,7 +147,7 @@ abbrev pub closed_facts : ℕ → Option RequestClose → List InvestorFact
 closed_facts number None = []
 closed_facts number (Some close) = Closed number close ∷ []
 
--- the facts of the answer to a response to this request
+-- the facts of the reply to a response to this request
 abbrev pub answer_facts : InvestorBook → ℕ → ResponseRef → Reply → Option StandingRequest
     → List InvestorFact
 answer_facts book number response reply None = []
@@ -159,12 +159,12 @@ abbrev pub pass_status : Option HitRefusal → PassStatus
 pass_status None = status.Passed
 pass_status (Some refusal) = status.NotOpen
 
--- the answer to a hit of this quote, or to a pass
+-- the message of the reply to a hit of this quote, or to a pass
 abbrev pub response_message : StandingRequest → List ℕ → Option ℕ → Option HitRefusal → OutMessage
 response_message own id None refusal = out.PassReport id own.request.id (pass_status refusal)
 response_message own id (Some quote) refusal = out.HitReport id own.request.id quote refusal
 
--- the message of the answer to a response to this request
+-- the message of the reply to a response to this request
 abbrev pub answer_messages : ResponseRef → Reply → Option StandingRequest → List OutMessage
 answer_messages response reply None = []
 answer_messages response reply (Some own) =
@@ -203,7 +203,7 @@ event_facts market book (event.Closed request moment) =
     expiry_facts request (request_numbered book request)
 
 -- The messages that an event sends. What comes for a request that is closed at the desk, but for
--- the answer to a response, sends nothing.
+-- the reply to a response, sends nothing.
 unfoldable pub event_messages : InvestorMarket → InvestorBook → InvestorEvent → List OutMessage
 event_messages market book (event.Received moment bytes) =
     option_to_list (verdict_message (investor_verdict market book moment bytes))

@@ -61,7 +61,7 @@ dealer_numbers market names = filter_map (dealer_named market) names
 
 -- Requests.
 
--- The checks of a request in their order, line by line of the rule book: a condition, and the
+-- The checks of a request in their order, line by line of MARKET.md: a condition, and the
 -- reason that it gives.
 abbrev pub request_checks : InvestorMarket → InvestorBook → ℕ → QuoteRequest
     → List (Bool × RequestRejectReason)
@@ -123,7 +123,7 @@ request_verdict market book moment request =
 
 -- Hits and passes: the room decides on them, and the desk only looks for what they mean.
 
--- a response as its answer names it
+-- a response as its reply names it
 abbrev pub response_to : List ℕ → Option ℕ → ResponseRef
 response_to id quote = record { id = id; k = quote }
 
@@ -155,7 +155,7 @@ message_verdict market book moment (message.Request request) =
 message_verdict market book moment (message.Hit hit) = hit_verdict book hit
 message_verdict market book moment (message.Pass pass) = pass_verdict book pass
 
--- the verdict on what came: the session has the first word, and then the market
+-- the verdict on what came: the session's checks come first, and then the market's
 abbrev pub arrival_verdict : InvestorMarket → InvestorBook → ℕ → Arrival InvestorMessage
     → InvestorVerdict
 arrival_verdict market book moment Dropped = verdict.Dropped

@@ -201,7 +201,7 @@ pub(crate) fn decline_outcome<'a>(
     )
 }
 
-/// What the answer to a response leads to.
+/// What the reply to a response leads to.
 pub(crate) fn answer_outcome<'a>(
     index: &'a InvestorIndex,
     number: u32,
@@ -237,7 +237,7 @@ fn refusal_of(reply: Reply) -> Option<HitRefusal>
     }
 }
 
-/// The answer to a hit or a pass.
+/// The message of the reply to a hit or a pass.
 fn response_message<'a>(
     row: &'a RequestRow,
     response: &'a ResponseRef,
@@ -271,7 +271,7 @@ fn pass_status(refusal: Option<HitRefusal>) -> PassStatus
     }
 }
 
-/// How the answer to a response closes its request, where it does.
+/// How the reply to a response closes its request, where it does.
 fn close_by_answer(
     index: &InvestorIndex,
     response: &ResponseRef,

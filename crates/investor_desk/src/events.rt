@@ -47,7 +47,7 @@ pub enum InvestorEvent {
     Answered {
         /// The request.
         request: u32,
-        /// The response that is answered.
+        /// The response that it is to.
         response: ResponseRef,
         /// What the room decided.
         reply: Reply,

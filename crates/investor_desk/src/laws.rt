@@ -30,7 +30,7 @@ pub fn limits_are_kept()
         → requests_open (book_of (desk_after market events).facts) ≤ market.row.open_limit }
 {}
 
-/// What a message leaves to be done is so in the room of a request of the day, from 1 to the
+/// What a message leaves is to be done in the room of a request of the day, from 1 to the
 /// requests of the investor's row, and a request that is opened names 1 to 8 dealers of the venue,
 /// none of them twice.
 pub fn what_is_left_is_of_the_day()

@@ -17,10 +17,10 @@
 //!
 //! # What is promised
 //!
-//! - Each call adds one event, or answers an error and changes nothing. What was sent is
+//! - Each call adds one event, or returns an error and changes nothing. What was sent is
 //!   `investor_output` of the events: nothing else goes into it but the day, the bonds, the names
 //!   of the dealers, and the investor's own number and row.
-//! - What a message leaves to be done is so in a room of the investor's own, of a request of the
+//! - What a message leaves is to be done in a room of the investor's own, of a request of the
 //!   day, and a request that is opened names 1 to 8 dealers of the venue, none of them twice.
 //! - No more requests are accepted in a day than the row allows, and no more of them are open.
 //!

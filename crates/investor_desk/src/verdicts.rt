@@ -28,7 +28,7 @@ pub enum InvestorVerdict<'a> {
     Hits {
         /// Which of the investor's accepted requests the quote answers.
         request: u32,
-        /// The response, as its answer will name it.
+        /// The response, as its reply will name it.
         response: ResponseRef,
         /// The quote's word.
         word: u32,
@@ -37,7 +37,7 @@ pub enum InvestorVerdict<'a> {
     Passes {
         /// Which of the investor's accepted requests it is.
         request: u32,
-        /// The response, as its answer will name it.
+        /// The response, as its reply will name it.
         response: ResponseRef,
     },
 }

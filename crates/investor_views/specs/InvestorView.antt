@@ -64,7 +64,7 @@ coming_by book (due.Answered request response reply moment) =
     For (to_investor.Answer request response reply moment)
 coming_by book (due.Expired request moment) = For (to_investor.Close request moment)
 
--- The view after one item more. An item on a request that was not accepted, or an answer that fits
+-- The view after one item more. An item on a request that was not accepted, or a reply that fits
 -- no response, changes nothing.
 unfoldable pub after_due : DeskEvents → InvestorDue → DeskEvents
 after_due desk item = after_coming desk (coming_by (book_at desk) item)

@@ -47,11 +47,11 @@ pub enum InvestorDue {
         /// The moment of the dealer's message.
         moment: Moment,
     },
-    /// A hit or a pass is answered.
+    /// The reply to a hit or a pass.
     Answered {
         /// The request.
         request: u32,
-        /// The response that is answered.
+        /// The response that it is to.
         response: ResponseRef,
         /// What the room decided.
         reply: Reply,

@@ -39,7 +39,7 @@ pub fn investors_are_isolated()
     investors_are_sent_their_view();
 }
 
-/// A law: what a replay gives of an investor's day, and what a venue tells it that answers as steps
+/// A law: what a replay gives of an investor's day, and what a venue sends it that answers as steps
 /// come, are the investor view of what was due to it. It does nothing.
 pub fn investors_are_given_their_view()
     ensures days { (config : Configuration) (steps : List Step) (investor : ℕ) (row : InvestorRow)

@@ -15,7 +15,7 @@
 //! - [`investors_are_isolated`]: so two venues in which an investor sees one market, and one list
 //!   was due to it, sent it the same bytes.
 //! - [`investors_are_given_their_view`]: so is what a replay gives of an investor's day, and what a
-//!   venue tells it that answers as steps come.
+//!   venue sends it that answers as steps come.
 //! - [`desks_send_their_view`]: of any events at a desk, whatever brought them, what it sends is the
 //!   *desk view* of what was due by them, which takes each item as it stands.
 #![tactic(auto)]

@@ -1,4 +1,4 @@
--- How far a run of `live` has come: words of private functions alone.
+-- How far a run of `live` has come: names for private functions alone.
 use Rattle.std.specs.Prelude.{◌≡◌, ◌<◌, ◌⊎◌, ℕ, ◌+◌, ◌==◌, Bool, true, false, List, [], ◌∷◌, ◌++◌}
 use Rattle.std.specs.Prelude.{length, Option, Some, None, Ok, Err}
 use Rattle.std.specs.List.{count_by, list_any}

@@ -1,5 +1,5 @@
-//! The commands that take a day line by line: `live`, which answers each line as it comes, and
-//! `replay --live`, which prints the messages of the firms at the end.
+//! The commands that take a day line by line: `live`, which answers each line as it comes, and with
+//! `--live` those that print at the end (`replay`, `due`, `dues`, `blotter` and `compare`).
 ghost use Rattle.std.specs.Prelude.{◌≡◌, ◌≢◌, ◌==◌, ◌<◌, ◌≤◌, ◌++◌, ◌⊎◌, [], ◌∷◌, length};
 ghost use Rattle.std.specs.Prelude.{IfOk, IfErr, IfSome, OnOk, OnErr};
 ghost use Rattle.std.specs.Io.KnownBytes.{Appends};
@@ -57,8 +57,8 @@ struct LiveRun<'a> {
 }
 
 /// Runs `live`: reads a configuration and a line `%%`, and then answers each line of steps before
-/// the next one is read. A line at fault is told on `err`, and the day goes on. Or the same of
-/// `replay --live`, which prints at the end; the argument is that of the command.
+/// the next one is read. A line at fault is told on `err`, and the day goes on. Or the same of a
+/// command with `--live`, which prints at the end. `argument` is that of the command.
 pub fn run_live<R: Read, W: Write, E: Write>(
     alloc: Global,
     form: LineForm<'_>,

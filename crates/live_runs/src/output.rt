@@ -29,7 +29,7 @@ pub fn write_text<W: Write>(out: &mut W, text: &[u8]) -> bool
 }
 
 /// Prints a text as a whole, and flushes it. The fault is [`ProgramFault::Write`], where the writer
-/// gives an error or takes no byte; then a part of the text from its front was written.
+/// gives an error or takes no byte; then a front of the text was written.
 pub fn print_text<W: Write>(out: &mut W, text: &[u8]) -> Result<(), ProgramFault>
     ensures ok { OnOk result (Appends (W.contents out.old) (W.contents out.new) text.now) }
     ensures err { IfErr result (λ fault. fault ≡ ProgramFault.Write) }
@@ -46,8 +46,8 @@ pub fn print_text<W: Write>(out: &mut W, text: &[u8]) -> Result<(), ProgramFault
     Ok(())
 }
 
-/// Tells a fault of a run in one line, and answers the status of a run that has one. The argument
-/// is the one that names a firm.
+/// Tells a fault of a run in one line, and returns the status of a run that has one. `argument` is
+/// the one that names a firm.
 pub fn report<E: Write>(err: &mut E, argument: &[u8], fault: &ProgramFault) -> u8
     ensures status { result ≡ 1 }
     ensures told { GainsPart (faults.told_line argument.now fault.now)

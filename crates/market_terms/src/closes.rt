@@ -1,4 +1,4 @@
-//! How a request ends, and what a room answers to an investor.
+//! How a request ends, and what a room replies to an investor.
 
 /// What a closing notice (QuoteResponse 35=AJ) says of the request: QuoteRespType (694).
 #[derive(Clone, Copy, PartialEq, Eq)]
@@ -71,7 +71,7 @@ impl HitRefusal {
     }
 }
 
-/// What a room answers to a hit or a pass.
+/// What a room decides of a hit or a pass.
 #[derive(Clone, Copy, Debug, PartialEq, Eq)]
 pub enum Reply {
     /// The hit lifted the quote, and the request is awarded.

@@ -1,11 +1,11 @@
-//! What a step leaves to be done elsewhere.
+//! What a step leaves to be done later.
 
 use crate::{Ask, AskedDealers, Close, Offer, Reply, ResponseRef, RoomRef};
 use bond_prices::Ticks;
 use fix_fields::Moment;
 
-/// What follows from a step at another place. It stands in the queue of the firm that did the step,
-/// or of the clock for a sweep, so it does not name that firm. Its moment is that of the step that
+/// What a step leaves to be done later. It stands in the queue of the firm that did the step, or of
+/// the clock for a sweep, so it does not name that firm. Its moment is that of the step that
 /// began it, and what is sent for it bears that moment.
 #[derive(Drop)]
 pub enum Duty {
@@ -114,11 +114,11 @@ pub enum Duty {
         /// The moment of the response.
         moment: Moment,
     },
-    /// The room has decided on a hit or a pass: the investor is answered.
+    /// The room has decided on a hit or a pass: the investor is sent its reply.
     Answer {
         /// The room of the request.
         room: RoomRef,
-        /// The response that is answered.
+        /// The response that it is to.
         response: ResponseRef,
         /// What the room decided.
         reply: Reply,
@@ -144,11 +144,11 @@ pub enum Duty {
         /// The moment of the hit, the pass or the sweep.
         moment: Moment,
     },
-    /// A dealer cancels all its quotes (QuoteCancelType 298=4): the next of them is withdrawn. It
+    /// A dealer cancels all its quotes (QuoteCancelType 298=4): the next of them is dropped. It
     /// stands in its dealer's queue.
     Drop {
         /// How many quotes of the dealer were accepted when the cancel came: no later one is
-        /// withdrawn.
+        /// dropped.
         last: u32,
         /// The moment of the cancel.
         moment: Moment,

@@ -2,9 +2,9 @@
 //! the desk of an investor, and the room of a request.
 //!
 //! An investor's [`Ask`] names a bond, a [`Side`] and a [`Quantity`]; it goes to the
-//! [`AskedDealers`], each of whom is shown it, in the room that a [`RoomRef`] names. What is to be
-//! done elsewhere once a place has taken a step is a [`Duty`]. A hit or a pass gets a [`Reply`],
-//! and each dealer is told a [`Close`] in the end. A firm sees its day as [`QuoteLine`]s or
+//! [`AskedDealers`], each of whom is shown it, in the room that a [`RoomRef`] names. What a step
+//! leaves to be done later is a [`Duty`]. A hit or a pass gets a [`Reply`], and each dealer is told
+//! a [`Close`] in the end. A firm sees its day as [`QuoteLine`]s or
 //! [`RequestLine`]s.
 //!
 //! # Example

@@ -96,7 +96,7 @@ pub struct Offer {
     pub valid_until: Option<Moment>,
 }
 
-/// A response of an investor to a request (QuoteResponse 35=AJ), as its answer names it.
+/// A response of an investor to a request (QuoteResponse 35=AJ), as its reply names it.
 #[derive(Drop)]
 pub struct ResponseRef {
     /// QuoteRespID (693) as it was received.

@@ -158,7 +158,7 @@ pub(crate) fn push_until(answer: &mut String, until: Option<Moment>) -> Result<(
     push_time(answer, until)
 }
 
-/// A hit, with what its word was answered, where it was asked.
+/// A hit, with the settlement of its word, where it was asked.
 fn push_hit(
     answer: &mut String,
     word: u32,

@@ -20,7 +20,7 @@ use std::alloc::Global;
 /// | `unpost DEALER WORD` | the same |
 /// | `decline DEALER` | the same |
 /// | `question_hit WORD MOMENT` | `asks` and the word, or the refusal |
-/// | `hit WORD MOMENT`, and what the word is answered, where it is asked | the reply |
+/// | `hit WORD MOMENT`, and the settlement of the word, where it is asked | the reply |
 /// | `pass MOMENT`, `expire MOMENT` | whether it ended the room |
 /// | `state` | `vacant`, `opening`, or `neither` |
 /// | `named DEALER`, `request_names DEALER` | whether it is, by the room and by its request |
@@ -266,7 +266,7 @@ fn refused_hit(
     Ok(reply)
 }
 
-/// What a word is answered, where the line goes on.
+/// The settlement of a word, where the line goes on.
 fn last_settled(words: &mut Words) -> Result<Option<Settled>, CaseFault> {
     if words.is_at_end() {
         return Ok(None);

@@ -1,4 +1,4 @@
--- Where the tags of a message are kept: words by which the one walk over its fields is proved.
+-- Where the tags of a message are kept: names by which the one walk over its fields is proved.
 use Rattle.std.specs.Prelude.{◌≡◌, ℕ, Bool, ◌==◌, ◌&&◌, ◌||◌, false, List, [], ◌∷◌, length}
 use Rattle.std.specs.Prelude.{slice_index_or, None, is_some, IsTrue}
 use Rattle.std.specs.List.{list_any, position_or_len}

@@ -1,4 +1,4 @@
--- What the functions answer that read one tag of a message: words by which the session checks are
+-- What the functions return that read one tag of a message: names by which the session checks are
 -- proved.
 use Rattle.std.specs.Prelude.{◌≡◌, ℕ, List, Option, Some, None, Result, MatchResult}
 use Rattle.fix_fields.specs.Frame.{Field, value_of}

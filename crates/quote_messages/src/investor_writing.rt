@@ -170,7 +170,7 @@ fn put_hit_status(writer: &mut FrameWriter, refusal: Option<HitRefusal>) -> Resu
     }
 }
 
-/// The fields of the answer to a hit of no quote that was shown.
+/// The fields of a report on a hit of no quote that was shown.
 pub(crate) fn put_unknown_hit(writer: &mut FrameWriter, id: &Id, quote: &Id) -> Result<(), Memory>
     requires { room_for_fields ≤ left_of writer.old }
     ensures { OnOk result (writer.new ≡ writer.old ++ (693, id.now) ∷ (117, quote.now)

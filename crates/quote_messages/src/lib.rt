@@ -26,8 +26,8 @@
 //!   that are no frame, or have no readable MsgSeqNum (34), are dropped; another number than the
 //!   expected one is out of sequence; the rest used up its number, and is rejected for its first
 //!   session fault or taken.
-//! - [`read_dealer`] and [`read_investor`] are the session verdicts of the day, the firm's row and
-//!   the frame's fields: the first fault in the order of the tables of `SessionChecks`, or the
+//! - [`read_dealer`] and [`read_investor`] are the session's verdict on the frame's fields, by the
+//!   day and the firm's row: the first fault in the order of the tables of `SessionChecks`, or the
 //!   message, each field absent or as its form reads it. Nothing else of the message matters: not
 //!   the order of its fields, but for the party group, and no field that the tables lack.
 //! - A price out of range or off the grid is no fault of the session: the [`Quote`] carries it as

@@ -6,7 +6,7 @@ use Rattle.quote_word.specs.declared.settled.Settled.{Settled}
 abbrev pub entry_in : List (Option Settled) → ℕ → Option Settled
 entry_in entries w = slice_index_or entries w None
 
--- what an exchange answers: what the word is already, or else the wish
+-- the settlement by an exchange: what the word is already, or else the wish
 abbrev pub settlement_of : Option Settled → Settled → Settled
 settlement_of None wish = wish
 settlement_of (Some settled) wish = settled

@@ -18,7 +18,7 @@ pub exchange_keeps_count : (before after : List (Option Settled)) (w : ℕ)
 exchange_keeps_count before after w wish settlement e =
     ap length e.changed ∙ count_after (entry_in before w) before w wish
 
--- the word's entry after an exchange is what is answered
+-- the word's entry after an exchange is the settlement
 entry_after : (entry : Option Settled) (entries : List (Option Settled)) (w : ℕ) (wish : Settled)
     → w < length entries → entry_in entries w ≡ entry
     → entry_in (after_exchange entry entries w wish) w ≡ Some (settlement_of entry wish)

@@ -145,7 +145,7 @@ pub begins_all : (first second third : SettleLog) → IsPrefix first second → 
 begins_all first second third p q =
     (p.0 ++ q.0, sym (append_assoc first p.0 q.0) ∙ (ap (λ w. w ++ q.0) p.1 ∙ q.1))
 
--- two answers that are one word's entry in one log are one answer
+-- two settlements that are one word's entry in one log are one settlement
 pub one_entry : (log : SettleLog) (w v : ℕ) (first second : Settled) → entry_of w log ≡ Some first
     → entry_of v log ≡ Some second → w ≡ v → first ≡ second
 one_entry log w v first second one two same = cc (ap (λ (k : ℕ). entry_of k log) same)

@@ -13,7 +13,7 @@ use logbook::{Offer, Seen, Start, Word};
 use std::alloc::{AllocError, Global};
 use std::marker::Model;
 
-/// What a step asks for, which trades nothing.
+/// What a step asks for, with which nothing is handed over.
 type Asked = Offer<Settlement, u64, Law, Nothing>;
 
 /// A row of words that threads share. Contracts see which board it is and how many words it has.
@@ -59,7 +59,7 @@ fn entry_found(found: u64) -> Option<Settled>
     }
 }
 
-/// What an exchange answers that found this number.
+/// The settlement by an exchange that found this number.
 fn settlement_of(found: u64, wish: Settled) -> Settled
     ensures { result ≡ settlement_of (entry_of_code found) wish }
 {
@@ -93,7 +93,7 @@ impl Board {
         self.words.len() as u32
     }
 
-    /// Withdraws a word that is open, and tells what the word is from then on.
+    /// Withdraws a word that is open; the receipt has what the word is from then on.
     pub fn withdraw(&self, seen: BoardSeen, w: u32) -> Receipt
         requires ours { seen.board ≡ self.now }
         requires word { w < self.now.words }
@@ -105,7 +105,7 @@ impl Board {
         self.settle(seen, w, Settled::Withdrawn)
     }
 
-    /// Lifts a word that is open, and tells what the word is from then on.
+    /// Lifts a word that is open; the receipt has what the word is from then on.
     pub fn lift(&self, seen: BoardSeen, w: u32) -> Receipt
         requires ours { seen.board ≡ self.now }
         requires word { w < self.now.words }
@@ -178,7 +178,7 @@ impl Board {
         }
     }
 
-    /// One exchange: the word becomes the wish where it is open, and is told.
+    /// One exchange: the word becomes the wish where it is open, and the receipt has what it is.
     fn settle(&self, seen: BoardSeen, w: u32, wish: Settled) -> Receipt
         requires ours { seen.board ≡ self.now }
         requires word { w < self.now.words }

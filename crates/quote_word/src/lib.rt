@@ -1,12 +1,12 @@
 //! The words of quotes.
 //!
-//! Each accepted quote has one *word*: it is open, and from its first settlement on it is withdrawn
-//! or lifted for good. (A settlement of a word is its withdrawal or its lift, and not that of a
+//! Each accepted quote has one *word*: it is open, and from its settlement on it is withdrawn or
+//! lifted for good. (A settlement of a word is its withdrawal or its lift, and not that of a
 //! trade.) The dealer's withdrawal and the investor's hit race for the word, and the word alone
 //! decides: who comes second is told what the word is, and changes nothing.
 //!
-//! [`Words`] is what every row of words promises: an entry that stands stays, and an answer is the
-//! word's entry from then on. Two kinds of rows keep it.
+//! [`Words`] is what every row of words promises: an entry that stands stays, and a settlement is
+//! the word's entry from then on. Two kinds of rows keep it.
 //!
 //! - [`PlainWords`] keeps its words in a list and is for one thread. What it promises is exact:
 //!   where the word was open it becomes the wish, and no other word changes.

@@ -37,7 +37,7 @@ impl<'a> BoardPass<'a> {
         BoardPass { board, seen }
     }
 
-    /// Keeps the token of a receipt, and answers what its word is.
+    /// Keeps the token of a receipt, and returns its settlement.
     fn keep(&mut self, receipt: Receipt) -> Settled
         requires { receipt.seen.board ≡ self.old.board }
         ensures token { self.new ≡ receipt.seen }

@@ -34,7 +34,7 @@ impl PlainWords {
         Ok(PlainWords { entries })
     }
 
-    /// One exchange: the word becomes the wish where it was open, and is answered.
+    /// One exchange: the word becomes the wish where it was open, and what it is then is returned.
     fn exchange(&mut self, w: u32, wish: Settled) -> Settled
         requires { w < length self.old }
         ensures { Exchanges self.old w wish result self.new }

@@ -30,7 +30,7 @@ impl Opening<u32, Settlement> for Law {
     ghost log = { λ count words. opening_log count };
 }
 
-/// Callers trade nothing.
+/// Callers hand nothing over.
 pub(crate) struct Nothing;
 
 impl Gain<Settlement, u64> for Nothing {

@@ -52,20 +52,20 @@ pub trait Words {
     /// What a word is, where it is settled.
     ghost entry: { Self → ℕ → Option Settled };
 
-    /// One exchange: the words before it, which word is asked, what is wished, what is answered,
-    /// the words after it.
+    /// One exchange: the words before it, which word is asked, what is wished, its settlement, the
+    /// words after it.
     ghost settles: { Self → ℕ → Settled → Settled → Self → Type 0 };
 
     /// How many words there are.
     fn len(&self) -> u32
         ensures { result ≡ count self.now };
 
-    /// Withdraws a word that is open, and answers what the word is from then on.
+    /// Withdraws a word that is open, and returns what the word is from then on.
     fn withdraw(&mut self, w: u32) -> Settled
         requires { w < count self.old }
         ensures { settles self.old w Settled.Withdrawn result self.new };
 
-    /// Lifts a word that is open, and answers what the word is from then on.
+    /// Lifts a word that is open, and returns what the word is from then on.
     fn lift(&mut self, w: u32) -> Settled
         requires { w < count self.old }
         ensures { settles self.old w Settled.Lifted result self.new };
@@ -74,7 +74,7 @@ pub trait Words {
     ghost count_stays: { (before after : Self) (w : ℕ) (wish settlement : Settled)
         → settles before w wish settlement after → count after ≡ count before };
 
-    /// The answer is what the word is afterwards.
+    /// The settlement is what the word is from then on.
     ghost answer_is_entry: { (before after : Self) (w : ℕ) (wish settlement : Settled)
         → w < count before → settles before w wish settlement after → entry after w
         ≡ Some settlement };

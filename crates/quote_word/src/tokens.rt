@@ -1,4 +1,4 @@
-//! What a thread has seen of a board, and what it was told.
+//! What a thread has seen of a board, and the settlements that it got.
 ghost use Rattle.std.specs.Prelude.{◌≡◌, Some};
 ghost use Rattle.quote_word.specs.SettleLog.{entry_of, IsLegal};
 
@@ -38,7 +38,7 @@ impl BoardSeen {
     }
 }
 
-/// What a call on a word was settled, with what its caller has seen since.
+/// The settlement that a call on a word gave, with what its caller has seen since.
 #[derive(Drop)]
 pub struct Receipt {
     pub(crate) word: u32,

@@ -1,6 +1,6 @@
 -- What was due to a dealer on a recorded day, by the events at its desk alone. A desk does not see
 -- the liftings of its quotes: it learns of one where a message or a drop that asks the quote's word
--- is answered lifted. So each lifting that it learned of is put directly before that event.
+-- has it settled lifted. So each lifting that it learned of is put directly before that event.
 use Rattle.std.specs.Prelude.{◌≡◌, ℕ, List, [], ◌∷◌, ◌++◌, fold, Option, Some, None, is_some}
 use Rattle.std.specs.Prelude.{All, option_and_then}
 use Rattle.std.specs.Option.{option_map}
@@ -25,7 +25,7 @@ quote_asked desk (event.Shown room ask moment) = None
 quote_asked desk (event.Told request close moment) = None
 quote_asked desk (event.Drop last moment settlement) = number_to_drop (book_at desk) last
 
--- what it was answered
+-- the settlement that it was handed
 abbrev pub settlement_of : DealerEvent → Option Settled
 settlement_of (event.Received moment bytes settlement) = settlement
 settlement_of (event.Shown room ask moment) = None

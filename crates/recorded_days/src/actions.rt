@@ -55,7 +55,7 @@ pub enum Kind {
     Hit,
     /// A room decides on a pass.
     Pass,
-    /// An investor is answered.
+    /// An investor is sent a room's reply.
     Answer,
     /// An investor is told that its request expired.
     Close,

@@ -22,7 +22,7 @@ use venue_rows::{DealerRow, VenueConfig};
 
 impl DayRecord {
     /// What was due to the dealer with this number on the recorded day: the events at its desk, and
-    /// directly before each that was answered lifted the lifting of the quote that it asked. It is
+    /// directly before each that was settled lifted the lifting of the quote that it asked. It is
     /// none where the configuration or the record has no such dealer.
     pub fn due(
         &self,
@@ -167,7 +167,7 @@ fn put_lifting(
     Ok(())
 }
 
-/// The settlement that a desk takes of the quote that was asked.
+/// The settlement that a desk is handed for the word of the quote that it asks.
 fn settlement_taken(asked: Option<u32>, settlement: Option<Settled>) -> Option<Settled>
     ensures { result ≡ spec.settlement_taken asked settlement }
 {

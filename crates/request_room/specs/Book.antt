@@ -159,7 +159,7 @@ abbrev pub hit_outcome : List RoomFact → ℕ → ℕ → Option Settled → Re
 hit_outcome facts w moment settlement =
     hit_settled (hit_refusal facts w moment) settlement (award_of facts w)
 
--- what the investor is answered
+-- the room's reply to the investor
 abbrev pub reply_of : Result End HitRefusal → Reply
 reply_of (Ok award) = reply.Awarded
 reply_of (Err refused) = reply.Refused refused

@@ -1,4 +1,4 @@
--- What a room keeps beside its events: words of its private invariant and of its private functions,
+-- What a room keeps beside its events: names for its private invariant and its private functions,
 -- which no public clause names. The book is kept best first, and each quote in it with the number
 -- of its posting; the definitions of `Book` list it in the order of posting.
 use Rattle.std.specs.Prelude.{◌≡◌, ℕ, ◌+◌, ◌<◌, ◌≤◌, Bool, ◌&&◌, ◌==◌, nat_lt}

@@ -57,7 +57,7 @@ pub fn only_an_award_has_a_winner()
 {}
 
 /// A room is awarded by a hit alone: where it has a winner, one of its events is a hit of the
-/// winner's word that was answered lifted.
+/// winner's word that was settled lifted.
 pub fn an_awarded_word_was_lifted()
     ensures { (events : List RoomEvent)
         → IfSome (end_of (room_after events)) (λ end. IfSome end.winner

@@ -4,7 +4,7 @@
 //! A room is vacant until it is opened, then opening until each named dealer was shown the request,
 //! then open, and ended for good once it was awarded, passed or expired. It sees nothing but what
 //! is tried on it. It holds no word: where a hit asks the word of a quote, the room is handed the
-//! answer.
+//! settlement.
 //!
 //! # Example
 //!
@@ -27,7 +27,7 @@
 //! # What is promised
 //!
 //! - Each call that changes a room, or tries to, adds one event to [`Room::events`] and changes
-//!   nothing else. What a room answers is a function of its events, `room_after`: the facts that
+//!   nothing else. What a room replies is a function of its events, `room_after`: the facts that
 //!   stand. Where memory is refused a call changes nothing at all.
 //! - [`Room::post`], [`Room::unpost`], [`Room::decline`], [`Room::pass`] and [`Room::expire`] say
 //!   whether they took effect. The first three do in an opening and in an open room, an unpost only
@@ -44,7 +44,7 @@
 //!   posted. There is one exactly where another dealer's quote stands
 //!   ([`the_cover_is_the_best_other_quote`]).
 //! - Only an award has a winner, and a cover is another dealer ([`only_an_award_has_a_winner`]).
-//!   The winner's word was hit and answered lifted ([`an_awarded_word_was_lifted`]).
+//!   The winner's word was hit and settled lifted ([`an_awarded_word_was_lifted`]).
 //!
 //! - The facts after one event more are those before and what `event_facts` says of it
 //!   ([`facts_after_one_event_more`]).

@@ -99,7 +99,7 @@ impl Room {
 
     /// Posts a quote of a named dealer (Quote 35=S) with its word, its price in ticks of 1/256
     /// point on the asked side, and the moment from which on it can't be hit (ValidUntilTime 62),
-    /// in the place of the quote that the dealer has in the book. It answers whether it took
+    /// in the place of the quote that the dealer has in the book. It returns whether it took
     /// effect: it does where the room is opening or open, and in a vacant room it does not. It
     /// fails for memory alone, and then the room is as before.
     pub fn post(
@@ -133,7 +133,7 @@ impl Room {
     }
 
     /// Takes the quote of a named dealer with this word out of the book, once its dealer withdrew
-    /// it (QuoteCancel 35=Z). It answers whether it took effect: it does where that quote of that
+    /// it (QuoteCancel 35=Z). It returns whether it took effect: it does where that quote of that
     /// dealer stands in a room that has not ended. It fails for memory alone, and then the room is
     /// as before.
     pub fn unpost(&mut self, dealer: u16, w: u32) -> Result<bool, Memory>
@@ -153,7 +153,7 @@ impl Room {
         Ok(true)
     }
 
-    /// Notes that a named dealer declined (QuoteRequestReject 35=AG). It answers whether it took
+    /// Notes that a named dealer declined (QuoteRequestReject 35=AG). It returns whether it took
     /// effect: it does where the room is opening or open, also a second time. The book stays as it
     /// is. It fails for memory alone, and then the room is as before.
     pub fn decline(&mut self, dealer: u16) -> Result<bool, Memory>
@@ -238,7 +238,7 @@ impl Room {
         Ok(true)
     }
 
-    /// A sweep at this moment. It answers whether it ended the room: it does where the room is open
+    /// A sweep at this moment. It returns whether it ended the room: it does where the room is open
     /// and the moment is at or past the deadline of the request (ExpireTime 126). It fails for
     /// memory alone, and then the room is as before.
     pub fn expire(&mut self, moment: Moment) -> Result<bool, Memory>

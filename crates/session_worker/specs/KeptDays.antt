@@ -151,7 +151,7 @@ abbrev pub AwardStands : SettleLog → DayRoom → Type 0
 AwardStands log room = WinnerLifted log (end_of (room_after room.day.events))
 
 -- Each word has one settlement all day: there is a log of settlements in which no word stands
--- twice, and in it stands each answer that was given at a dealer's desk or in a room. The word of
+-- twice, and in it stands each one that a dealer's desk or a room was handed. The word of
 -- each quote that won in a room is lifted there.
 pub record AnswersAgree (config : Configuration) (day : RecordedDay) : Type 0 where
   pub log : SettleLog

@@ -22,15 +22,15 @@ use Rattle.venue_steps.specs.Words.{word_of}
 
 -- Answers.
 
--- a word that was asked, and what it was answered
+-- a word that was asked, and its settlement
 abbrev pub Answer : Type 0
 Answer = ℕ × Settled
 
--- an answer is the word's entry in a log
+-- the settlement is the word's entry in a log
 abbrev pub StandsIn : List Settlement → Answer → Type 0
 StandsIn log settlement = entry_of settlement.0 log ≡ Some settlement.1
 
--- the answer by the venue's number of the word, where the dealer's first word is this one
+-- the settlement by the venue's number of the word, where the dealer's first word is this one
 abbrev pub by_word : ℕ → Answer → Answer
 by_word first settlement = (word_of first settlement.0, settlement.1)
 
@@ -74,7 +74,7 @@ pub record RoomUnderLock : Type 0 where
 
 -- Under the lock of a dealer lies the desk of a dealer of the configuration. Each of its events had
 -- a settlement exactly where it asked a word. The token is one of the venue's board, and each word
--- that was asked at the desk is in its log what it was answered.
+-- that was asked at the desk is in its log as it was settled.
 pub record KeepsDealer (board : BoardName) (config : Configuration) (firm first : ℕ)
     (desk : dealer.DeskEvents) (seen : Front) : Type 0 where
   pub of_board : seen.board ≡ board
@@ -89,7 +89,7 @@ abbrev pub KeepsInvestor : Configuration → investor.DeskEvents → Type 0
 KeepsInvestor config desk = market_for config desk.market.firm ≡ Some desk.market
 
 -- Under the lock of a room lies a room of the configuration. The token is one of the venue's board,
--- and each word that was hit in the room is in its log what the hit was answered.
+-- and each word that was hit in the room is in its log as it was settled.
 pub record KeepsRoom (board : BoardName) (config : Configuration) (at : RoomRef)
     (events : List RoomEvent) (seen : Front) : Type 0 where
   pub of_board : seen.board ≡ board

@@ -155,7 +155,7 @@ fn moment_of(duty: &Duty) -> Moment
 }
 
 /// The session of a firm: its messages in their order, and after each all pending duties. It
-/// answers what the firm did.
+/// returns what the firm did.
 pub(crate) fn session_actions<J: Naming, R: Wait, G: Gate>(
     rt: &R,
     venue: &SharedVenue<J>,
@@ -172,7 +172,7 @@ pub(crate) fn session_actions<J: Naming, R: Wait, G: Gate>(
     Ok(actions)
 }
 
-/// The clock: its sweeps in their order, and after each all pending duties. It answers what the
+/// The clock: its sweeps in their order, and after each all pending duties. It returns what the
 /// clock did.
 pub(crate) fn clock_actions<J: Naming, R: Wait, G: Gate>(
     rt: &R,

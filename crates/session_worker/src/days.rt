@@ -25,7 +25,7 @@ use venue_rows::VenueConfig;
 
 /// Runs a day of the venue on threads: one session for each firm, which takes its inbox, and the
 /// clock, which makes the sweeps. It waits for all of them, then looks whether what lies under the
-/// locks agrees, and answers the record of the day. With more or fewer inboxes than firms there is
+/// locks agrees, and returns the record of the day. With more or fewer inboxes than firms there is
 /// none: the fault is a [`DayFault::Inbox`] of the first firm that has no inbox, or, where there
 /// are too many, of the number behind the last firm's.
 pub fn run_day<R: Threads + Wait + Sync, G: Gate>(

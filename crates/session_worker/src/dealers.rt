@@ -34,7 +34,7 @@ use venue_places::{ForDealer, bring_to_dealer};
 use venue_rows::{DealerRow, VenueConfig};
 use venue_steps::{do_drop, own_dealer};
 
-/// A dealer's desk, the token that has seen what its words were settled, and the order of the
+/// A dealer's desk, the token that has seen how its words were settled, and the order of the
 /// actions on it.
 #[derive(Drop)]
 pub(crate) struct LockedDealer<J: Naming> {

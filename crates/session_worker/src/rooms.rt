@@ -26,7 +26,7 @@ use step_replay::Actor;
 use venue_places::{ForRoom, bring_to_room};
 use venue_steps::do_hit;
 
-/// A room, the token that has seen what the words hit there were answered, and the order of the
+/// A room, the token that has seen how the words hit there were settled, and the order of the
 /// actions on it.
 #[derive(Drop)]
 pub(crate) struct LockedRoom<J: Naming> {

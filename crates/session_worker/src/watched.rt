@@ -49,7 +49,7 @@ impl<'a, G: Gate> WatchedWords<'a, G> {
         }
     }
 
-    /// The token, which has seen what the action was told, and the word that it asked.
+    /// The token, which has seen how it was settled, and the word that the action asked.
     pub(crate) fn into_parts(self) -> (BoardSeen, Option<(u32, Settled)>)
         ensures seen { result.0 ≡ self.entry.front }
         ensures asked { result.1 ≡ self.entry.asked }

@@ -70,15 +70,15 @@ was_lifted trail quote = list_any (lifts quote) trail
 abbrev pub was_withdrawn : List DealerEntry → ℕ → Bool
 was_withdrawn trail quote = list_any (withdraws quote) (facts_of trail)
 
--- The word of a quote. Who asks it settles it, where it is open, and is answered what it is from
--- then on.
+-- The word of a quote. Who asks it settles it, where it is open, and is told what it is from then
+-- on.
 
--- the answer to the dealer, which would withdraw the quote
+-- the settlement for the dealer, which would withdraw the quote
 abbrev pub answer_to_dealer : List DealerEntry → ℕ → Settled
 answer_to_dealer trail quote =
     if was_lifted trail quote then settled.Lifted else settled.Withdrawn
 
--- the answer to an investor, which would lift it
+-- the settlement for an investor, which would lift it
 abbrev pub answer_to_investor : List DealerEntry → ℕ → Settled
 answer_to_investor trail quote =
     if was_withdrawn trail quote then settled.Withdrawn else settled.Lifted

@@ -33,7 +33,7 @@ view_at_start date row = record {
 abbrev pub is_lifted : DealerView → ℕ → Bool
 is_lifted view quote = list_any (λ lifted. lifted == quote) view.lifted
 
--- The answer to whoever asks the word of a quote, a message or a drop: lifted where a lifting of
+-- The settlement for what asks the word of a quote, a message or a drop: lifted where a lifting of
 -- the quote that counts stands before it in the list, and else withdrawn.
 abbrev pub answer_to : DealerView → ℕ → Settled
 answer_to view quote = if is_lifted view quote then Lifted else Withdrawn
@@ -57,7 +57,7 @@ abbrev pub no_room : RoomRef
 no_room = record { investor = 0; n = 0 }
 
 -- The view after one item more of what is due. A message of the dealer's own, and a drop, are an
--- event each, with the answer to the word that they ask, if they ask one. A lifting that does not
+-- event each, with the settlement of the word that they ask, if any. A lifting that does not
 -- count changes nothing, and neither does a notice of a request that was not shown or was told.
 unfoldable pub after_due : DealerView → Due → DealerView
 after_due view (due.Own moment message) =

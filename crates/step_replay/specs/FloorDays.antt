@@ -1,4 +1,4 @@
--- How the code keeps the day of each firm: words of private functions alone.
+-- How the code keeps the day of each firm: names for private functions alone.
 use Rattle.std.specs.Prelude.{List, ◌++◌, map}
 use Rattle.market_terms.specs.DayLines.{OfDealer, OfInvestor}
 use Rattle.dealer_desk.specs.DealerOutput.{book_at, dealer_output}

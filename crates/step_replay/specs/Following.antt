@@ -1,4 +1,4 @@
--- How a replay follows a day: words of private functions alone.
+-- How a replay follows a day: names for private functions alone.
 use Rattle.std.specs.Prelude.{ℕ, ◌+◌, ◌-◌, nat_le, nat_lt, List, map, Option, Some, None}
 use Rattle.std.specs.Prelude.{if◌then◌else◌}
 use Rattle.market_terms.specs.declared.duties.Duty.{Duty}

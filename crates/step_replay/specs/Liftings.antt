@@ -1,5 +1,5 @@
 -- How the code keeps the liftings of a dealer's quotes, beside the events that came to its desk:
--- words of private functions alone.
+-- names for private functions alone.
 use Rattle.std.specs.Prelude.{◌≡◌, ◌<◌, ℕ, ◌+◌, ◌-◌, nat_lt, Bool, true, false, List, [], ◌∷◌, ◌++◌}
 use Rattle.std.specs.Prelude.{map, take, drop, length, slice_get, Option, Some}
 use Rattle.std.specs.Option.{option_map}
@@ -47,12 +47,12 @@ OwnersStand config owners = (word : ℕ) → slice_get owners word ≡ owner_of 
 
 -- A lifting is noted.
 
--- whether a duty answers that a hit is awarded
+-- whether a duty replies that a hit is awarded
 abbrev pub answers_award : Duty → Bool
 answers_award (duty.Answer room response reply moment) = is_award reply
 answers_award other = false
 
--- whether the duties that a hit leaves say that it is awarded: the answer is the first
+-- whether the duties that a hit leaves say that it is awarded: the reply is the first
 abbrev pub awards : List Duty → Bool
 awards [] = false
 awards (first ∷ rest) = answers_award first

@@ -1,5 +1,5 @@
 -- Where a venue stands that answers as steps come. `IsAt`, `Answers` and `AnswersSweeps` are
--- for callers, who need not know what a venue that `IsAt` is made of; the rest are words of private
+-- for callers, who need not know what a venue that `IsAt` is made of; the rest are for private
 -- functions alone.
 use Rattle.std.specs.Prelude.{◌≡◌, ℕ, List, [], ◌∷◌, ◌++◌, length, drop, map, Option, Some, None}
 use Rattle.std.specs.Prelude.{slice_get, fold, replicate, true}
@@ -38,7 +38,7 @@ pub record IsAt (config : Configuration) (steps : List Step) (live : LiveVenue) 
   pub clock_idle : pending actor.Clock (live_trail config steps) ≡ []
 
 -- what one step more brings: the venue stands behind it, its actor has no duty left, and what was
--- told are the messages that were sent with it
+-- given are the messages that were sent with it
 pub record Answers (config : Configuration) (steps : List Step) (next : Step) (after : LiveVenue)
     (told : List Sent) : Type 0 where
   pub stands : IsAt config (steps ++ next ∷ []) after
@@ -46,7 +46,7 @@ pub record Answers (config : Configuration) (steps : List Step) (next : Step) (a
   pub none_left : pending (actor_of next) (live_trail config (steps ++ next ∷ [])) ≡ []
 
 -- what sweeps more of these rooms bring: the venue stands behind them, the clock has no duty left,
--- and what was told are the messages that were sent with them
+-- and what was given are the messages that were sent with them
 pub record AnswersSweepsOf (config : Configuration) (steps : List Step) (moment : ℕ)
     (rooms : List RoomRef) (after : LiveVenue) (told : List Sent) : Type 0 where
   pub stands : IsAt config (steps ++ sweeps_at moment rooms) after

@@ -1,4 +1,4 @@
--- How the code keeps the rooms that are opening or open: words of private functions alone.
+-- How the code keeps the rooms that are opening or open: names for private functions alone.
 use Rattle.std.specs.Prelude.{◌≡◌, ◌≤◌, ℕ, ◌==◌, Bool, true, false, ◌&&◌, ◌||◌, not, nat_le, List}
 use Rattle.std.specs.Prelude.{Option, Some, None, if◌then◌else◌}
 use Rattle.std.specs.List.{list_any}

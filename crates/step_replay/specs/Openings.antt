@@ -1,4 +1,4 @@
--- The places of a venue at the start of a day: words of private functions alone.
+-- The places of a venue at the start of a day: names for private functions alone.
 use Rattle.std.specs.Prelude.{◌≡◌, ◌<◌, ℕ, ◌+◌, List, [], ◌∷◌, ◌++◌, length, replicate, slice_get}
 use Rattle.std.specs.Prelude.{Option, Some, None}
 use Rattle.venue_rows.specs.Rows.{Configuration, dealer_numbered}

@@ -1,4 +1,4 @@
--- How the code keeps the queues of duties: words of private functions alone. One queue a firm, in
+-- How the code keeps the queues of duties: names for private functions alone. One queue a firm, in
 -- their order, and behind them the clock's.
 use Rattle.std.specs.Prelude.{◌≡◌, ◌≤◌, ℕ, ◌+◌, Bool, true, nat_lt, List, length, filter_map, count_by}
 use Rattle.std.specs.Prelude.{slice_get, Option, Some, None}

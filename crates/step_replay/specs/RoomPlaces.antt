@@ -1,4 +1,4 @@
--- Where the code keeps a room: words of private functions alone.
+-- Where the code keeps a room: names for private functions alone.
 use Rattle.std.specs.Prelude.{ℕ, ◌-◌, ◌&&◌, nat_le, nat_lt, List, length, slice_get}
 use Rattle.std.specs.Prelude.{Option, Some, None, if◌then◌else◌}
 use Rattle.market_terms.specs.declared.rooms.RoomRef.{RoomRef}

@@ -73,7 +73,7 @@ Happens due before after = (view : DealerView)
     → StandsFor view before.desk before.words
     → StandsFor (after_due view due) after.desk after.words
 
--- whether an event withdraws a quote: it asks its word, and is answered so
+-- whether an event withdraws a quote: it asks its word, which is settled so
 abbrev pub withdraws_by : DeskEvents → DealerEvent → ℕ → Bool
 withdraws_by desk more quote =
     list_any (says_withdrawn quote) (asked_by desk.date desk.row (book_at desk) more)

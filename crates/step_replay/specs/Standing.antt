@@ -1,4 +1,4 @@
--- How the code keeps the places of a venue: words of private functions alone.
+-- How the code keeps the places of a venue: names for private functions alone.
 use Rattle.std.specs.Prelude.{◌≡◌, ℕ, ◌-◌, List, ◌++◌, length, slice_get}
 use Rattle.std.specs.Prelude.{Option, Some, None, true, false, ◌&&◌, nat_le}
 use Rattle.market_terms.specs.declared.duties.Duty.{Duty}

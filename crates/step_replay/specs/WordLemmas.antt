@@ -1,4 +1,4 @@
--- No quote is both lifted and withdrawn: whoever asks its word is answered what it is already.
+-- No quote is both lifted and withdrawn: whoever asks its word is told what it is already.
 use Rattle.std.proofs.Common.{◌≡◌, ℕ, ◌==◌, Bool, true, false, ◌||◌, ◌&&◌}
 use Rattle.std.proofs.Common.{List, [], ◌∷◌, ◌++◌, Option, Some, None, is_some, option_map}
 use Rattle.std.proofs.Common.{if◌then◌else◌}

@@ -75,7 +75,7 @@ fn do_due(desk: &mut DealerDesk, words: &mut PlainWords, due: &Due) -> Result<()
 /// The room of every request here: none is routed.
 const NO_ROOM: RoomRef = RoomRef { investor: 0, n: 0 };
 
-/// Takes a message of the dealer's own, with the settlement of the word that it asks.
+/// Receives a message of the dealer's own, with the settlement of the word that it asks.
 fn receive_own(
     desk: &mut DealerDesk,
     words: &mut PlainWords,
@@ -118,7 +118,7 @@ fn drop_next(
     Ok(())
 }
 
-/// Withdraws the word of the quote that is asked, and answers what it is from then on.
+/// Withdraws the word of the quote that is asked, and returns what it is from then on.
 fn ask(words: &mut PlainWords, asked: Option<u32>) -> Option<Settled>
     requires { IfSome asked (kept.IsOfRow (length words.old)) }
     ensures settlement { result ≡ option_map (kept.settlement_in words.old) asked }
@@ -141,7 +141,7 @@ fn lift(words: &mut PlainWords, quote: u32)
 }
 
 /// A quote is withdrawn at a desk where it was before, or where the last event asked its word and
-/// was answered so. It does nothing, and is called for what it says.
+/// it was settled so. It does nothing, and is called for what it says.
 fn quotes_are_withdrawn_event_by_event()
     ensures { kept.GrowsByEvents }
 {

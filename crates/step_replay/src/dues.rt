@@ -13,7 +13,7 @@ pub enum Due {
     Lifted(u32),
     /// The dealer is told how a request ended (QuoteResponse 35=AJ), and the moment of the notice.
     Closed(u64, Close, Moment),
-    /// A turn of a cancel of all quotes (QuoteCancel 35=Z with 298=4): of the dealer's quotes up to
+    /// A drop of a cancel of all quotes (QuoteCancel 35=Z with 298=4): of the dealer's quotes up to
     /// this one, the first that can still be dropped is dropped. The moment is that of the cancel.
     Drop(u32, Moment),
 }

@@ -52,7 +52,7 @@ pub fn no_quote_is_lifted_and_withdrawn()
 {}
 
 /// A law: a firm's messages are one list, whoever gives it. What a replay gives of its day, what it
-/// was sent by the audit trail, and, where steps come one by one, what the venue tells of it, are
+/// was sent by the audit trail, and, where steps come one by one, what the venue gives of it, are
 /// the same messages in one order. It does nothing.
 pub fn firms_are_sent_one_list()
     ensures days { (config : Configuration) (steps : List Step) (firm : ℕ)
@@ -65,7 +65,7 @@ pub fn firms_are_sent_one_list()
         ≡ venue.sent_to config firm (live_trail config steps) }
 {}
 
-/// A law: what a replay gives of a dealer's day, and what a venue tells it that answers as steps
+/// A law: what a replay gives of a dealer's day, and what a venue sends it that answers as steps
 /// come, are the dealer view of what was due to it. It does nothing.
 pub fn dealers_are_given_their_view()
     ensures days { (config : Configuration) (steps : List Step) (dealer : ℕ) (row : DealerRow)

@@ -21,15 +21,14 @@
 //! assert_eq!(messages.len(), 2); // the request, and the acceptance of the quote
 //! ```
 //!
-//! A message or a drop that asks the word of a quote is answered *lifted* where a lifting of that
+//! The word of a quote that a message or a drop asks is settled *lifted* where a lifting of that
 //! quote that counts stands before it in the list, and else *withdrawn*. A lifting counts of a
 //! quote that the dealer can have in its day and that was not withdrawn before.
 //!
 //! # What is promised
 //!
 //! - [`alone`] is `dealer_view` of the date, the dealer's row and the list, on every list, or
-//!   memory is refused. The view has no other argument, so nothing else of the venue goes into
-//!   it.
+//!   memory is refused. The view depends on nothing else of the venue.
 //! - [`equal_lists_have_equal_views`] says so of two lists.
 //!
 //! # The whole venue
@@ -44,7 +43,7 @@
 //!   only memory can be refused.
 //!
 //! - [`LiveVenue`]: a venue that answers step by step. After each step it stands as the audit trail
-//!   of the steps so far, each followed by turns of its actor that leave it none, and what it tells
+//!   of the steps so far, each followed by turns of its actor that leave it none, and what it gives
 //!   are the messages that these added, in their order. [`LiveVenue::sweep`] is a sweep of every
 //!   room, one behind the other, at the cost of those that end. At the end of the day it is the
 //!   [`World`] of these steps ([`LiveVenue::into_world`]).
@@ -56,7 +55,7 @@
 //! - [`dealers_are_isolated`], the headline: so two venues that agree on what was due to a dealer,
 //!   its row and the date sent it the same bytes.
 //! - [`firms_are_sent_one_list`], [`dealers_are_given_their_view`]: what a replay gives of a firm,
-//!   what it was sent by the audit trail, and what a venue tells it that answers as steps come, are
+//!   what it was sent by the audit trail, and what a venue sends it that answers as steps come, are
 //!   one list, and of a dealer its view.
 //! - [`no_quote_is_lifted_and_withdrawn`].
 //! - [`sweeps_of_rooms_that_are_not_due_do_nothing`]: a sweep of a room that is not open, or whose

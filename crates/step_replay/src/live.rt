@@ -50,9 +50,9 @@ impl LiveVenue {
         Ok(LiveVenue { replay, open_rooms })
     }
 
-    /// Takes a step, does it and then the duties of its actor, the oldest first, until it has none,
-    /// and tells the messages that were sent with that, in their order. A step that names what the
-    /// venue does not have is the fault, and changes nothing.
+    /// Does a step and then the duties of its actor, the oldest first, until it has none, and gives
+    /// the messages that were sent with that, in their order. A step that names what the venue does
+    /// not have is the fault, and changes nothing.
     pub fn step(
         &mut self,
         alloc: Global,
@@ -74,7 +74,7 @@ impl LiveVenue {
         Ok(told)
     }
 
-    /// Takes a sweep of every room of the venue at this moment, in the order of the investors and
+    /// Makes a sweep of every room of the venue at this moment, in the order of the investors and
     /// of their requests, as one step behind the other, each answered before the next. It looks at
     /// no room but those that end: what it costs is theirs, and the logarithm of the rooms that are
     /// opening or open.
@@ -124,7 +124,7 @@ impl LiveVenue {
     }
 }
 
-/// A step and the duties behind it are done, and what is sent with them is told.
+/// A step and the duties behind it are done, and what is sent with them is put behind `told`.
 fn send_all(
     alloc: Global,
     venue: &mut LiveVenue,
@@ -150,8 +150,8 @@ fn actor_of(step: &Step) -> Actor
     }
 }
 
-/// An actor does its duties, one by one until none is left, and what is sent is told. It can't
-/// have as many as are refused here.
+/// An actor does its duties, one by one until none is left, and what is sent is put behind `told`.
+/// It can't have as many as are refused here.
 fn send_duties(
     alloc: Global,
     venue: &mut LiveVenue,
@@ -170,8 +170,8 @@ fn send_duties(
     Err(Memory)
 }
 
-/// A step is done, what is sent with it is told, and where the deadline of its room is another
-/// now, that is noted.
+/// A step is done, what is sent with it is put behind `told`, and where the deadline of its room is
+/// another now, that is noted.
 fn do_step(
     alloc: Global,
     venue: &mut LiveVenue,
@@ -230,7 +230,7 @@ fn room_of_duty(duty: &Duty) -> Option<RoomRef>
     }
 }
 
-/// A step is done, and what is sent with it told.
+/// A step is done, and what is sent with it is put behind `told`.
 fn send_step(
     alloc: Global,
     replay: &mut Replay,

@@ -22,7 +22,7 @@ use Rattle.input_lines.specs.declared.faults.UnwovenDay.TheVariants.{Malformed, 
 
 -- A record of the day that an input spells, which keeps what every day on threads keeps: so each
 -- dealer was sent the dealer view of what was due to it, the messages that came from each firm, by
--- the events at its desk, are its inbox, and all answers of one word agree. Which record it is
+-- the events at its desk, are its inbox, and all settlements of one word agree. Which record it is
 -- depends on the threads.
 pub record IsRecordOf (input : List ℕ) (config : Configuration) (day : RecordedDay) : Type 0 where
   pub inboxes : List (List Inbound)

@@ -1,5 +1,5 @@
-//! The commands of a blind multi-dealer RFQ venue for bonds: `alone`, `replay`, `day`, `live`, `due`,
-//! `compare` and `blotter`.
+//! The commands of a blind multi-dealer RFQ venue for bonds: `alone`, `replay`, `day`, `live`,
+//! `due`, `dues`, `compare` and `blotter`.
 //!
 //! `replay` reads a day of the venue, a configuration and the steps of the day, and prints every
 //! message that the venue sends; `day` runs one on threads, and `live` answers one line by line as
@@ -14,10 +14,11 @@
 //!
 //! # What is promised
 //!
-//! - [`run_program`]: nothing is printed before the whole input is read and found lawful, and
-//!   then the command's text as `venue_text` has it; each fault is the first of the input's, by a
-//!   total function of its bytes; arguments that are no command print a help, or nothing.
-//!   [`these_arguments_are_commands`] and [`arguments_have_these_faults`] say which are which.
+//! - [`run_program`]: nothing is printed before the whole input is read and found lawful (`live`
+//!   alone prints as it reads), and then the command's text as `venue_text` has it; each fault is
+//!   the first of the input's, by a total function of its bytes; arguments that are no command print
+//!   a help, or nothing. [`these_arguments_are_commands`] and [`arguments_have_these_faults`] say
+//!   which are which.
 //! - [`run_process`]: the exit status of the process is that of its run, and an argument that is no
 //!   UTF-8 is a wrong one.
 #![tactic(auto)]

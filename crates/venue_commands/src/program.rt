@@ -18,7 +18,7 @@ use std::sync::Wait;
 use std::thread::Threads;
 
 /// Runs the program: reads what its arguments ask for from `input`, prints it to `out`, and
-/// answers the exit status: 0 is done. A fault is told in one line on `err`, with status 1; wrong
+/// returns the exit status: 0 is done. A fault is told in one line on `err`, with status 1; wrong
 /// arguments have status 2. No arguments at all mean `alone`.
 pub fn run_program<H: Threads + Wait + Sync, S: AsStr, R: Read, W: Write, E: Write>(
     rt: &H,

@@ -5,7 +5,7 @@
 //! let number = config.firm("DLR1");
 //! ```
 //!
-//! [`read_config`] answers the values of the keys in the table that `toml` reads, the rows in their
+//! [`read_config`] returns the values of the keys in the table that `toml` reads, the rows in their
 //! order, none left out or put twice; or the first fault, in the order of [`ConfigFault`] and of the
 //! keys. `Memory` may come at any point. In version 1 every bond has the grid 256; from version 2 on
 //! each has its own. The rows themselves are those of `venue_rows`, which are given out here too.

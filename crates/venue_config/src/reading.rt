@@ -52,12 +52,12 @@ fn requests_in_all(investors: &[InvestorRow]) -> u64
 /// Reads the configuration that a text spells: TOML with the keys of `specs/Keys.antt`. Other keys
 /// are ignored, and arrays of tables that are absent are empty.
 ///
-/// `Toml` is answered exactly where `toml` refuses the text for another cause than memory. Then the
+/// `Toml` is returned exactly where `toml` refuses the text for another cause than memory. Then the
 /// values are looked at in the order of their keys, row by row, and the two sums last; the first
-/// fault is the answer. Of one value the faults come in this order: `Missing` where it is absent or
+/// fault is the result. Of one value the faults come in this order: `Missing` where it is absent or
 /// of another kind, `Name` where it is not of its form, `Limit` where it is out of its limits,
 /// `Twice` where it was named before. An array with too many elements is `Limit` before its
-/// elements are looked at. `Memory` may be answered at any point, and only then is the fault not
+/// elements are looked at. `Memory` may be returned at any point, and only then is the fault not
 /// the first one.
 #[tactic(auto, unfolding(crate::specs::Config::config_of))]
 pub fn read_config(alloc: Global, text: &str) -> Result<VenueConfig, ConfigFault>

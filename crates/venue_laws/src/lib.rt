@@ -6,8 +6,8 @@
 //!
 //! - [`price_law`]: where two days are one but for the prices of other dealers, what was due to a
 //!   dealer is one in both, but that Cover may stand against Done Away.
-//! - [`words_are_settled_as_the_view_says`]: a message or a drop that asks a quote's word is
-//!   answered as the dealer view answers it.
+//! - [`words_are_settled_as_the_view_says`]: a word that a message or a drop asks is settled as the
+//!   dealer view settles it.
 //! - [`notices_come_once_after_their_requests`], [`each_named_dealer_is_told_once`]: a closing
 //!   notice comes after its request was shown, and at most once; where no duty is left and a room
 //!   has ended, each dealer that its request names was told once, as the end says for it.

@@ -1,4 +1,4 @@
-//! Laws of what a dealer is answered and told: what is true of every list of steps of every venue.
+//! Laws of settlements and closing notices: what is true of every list of steps of every venue.
 ghost use Rattle.std.specs.Prelude.{◌≡◌, ◌≤◌, ℕ, true, List, [], ◌∷◌, ◌++◌, length, Some};
 ghost use Rattle.market_terms.specs.declared.closes.Close.{Close};
 ghost use Rattle.market_terms.specs.declared.closes.Close.TheVariants.{Hit};
@@ -22,11 +22,11 @@ ghost use Rattle.step_replay.specs.declared.steps.Step.{Step};
 
 use dealer_desk::limits_are_kept;
 
-/// A law: every word that a dealer asks is answered as the dealer view says, in every venue, after
+/// A law: every word that a dealer asks is settled as the dealer view says, in every venue, after
 /// every list of steps. Where a message of its own or a drop asked the word of a quote, the first
-/// answer that stands behind it is of that quote, and it is *lifted* where a lifting of the quote
-/// that counts stands before it in what was due to the dealer, else *withdrawn*. No other answer
-/// stands anywhere in the dealer's trail. It does nothing.
+/// settlement that stands behind it is of that quote, and it is *lifted* where a lifting of the
+/// quote that counts stands before it in what was due to the dealer, else *withdrawn*. No other
+/// settlement stands anywhere in the dealer's trail. It does nothing.
 pub fn words_are_settled_as_the_view_says()
     ensures asked { (config : Configuration) (steps : List Step) (dealer : ℕ) (row : DealerRow)
         (before after : List DealerEntry) (entry : DealerEntry) (quote : ℕ)

@@ -1,4 +1,4 @@
--- What is brought to a place does there, where it asks no word: the place afterwards and the duties
+-- What a thing brought to a place does, where it asks no word: the place afterwards and the duties
 -- that follow, line by line of what may come. They are those of the steps.
 use Rattle.std.specs.Prelude.{true, List, []}
 use Rattle.dealer_desk.specs.DealerOutput as dealer

@@ -103,11 +103,11 @@ pub enum ForInvestor {
         /// The moment.
         moment: Moment,
     },
-    /// It is answered to a hit or a pass.
+    /// It is sent the room's reply to a hit or a pass.
     Answer {
         /// The number of its request.
         request: u32,
-        /// The response that is answered.
+        /// The response that it is to.
         response: ResponseRef,
         /// What the room decided.
         reply: Reply,

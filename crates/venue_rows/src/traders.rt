@@ -70,7 +70,7 @@ impl Traders {
         Some(Name::of_text(own))
     }
 
-    /// Adds a trader behind the others, or answers false and changes nothing where there are 16
+    /// Adds a trader behind the others, or returns false and changes nothing where there are 16
     /// already.
     pub fn push(&mut self, name: &Name) -> bool
         ensures { (self.new, result) ≡ spec.trader_added self.old name.now }

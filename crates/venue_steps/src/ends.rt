@@ -17,7 +17,7 @@ use request_room::{End, EndKind, Room};
 const MOST_DUTIES: usize = 9;
 
 /// The investor hits the quote with this word. Where no check of the room refuses it, the word is
-/// lifted where it is open, and a lifted word awards the request. What follows is the answer to the
+/// lifted where it is open, and a lifted word awards the request. What follows is the reply to the
 /// investor and then, where the hit awards, each named dealer is told how it ended for it.
 ///
 /// Where the row has no such word nothing changes. It fails for memory alone: then the room is as
@@ -77,7 +77,7 @@ fn is_award(reply: Reply) -> bool
     }
 }
 
-/// The investor passes its request, which ends an open room. What follows is the answer to the
+/// The investor passes its request, which ends an open room. What follows is the reply to the
 /// investor and then, where the room ended, each named dealer is told so. It fails for memory
 /// alone, and then the room is as before.
 pub fn do_pass(
@@ -102,7 +102,7 @@ pub fn do_pass(
     Ok(with_told(duties, answered, passed, room, at, moment))
 }
 
-/// What the investor is answered to a pass.
+/// The room's reply to a pass.
 fn reply_to_pass(passed: bool) -> Reply
     ensures { result ≡ spec.reply_to_pass passed }
 {

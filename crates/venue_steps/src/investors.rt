@@ -88,10 +88,10 @@ pub fn do_declined(
     Ok(Duties::new(desk.alloc()))
 }
 
-/// The investor is answered to a hit or a pass of its request with this number, as the room
-/// decided. Where the request was not accepted, the quote that was hit was not shown on it, or no
-/// room answers such a response so (a pass is not awarded, a hit is not passed), nothing changes.
-/// Nothing follows. It fails for memory alone, and then the desk is as before.
+/// The investor is sent the room's reply to a hit or a pass of its request with this number. Where
+/// the request was not accepted, the quote that was hit was not shown on it, or no room replies so
+/// to such a response (a pass is not awarded, a hit is not passed), nothing changes. Nothing
+/// follows. It fails for memory alone, and then the desk is as before.
 pub fn do_answer(
     desk: &mut InvestorDesk,
     request: u32,
@@ -111,8 +111,8 @@ pub fn do_answer(
     Ok(Duties::new(desk.alloc()))
 }
 
-/// Whether a desk knows a request and the quote, where one was hit, and the reply answers such a
-/// response.
+/// Whether a desk knows a request and the quote, where one was hit, and such a response can have
+/// this reply.
 fn may_reply(desk: &InvestorDesk, request: u32, quote: Option<u64>, reply: Reply) -> bool
     ensures { result ≡ knows (book_at desk.now) request quote && spec.replies_to quote reply }
 {
@@ -122,7 +122,7 @@ fn may_reply(desk: &InvestorDesk, request: u32, quote: Option<u64>, reply: Reply
     replies_to(quote, reply)
 }
 
-/// Whether a reply answers a response, to this quote or to the request.
+/// Whether a response, to this quote or to the request, can have the reply.
 fn replies_to(quote: Option<u64>, reply: Reply) -> bool
     ensures { result ≡ spec.replies_to quote reply }
 {
@@ -132,7 +132,7 @@ fn replies_to(quote: Option<u64>, reply: Reply) -> bool
     }
 }
 
-/// Whether a reply answers a hit.
+/// Whether a hit can have the reply.
 fn replies_to_hit(reply: Reply) -> bool
     ensures { result ≡ spec.replies_to_hit reply }
 {
@@ -143,7 +143,7 @@ fn replies_to_hit(reply: Reply) -> bool
     }
 }
 
-/// Whether a reply answers a pass.
+/// Whether a pass can have the reply.
 fn replies_to_pass(reply: Reply) -> bool
     ensures { result ≡ spec.replies_to_pass reply }
 {

@@ -7,7 +7,7 @@
 //! after the other, or on threads under a lock for each place) does the same market.
 //!
 //! A step asks one word at most, that of the quote that it would withdraw or lift, and hands the
-//! answer on to the place. It runs over any row of words that is [`quote_word::Words`].
+//! settlement on to the place. It runs over any row of words that is [`quote_word::Words`].
 //!
 //! ```text
 //! let duties = own_dealer(&mut dealer, &mut words, 0, moment, bytes)?; // a quote: Post follows

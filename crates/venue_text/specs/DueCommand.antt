@@ -10,7 +10,7 @@ use Rattle.venue_text.specs.AskedDays.{dealers_by, one_day}
 use Rattle.venue_text.specs.ReplayText.{those_asked}
 use Rattle.venue_text.specs.WrittenDues.{due_lines}
 
--- a line of words, with one space between each two
+-- a line of parts, with one space between each two
 abbrev pub part_line : List (List ℕ) → List ℕ
 part_line parts = join_with_byte 32 parts ++ 10 ∷ []
 

@@ -3,7 +3,7 @@ use Rattle.std.specs.Prelude.{ℕ, List, ◌∷◌, ◌++◌, codes, decimal}
 use Rattle.std.specs.List.{flat_map}
 use Rattle.venue_rows.specs.declared.dealer_rows.DealerRow.{DealerRow}
 
--- words, each behind a space
+-- parts, each behind a space
 abbrev pub parts_behind : List (List ℕ) → List ℕ
 parts_behind parts = flat_map (λ part. 32 ∷ part) parts
 

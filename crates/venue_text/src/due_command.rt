@@ -169,7 +169,7 @@ fn push_trader(text: &mut Vec<u8>, traders: &Traders, place: usize) -> Result<()
     Ok(())
 }
 
-/// A word behind a space.
+/// A part behind a space.
 fn push_part(text: &mut Vec<u8>, part: &[u8]) -> Result<(), Memory>
     ensures { OnOk result (text.new.items ≡ text.old.items ++ 32 ∷ part.now) }
 {

@@ -69,7 +69,7 @@ impl KeptDay {
         Ok(KeptDay { day, asked })
     }
 
-    /// The line with this number comes, and is taken. Its fault is answered, if it has one, and then
+    /// The line with this number comes, and is taken. It gives its fault, if it has one, and then
     /// it brings nothing else. After an error the day can't go on.
     pub fn keep(
         &mut self,

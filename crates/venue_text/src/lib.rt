@@ -11,8 +11,8 @@
 //!
 //! - [`alone_text`]: the text is that of the dealer view of what the input spells; each fault is
 //!   the first of the input, by a total function of its bytes (`first_fault`).
-//! - [`LiveDay`] answers a day line by line: each answer is exactly the messages that the line's steps
-//!   bring, and behind them its mark where the [`LiveForm`] has marks.
+//! - [`LiveDay`] takes a day line by line: the output of each is exactly the messages that the
+//!   line's steps bring, and behind them its mark where the [`LiveForm`] has marks.
 //! - [`KeptDay`] takes the lines of such a day, and at its end gives what is asked for.
 //!   [`a_firm_is_printed_what_live_prints_of_it`]: of a firm that is what was printed of it.
 //! - [`what_was_due_is_read_back`]: a list that is written as due text is read as that list.

@@ -77,10 +77,10 @@ impl LiveDay {
     }
 
     /// The line with this number comes: its steps are done, each with all duties that it leaves,
-    /// and the messages that are sent for them are told, in their order. A line at fault
+    /// and the messages that are sent for them are given, in their order. A line at fault
     /// ([`ProgramFault::Form`], [`ProgramFault::UnknownFirm`], [`ProgramFault::UnknownRoom`] or
     /// [`ProgramFault::Stream`]) changes nothing, and the day goes on; so does an empty line or a
-    /// comment. After an error it can't: memory was refused, or the firm has said 10^15 lines.
+    /// comment. After an error it can't: memory was refused, or 10^15 `say` lines are the firm's.
     pub fn send(&mut self, alloc: Global, line: usize, text: &[u8]) -> Result<LineSent, Memory>
         ensures { IfOk result (λ told. (form : LiveForm) (config : Configuration)
             (taken : Taken) → spec.Goes form config taken self.old
@@ -117,7 +117,7 @@ impl LiveDay {
         Ok(output)
     }
 
-    /// The text of what was told of the line with this number.
+    /// The text of what was sent for the line with this number.
     fn printed(&self, alloc: Global, line: usize, told: &LineSent) -> Result<LineOutput, Memory>
         ensures fault { IfOk result (λ output. output.fault ≡ told.now.fault) }
         ensures text { IfOk result (λ output. (steps : List Step)
@@ -140,7 +140,7 @@ impl LiveDay {
     }
 }
 
-/// What is told of a line at fault: nothing is sent.
+/// A line at fault: nothing is sent.
 fn refused(alloc: Global, fault: ProgramFault) -> Result<LineSent, Memory>
     ensures told { IfOk result (λ told. told.fault ≡ Some fault) }
     ensures none { IfOk result (λ told. told.messages.items ≡ []) }
@@ -180,7 +180,7 @@ fn read_live_line(
     Ok(spelled)
 }
 
-/// What a line spells is done, and the messages that are sent for it are told. Its steps name what
+/// What a line spells is done, and the messages that are sent for it are given. Its steps name what
 /// the venue has. A sweep of every room looks at those alone that are due.
 fn done(
     alloc: Global,

@@ -44,7 +44,7 @@ fn settled_name(settled: Settled) -> &'static str {
 }
 
 /// Puts a line behind a text: an action, its number among those of its actor, its moment, and the
-/// word that it asked with the answer.
+/// word that it asked with its settlement.
 fn push_action<T: AllocGlobal>(
     rt: &T,
     text: &mut String,

@@ -10,7 +10,7 @@ pub(crate) struct ForcedDay {
     pub(crate) lines: &'static [&'static str],
     /// What the firms are sent.
     pub(crate) sent: &'static [&'static str],
-    /// What each actor did, with the word that an action asked and what it was answered; and the
+    /// What each actor did, with the word that an action asked and its settlement; and the
     /// order of the actions at each desk and in each room.
     pub(crate) done: &'static [&'static str],
 }
