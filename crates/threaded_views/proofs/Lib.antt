@@ -1,0 +1,3 @@
+mod DayLemmas
+mod FitLemmas
+mod ReplayFits
