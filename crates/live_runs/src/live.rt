@@ -45,7 +45,6 @@ enum Stage {
 }
 
 /// A run of `live`: what was read so far.
-#[derive(Drop)]
 struct LiveRun<'a> {
     alloc: Global,
     form: LineForm<'a>,
@@ -54,6 +53,34 @@ struct LiveRun<'a> {
     /// Its bytes so far.
     line: Vec<u8>,
     stage: Stage,
+}
+
+/// As a derived one; but a run is proved to be dropped once, and not at each place that ends one.
+impl Drop for LiveRun<'_> {
+    fn drop(self) {
+        let LiveRun {
+            alloc: _,
+            form: _,
+            number: _,
+            line,
+            stage,
+        } = self;
+        drop(line);
+        match stage {
+            Stage::Configuration(text) => drop(text),
+            Stage::Day(day) => drop(day),
+            Stage::Kept(day) => drop(day),
+            Stage::First(day) => drop(day),
+            Stage::Between(day, text) => {
+                drop(day);
+                drop(text);
+            }
+            Stage::Both(one, other) => {
+                drop(one);
+                drop(other);
+            }
+        }
+    }
 }
 
 /// Runs `live`: reads a configuration and a line `%%`, and then answers each line of steps before
