@@ -8,6 +8,7 @@
 #include <quickfix/TimeRange.h>
 
 #include <algorithm>
+#include <iterator>
 #include <stdexcept>
 
 namespace gateway {
@@ -43,6 +44,18 @@ bool is_of_session(int tag) {
     default:
         return false;
     }
+}
+
+// What the header of every message has. Where one of these lacks the engine leaves an application's
+// message to the application, and counts it whatever its number is.
+constexpr int required[] = {FIX::FIELD::SenderCompID, FIX::FIELD::TargetCompID,
+                            FIX::FIELD::SendingTime};
+
+// The first of them that a header lacks; 0 where it has all.
+int missing_in(const FIX::Header &header) {
+    const auto *found = std::find_if(std::begin(required), std::end(required),
+                                     [&](int tag) { return !header.isSetField(tag); });
+    return found == std::end(required) ? 0 : *found;
 }
 
 // All that stands in front of the value of the first body field of the venue's messages.
@@ -106,8 +119,11 @@ void FirmSession::take(const std::string &bytes) {
         return;
     }
     const std::string type = text_in(message.getHeader(), FIX::FIELD::MsgType);
+    const int missing = missing_in(message.getHeader());
     if (type == "A") {
         take_logon(message);
+    } else if (missing != 0) {
+        reject_without(missing, message.getHeader());
     } else if (type == "2") {
         take_resend_request(std::move(message), own_connection());
     } else if (message.isAdmin()) {
@@ -165,6 +181,47 @@ void FirmSession::end_uncounted() {
         send_logout("");
     }
     session_->disconnect();
+}
+
+// What is ahead of a gap comes again, and is rejected then.
+void FirmSession::reject_without(int tag, const FIX::Header &header) {
+    const int number = number_in(header, FIX::FIELD::MsgSeqNum);
+    const int expected = session_->getExpectedTargetNum();
+    if (number < 1) {
+        // As the engine does where this field alone lacks.
+        session_->disconnect();
+        return;
+    }
+    if (number > expected) {
+        events_.dropped("gap", firm_);
+        return;
+    }
+    FIX::Message reject;
+    reject.getHeader().setField(FIX::MsgType(FIX::MsgType_Reject));
+    reject.setField(FIX::RefSeqNum(number));
+    reject.setField(FIX::RefTagID(tag));
+    reject.setField(FIX::RefMsgType(text_in(header, FIX::FIELD::MsgType)));
+    reject.setField(FIX::SessionRejectReason(FIX::SessionRejectReason_REQUIRED_TAG_MISSING));
+    reject.setField(FIX::Text("Required tag missing"));
+    session_->send(reject);
+    if (number == expected) {
+        pass_over(number);
+    }
+}
+
+// To the engine it is a gap that is filled: it counts it, and goes on with what it keeps behind it.
+void FirmSession::pass_over(int number) {
+    FIX::Message fill;
+    FIX::Header &header = fill.getHeader();
+    header.setField(FIX::BeginString("FIXT.1.1"));
+    header.setField(FIX::MsgType(FIX::MsgType_SequenceReset));
+    header.setField(FIX::SenderCompID(firm_));
+    header.setField(FIX::TargetCompID("VENUE"));
+    header.setField(FIX::MsgSeqNum(number));
+    header.setField(FIX::SendingTime(FIX::UtcTimeStamp(), 3));
+    fill.setField(FIX::GapFillFlag(true));
+    fill.setField(FIX::NewSeqNo(number + 1));
+    next(fill);
 }
 
 // The engine asks for all of a gap: so what is not kept comes again.

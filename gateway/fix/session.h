@@ -62,6 +62,8 @@ class FirmSession final : private FIX::Application, private FIX::Log {
     void take_logon(const FIX::Message &message);
     void take_admin(const std::string &type, const FIX::Message &message);
     void end_uncounted();
+    void reject_without(int tag, const FIX::Header &header);
+    void pass_over(int number);
     // Whether the next one is expected, or the engine may keep this one until then.
     bool is_next_or_kept(int number);
     void take_resend_request(FIX::Message message, Connection &connection);
