@@ -9,10 +9,16 @@
 
 namespace {
 
+// Of a capital hexadecimal digit.
+int number_of(char digit) {
+    return digit <= '9' ? digit - '0' : digit - 'A' + 10;
+}
+
 std::string bytes_of(const std::string &digits) {
     std::string bytes;
+    bytes.reserve(digits.size() / 2);
     for (std::size_t at = 0; at + 1 < digits.size(); at += 2)
-        bytes += static_cast<char>(std::stoi(digits.substr(at, 2), nullptr, 16));
+        bytes += static_cast<char>(16 * number_of(digits[at]) + number_of(digits[at + 1]));
     return bytes;
 }
 

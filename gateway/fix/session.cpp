@@ -8,6 +8,7 @@
 #include <quickfix/TimeRange.h>
 
 #include <algorithm>
+#include <iterator>
 #include <stdexcept>
 
 namespace gateway {
@@ -32,6 +33,7 @@ constexpr int bytes_field = 96;
 // What the session itself looks at. All other fields are the venue's to judge.
 bool is_of_session(int tag) {
     switch (tag) {
+    case FIX::FIELD::BeginString:
     case FIX::FIELD::MsgType:
     case FIX::FIELD::SenderCompID:
     case FIX::FIELD::TargetCompID:
@@ -43,6 +45,49 @@ bool is_of_session(int tag) {
     default:
         return false;
     }
+}
+
+// The type of a frame, whose third field it is.
+std::string type_of(const std::string &frame) {
+    const std::string mark = "\x01"
+                             "35=";
+    const std::size_t begin = frame.find(mark) + mark.size();
+    return frame.substr(begin, frame.find('\x01', begin) - begin);
+}
+
+// Reads those fields of a message of the application that a session looks at: to keep each of the
+// others as the engine does would take its time in front of every commit. What is a field is as for
+// the engine, and so is where they may stand.
+void read_for_session(const std::string &bytes, FIX::Header &header) {
+    for (auto at = bytes.begin(); at != bytes.end();) {
+        const auto equals = std::find(at, bytes.end(), '=');
+        int tag = 0;
+        if (equals == bytes.end() || !FIX::IntConvertor::convert(at, equals, tag)) {
+            throw FIX::InvalidMessage("a field without a tag");
+        }
+        const auto value = equals + 1;
+        const auto end = std::find(value, bytes.end(), '\x01');
+        if (end == bytes.end()) {
+            throw FIX::InvalidMessage("a field without an end");
+        }
+        if (is_of_session(tag)) {
+            // The first one: another in the body is no matter of the session.
+            header.setField(FIX::StringField(tag, std::string(value, end)), false);
+        }
+        at = end + 1;
+    }
+}
+
+// What the header of every message has. Where one of these lacks the engine leaves an application's
+// message to the application, and counts it whatever its number is.
+constexpr int required[] = {FIX::FIELD::SenderCompID, FIX::FIELD::TargetCompID,
+                            FIX::FIELD::SendingTime};
+
+// The first of them that a header lacks; 0 where it has all.
+int missing_in(const FIX::Header &header) {
+    const auto *found = std::find_if(std::begin(required), std::end(required),
+                                     [&](int tag) { return !header.isSetField(tag); });
+    return found == std::end(required) ? 0 : *found;
 }
 
 // All that stands in front of the value of the first body field of the venue's messages.
@@ -91,7 +136,11 @@ bool FirmSession::read(const std::string &bytes, FIX::Message &message) {
         if (!is_frame(bytes)) {
             throw FIX::InvalidMessage("no frame of FIXT.1.1");
         }
-        message.setString(bytes, false);
+        if (FIX::Message::isAdminMsgType(FIX::MsgType(type_of(bytes)))) {
+            message.setString(bytes, false);
+        } else {
+            read_for_session(bytes, message.getHeader());
+        }
         return true;
     } catch (const FIX::InvalidMessage &fault) {
         events_.dropped("no message", firm_ + ": " + fault.what());
@@ -106,8 +155,11 @@ void FirmSession::take(const std::string &bytes) {
         return;
     }
     const std::string type = text_in(message.getHeader(), FIX::FIELD::MsgType);
+    const int missing = missing_in(message.getHeader());
     if (type == "A") {
         take_logon(message);
+    } else if (missing != 0) {
+        reject_without(missing, message.getHeader());
     } else if (type == "2") {
         take_resend_request(std::move(message), own_connection());
     } else if (message.isAdmin()) {
@@ -167,6 +219,47 @@ void FirmSession::end_uncounted() {
     session_->disconnect();
 }
 
+// What is ahead of a gap comes again, and is rejected then.
+void FirmSession::reject_without(int tag, const FIX::Header &header) {
+    const int number = number_in(header, FIX::FIELD::MsgSeqNum);
+    const int expected = session_->getExpectedTargetNum();
+    if (number < 1) {
+        // As the engine does where this field alone lacks.
+        session_->disconnect();
+        return;
+    }
+    if (number > expected) {
+        events_.dropped("gap", firm_);
+        return;
+    }
+    FIX::Message reject;
+    reject.getHeader().setField(FIX::MsgType(FIX::MsgType_Reject));
+    reject.setField(FIX::RefSeqNum(number));
+    reject.setField(FIX::RefTagID(tag));
+    reject.setField(FIX::RefMsgType(text_in(header, FIX::FIELD::MsgType)));
+    reject.setField(FIX::SessionRejectReason(FIX::SessionRejectReason_REQUIRED_TAG_MISSING));
+    reject.setField(FIX::Text("Required tag missing"));
+    session_->send(reject);
+    if (number == expected) {
+        pass_over(number);
+    }
+}
+
+// To the engine it is a gap that is filled: it counts it, and goes on with what it keeps behind it.
+void FirmSession::pass_over(int number) {
+    FIX::Message fill;
+    FIX::Header &header = fill.getHeader();
+    header.setField(FIX::BeginString("FIXT.1.1"));
+    header.setField(FIX::MsgType(FIX::MsgType_SequenceReset));
+    header.setField(FIX::SenderCompID(firm_));
+    header.setField(FIX::TargetCompID("VENUE"));
+    header.setField(FIX::MsgSeqNum(number));
+    header.setField(FIX::SendingTime(FIX::UtcTimeStamp(), 3));
+    fill.setField(FIX::GapFillFlag(true));
+    fill.setField(FIX::NewSeqNo(number + 1));
+    next(fill);
+}
+
 // The engine asks for all of a gap: so what is not kept comes again.
 bool FirmSession::is_next_or_kept(int number) {
     if (number <= session_->getExpectedTargetNum()) {
@@ -219,21 +312,11 @@ void FirmSession::ask_whether_settled() {
     asked_at_ = number_in(request.getHeader(), FIX::FIELD::MsgSeqNum);
 }
 
-void FirmSession::take_application(const FIX::Message &message, const std::string &bytes) {
-    const FIX::Header &header = message.getHeader();
-    if (!is_next_or_kept(number_in(header, FIX::FIELD::MsgSeqNum))) {
-        return;
+void FirmSession::take_application(FIX::Message &message, const std::string &bytes) {
+    if (is_next_or_kept(number_in(message.getHeader(), FIX::FIELD::MsgSeqNum))) {
+        message.setField(FIX::StringField(bytes_field, bytes));
+        next(message);
     }
-    FIX::Message light;
-    // The first one: another in the body is no matter of the session.
-    light.getHeader().setField(FIX::BeginString(bytes.substr(2, bytes.find('\x01') - 2)));
-    for (const FIX::FieldBase &field : header) {
-        if (is_of_session(field.getTag())) {
-            light.getHeader().setField(field, false);
-        }
-    }
-    light.setField(FIX::StringField(bytes_field, bytes));
-    next(light);
 }
 
 void FirmSession::tick() {

@@ -1,6 +1,10 @@
 #include "comparison.h"
 
+#include "frame.h"
+
 #include <stdexcept>
+#include <string_view>
+#include <utility>
 
 #include <fmt/format.h>
 
@@ -10,6 +14,14 @@ namespace {
 
 // Rows that are read at once.
 constexpr std::uint32_t chunk = 512;
+
+// Whether a message on the wire has this body between its header and its trailer.
+bool has_body(std::string_view message, std::string_view body) {
+    constexpr std::size_t trailer = 7; // `10=`, three digits and SOH
+    return message.size() > body.size() + trailer &&
+           message.substr(message.size() - trailer - body.size(), body.size()) == body &&
+           message[message.size() - trailer - body.size() - 1] == soh;
+}
 
 } // namespace
 
@@ -22,7 +34,8 @@ void Comparison::begin() {
     }
 }
 
-bool Comparison::is_new(const std::string &firm, std::uint32_t number, const std::string &frame) {
+bool Comparison::is_new(const std::string &firm, std::uint32_t number, const std::string &frame,
+                        const std::string &body) {
     const std::lock_guard lock(mutex_);
     Messages &messages = firms_[firm];
     ++messages.given;
@@ -34,6 +47,7 @@ bool Comparison::is_new(const std::string &firm, std::uint32_t number, const std
         return true;
     }
     compare(firm, messages, frame);
+    compare_carrier(firm, messages, body);
     return false;
 }
 
@@ -56,6 +70,44 @@ void Comparison::compare(const std::string &firm, Messages &messages, const std:
     messages.recorded.pop_front();
 }
 
+// Each message of the venue went in one of the session, in their order.
+void Comparison::compare_carrier(const std::string &firm, Messages &messages,
+                                 const std::string &body) {
+    const auto carrier = next_carrier(firm, messages);
+    if (!carrier || carrier->sent != messages.given) {
+        throw std::runtime_error(fmt::format("the log lacks the message of {}'s session that "
+                                             "carried message {}",
+                                             firm, messages.given));
+    }
+    if (!has_body(carrier->bytes, body)) {
+        throw std::runtime_error(
+            fmt::format("{}'s message {} is not what message {} of its session carried: {}", firm,
+                        messages.given, carrier->number, carrier->bytes));
+    }
+}
+
+std::optional<Outgoing> Comparison::next_carrier(const std::string &firm, Messages &messages) {
+    for (;;) {
+        if (messages.went.empty()) {
+            const std::uint32_t first = messages.looked + 1;
+            for (Outgoing &row : reader_.ask([&](LogReader &log) {
+                     return log.outgoing(firm, first, messages.looked + chunk);
+                 })) {
+                messages.went.push_back(std::move(row));
+            }
+        }
+        if (messages.went.empty() || messages.went.front().number != messages.looked + 1) {
+            return std::nullopt;
+        }
+        ++messages.looked;
+        Outgoing next = std::move(messages.went.front());
+        messages.went.pop_front();
+        if (next.sent) {
+            return next;
+        }
+    }
+}
+
 void Comparison::check_sent(const std::map<std::string, FirmState> &states) {
     const std::lock_guard lock(mutex_);
     for (const auto &[firm, state] : states) {
@@ -64,6 +116,11 @@ void Comparison::check_sent(const std::map<std::string, FirmState> &states) {
             throw std::runtime_error(
                 fmt::format("{} was sent message {}, and the venue gives {} for the log", firm,
                             state.sent, given));
+        }
+        if (state.carried != state.sent) {
+            throw std::runtime_error(
+                fmt::format("{} was sent message {}, and its session carried message {}", firm,
+                            state.sent, state.carried));
         }
     }
 }

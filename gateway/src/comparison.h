@@ -1,4 +1,5 @@
-// What the venue gives again, held against what the log says was sent.
+// What the venue gives again, held against what the log says was sent, and in which messages of the
+// sessions it went.
 #ifndef GATEWAY_COMPARISON_H
 #define GATEWAY_COMPARISON_H
 
@@ -21,11 +22,13 @@ class Comparison {
 
     // A process of the venue begins. What the log has of its messages now is held against them.
     void begin();
-    // Whether the venue's next message to a firm is one that the log had not then. Throws
-    // std::runtime_error that names the firm and the number where it is another than the log has,
-    // or not the next one.
-    bool is_new(const std::string &firm, std::uint32_t number, const std::string &frame);
-    // Throws where the log has a message that the venue did not give.
+    // Whether the venue's next message to a firm is one that the log had not then; body is what of
+    // it stands on the wire behind the header. Throws std::runtime_error that names the firm and
+    // the number where it is another than the log has, or went otherwise, or is not the next one.
+    bool is_new(const std::string &firm, std::uint32_t number, const std::string &frame,
+                const std::string &body);
+    // Throws where the log has a message that the venue did not give, or that no message of the
+    // session carried.
     void check_sent(const std::map<std::string, FirmState> &states);
 
   private:
@@ -33,9 +36,13 @@ class Comparison {
         std::uint32_t given = 0;   // by this process
         std::uint32_t known = 0;   // in the log when the process was started
         std::deque<Sent> recorded; // the next of them
+        std::uint32_t looked = 0;  // the session's number of the last message that was read
+        std::deque<Outgoing> went; // the next of the session's messages
     };
 
     void compare(const std::string &firm, Messages &messages, const std::string &frame);
+    void compare_carrier(const std::string &firm, Messages &messages, const std::string &body);
+    std::optional<Outgoing> next_carrier(const std::string &firm, Messages &messages);
 
     PatientReader reader_;
     std::mutex mutex_;

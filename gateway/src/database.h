@@ -31,6 +31,7 @@ struct FirmState {
     std::uint32_t last_number = 0; // the greatest session number among them
     std::uint32_t sent = 0;        // messages of the venue
     std::uint32_t outgoing = 0;    // messages of its session
+    std::uint32_t carried = 0;     // the last message of the venue that one of these carries
 };
 
 // Reads through a connection of its own; one thread at a time. Every call throws

@@ -118,8 +118,11 @@ class PostgresReader final : public LogReader {
                 all[row[0].as<std::string>()].sent = number_of(row[1]);
             }
             for (const pqxx::row &row :
-                 work.exec("SELECT firm, max(number) FROM outgoing GROUP BY firm")) {
-                all[row[0].as<std::string>()].outgoing = number_of(row[1]);
+                 work.exec("SELECT firm, max(number), coalesce(max(sent), 0) "
+                           "FROM outgoing GROUP BY firm")) {
+                FirmState &state = all[row[0].as<std::string>()];
+                state.outgoing = number_of(row[1]);
+                state.carried = number_of(row[2]);
             }
             return all;
         });

@@ -56,7 +56,8 @@ class SqliteReader final : public LogReader {
           came_(connection_.get(), "SELECT firm, count(*), coalesce(max(number), 0) FROM entry "
                                    "WHERE firm IS NOT NULL GROUP BY firm"),
           gave_(connection_.get(), "SELECT firm, max(number) FROM sent GROUP BY firm"),
-          went_(connection_.get(), "SELECT firm, max(number) FROM outgoing GROUP BY firm") {}
+          went_(connection_.get(), "SELECT firm, max(number), coalesce(max(sent), 0) "
+                                   "FROM outgoing GROUP BY firm") {}
 
     std::vector<Entry> entries(std::uint32_t from, std::uint32_t limit) override {
         std::vector<Entry> all;
@@ -114,7 +115,9 @@ class SqliteReader final : public LogReader {
             all[gave_.bytes(0)].sent = gave_.number(1);
         }
         while (went_.step()) {
-            all[went_.bytes(0)].outgoing = went_.number(1);
+            FirmState &state = all[went_.bytes(0)];
+            state.outgoing = went_.number(1);
+            state.carried = went_.number(2);
         }
         return all;
     }

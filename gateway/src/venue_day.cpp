@@ -333,7 +333,7 @@ void VenueDay::venue_starts() {
 void VenueDay::venue_gave(std::uint32_t place, std::uint32_t number, std::string name,
                           std::string frame) {
     ForWire message = for_wire(frame, number);
-    if (!comparison_.is_new(name, message.number, frame)) {
+    if (!comparison_.is_new(name, message.number, frame, message.body)) {
         return;
     }
     Delivery delivery;

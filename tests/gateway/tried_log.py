@@ -107,6 +107,30 @@ def byte_of_sent(stage: Stage) -> None:
     nothing_sent(stage, lambda: stage.refused("DLR1", str(number)))
 
 
+def byte_of_outgoing(stage: Stage) -> None:
+    """A message of a session as it would be sent again."""
+    ended_day(stage)
+    number, _ = stage.door.ledger().sent["DLR1"][1]
+    other = "CAST(replace(CAST(bytes AS TEXT), '297=0', '297=5') AS BLOB)"
+    changed(stage, "UPDATE outgoing SET bytes = %s WHERE firm = 'DLR1' AND sent = ?" % other, number)
+    nothing_sent(stage, lambda: stage.refused("DLR1", str(number)))
+
+
+def outgoing_taken_out(stage: Stage) -> None:
+    ended_day(stage)
+    number, _ = stage.door.ledger().sent["DLR1"][1]
+    changed(stage, "DELETE FROM outgoing WHERE firm = 'DLR1' AND sent = ?", number)
+    nothing_sent(stage, lambda: stage.refused("DLR1", str(number)))
+
+
+def last_sent_taken_out(stage: Stage) -> None:
+    """The venue gives it again, and the firm would have it under a second number of the session."""
+    ended_day(stage)
+    number, _ = stage.door.ledger().sent["DLR1"][-1]
+    changed(stage, "DELETE FROM sent WHERE firm = 'DLR1' AND number = ?", number)
+    nothing_sent(stage, lambda: stage.refused("DLR1", str(number)))
+
+
 def another_program(stage: Stage) -> None:
     """A venue that answers otherwise than it did: the first answer that differs is named, and no firm sees it."""
     ended_day(stage)
@@ -287,6 +311,6 @@ def venue_that_hangs(stage: Stage) -> None:
     stage.whole()
 
 
-TRIED = [configuration_at_fault, changed_configuration, entry_taken_out, last_entry_taken_out, byte_of_an_entry, byte_of_sent, another_program,
-         another_log_form, another_date, midnight, two_gateways, venue_that_ends, venue_that_says_something, venue_that_hangs, asked_to_end,
-         ended_while_one_fills, more_than_may_wait, ended_at_once]
+TRIED = [configuration_at_fault, changed_configuration, entry_taken_out, last_entry_taken_out, byte_of_an_entry, byte_of_sent,
+         byte_of_outgoing, outgoing_taken_out, last_sent_taken_out, another_program, another_log_form, another_date, midnight, two_gateways,
+         venue_that_ends, venue_that_says_something, venue_that_hangs, asked_to_end, ended_while_one_fills, more_than_may_wait, ended_at_once]

@@ -245,6 +245,22 @@ def no_numbers_of_the_venue(stage: Stage) -> None:
     stage.whole()
 
 
+def no_header_field(stage: Stage) -> None:
+    """Without 49, 56 or 52 the session rejects: its number is used up, and the venue's is not."""
+    stage.open(stage.other, stage.investor)
+    with on_a_wire(stage) as wire:
+        for tag in (49, 56, 52):
+            number, fields = wire.number, read_frame(wire.message(b"Z", b"DLR1", cancel(b"x")))
+            wire.raw(framed(b"".join(b"%d=%s\x01" % item for item in fields if item[0] != tag)))
+            reject = wire.read_until(lambda message: message.value(45) == b"%d" % number)
+            check(reject is not None and (reject.kind, reject.value(1181)) == (b"3", None), "without %d: no Reject of the session" % tag)
+            check((reject.value(371), reject.value(373)) == (b"%d" % tag, b"1"), "it is %r" % reject.raw)
+        wire.raw(wire.message(b"Z", b"DLR1", cancel(b"next")))
+        check(answered(wire, b"next").value(297) == b"9", "the next is not answered as ever")
+        check(stage.entries_of(stage.dealer) == 1, "%d entries" % stage.entries_of(stage.dealer))
+    stage.whole()
+
+
 def number_without_end(stage: Stage) -> None:
     """A SequenceReset past 1,000,000,000 ends the connection, and the number that is expected stands."""
     stage.open(stage.other, stage.investor)
@@ -425,6 +441,6 @@ def asks_and_does_not_read(stage: Stage) -> None:
 
 TRIED = [every_byte_in_text, another_firms_words, five_thousand_bytes, about_the_longest_frame, microseconds,
          wrong_clock, poss_resend, unknown_trader, poss_dup, fields_of_no_use, no_frames, no_numbers_of_the_venue,
-         number_without_end, ahead_of_a_gap, gap_without_end, resent_as_it_was,
+         no_header_field, number_without_end, ahead_of_a_gap, gap_without_end, resent_as_it_was,
          resent_after_a_crash, faster_than_the_log, longer_than_the_limit, one_that_does_not_read,
          asks_and_does_not_read]

@@ -82,9 +82,7 @@ class Damages(Course):
         return Damage("gateway killed", [])
 
     def kill_etcd(self) -> Damage:
-        leader = self.machine.cluster.etcd_leader()
-        if leader:
-            leader.kill_etcd()
+        found_in("etcd has a leader", PATIENCE, self.machine.cluster.etcd_leader).kill_etcd()
         return Damage("etcd's leader killed", [])
 
     def cut_standby(self) -> Damage:

@@ -9,9 +9,10 @@
 #
 # VENUE has the words of the venue's program: crates/rfq_venue/out/rfq_venue if it is not set, which
 # `rt run` there builds, or tests/model/program.py, the second implementation. GATEWAY has a gateway
-# that is built already; terms, logs and appends are then not tried, which need the other programs
-# of that build. Short: two venues behind one gateway, and one day of nine faults. The last line
-# counts all: `N passed, M failed`.
+# that is built already; terms, logs and appends need the other programs of that build beside it.
+# JOBS=2 plays the days beside the other parts: half an hour, and not three quarters, with twice the
+# memory (2 GB for each three database hosts). Several runs may go on at one time. Short: two venues
+# behind one gateway, and one day of nine faults. The last line counts all: `N passed, M failed`.
 set -eu
 here=$(cd "$(dirname "$0")" && pwd)
 root=$(cd "$here/../.." && pwd)
@@ -34,6 +35,7 @@ if ! command -v "$program" >/dev/null; then
 fi
 work=$(mktemp -d)
 trap 'rm -rf "$work"' EXIT
+trap 'exit 143' HUP INT TERM
 gateway=${GATEWAY:-}
 build() {
     cmake -S "$root/gateway" -B "$root/gateway/out" && cmake --build "$root/gateway/out" -j 2
@@ -45,28 +47,43 @@ fi
 g++ -std=c++14 -DHAVE_SSL=1 -O1 -Wall -Wextra -Werror -o "$work/player" \
     "$root/tests/gateway/player.cpp" -lquickfix -lpthread -lssl -lcrypto
 
-# What a part says is told as it comes; each part ends with a line `N passed, M failed`.
-parts=0
+# part NAME COMMAND ..: what it says is told as it comes. Each part has hosts of its own, and ends with
+# a line `N passed, M failed`.
 part() {
-    parts=$((parts + 1))
-    "$@" 2>&1 | tee "$work/$parts.part"
+    name=$1
+    shift
+    "$@" 2>&1 | tee "$work/$name.part" | sed -u "s/^/$name: /"
 }
 # shellcheck disable=SC2086 # the words of $days, $several, $upkeep and $venue
 {
-    case " $* " in
-    *" --wrong "*) ;; # of a wrong set-up the days alone
-    *)
-        [ -n "${GATEWAY:-}" ] || part python3 "$here/appends.py" "$root/gateway/out" --seconds 5
-        part python3 "$here/venues.py" "$gateway" "$work/player" -- $venue
-        if [ -z "$short" ]; then
-            part python3 "$here/replicas.py" "$gateway" "$work/player" "$@" $several -- $venue
-            part python3 "$here/replicas.py" "$gateway" "$work/player" "$@" $upkeep -- $venue
-        fi
-        ;;
-    esac
-    part python3 "$here/replicas.py" "$gateway" "$work/player" $days "$@" -- $venue
+    play_days() {
+        part days python3 "$here/replicas.py" "$gateway" "$work/player" $days "$@" -- $venue
+    }
+    others() {
+        part venues python3 "$here/venues.py" "$gateway" "$work/player" -- $venue
+        [ -z "$short" ] || return 0
+        part several python3 "$here/replicas.py" "$gateway" "$work/player" "$@" $several -- $venue
+        part upkeep python3 "$here/replicas.py" "$gateway" "$work/player" "$@" $upkeep -- $venue
+    }
 }
-tail -qn 1 "$work"/*.part | awk -v parts="$parts" '
+case " $* " in
+*" --wrong "*) play_days "$@" ;; # of a wrong set-up the days alone
+*)
+    out=$(dirname "$gateway")
+    [ -n "$short" ] || ! [ -x "$out/terms_test" ] ||
+        part appends python3 "$here/appends.py" "$out" --seconds 5 # they are measured: alone
+    if [ "${JOBS:-1}" = 1 ]; then
+        others "$@"
+        play_days "$@"
+    else
+        play_days "$@" &
+        others "$@"
+        wait
+    fi
+    ;;
+esac
+set -- "$work"/*.part
+tail -qn 1 "$@" | awk -v parts="$#" '
     $2 == "passed," { passed += $1; failed += $3; ++told }
     END { failed += parts - told; print passed + 0 " passed, " failed + 0 " failed"
           exit failed > 0 }'

@@ -20,7 +20,7 @@ sys.dont_write_bytecode = True
 
 import reach
 
-from door import free_port
+from door import Port
 from firm import Firm
 from ledger import Ledger, read_ledger
 from parts.run import whole_paths
@@ -44,10 +44,10 @@ credentials = "credentials.toml"
 
 class TwoVenues:
     def __init__(self, words: argparse.Namespace, folder: Path) -> None:
-        self.words, self.folder, self.port = words, folder, free_port()
+        self.words, self.folder, self._port = words, folder, Port()
         self.venue = list(whole_paths(words.venue))
         self.write()
-        self.stage = Stage(folder, words.player.resolve(), self.port, {})
+        self.stage = Stage(folder, words.player.resolve(), self._port.number, {})
         self.sides = [self.side(name, seed) for seed, name in enumerate(NAMES)]
         self.gateway = self.start()
 
@@ -61,7 +61,7 @@ class TwoVenues:
             (self.folder / file_of(name)).write_text(CAST.venue_text())
         credentials = CAST.credentials(self.words.gateway.resolve())
         (self.folder / "credentials.toml").write_text(credentials)
-        text = venues_text(NAMES, tuple(self.venue)) + REST % self.port
+        text = venues_text(NAMES, tuple(self.venue)) + REST % self._port.number
         (self.folder / "gateway.toml").write_text(text)
 
     def side(self, name: str, seed: int) -> Side:
@@ -85,7 +85,7 @@ class TwoVenues:
         if self.gateway.poll() is not None:
             raise TooLong((self.folder / "told").read_text())
         with socket.socket() as probe:
-            return probe.connect_ex(("127.0.0.1", self.port)) == 0
+            return probe.connect_ex(("127.0.0.1", self._port.number)) == 0
 
     def play(self, messages: int) -> None:
         """In turns, so that both are busy at once."""

@@ -1,0 +1,112 @@
+// What the venue gives again, held against what was sent and the messages of the session that
+// carried it: a log in which one of them is another, or lacks, is refused.
+//
+// usage: comparison_test FOLDER
+#include "check.h"
+#include "comparison.h"
+#include "frame.h"
+#include "translation.h"
+
+#include <filesystem>
+
+namespace gateway::tests {
+
+namespace {
+
+constexpr std::uint32_t messages = 2;
+
+// The venue's message to F of this number.
+std::string frame_of(std::uint32_t number) {
+    return framed(with_soh(
+        fmt::format("35=AI|49=VENUE|56=F|34={}|52=20250314-09:00:00.000|117=q|297=9|", number)));
+}
+
+std::string body_of(std::uint32_t number) {
+    return for_wire(frame_of(number), 0).body;
+}
+
+std::string on_the_wire(const std::string &type, std::uint32_t number, const std::string &body) {
+    return framed(
+        with_soh(fmt::format("35={}|34={}|49=VENUE|52=20250314-09:00:00.000|56=F|", type, number)) +
+        body);
+}
+
+// F's session: a Logon, and behind it the messages of the venue.
+Batch day() {
+    Batch rows;
+    rows.outgoing.push_back({"F", 1, {}, on_the_wire("A", 1, with_soh("98=0|108=30|"))});
+    for (std::uint32_t number = 1; number <= messages; ++number) {
+        rows.sent.push_back({"F", number, 1, frame_of(number)});
+        rows.outgoing.push_back(
+            {"F", number + 1, number, on_the_wire("AI", number + 1, body_of(number))});
+    }
+    return rows;
+}
+
+// Why a log with these rows is refused; empty where it is not.
+std::string refusal_of(const std::filesystem::path &folder, const Batch &rows) {
+    std::filesystem::remove_all(folder);
+    std::filesystem::create_directories(folder);
+    const auto database = open_sqlite((folder / "day.db").string());
+    database->writer()->commit(rows);
+    Comparison comparison(*database, {});
+    comparison.begin();
+    try {
+        for (std::uint32_t number = 1; number <= messages; ++number) {
+            comparison.is_new("F", number, frame_of(number), body_of(number));
+        }
+        comparison.check_sent(database->reader()->states());
+        return {};
+    } catch (const std::runtime_error &fault) {
+        return fault.what();
+    }
+}
+
+void refused_for(const std::filesystem::path &folder, const Batch &rows, const char *message) {
+    const std::string refusal = refusal_of(folder, rows);
+    check(refusal.find("F") != std::string::npos && refusal.find(message) != std::string::npos,
+          fmt::format("the log is not refused for {}, but: {}", message, refusal));
+}
+
+void refused_where_it_differs(const std::filesystem::path &folder) {
+    same<std::string>("", refusal_of(folder, day()), "a log as it has to be");
+    Batch rows = day();
+    rows.sent[0].bytes = frame_of(7);
+    refused_for(folder, rows, "message 1");
+    rows = day();
+    rows.outgoing[1].bytes = on_the_wire("AI", 2, body_of(7));
+    refused_for(folder, rows, "message 1");
+    // One whose body only ends as the venue's does.
+    rows = day();
+    rows.outgoing[1].bytes = on_the_wire("AI", 2, with_soh("58=x") + body_of(1));
+    refused_for(folder, rows, "message 1");
+    rows = day();
+    rows.outgoing[2].sent = 1;
+    refused_for(folder, rows, "message 2");
+}
+
+void refused_where_one_lacks(const std::filesystem::path &folder) {
+    // The Logon, and so a number of the session; then each message that carries.
+    for (const std::size_t at : {0, 1, 2}) {
+        Batch rows = day();
+        rows.outgoing.erase(rows.outgoing.begin() + static_cast<std::ptrdiff_t>(at));
+        refused_for(folder, rows, at == 2 ? "message 2" : "message 1");
+    }
+    // A message that the firm had and `sent` has not would have another number.
+    Batch rows = day();
+    rows.sent.pop_back();
+    refused_for(folder, rows, "message 2");
+}
+
+} // namespace
+
+} // namespace gateway::tests
+
+int main(int count, char **words) {
+    using namespace gateway::tests;
+    return run_with(count, words, 1, 1, "comparison_test FOLDER", [](std::span<char *> given) {
+        const std::filesystem::path folder = std::filesystem::path(given[0]) / "comparison";
+        refused_where_it_differs(folder);
+        refused_where_one_lacks(folder);
+    });
+}
