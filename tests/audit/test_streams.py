@@ -36,33 +36,52 @@ class Streams(unittest.TestCase):
         parts = [b"%d\n" % number * number for number in range(40)]
         for before in (0, 7, len(parts)):
             with folder() as name, patch.object(streams, "LOOK", 0.001):
-                path, whole = Path(name) / "file", Path(name) / "whole"
-                path.write_bytes(b"".join(parts[:before]))
-                blocks = streams.grown_blocks_of(path, whole)
+                file = streams.Growing(Path(name) / "file")
+                if before:
+                    file.path.write_bytes(b"".join(parts[:before]))
+                blocks = file.blocks()
                 read = [next(blocks)] if before else []
-                writer = threading.Thread(target=self.write, args=(path, parts[before:], whole))
+                writer = threading.Thread(target=self.write, args=(file, parts[before:]))
                 writer.start()
                 read += blocks
                 writer.join()
                 self.assertEqual(b"".join(read), b"".join(parts))
 
-    def write(self, path: Path, parts: list[bytes], whole: Path) -> None:
-        with path.open("ab", buffering=0) as file:
+    def write(self, growing: streams.Growing, parts: list[bytes]) -> None:
+        with growing.path.open("ab", buffering=0) as file:
             for part in parts:
                 file.write(part)
-        whole.touch()
+        growing.end()
+
+    def test_pieces_in_front_of_lines(self) -> None:
+        """Each begins with such a line, but the first, and together they are all that there is:
+        wherever a block ends.
+        """
+        mark = b"date "
+        for texts in (
+            [], [b"x\n"], [b"date 1\n"], [b"date 1\na\n", b"date 2\n"], [b"date 1"],
+            [b"a\nxdate \n", b"date 1\n\n dat\ndate\n", b"date 2\nb date \n", b"date 3\nc"],
+            [b"date 1\n", b"date 2\n", b"date 3\n"], [b"\n", b"date \n", b"date \n\n"],
+        ):
+            data = b"".join(texts)
+            for size in range(1, len(data) + 2):
+                blocks = [data[at : at + size] for at in range(0, len(data), size)]
+                found: list[bytes] = []
+                for piece in streams.cut_at(mark, blocks):
+                    if piece.startswith(mark) or not found:
+                        found.append(b"")
+                    found[-1] += piece
+                self.assertEqual(found, texts, size)
 
     def test_the_last_line(self) -> None:
-        for data, last, count in (
-            (b"", b"", 0), (b"\n", b"", 1), (b"a", b"a", 0), (b"a\nbb\n", b"bb", 2),
-            (b"a\nbb", b"bb", 1), (b"a\n\n", b"", 2), (b"x" * 9 + b"\nyy\n", b"yy", 2),
-            (b"abcdefgh\n", b"defgh", 1),
+        for data, last in (
+            (b"", b""), (b"\n", b""), (b"a", b"a"), (b"a\nbb\n", b"bb"), (b"a\nbb", b"bb"),
+            (b"a\n\n", b""), (b"x" * 9 + b"\nyy\n", b"yy"), (b"abcdefgh\n", b"defgh"),
         ):
             with folder() as name, patch.object(streams, "LAST_BYTES", 6):
                 path = Path(name) / "file"
                 path.write_bytes(data)
                 self.assertEqual(streams.last_line_of(path), last, data)
-                self.assertEqual(streams.count_of_lines(path), count, data)
 
     def test_files_that_are_the_same(self) -> None:
         with folder() as name, patch.object(streams, "BLOCK", 4):
