@@ -12,6 +12,7 @@ from dataclasses import dataclass
 from pathlib import Path
 
 from .chain import Chained, lines_before, places_of, read_chain, write_day
+from .closing import Closing
 from .faults import Unreadable
 from .findings import Finding
 from .lines import decoded
@@ -161,10 +162,10 @@ class GivenJob(FindingsJob):
 
     def _findings(self, log: Log, step: Step) -> Iterator[Finding]:
         files, firms = self.audited.files, [firm.name for firm in self.audited.day.firms]
-        reader = GivenReader(files, firms, self._places(log))
-        for lines in lines_in(Growing(files.given).blocks()):
-            step(reader.take(lines))
-        texts, places = reader.ended()
+        with GivenReader(files, firms, self._places(log)) as reader:
+            for lines in lines_in(Growing(files.given).blocks()):
+                step(reader.take(lines))
+            texts, places = reader.ended()
         for firm in texts:
             lines_given = (line for _, line in self._given(log, firm))
             yield from held(firm, log.sent(firm), lines_given)
@@ -184,7 +185,7 @@ class GivenJob(FindingsJob):
                     yield place, line
 
 
-class GivenReader:
+class GivenReader(Closing):
     """Holds what `live --marks` gives against the files of what firms were sent."""
 
     def __init__(self, files: Files, firms: list[str], places: Iterator[int]) -> None:
@@ -230,6 +231,10 @@ class GivenReader:
         texts = [firm for firm, followed in self._texts.items() if not followed.is_same()]
         places = [firm for firm, followed in self._places.items() if not followed.is_same()]
         return texts, places
+
+    def close(self, failed: bool = False) -> None:
+        for followed in (*self._texts.values(), *self._places.values()):
+            followed.close()
 
 
 class DueJob(FindingsJob):

@@ -85,9 +85,11 @@ def whole_lines_in(blocks: Iterable[bytes]) -> Iterator[bytes]:
     """The same bytes in blocks that end with a line, all but the last one."""
     rest = b""
     for block in blocks:
-        lines, feed, rest = (rest + block).rpartition(FEED)
-        if feed:
-            yield lines + feed
+        text = rest + block
+        end = text.rfind(FEED) + 1
+        if end:
+            yield text[:end]
+        rest = text[end:]
     if rest:
         yield rest
 
@@ -120,8 +122,9 @@ class Followed:
             self._is_same = self._file.read(len(data)) == data
 
     def is_same(self) -> bool:
-        """Whether all was the same, and the file has no more. It is closed."""
-        if self._file is None:
-            return False
-        with self._file as file:
-            return self._is_same and not file.read(1)
+        """Whether all was the same, and the file has no more."""
+        return self._is_same and self._file is not None and not self._file.read(1)
+
+    def close(self) -> None:
+        if self._file is not None:
+            self._file.close()

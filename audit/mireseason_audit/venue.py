@@ -80,6 +80,7 @@ class Feeder(threading.Thread):
             with self._stream:
                 for block in self._blocks:
                     self._stream.write(block)
+                    self._stream.flush()  # it may be long until the next block is there
                     self.lines += block.count(FEED)
         except BrokenPipeError:
             pass  # the program takes no more: its status says why

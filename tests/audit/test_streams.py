@@ -4,6 +4,7 @@ import io
 import os
 import threading
 import unittest
+from contextlib import closing
 from dataclasses import dataclass
 from pathlib import Path
 from unittest.mock import patch
@@ -95,10 +96,10 @@ class Streams(unittest.TestCase):
                 self.assertEqual(self.follows(one, data), data == b"0123456789")
 
     def follows(self, path: Path, data: bytes) -> bool:
-        followed = streams.Followed(path)
-        for at in range(0, len(data), 3):
-            followed.take(data[at : at + 3])
-        return followed.is_same()
+        with closing(streams.Followed(path)) as followed:
+            for at in range(0, len(data), 3):
+                followed.take(data[at : at + 3])
+            return followed.is_same()
 
 
 class Terminal(io.StringIO):
