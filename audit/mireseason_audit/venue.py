@@ -6,7 +6,7 @@ import select
 import subprocess
 import tempfile
 import threading
-from collections.abc import Iterable, Iterator
+from collections.abc import Iterator
 from contextlib import ExitStack, suppress
 from dataclasses import dataclass, field
 from pathlib import Path
@@ -67,25 +67,33 @@ class Venue:
 
 
 class Feeder(threading.Thread):
-    """Gives a program what it reads, while somebody else reads what it prints."""
+    """Gives a program what it reads, while somebody else reads what it prints.
 
-    def __init__(self, blocks: Iterable[bytes], stream: IO[bytes]) -> None:
+    Where the program takes no more, its status says why; the lines are counted all the same.
+    """
+
+    def __init__(self, blocks: Iterator[bytes], stream: IO[bytes]) -> None:
         super().__init__(daemon=True)
         self._blocks, self._stream = blocks, stream
-        self.lines = 0  # that were given
+        self.lines = 0  # all that there are, once it has ended
         self.fault: Exception | None = None
 
     def run(self) -> None:
         try:
-            with self._stream:
-                for block in self._blocks:
+            with suppress(BrokenPipeError), self._stream:
+                for block in self._counted():
                     self._stream.write(block)
                     self._stream.flush()  # it may be long until the next block is there
-                    self.lines += block.count(FEED)
-        except BrokenPipeError:
-            pass  # the program takes no more: its status says why
-        except Exception as fault:  # of the file; it is raised where the run ends
+            for _ in self._counted():
+                pass
+        except Exception as fault:  # it is raised where the run ends
             self.fault = fault
+
+    def _counted(self) -> Iterator[bytes]:
+        """The blocks that are left."""
+        for block in self._blocks:
+            self.lines += block.count(FEED)
+            yield block
 
 
 @dataclass
@@ -133,8 +141,8 @@ class Run(Closing):
             self._feeder.start()
 
     @property
-    def lines_given(self) -> int:
-        """How many lines the program was given of a file that grew; whole once the run has ended."""
+    def lines_read(self) -> int:
+        """How many lines a file that grew had, once the run has ended."""
         return 0 if self._feeder is None else self._feeder.lines
 
     def lines(self) -> Iterator[bytes]:

@@ -11,10 +11,11 @@ from unittest.mock import patch
 
 from common import folder
 
-from mireseason_audit import streams
+from mireseason_audit import streams, venue
 from mireseason_audit.faults import Unreadable
 from mireseason_audit.progress import Progress, Step
-from mireseason_audit.work import Job, Plan, plan_of, run_jobs
+from mireseason_audit.venue import Run, Venue
+from mireseason_audit.work import Job, Plan, Workers, plan_of, run_jobs
 
 
 class Streams(unittest.TestCase):
@@ -100,6 +101,62 @@ class Streams(unittest.TestCase):
             for at in range(0, len(data), 3):
                 followed.take(data[at : at + 3])
             return followed.is_same()
+
+
+class Feeding(unittest.TestCase):
+    """A program that reads a file while it is written."""
+
+    def setUp(self) -> None:
+        place = folder()
+        self.addCleanup(place.cleanup)
+        self.file = streams.Growing(Path(place.name) / "day")
+        self.out = Path(place.name) / "out"
+        self.parts = [b"%d\n" % number * 999 for number in range(99)]
+
+    def fed(self, *words: str) -> Run:
+        """A run of a program, whose file is written meanwhile."""
+        writer = threading.Thread(target=self.write)
+        writer.start()
+        try:
+            return Venue(words).to_file([], self.file, self.out)
+        finally:
+            writer.join()
+
+    def write(self) -> None:
+        with self.file.path.open("ab", buffering=0) as file:
+            for part in self.parts:
+                file.write(part)
+        self.file.end()
+
+    def test_all_is_read(self) -> None:
+        run = self.fed("cat")
+        self.assertEqual(self.out.read_bytes(), b"".join(self.parts))
+        self.assertEqual(run.lines_read, 99 * 999)
+
+    def test_a_program_that_takes_no_more(self) -> None:
+        """All lines are counted, so that it is seen that it has not answered them."""
+        for words in (["head", "-n", "3"], ["true"], ["sh", "-c", "exec <&-; sleep 0.1"]):
+            self.assertEqual(self.fed(*words).lines_read, 99 * 999, words)
+            self.file.path.unlink()
+            self.file.whole.unlink()
+
+    def test_what_it_prints_in_blocks_and_in_lines(self) -> None:
+        self.write()
+        for size in (7, 1000, streams.BLOCK):
+            with patch.object(venue, "BLOCK", size), Venue(("cat",)).run([], self.file) as run:
+                blocks = list(run.blocks())
+            self.assertEqual(b"".join(blocks), b"".join(self.parts))
+            self.assertLessEqual(max(map(len, blocks)), size)
+        with Venue(("cat",)).run([], self.file) as run:
+            lines = list(run.lines())
+        self.assertEqual(lines, b"".join(self.parts).splitlines())
+
+    def test_faults(self) -> None:
+        with self.assertRaisesRegex(Unreadable, "status 3"):
+            self.fed("sh", "-c", "exit 3")
+        self.assertRaises(Unreadable, self.fed, "/nowhere/venue")
+        folder_for_a_file = streams.Growing(self.out.parent)
+        self.assertRaises(OSError, Venue(("cat",)).to_file, [], folder_for_a_file, self.out)
 
 
 class Terminal(io.StringIO):
@@ -205,6 +262,21 @@ class Bars(unittest.TestCase):
             self.assertEqual(plan.ready([2], [0]), [2])
             found = run_jobs(plan, 2, Progress(io.StringIO()))
             self.assertEqual(found, ["", "", "spoken"])
+
+    def test_which_begin_together(self) -> None:
+        """One that waits for another to begin begins in the same round, as many as there may be."""
+        for at_once, expected in ((1, [0]), (2, [0, 1]), (3, [0, 1, 3]), (9, [0, 1, 3])):
+            plan: Plan[int] = Plan()
+            first = plan.add(squared(0))
+            plan.add(squared(1), beside=[first])
+            plan.add(squared(2), behind=[first])
+            plan.add(squared(3))
+            workers = Workers(plan)
+            workers.begin(at_once)
+            try:
+                self.assertEqual([one.index for one in workers.running], expected)
+            finally:
+                workers.end()
 
 
 if __name__ == "__main__":
