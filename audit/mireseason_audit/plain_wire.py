@@ -16,9 +16,12 @@ from .wire import IN_FRONT_OF, header_fault, with_number
 FRONTS = {b"35=" + kind: before for kind, before in IN_FRONT_OF.items()}
 REJECTED = b"\x0135=3\x01"
 LEAVES = b"\x0152="
-# A message up to its sum: its length, its type, its number, the moment at which it leaves, the firm;
-# the venue's number, what stands in front of the venue's moment, that moment, and the rest.
-CARRYING = b"8=FIXT.1.1\x019=%d\x01%b\x0134=%d\x0149=VENUE\x0152=%b\x0156=%b\x011181=%b%b\x0160=%b%b"
+# A message up to its sum: its length, type and number, the moment at which it leaves, the firm; the
+# venue's number, what stands in front of the venue's moment, that moment, and the rest.
+CARRYING = (
+    b"8=FIXT.1.1\x019=%d\x01%b\x0134=%d\x0149=VENUE\x0152=%b\x0156=%b"
+    b"\x011181=%b%b\x0160=%b%b"
+)
 END_BYTES = 8  # 10=ccc, with an SOH before it and behind it
 # The end of a message, by the sum of all that stands in front of it.
 ENDS = [b"\x0110=%03d\x01" % ((number + 1) % 256) for number in range(256)]

@@ -40,7 +40,7 @@ class Growing:
         is_whole = False
         with self.path.open("rb") as file:
             while not is_whole:
-                is_whole = self.whole.exists()  # before it is read, so what is read then is the rest
+                is_whole = self.whole.exists()  # before it is read: what is read then is the rest
                 while block := file.read(BLOCK):
                     yield block
                 if not is_whole:
