@@ -10,9 +10,9 @@ from .lines import firm_and_time
 from .log import Log
 from .progress import Step
 from .records import Day, Entry, EntryRow
+from .streams import FEED, Growing
 
 NO_HASH = bytes(32)
-FEED = b"\n"
 CHECKPOINT = 100  # entries from one hash of a seal to the next
 NO_NUMBER = (0, 0)
 
@@ -185,7 +185,7 @@ def read_chain(log: Log, step: Step) -> Chained:
 
 
 def write_day(log: Log, day: Day, path: Path, step: Step) -> None:
-    """Writes the day into a file as the venue reads it.
+    """Writes the day into a file as the venue reads it, which may do so meanwhile.
 
     An entry is one line of it, whatever stands in the log: where one has a line feed, which no
     gateway writes, a carriage return stands in its place, and the venue does not take the line.
@@ -198,6 +198,7 @@ def write_day(log: Log, day: Day, path: Path, step: Step) -> None:
                 text = b"".join(line.replace(FEED, b"\r") + FEED for line in lines)
             file.write(text)
             step(len(lines))
+    Growing(path).end()
 
 
 def lines_before(day: Day) -> int:

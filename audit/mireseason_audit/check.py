@@ -99,8 +99,8 @@ class Checker:
         """All jobs of a check, those on which others wait and those that take longest in front."""
         audited = Audited(self.source, self.venue, self.files, verdict.day)
         written = plan.add(DayJob(audited))
-        due = plan.add(DueJob(audited), [written])
-        live = plan.add(LiveJob(audited), [written])
+        due = plan.add(DueJob(audited), beside=[written])
+        live = plan.add(LiveJob(audited), beside=[written])
         plan.add(ChainJob(self.source))
         sent = {firm.name: plan.add(SentJob(audited, firm.name)) for firm in verdict.day.firms}
         plan.add(GivenJob(audited), behind=sent.values(), beside=[live])

@@ -1,9 +1,9 @@
 """Frames of FIXT.1.1: bytes into fields, and fields into bytes."""
 
 import re
-import zlib
 from collections.abc import Callable, Iterable
 from functools import lru_cache
+from zlib import adler32
 
 from .records import SOH
 
@@ -57,8 +57,8 @@ def sum_of(data: bytes) -> int:
     of up to 256 bytes. It is many times faster than `sum`, and a day has a million messages.
     """
     if len(data) <= 256:
-        return (zlib.adler32(data) - 1) % 256
-    return sum(zlib.adler32(data[at : at + 256]) - 1 for at in range(0, len(data), 256)) % 256
+        return (adler32(data) - 1) % 256
+    return sum(adler32(data[at : at + 256]) - 1 for at in range(0, len(data), 256)) % 256
 
 
 def framed(fields: Iterable[tuple[int, bytes]]) -> bytes:

@@ -12,6 +12,7 @@ from dataclasses import dataclass
 from pathlib import Path
 
 from .chain import Chained, lines_before, places_of, read_chain, write_day
+from .closing import Closing
 from .faults import Unreadable
 from .findings import Finding
 from .lines import decoded
@@ -20,7 +21,7 @@ from .plain_wire import PlainSession
 from .progress import Step
 from .records import SOH, Day, Firm, Messages, Sent
 from .streams import (
-    Followed, count_of_lines, grown_blocks_of, is_same, last_line_of, lines_in, lines_of,
+    Followed, Growing, cut_at, is_same, last_line_of, lines_in, lines_of,
 )
 from .venue import LineFault, Venue, message_of
 from .wire import check_wire
@@ -31,7 +32,9 @@ ANOTHER = "the log has another message than the venue gives"
 ALONE = "what was due to it alone gives another message than it was sent"
 MARKS = (b"done ", b"fault ")
 BARS = bytes.maketrans(SOH, b"|")
-HEAD_LINES = 2  # of a due text
+DATE = b"date "  # begins a due text
+HEAD_LINES = 2  # of one: the date and the dealer
+LINE_SHOWN = 64  # bytes of a line that is none
 
 
 @dataclass(frozen=True)
@@ -48,11 +51,6 @@ class Files:
     def given(self) -> Path:
         """What `live --marks` prints of the day."""
         return self.folder / "day.given"
-
-    @property
-    def given_whole(self) -> Path:
-        """It is there once all of that is."""
-        return self.folder / "day.given.whole"
 
     def due(self, dealer: str) -> Path:
         return self.folder / ("%s.due" % dealer)
@@ -130,20 +128,19 @@ class SentJob(FindingsJob):
 
 
 class LiveJob(FindingsJob):
-    """`live --marks` over the day, left as a file."""
+    """`live --marks` over the day, left as a file; the day may still be written meanwhile."""
 
     def _findings(self, log: Log, step: Step) -> Iterator[Finding]:
         files, arguments = self.audited.files, ["live", "--frames", "--marks"]
-        faults = self.audited.venue.to_file(arguments, files.day, files.given)
-        self._check_answers(" ".join(arguments))
-        files.given_whole.touch()
-        yield from self._faulty_lines(log, faults)
+        run = self.audited.venue.to_file(arguments, Growing(files.day), files.given)
+        self._check_answers(" ".join(arguments), run.lines_read)
+        Growing(files.given).end()
+        yield from self._faulty_lines(log, run.faults)
 
-    def _check_answers(self, command: str) -> None:
+    def _check_answers(self, command: str, lines: int) -> None:
         """A program that does not answer each line says nothing of the log."""
-        files, lines = self.audited.files, count_of_lines(self.audited.files.day)
         marks = tuple(mark + b"%d " % lines for mark in MARKS)
-        last = last_line_of(files.given) + b" "
+        last = last_line_of(self.audited.files.given) + b" "
         if lines > lines_before(self.audited.day) and not last.startswith(marks):
             text = "`%s %s` has not answered the last line, %d"
             raise Unreadable(text % (self.audited.venue, command, lines))
@@ -165,11 +162,10 @@ class GivenJob(FindingsJob):
 
     def _findings(self, log: Log, step: Step) -> Iterator[Finding]:
         files, firms = self.audited.files, [firm.name for firm in self.audited.day.firms]
-        reader = GivenReader(files, firms, self._places(log))
-        files.given.touch()  # the program may have been started just now
-        for lines in lines_in(grown_blocks_of(files.given, files.given_whole)):
-            step(reader.take(lines))
-        texts, places = reader.ended()
+        with GivenReader(files, firms, self._places(log)) as reader:
+            for lines in lines_in(Growing(files.given).blocks()):
+                step(reader.take(lines))
+            texts, places = reader.ended()
         for firm in texts:
             lines_given = (line for _, line in self._given(log, firm))
             yield from held(firm, log.sent(firm), lines_given)
@@ -189,7 +185,7 @@ class GivenJob(FindingsJob):
                     yield place, line
 
 
-class GivenReader:
+class GivenReader(Closing):
     """Holds what `live --marks` gives against the files of what firms were sent."""
 
     def __init__(self, files: Files, firms: list[str], places: Iterator[int]) -> None:
@@ -206,20 +202,23 @@ class GivenReader:
 
     def take(self, lines: list[bytes]) -> int:
         """Some lines; answers how many of them are messages."""
-        texts: dict[bytes, list[bytes]] = defaultdict(list)
-        places: dict[bytes, array[int]] = defaultdict(lambda: array("q"))
+        given: dict[bytes, tuple[list[bytes], list[int]]] = defaultdict(lambda: ([], []))
         place, waiting = self._place, self._waiting
         for line in lines:
-            if line.startswith(MARKS):
+            word = line[: line.find(b" ") + 1]
+            if word in MARKS:
                 place = next(waiting, -1)
                 continue
-            word = line[: line.find(b" ")]
-            texts[word].append(line)
-            places[word].append(place)
+            texts, places = given[word]
+            texts.append(line)
+            places.append(place)
         self._place = place
-        for word, its in texts.items():
-            self._hold(decoded(word), its, places[word])
-        return sum(map(len, places.values()))
+        if b"" in given:
+            text = "`live --marks` prints a line that is neither a message nor a mark: %r"
+            raise Unreadable(text % given[b""][0][0][:LINE_SHOWN])
+        for word, (texts, places) in given.items():
+            self._hold(decoded(word[:-1]), texts, array("q", places))
+        return sum(len(texts) for texts, _ in given.values())
 
     def _hold(self, firm: str, lines: list[bytes], places: "array[int]") -> None:
         if firm not in self._texts:
@@ -233,23 +232,34 @@ class GivenReader:
         places = [firm for firm, followed in self._places.items() if not followed.is_same()]
         return texts, places
 
+    def close(self, failed: bool = False) -> None:
+        for followed in (*self._texts.values(), *self._places.values()):
+            followed.close()
+
 
 class DueJob(FindingsJob):
-    """`dues --live` over the day, the list of each dealer left in a file of its own."""
+    """`dues --live` over the day, the list of each dealer left in a file of its own; the day may
+    still be written meanwhile.
+    """
 
     def _findings(self, log: Log, step: Step) -> Iterator[Finding]:
         venue, files, day = self.audited.venue, self.audited.files, self.audited.day
         waiting = iter(day.dealers)
-        with venue.run(["dues", "--live"], files.day) as run:
-            for head, items in due_texts(run.lines()):
+        with venue.run(["dues", "--live"], Growing(files.day)) as run:
+            for pieces in due_texts(run.blocks()):
                 dealer = next(waiting, None)
-                if dealer is None or not is_head(head, day, dealer):
+                if dealer is None or not self._keep(dealer, pieces):
                     raise Unreadable("`%s dues --live` gives a list of no dealer's" % venue)
-                with files.due(dealer.name).open("wb") as file:
-                    file.writelines(line + b"\n" for line in itertools.chain(head, items))
         for dealer in waiting:
             raise Unreadable("`%s dues --live` gives no list of %s" % (venue, dealer.name))
         return iter(())
+
+    def _keep(self, dealer: Firm, pieces: Iterator[bytes]) -> bool:
+        """Leaves a list in the file of a dealer; answers whether it is of that one."""
+        with self.audited.files.due(dealer.name).open("w+b") as file:
+            file.writelines(pieces)
+            file.seek(0)
+            return is_head(list(itertools.islice(file, HEAD_LINES)), self.audited.day, dealer)
 
 
 @dataclass(frozen=True)
@@ -290,26 +300,25 @@ def kept(log: Log, firm: str, files: Files, step: Step) -> Iterator[Messages]:
         files.sent(firm).unlink()
 
 
-def due_texts(lines: Iterable[bytes]) -> Iterator[tuple[list[bytes], Iterator[bytes]]]:
-    """Of due texts that stand one behind the other, the head of each and the lines behind it.
+def due_texts(blocks: Iterable[bytes]) -> Iterator[Iterator[bytes]]:
+    """Due texts that stand one behind the other, each in pieces.
 
     A text begins with its date. No other line begins so, since each begins with the word that says
     what it is, and a message that has a line feed is written in hexadecimal digits.
     """
     count = 0
 
-    def number(line: bytes) -> int:
+    def number(piece: bytes) -> int:
         nonlocal count
-        count += line.startswith(b"date ")
+        count += piece.startswith(DATE)
         return count
 
-    for _, text in itertools.groupby(lines, number):
-        yield list(itertools.islice(text, HEAD_LINES)), text
+    return (pieces for _, pieces in itertools.groupby(cut_at(DATE, blocks), number))
 
 
 def is_head(head: list[bytes], day: Day, dealer: Firm) -> bool:
     """Whether lines are the head of a due text: the date and the row of this dealer."""
-    date, row = b"date %b" % day.date.encode(), b"dealer %b " % dealer.name.encode()
+    date, row = DATE + b"%b\n" % day.date.encode(), b"dealer %b " % dealer.name.encode()
     return len(head) == HEAD_LINES and head[0] == date and head[1].startswith(row)
 
 

@@ -11,13 +11,20 @@ from itertools import compress, repeat
 from .frame import sum_of
 from .log import Log
 from .records import SOH, Messages
-from .wire import CARRIED, IN_FRONT_OF, header_fault, with_number
+from .wire import IN_FRONT_OF, header_fault, with_number
 
 FRONTS = {b"35=" + kind: before for kind, before in IN_FRONT_OF.items()}
 REJECTED = b"\x0135=3\x01"
+LEAVES = b"\x0152="
+# A message up to its sum: its length, type and number, the moment at which it leaves, the firm; the
+# venue's number, what stands in front of the venue's moment, that moment, and the rest.
+CARRYING = (
+    b"8=FIXT.1.1\x019=%d\x01%b\x0134=%d\x0149=VENUE\x0152=%b\x0156=%b"
+    b"\x011181=%b%b\x0160=%b%b"
+)
 END_BYTES = 8  # 10=ccc, with an SOH before it and behind it
-ENDS = [b"\x0110=%03d\x01" % number for number in range(256)]
-HEAD = b"8=FIXT.1.1\x019=%d\x01%b\x0134=%d\x0149=VENUE\x0152="
+# The end of a message, by the sum of all that stands in front of it.
+ENDS = [b"\x0110=%03d\x01" % ((number + 1) % 256) for number in range(256)]
 
 
 class Waiting:
@@ -46,7 +53,6 @@ class PlainSession:
 
     def __init__(self, log: Log, firm: str, sent: Iterator[Messages]) -> None:
         self._log, self._firm = log, firm
-        self._end = b"\x0156=" + firm.encode()
         self._waiting = Waiting(sent)
         self._number = self._carried = 0
 
@@ -81,7 +87,7 @@ class PlainSession:
         """Whether messages carry frames, of which the places are known."""
         if REJECTED in b"".join(frames):
             frames = self._numbered(places, frames)
-        return all(map(carries, block.bytes, block.numbers, frames, repeat(self._end)))
+        return all(map(carries, block.bytes, block.numbers, frames, repeat(self._firm.encode())))
 
     def _numbered(self, places: list[int], frames: list[bytes]) -> list[bytes]:
         """The frames, each Reject with the number of its session in it."""
@@ -111,11 +117,11 @@ def numbered(frame: bytes, session_number: int | None) -> bytes:
     return SOH.join(parts[:7]) + with_number(SOH + parts[7], session_number)
 
 
-def carries(data: bytes, number: int, frame: bytes, end: bytes) -> bool:
-    """Whether a message with this number of its session plainly carries a frame of the venue.
+def carries(data: bytes, number: int, frame: bytes, firm: bytes) -> bool:
+    """Whether a message to a firm, with this number of its session, is plainly, byte for byte, the
+    one that carries a frame of the venue. The moment at which it leaves may be any.
 
-    Its header ends as given: the header of stock engines is in the order of its tags, 56 last, and
-    has 52 in front of that.
+    The header of stock engines is in the order of its tags: 34, 49, 52, 56.
     """
     parts = frame.split(SOH, 7)  # 8, 9, 35, 49, 56, 34, 52 and the rest
     if len(parts) < 8:
@@ -125,16 +131,12 @@ def carries(data: bytes, number: int, frame: bytes, end: bytes) -> bool:
     at = rest.find(front) if front else -1
     if at < 0:
         at = len(rest) - END_BYTES
-    text = b"%b%b\x0160=%b%b" % (parts[5][3:], rest[:at], parts[6][3:], rest[at:-END_BYTES])
-    head, _, tail = data.partition(CARRIED)
-    start = HEAD % (length_of(len(data)), kind, number)
-    return (
-        tail[:-END_BYTES] == text
-        and head.endswith(end)
-        and head.startswith(start)
-        and head.find(SOH, len(start)) == len(head) - len(end)
-        and data.endswith(ENDS[sum_of(data[: 1 - END_BYTES])])
+    leaves = data.find(LEAVES) + len(LEAVES)
+    text = CARRYING % (
+        length_of(len(data)), kind, number, data[leaves : data.find(SOH, leaves)], firm,
+        parts[5][3:], rest[:at], parts[6][3:], rest[at:-END_BYTES],
     )
+    return data == text + ENDS[sum_of(text)]
 
 
 def length_of(size: int) -> int:

@@ -2,13 +2,15 @@
 
 import time
 from collections.abc import Iterable, Iterator
+from dataclasses import dataclass
 from hashlib import sha256
 from itertools import zip_longest
 from pathlib import Path
 
-BLOCK = 1 << 20
+BLOCK = 1 << 18
 LAST_BYTES = 4096
-LOOK = 0.05  # seconds from one look at a file that grows to the next
+LOOK = 0.02  # seconds from one look at a file that grows to the next
+FEED = b"\n"
 
 
 def blocks_of(path: Path) -> Iterator[bytes]:
@@ -17,45 +19,79 @@ def blocks_of(path: Path) -> Iterator[bytes]:
             yield block
 
 
-def grown_blocks_of(path: Path, whole: Path) -> Iterator[bytes]:
-    """The same of a file that another process still writes: all of it is there once `whole` is."""
-    is_whole = False
-    with path.open("rb") as file:
-        while not is_whole:
-            is_whole = whole.exists()  # before the file is read, so what is read then is the rest
-            while block := file.read(BLOCK):
-                yield block
-            if not is_whole:
-                time.sleep(LOOK)
+@dataclass(frozen=True)
+class Growing:
+    """A file that one process reads while another writes it."""
+
+    path: Path
+
+    @property
+    def whole(self) -> Path:
+        """It is there once all of the file is."""
+        return self.path.with_name(self.path.name + ".whole")
+
+    def end(self) -> None:
+        """Says that all of it is there."""
+        self.whole.touch()
+
+    def blocks(self) -> Iterator[bytes]:
+        """All that is written into it, up to its end; it may not be there yet."""
+        self.path.touch()
+        is_whole = False
+        with self.path.open("rb") as file:
+            while not is_whole:
+                is_whole = self.whole.exists()  # before it is read: what is read then is the rest
+                while block := file.read(BLOCK):
+                    yield block
+                if not is_whole:
+                    time.sleep(LOOK)
 
 
 def lines_of(path: Path) -> Iterator[bytes]:
     """The lines of a file, without their line feeds."""
     with path.open("rb") as file:
         for line in file:
-            yield line.removesuffix(b"\n")
-
-
-def count_of_lines(path: Path) -> int:
-    """How many line feeds a file has."""
-    return sum(block.count(b"\n") for block in blocks_of(path))
+            yield line.removesuffix(FEED)
 
 
 def last_line_of(path: Path) -> bytes:
     """The last line of a file, of one that is longer its end; empty where there is none."""
     with path.open("rb") as file:
         file.seek(max(0, path.stat().st_size - LAST_BYTES))
-        return file.read().removesuffix(b"\n").rpartition(b"\n")[2]
+        return file.read().removesuffix(FEED).rpartition(FEED)[2]
 
 
 def lines_in(blocks: Iterable[bytes]) -> Iterator[list[bytes]]:
     """The lines of blocks, without their line feeds, many at a time."""
     rest = b""
     for block in blocks:
-        *lines, rest = (rest + block).split(b"\n")
+        *lines, rest = (rest + block).split(FEED)
         yield lines
     if rest:
         yield [rest]
+
+
+def cut_at(mark: bytes, blocks: Iterable[bytes]) -> Iterator[bytes]:
+    """What blocks have, in pieces: one begins in front of each line that begins with the mark."""
+    for lines in whole_lines_in(blocks):
+        at = 0
+        while end := lines.find(FEED + mark, at) + 1:
+            yield lines[at:end]
+            at = end
+        yield lines[at:]
+
+
+def whole_lines_in(blocks: Iterable[bytes]) -> Iterator[bytes]:
+    """The same bytes in blocks that end with a line, all but the last one."""
+    rest = b""
+    for block in blocks:
+        text = rest + block
+        end = text.rfind(FEED) + 1
+        if end:
+            yield text[:end]
+        rest = text[end:]
+    if rest:
+        yield rest
 
 
 def digest_of(path: Path) -> str:
@@ -86,8 +122,9 @@ class Followed:
             self._is_same = self._file.read(len(data)) == data
 
     def is_same(self) -> bool:
-        """Whether all was the same, and the file has no more. It is closed."""
-        if self._file is None:
-            return False
-        with self._file as file:
-            return self._is_same and not file.read(1)
+        """Whether all was the same, and the file has no more."""
+        return self._is_same and self._file is not None and not self._file.read(1)
+
+    def close(self) -> None:
+        if self._file is not None:
+            self._file.close()

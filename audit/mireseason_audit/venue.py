@@ -5,15 +5,17 @@ import re
 import select
 import subprocess
 import tempfile
+import threading
 from collections.abc import Iterator
 from contextlib import ExitStack, suppress
 from dataclasses import dataclass, field
 from pathlib import Path
-from typing import Self
+from typing import IO, Self
 
 from .closing import Closing
 from .faults import Unreadable
 from .records import SOH
+from .streams import BLOCK, FEED, Growing
 
 LINE_FAULT = re.compile(rb"line ([0-9]+): (.*)\Z")
 ANSWER_SECONDS = 300  # the program answers a line by then, and says its version, if it does at all
@@ -37,15 +39,17 @@ class Venue:
     def __str__(self) -> str:
         return " ".join(self.words)
 
-    def run(self, arguments: list[str], input_: Path, output: Path | None = None) -> "Run":
-        """The program over a file, read line by line: `with venue.run(..) as run`."""
+    def run(
+        self, arguments: list[str], input_: Path | Growing, output: Path | None = None
+    ) -> "Run":
+        """The program over a file: `with venue.run(..) as run`."""
         return Run(self, arguments, input_, output)
 
-    def to_file(self, arguments: list[str], input_: Path, output: Path) -> list["LineFault"]:
-        """The program writes into a file; answers the lines that it did not take."""
+    def to_file(self, arguments: list[str], input_: Path | Growing, output: Path) -> "Run":
+        """The program writes into a file; answers the run, which has ended."""
         with self.run(arguments, input_, output) as run:
             run.end()
-        return run.faults
+        return run
 
     def version(self) -> str:
         """What `--version` says; `unknown` where it says nothing."""
@@ -62,43 +66,109 @@ class Venue:
         return lines[0] if done.returncode == 0 and lines else "unknown"
 
 
+class Feeder(threading.Thread):
+    """Gives a program what it reads, while somebody else reads what it prints.
+
+    Where the program takes no more, its status says why; the lines are counted all the same.
+    """
+
+    def __init__(self, blocks: Iterator[bytes], stream: IO[bytes]) -> None:
+        super().__init__(daemon=True)
+        self._blocks, self._stream = blocks, stream
+        self.lines = 0  # all that there are, once it has ended
+        self.fault: Exception | None = None
+
+    def run(self) -> None:
+        try:
+            with suppress(BrokenPipeError), self._stream:
+                for block in self._counted():
+                    self._stream.write(block)
+                    self._stream.flush()  # it may be long until the next block is there
+            for _ in self._counted():
+                pass
+        except Exception as fault:  # it is raised where the run ends
+            self.fault = fault
+
+    def _counted(self) -> Iterator[bytes]:
+        """The blocks that are left."""
+        for block in self._blocks:
+            self.lines += block.count(FEED)
+            yield block
+
+
 @dataclass
 class Run(Closing):
     """One run of the program. A run that ends with another status than 0 is Unreadable."""
 
     venue: Venue
     arguments: list[str]
-    input: Path
-    output: Path | None = None  # where it prints to; None: it is read by `lines`
+    input: Path | Growing
+    output: Path | None = None  # where it prints to; None: it is read by `lines` or `blocks`
     faults: list[LineFault] = field(default_factory=list)  # whole once the run has ended
 
     def __enter__(self) -> Self:
         self._told = tempfile.TemporaryFile()
         try:
             with ExitStack() as files:
-                output = self.output and files.enter_context(self.output.open("wb"))
                 self._process = subprocess.Popen(
                     [*self.venue.words, *self.arguments],
-                    stdin=files.enter_context(self.input.open("rb")),
-                    stdout=output or subprocess.PIPE,
+                    stdin=self._stdin(files),
+                    stdout=self._stdout(files),
                     stderr=self._told,
-                    bufsize=1 << 20,
+                    bufsize=BLOCK,
                 )
         except OSError as fault:
             self._told.close()
             raise Unreadable("the venue's program %s: %s" % (self.venue, fault)) from None
+        self._feeder: Feeder | None = None
         return self
+
+    def _stdin(self, files: ExitStack) -> IO[bytes] | int:
+        if isinstance(self.input, Growing):
+            return subprocess.PIPE
+        return files.enter_context(self.input.open("rb"))
+
+    def _stdout(self, files: ExitStack) -> IO[bytes] | int:
+        if self.output is None:
+            return subprocess.PIPE
+        return files.enter_context(self.output.open("wb"))
+
+    def _feed(self) -> None:
+        """Begins to give the program a file that still grows."""
+        if isinstance(self.input, Growing) and self._feeder is None:
+            assert self._process.stdin is not None
+            self._feeder = Feeder(self.input.blocks(), self._process.stdin)
+            self._feeder.start()
+
+    @property
+    def lines_read(self) -> int:
+        """How many lines a file that grew had, once the run has ended."""
+        return 0 if self._feeder is None else self._feeder.lines
 
     def lines(self) -> Iterator[bytes]:
         """The lines that it prints, without their line feeds."""
+        self._feed()
         assert self._process.stdout is not None
         for line in self._process.stdout:
-            yield line.removesuffix(b"\n")
+            yield line.removesuffix(FEED)
+        self.end()
+
+    def blocks(self) -> Iterator[bytes]:
+        """The same in blocks of bytes."""
+        self._feed()
+        assert self._process.stdout is not None
+        while block := self._process.stdout.read(BLOCK):
+            yield block
         self.end()
 
     def end(self) -> None:
         """Waits for its end."""
+        self._feed()
         status = self._process.wait()
+        if self._feeder is not None:
+            self._feeder.join()
+            if self._feeder.fault is not None:
+                raise self._feeder.fault
         self._told.seek(0)
         last = b""
         for line in self._told:

@@ -1,6 +1,7 @@
 """Jobs in processes of their own, as many at a time as there are processors."""
 
 import ctypes
+import gc
 import multiprocessing
 import os
 import signal
@@ -20,6 +21,7 @@ Result = TypeVar("Result")
 Job = Callable[[Step], Result]  # what a process does; it tells the step how many rows it did
 LOOK = 0.2  # seconds from one look at the counter to the next
 SIGNALS = (signal.SIGTERM, signal.SIGHUP, signal.SIGINT)  # that end a command
+YOUNG = 50_000  # objects: a job makes rows by the thousand, and few that refer to one another
 DEATH_SIGNAL = 1  # PR_SET_PDEATHSIG of prctl(2): the signal when the parent ends
 
 
@@ -93,16 +95,22 @@ class Workers(Generic[Result]):
         return not self._waiting and not self.running
 
     def begin(self, at_once: int) -> None:
-        """Begins what can begin."""
-        ready = self.plan.ready(self._waiting, self.results)
-        for index in ready[: max(1, at_once) - len(self.running)]:
-            self._waiting.remove(index)
-            here, there = self._context.Pipe(duplex=False)
-            arguments = (self.plan.jobs[index], there, self.counter, os.getpid())
-            process = self._context.Process(target=do_job, args=arguments, daemon=True)
-            start(process)
-            there.close()
-            self.running.append(Running(index, process, here))
+        """Begins what can begin; one that has begun may be the one for which another waits."""
+        while len(self.running) < max(1, at_once):
+            ready = self.plan.ready(self._waiting, self.results)
+            if not ready:
+                return
+            self._begin(ready[0])
+
+    def _begin(self, index: int) -> None:
+        """Begins a job."""
+        self._waiting.remove(index)
+        here, there = self._context.Pipe(duplex=False)
+        arguments = (self.plan.jobs[index], there, self.counter, os.getpid())
+        process = self._context.Process(target=do_job, args=arguments, daemon=True)
+        start(process)
+        there.close()
+        self.running.append(Running(index, process, here))
 
     def take(self) -> None:
         """Waits a while for results."""
@@ -149,6 +157,8 @@ def do_job(
     for number in (signal.SIGINT, signal.SIGHUP):  # of a terminal: who waits for it ends it
         signal.signal(number, signal.SIG_IGN)
     signal.pthread_sigmask(signal.SIG_UNBLOCK, SIGNALS)
+    gc.freeze()
+    gc.set_threshold(YOUNG)
     ctypes.CDLL(None).prctl(DEATH_SIGNAL, signal.SIGTERM)
     if os.getppid() != waiting:
         sys.exit(1)

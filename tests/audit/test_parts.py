@@ -175,22 +175,24 @@ class Lists(unittest.TestCase):
     """Lists of what was due, one behind the other."""
 
     def test_where_each_begins(self) -> None:
-        head = b"date 20250314"
-        one = [head, b"dealer DLR1 4 10000000 T1", b"own 09:00:10.000 date |", b"lifted 1"]
-        two = [head, b"dealer DLR2 4 10000000 T2"]
-        days: list[list[list[bytes]]] = [[], [one], [two, one], [two, two, one]]
+        """However the program's blocks are cut."""
+        one = b"date 20250314\ndealer DLR1 4 10000000 T1\nown 09:00:10.000 date |\nlifted 1\n"
+        two = b"date 20250314\ndealer DLR2 4 10000000 T2\n"
+        days: list[list[bytes]] = [[], [one], [two, one], [two, two, one]]
         for texts in days:
-            lines = [line for text in texts for line in text]
-            cut = [[*head, *items] for head, items in due_texts(lines)]
-            self.assertEqual(cut, texts)
+            data = b"".join(texts)
+            for size in range(1, len(data) + 2):
+                blocks = [data[at : at + size] for at in range(0, len(data), size)]
+                self.assertEqual([b"".join(pieces) for pieces in due_texts(blocks)], texts, size)
 
     def test_whose_each_is(self) -> None:
-        day, date = configured("", "", CONFIGURATION), b"date 20250314"
+        day, date = configured("", "", CONFIGURATION), b"date 20250314\n"
         dealer = day.firms[0]
-        self.assertTrue(is_head([date, b"dealer DLR1 4 10000000 T1"], day, dealer))
+        self.assertTrue(is_head([date, b"dealer DLR1 4 10000000 T1\n"], day, dealer))
         others: list[list[bytes]] = [
-            [date, b"dealer DLR11 4 10000000 T1"], [date, b"dealer DLR2 4 10000000 T1"],
-            [date], [], [b"date 20250315", b"dealer DLR1 4 10000000 T1"], [date, b"lifted 1"],
+            [date, b"dealer DLR11 4 10000000 T1\n"], [date, b"dealer DLR2 4 10000000 T1\n"],
+            [date], [], [b"date 20250315\n", b"dealer DLR1 4 10000000 T1\n"],
+            [date, b"lifted 1\n"], [b"date 20250314"],
         ]
         for head in others:
             self.assertFalse(is_head(head, day, dealer), head)

@@ -167,7 +167,6 @@ class Sessions(unittest.TestCase):
     """A message that plainly carries a frame: no other byte of it may stand there."""
 
     def test_each_changed_byte(self) -> None:
-        end = b"\x0156=DLR1"
         for text in (ACCEPTED, SHOWN, REJECT):
             frame = soh(text)
             parts = parts_of(frame)
@@ -176,13 +175,13 @@ class Sessions(unittest.TestCase):
             body = head.replace(b"%s", parts.kind) + carried(parts, None) + b"\x01"
             wire = framed(fields_of(body))
             self.assertIsNone(fault_of(wire))
-            self.assertTrue(carries(wire, 7, frame, end))
-            self.assertFalse(carries(wire, 8, frame, end))
-            self.assertFalse(carries(wire, 7, frame, b"\x0156=DLR2"))
+            self.assertTrue(carries(wire, 7, frame, b"DLR1"))
+            self.assertFalse(carries(wire, 8, frame, b"DLR1"))
+            self.assertFalse(carries(wire, 7, frame, b"DLR2"))
             for at in range(len(wire)):
                 for other in (wire[at] ^ 1, 1, 0x7C):
                     changed = wire[:at] + bytes([other]) + wire[at + 1 :]
-                    self.assertEqual(carries(changed, 7, frame, end), changed == wire, at)
+                    self.assertEqual(carries(changed, 7, frame, b"DLR1"), changed == wire, at)
 
     def test_a_header_with_another_field(self) -> None:
         """The length and the sum are those of what stands there."""
@@ -202,7 +201,7 @@ class Sessions(unittest.TestCase):
             reader = WireReader(iter([sent]), lambda place: None)
             found = reader.take(Outgoing("DLR1", 1, 2, data))
             self.assertEqual(found is None, is_right, head)
-            self.assertEqual(carries(data, 1, frame, b"\x0156=DLR1"), is_right, head)
+            self.assertEqual(carries(data, 1, frame, b"DLR1"), is_right, head)
 
 
 class OwnMessages(unittest.TestCase):

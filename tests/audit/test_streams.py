@@ -4,16 +4,18 @@ import io
 import os
 import threading
 import unittest
+from contextlib import closing
 from dataclasses import dataclass
 from pathlib import Path
 from unittest.mock import patch
 
 from common import folder
 
-from mireseason_audit import streams
+from mireseason_audit import streams, venue
 from mireseason_audit.faults import Unreadable
 from mireseason_audit.progress import Progress, Step
-from mireseason_audit.work import Job, Plan, plan_of, run_jobs
+from mireseason_audit.venue import Run, Venue
+from mireseason_audit.work import Job, Plan, Workers, plan_of, run_jobs
 
 
 class Streams(unittest.TestCase):
@@ -36,33 +38,52 @@ class Streams(unittest.TestCase):
         parts = [b"%d\n" % number * number for number in range(40)]
         for before in (0, 7, len(parts)):
             with folder() as name, patch.object(streams, "LOOK", 0.001):
-                path, whole = Path(name) / "file", Path(name) / "whole"
-                path.write_bytes(b"".join(parts[:before]))
-                blocks = streams.grown_blocks_of(path, whole)
+                file = streams.Growing(Path(name) / "file")
+                if before:
+                    file.path.write_bytes(b"".join(parts[:before]))
+                blocks = file.blocks()
                 read = [next(blocks)] if before else []
-                writer = threading.Thread(target=self.write, args=(path, parts[before:], whole))
+                writer = threading.Thread(target=self.write, args=(file, parts[before:]))
                 writer.start()
                 read += blocks
                 writer.join()
                 self.assertEqual(b"".join(read), b"".join(parts))
 
-    def write(self, path: Path, parts: list[bytes], whole: Path) -> None:
-        with path.open("ab", buffering=0) as file:
+    def write(self, growing: streams.Growing, parts: list[bytes]) -> None:
+        with growing.path.open("ab", buffering=0) as file:
             for part in parts:
                 file.write(part)
-        whole.touch()
+        growing.end()
+
+    def test_pieces_in_front_of_lines(self) -> None:
+        """Each begins with such a line, but the first, and together they are all that there is:
+        wherever a block ends.
+        """
+        mark = b"date "
+        for texts in (
+            [], [b"x\n"], [b"date 1\n"], [b"date 1\na\n", b"date 2\n"], [b"date 1"],
+            [b"a\nxdate \n", b"date 1\n\n dat\ndate\n", b"date 2\nb date \n", b"date 3\nc"],
+            [b"date 1\n", b"date 2\n", b"date 3\n"], [b"\n", b"date \n", b"date \n\n"],
+        ):
+            data = b"".join(texts)
+            for size in range(1, len(data) + 2):
+                blocks = [data[at : at + size] for at in range(0, len(data), size)]
+                found: list[bytes] = []
+                for piece in streams.cut_at(mark, blocks):
+                    if piece.startswith(mark) or not found:
+                        found.append(b"")
+                    found[-1] += piece
+                self.assertEqual(found, texts, size)
 
     def test_the_last_line(self) -> None:
-        for data, last, count in (
-            (b"", b"", 0), (b"\n", b"", 1), (b"a", b"a", 0), (b"a\nbb\n", b"bb", 2),
-            (b"a\nbb", b"bb", 1), (b"a\n\n", b"", 2), (b"x" * 9 + b"\nyy\n", b"yy", 2),
-            (b"abcdefgh\n", b"defgh", 1),
+        for data, last in (
+            (b"", b""), (b"\n", b""), (b"a", b"a"), (b"a\nbb\n", b"bb"), (b"a\nbb", b"bb"),
+            (b"a\n\n", b""), (b"x" * 9 + b"\nyy\n", b"yy"), (b"abcdefgh\n", b"defgh"),
         ):
             with folder() as name, patch.object(streams, "LAST_BYTES", 6):
                 path = Path(name) / "file"
                 path.write_bytes(data)
                 self.assertEqual(streams.last_line_of(path), last, data)
-                self.assertEqual(streams.count_of_lines(path), count, data)
 
     def test_files_that_are_the_same(self) -> None:
         with folder() as name, patch.object(streams, "BLOCK", 4):
@@ -76,10 +97,66 @@ class Streams(unittest.TestCase):
                 self.assertEqual(self.follows(one, data), data == b"0123456789")
 
     def follows(self, path: Path, data: bytes) -> bool:
-        followed = streams.Followed(path)
-        for at in range(0, len(data), 3):
-            followed.take(data[at : at + 3])
-        return followed.is_same()
+        with closing(streams.Followed(path)) as followed:
+            for at in range(0, len(data), 3):
+                followed.take(data[at : at + 3])
+            return followed.is_same()
+
+
+class Feeding(unittest.TestCase):
+    """A program that reads a file while it is written."""
+
+    def setUp(self) -> None:
+        place = folder()
+        self.addCleanup(place.cleanup)
+        self.file = streams.Growing(Path(place.name) / "day")
+        self.out = Path(place.name) / "out"
+        self.parts = [b"%d\n" % number * 999 for number in range(99)]
+
+    def fed(self, *words: str) -> Run:
+        """A run of a program, whose file is written meanwhile."""
+        writer = threading.Thread(target=self.write)
+        writer.start()
+        try:
+            return Venue(words).to_file([], self.file, self.out)
+        finally:
+            writer.join()
+
+    def write(self) -> None:
+        with self.file.path.open("ab", buffering=0) as file:
+            for part in self.parts:
+                file.write(part)
+        self.file.end()
+
+    def test_all_is_read(self) -> None:
+        run = self.fed("cat")
+        self.assertEqual(self.out.read_bytes(), b"".join(self.parts))
+        self.assertEqual(run.lines_read, 99 * 999)
+
+    def test_a_program_that_takes_no_more(self) -> None:
+        """All lines are counted, so that it is seen that it has not answered them."""
+        for words in (["head", "-n", "3"], ["true"], ["sh", "-c", "exec <&-; sleep 0.1"]):
+            self.assertEqual(self.fed(*words).lines_read, 99 * 999, words)
+            self.file.path.unlink()
+            self.file.whole.unlink()
+
+    def test_what_it_prints_in_blocks_and_in_lines(self) -> None:
+        self.write()
+        for size in (7, 1000, streams.BLOCK):
+            with patch.object(venue, "BLOCK", size), Venue(("cat",)).run([], self.file) as run:
+                blocks = list(run.blocks())
+            self.assertEqual(b"".join(blocks), b"".join(self.parts))
+            self.assertLessEqual(max(map(len, blocks)), size)
+        with Venue(("cat",)).run([], self.file) as run:
+            lines = list(run.lines())
+        self.assertEqual(lines, b"".join(self.parts).splitlines())
+
+    def test_faults(self) -> None:
+        with self.assertRaisesRegex(Unreadable, "status 3"):
+            self.fed("sh", "-c", "exit 3")
+        self.assertRaises(Unreadable, self.fed, "/nowhere/venue")
+        folder_for_a_file = streams.Growing(self.out.parent)
+        self.assertRaises(OSError, Venue(("cat",)).to_file, [], folder_for_a_file, self.out)
 
 
 class Terminal(io.StringIO):
@@ -185,6 +262,21 @@ class Bars(unittest.TestCase):
             self.assertEqual(plan.ready([2], [0]), [2])
             found = run_jobs(plan, 2, Progress(io.StringIO()))
             self.assertEqual(found, ["", "", "spoken"])
+
+    def test_which_begin_together(self) -> None:
+        """One that waits for another to begin begins in the same round, as many as there may be."""
+        for at_once, expected in ((1, [0]), (2, [0, 1]), (3, [0, 1, 3]), (9, [0, 1, 3])):
+            plan: Plan[int] = Plan()
+            first = plan.add(squared(0))
+            plan.add(squared(1), beside=[first])
+            plan.add(squared(2), behind=[first])
+            plan.add(squared(3))
+            workers = Workers(plan)
+            workers.begin(at_once)
+            try:
+                self.assertEqual([one.index for one in workers.running], expected)
+            finally:
+                workers.end()
 
 
 if __name__ == "__main__":

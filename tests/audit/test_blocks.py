@@ -1,0 +1,243 @@
+"""Blocks against blocks: what differs is seen wherever it stands and wherever a block ends."""
+
+import itertools
+import unittest
+from array import array
+from collections.abc import Iterator
+from dataclasses import dataclass
+from pathlib import Path
+from typing import cast
+
+from common import folder
+from samples import ACCEPTED, SHOWN, soh
+
+from mireseason_audit.faults import Unreadable
+from mireseason_audit.frame import fields_of, framed
+from mireseason_audit.jobs import Files, GivenReader, kept
+from mireseason_audit.log import Log
+from mireseason_audit.plain_wire import PlainSession
+from mireseason_audit.records import Messages
+from mireseason_audit.streams import lines_in
+from mireseason_audit.wire import carried, parts_of
+
+FIRMS = "ALPHA", "BRAVO"
+# What `live --marks` gives for five lines: the third brings nothing, the fourth is a fault.
+GIVEN = (
+    b"ALPHA 8=1|\nBRAVO 8=2|\ndone 1\nALPHA 8=3|x=y z|\ndone 2\ndone 3\nfault 4 form\n"
+    b"BRAVO 8=4|\nBRAVO 8=5|\nALPHA 8=6|\ndone 5\n"
+)
+TEXTS = {
+    "ALPHA": b"ALPHA 8=1|\nALPHA 8=3|x=y z|\nALPHA 8=6|\n",
+    "BRAVO": b"BRAVO 8=2|\nBRAVO 8=4|\nBRAVO 8=5|\n",
+}
+PLACES = {"ALPHA": [1, 2, 5], "BRAVO": [1, 5, 5]}
+SIZES = 1, 2, 7, 16, 1 << 20
+
+
+def cut(data: bytes, size: int) -> list[bytes]:
+    return [data[at : at + size] for at in range(0, len(data), size)]
+
+
+class Given(unittest.TestCase):
+    """What the venue gives, against the files of what firms were sent."""
+
+    def setUp(self) -> None:
+        kept_folder = folder()
+        self.addCleanup(kept_folder.cleanup)
+        self.files = Files(Path(kept_folder.name))
+        for firm in FIRMS:
+            self.files.sent(firm).write_bytes(TEXTS[firm])
+            self.files.places(firm).write_bytes(array("q", PLACES[firm]).tobytes())
+
+    def found(self, given: bytes, size: int) -> tuple[list[str], list[str]]:
+        """The firms with other messages, and those with messages of other entries."""
+        with GivenReader(self.files, list(FIRMS), itertools.count(1)) as reader:
+            for lines in lines_in(cut(given, size)):
+                reader.take(lines)
+            return reader.ended()
+
+    def test_nothing_differs(self) -> None:
+        for size in range(1, len(GIVEN) + 2):
+            self.assertEqual(self.found(GIVEN, size), ([], []), size)
+
+    def test_each_changed_byte(self) -> None:
+        """Of a mark only its word is looked at, and how the last line ends is not: that is done
+        once the program has ended.
+        """
+        unread = {len(GIVEN) - 1}
+        for mark in (b"done 1", b"done 2", b"done 3", b"fault 4 form", b"done 5"):
+            start = GIVEN.index(mark)
+            unread.update(range(start + mark.index(b" ") + 1, start + len(mark)))
+        for at in range(len(GIVEN)):
+            changed = GIVEN[:at] + bytes([GIVEN[at] ^ 1]) + GIVEN[at + 1 :]
+            for size in SIZES:
+                try:
+                    is_found = self.found(changed, size) != ([], [])
+                except Unreadable:
+                    is_found = True
+                self.assertEqual(is_found, at not in unread, at)
+
+    def test_lines_left_out_doubled_and_moved(self) -> None:
+        lines = GIVEN.splitlines(keepends=True)
+        for at, line in enumerate(lines):
+            rest = lines[:at] + lines[at + 1 :]
+            changes = [rest, lines[: at + 1] + lines[at:]]
+            changes += [[*rest[:to], line, *rest[to:]] for to in range(len(lines))]
+            for changed in changes:
+                expected = self.told_by(changed)
+                for size in SIZES:
+                    found = self.found(b"".join(changed), size)
+                    self.assertEqual((sorted(found[0]), sorted(found[1])), expected, changed)
+
+    def told_by(self, lines: list[bytes]) -> tuple[list[str], list[str]]:
+        """The same, each firm's lines looked at one by one."""
+        texts: dict[str, bytes] = dict.fromkeys(FIRMS, b"")
+        places: dict[str, list[int]] = {firm: [] for firm in FIRMS}
+        place = 1
+        for line in lines:
+            word = line.split(b" ")[0].decode()
+            if word in ("done", "fault"):
+                place += 1
+            else:
+                texts[word] += line
+                places[word].append(place)
+        others = [firm for firm in FIRMS if texts[firm] != TEXTS[firm]]
+        return others, [firm for firm in FIRMS if places[firm] != PLACES[firm]]
+
+    def test_a_firm_that_was_sent_nothing(self) -> None:
+        self.assertEqual(self.found(GIVEN + b"CEDAR 8=7|\n", 7), (["CEDAR"], ["CEDAR"]))
+
+    def test_a_line_that_is_none(self) -> None:
+        for line in (b"ALPHA\n", b"\n", b"done\n", b"fault"):
+            for size in SIZES:
+                with self.subTest(line, size=size):
+                    self.assertRaises(Unreadable, self.found, GIVEN + line, size)
+
+
+@dataclass(frozen=True)
+class Session:
+    """The messages of one firm and of its session, given in blocks."""
+
+    sent: list[tuple[int, int, bytes]]
+    outgoing: list[tuple[int, int | None, bytes]]
+    size: int  # of a block of `sent`
+    other: int  # of a block of `outgoing`
+
+    def sent_blocks(self, firm: str) -> Iterator[Messages]:
+        return blocks(self.sent, self.size)
+
+    def outgoing_blocks(self, firm: str) -> Iterator[Messages]:
+        return blocks(self.outgoing, self.other)
+
+
+def blocks(rows: list[tuple[int, int, bytes]] | list[tuple[int, int | None, bytes]], size: int
+           ) -> Iterator[Messages]:
+    for at in range(0, len(rows), size):
+        yield Messages(*zip(*rows[at : at + size]))
+
+
+def session(size: int, other: int) -> Session:
+    """Seven messages, in front of them one and behind them another of the session itself."""
+    sent: list[tuple[int, int, bytes]] = []
+    outgoing: list[tuple[int, int | None, bytes]] = []
+    head = "35=%s|34=%d|49=VENUE|52=20250314-09:00:20.000|56=DLR1"
+
+    def put(kind: str, number: int | None, body: bytes) -> None:
+        start = soh(head % (kind, len(outgoing) + 1))
+        data = framed(fields_of(start + body + b"\x01"))
+        outgoing.append((len(outgoing) + 1, number, data))
+
+    put("A", None, soh("|98=0|108=30"))
+    for number in range(1, 8):
+        fields = fields_of(soh(SHOWN if number % 3 == 1 else ACCEPTED))[2:-1]
+        frame = framed((tag, b"%d" % number if tag == 34 else value) for tag, value in fields)
+        parts = parts_of(frame)
+        assert parts is not None
+        sent.append((number, number * 10, frame))
+        put(parts.kind.decode(), number, carried(parts, None))
+    put("5", None, b"")
+    return Session(sent, outgoing, size, other)
+
+
+class Sessions(unittest.TestCase):
+    """A session and what it carries, in blocks that end elsewhere."""
+
+    def is_right(self, log: Session) -> bool:
+        found = PlainSession(cast(Log, log), "DLR1", log.sent_blocks("DLR1"))
+        return found.is_right()
+
+    def test_all_is_right(self) -> None:
+        for size, other in itertools.product(range(1, 10), repeat=2):
+            self.assertTrue(self.is_right(session(size, other)), (size, other))
+
+    def test_rows_left_out_doubled_and_turned(self) -> None:
+        """Whether the last message of the session itself left, only a seal can tell."""
+        for size, other in itertools.product((1, 2, 3, 7, 9), repeat=2):
+            for name in "sent", "outgoing":
+                rows = getattr(session(size, other), name)
+                alike = rows, rows[:-1] if name == "outgoing" else rows
+                for at in range(len(rows)):
+                    turned = rows[:at] + rows[at : at + 2][::-1] + rows[at + 2 :]
+                    for changed in (rows[:at] + rows[at + 1 :], rows[: at + 1] + rows[at:], turned):
+                        log = session(size, other)
+                        getattr(log, name)[:] = changed
+                        self.assertEqual(self.is_right(log), changed in alike, (name, at, size))
+
+    def test_two_bodies_that_are_turned(self) -> None:
+        """The numbers stay where they were."""
+        for size in (1, 2, 3, 9):
+            for at in range(1, 7):
+                log = session(size, size)
+                (one, first, data), (two, second, text) = log.outgoing[at : at + 2]
+                log.outgoing[at : at + 2] = [(one, first, text), (two, second, data)]
+                self.assertFalse(self.is_right(log), at)
+
+    def test_a_byte_of_each_message(self) -> None:
+        for size in (1, 3, 9):
+            for row in range(9):
+                number, other, data = session(size, size).outgoing[row]
+                for at in (0, 20, len(data) // 2, len(data) - 2, len(data) - 1):
+                    log = session(size, size)
+                    changed = data[:at] + bytes([data[at] ^ 1]) + data[at + 1 :]
+                    log.outgoing[row] = number, other, changed
+                    self.assertFalse(self.is_right(log), (row, at))
+
+
+class Kept(unittest.TestCase):
+    """What a firm was sent, as a file."""
+
+    def kept(self, rows: list[tuple[int, int, bytes]], size: int) -> tuple[bytes | None, bytes]:
+        with folder() as name:
+            files, steps = Files(Path(name)), list[int]()
+            log = cast(Log, Session(rows, [], size, 1))
+            found = list(kept(log, "DLR1", files, steps.append))
+            self.assertEqual([row for block in found for row in zip(*block)], rows)
+            self.assertEqual(sum(steps), len(rows))
+            sent = files.sent("DLR1")
+            data = sent.read_bytes() if sent.exists() else None
+            return data, files.places("DLR1").read_bytes()
+
+    def test_blocks_of_any_size(self) -> None:
+        rows = session(1, 1).sent
+        text = "".join("DLR1 %s\n" % data.decode().replace("\x01", "|") for _, _, data in rows)
+        places = array("q", range(10, 80, 10)).tobytes()
+        for size in range(1, 9):
+            self.assertEqual(self.kept(rows, size), (text.encode(), places))
+
+    def test_what_is_no_line_of_the_program(self) -> None:
+        """Nor is a number that is not the next: there is no file, and nothing is like it."""
+        for size in (1, 2, 3, 7):
+            for at in range(7):
+                rows = session(1, 1).sent
+                number, place, data = rows[at]
+                for row in (
+                    (number, place, data + b"\n"), (number, place, b"|" + data),
+                    (number, place, data.replace(b"\x01", b"|", 1)), (number + 1, place, data),
+                    (number - 1, place, data),
+                ):
+                    rows[at] = row
+                    self.assertIsNone(self.kept(rows, size)[0], (at, row))
+
+
+if __name__ == "__main__":
+    unittest.main()
