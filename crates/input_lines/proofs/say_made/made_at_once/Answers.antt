@@ -1,0 +1,12 @@
+use Rattle.std.proofs.Common.{rules}
+use Rattle.input_lines.proofs.MadeLemmas.{made_at_once}
+use Rattle.input_lines.proofs.say_made.made_at_once.Goals as goal
+
+pub returns : goal.returns
+returns c =
+    let parts = c.said_parts-parts in
+    rw (c.new.ensures, c.in_ok-bytes.ensures.text)
+    (made_at_once c.args.date.now c.args.firm.now c.args.text.now c.args.number c.in-Some.moment parts.result.trader.now
+    parts.result.time.now parts.result.msg_type.now parts.result.body.now c.in-Some-begun.frame c.push_body.new.frame
+    parts.ensures.trader parts.ensures.time parts.ensures.msg_type parts.ensures.body (search rules) (search rules) (search rules)
+    (search rules) (search rules) (search rules))
