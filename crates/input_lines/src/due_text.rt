@@ -137,7 +137,8 @@ fn read_said(
 /// The number of the next message that has none in its BODY.
 fn next_number(number: u64, is_numbered: bool) -> u64
     requires { number ≤ 9223372036854775808 }
-    ensures { result ≡ (if is_numbered then number else number + 1) }
+    ensures value { result ≡ (if is_numbered then number else number + 1) }
+    ensures most { result ≤ number + 1 }
 {
     if is_numbered {
         return number;

@@ -1,18 +1,18 @@
 //! The message that a `say` line makes. Where its BODY has no field of the header, as it mostly has
 //! not, each field goes into the frame as soon as it is read.
-ghost use Rattle.std.specs.Prelude.{◌≡◌, map, Some, IfOk, IfSome, IsTrue, true, false};
+ghost use Rattle.std.specs.Prelude.{◌≡◌, map, fold, Some, IfOk, IfSome, true};
 ghost use Rattle.fix_fields.specs.Frame.{IsValue};
 ghost use Rattle.input_lines.specs.Lines.{first_part, behind_part, parts_of};
-ghost use Rattle.input_lines.specs.SayLine.{fitting, is_plain_part, with_bar, with_field};
+ghost use Rattle.input_lines.specs.SayLine.{fitting, is_plain_part, with_bar};
 ghost use Rattle.input_lines.specs.SayReading as spec;
 
 use crate::bars::push_barred;
-use crate::fields::{Field, is_plain_value, read_field};
+use crate::fields::{is_plain_value, read_field};
 use crate::lines::Parts;
 use crate::parts::{cut_part, read_time};
-use crate::say_frames::{begun_frame, with_field};
+use crate::say_frames::{begun_frame, finished, with_field};
 use crate::say_lines::{SayLine, is_plain_part};
-use fix_fields::{Date, FrameWriter, Memory, Moment, decimal_len, moment_bytes};
+use fix_fields::{Date, FrameWriter, Memory, Moment, moment_bytes};
 use itoa::Buffer;
 use quote_messages::Message;
 use std::alloc::Global;
@@ -82,6 +82,7 @@ pub(crate) fn made_for(
 }
 
 /// The same, whatever fields BODY has: they are read before the header is written.
+#[tactic(auto, unfolding(crate::specs::SayReading::made_of))]
 fn made_by_fields(
     alloc: Global,
     date: &Date,
@@ -122,26 +123,26 @@ fn made_at_once(
     let Some(moment) = read_time(date, parts.time) else {
         return Ok(None);
     };
-    if !is_plain_part(parts.trader) || !is_plain_part(parts.msg_type) || parts.body.is_empty() {
+    let trader = parts.trader;
+    let msg_type = parts.msg_type;
+    let body = parts.body;
+    if !is_plain_part(trader) || !is_plain_part(msg_type) || body.is_empty() {
         return Ok(None);
     }
-    let trader = parts.trader;
-    let begun = header_frame(alloc, date, firm, number, moment, trader, parts.msg_type)?;
-    let Some(mut frame) = begun else {
+    let header = header_frame(alloc, date, firm, number, moment, trader, msg_type)?;
+    let whole = with_texts(header, body)?;
+    let Some(message) = finished(whole)? else {
         return Ok(None);
     };
-    if !push_body(&mut frame, parts.body)? {
-        return Ok(None);
-    }
-    let bytes = frame.finish()?;
     Ok(Some(Made {
         moment,
-        message: Message::new(bytes),
+        message,
         is_numbered: false,
     }))
 }
 
 /// The parts of a `say` line behind FIRM.
+#[derive(Drop)]
 struct SaidParts<'a> {
     trader: &'a [u8],
     time: &'a [u8],
@@ -181,7 +182,7 @@ fn header_frame(
     requires firm { IsValue firm.now }
     requires trader { is_plain_part trader.now ≡ true }
     requires msg_type { is_plain_part msg_type.now ≡ true }
-    ensures { IfOk result (λ frame. frame
+    ensures { IfOk result (λ fields. fields
         ≡ fitting (spec.whole_header date.now firm.now number moment trader.now msg_type.now)) }
 {
     let mut buffer = Buffer::new();
@@ -196,46 +197,39 @@ fn header_frame(
     Ok(header)
 }
 
-/// Puts the fields of BODY behind those of a frame, as long as each is of its form and none of the
-/// header, and it fits.
-fn push_body(frame: &mut FrameWriter, body: &[u8]) -> Result<bool, Memory>
-    ensures { IfOk result (λ put. IsTrue put
-        → spec.with_texts frame.old (parts_of 124 body.now) ≡ Some frame.new) }
+/// A frame with the fields of BODY, as long as each is of its form and none of the header, and it
+/// fits.
+fn with_texts(
+    mut frame: Option<FrameWriter>,
+    body: &[u8],
+) -> Result<Option<FrameWriter>, Memory>
+    ensures { IfOk result (λ fields. fields ≡ fold spec.with_text frame (parts_of 124 body.now)) }
 {
     for text in Parts::new(body, b'|') {
-        let Some(field) = read_field(text) else {
-            return Ok(false);
-        };
-        if !push_apart(frame, &field)? {
-            return Ok(false);
-        }
+        frame = with_text(frame, text)?;
     }
-    Ok(true)
+    Ok(frame)
 }
 
-/// Puts a field behind those of a frame, unless it is one of the header or does not fit.
+/// A frame with the field that a text spells, where it spells one, that is none of the header, and
+/// where it still fits.
+// Inlined, so that a frame is not moved for each of its fields.
 #[inline(always)]
-#[tactic(auto, using(crate::proofs::SpellLemmas::push_fits))]
-fn push_apart(frame: &mut FrameWriter, field: &Field<'_>) -> Result<bool, Memory>
-    ensures apart { IfOk result (λ put. IsTrue put → spec.is_header_tag field.now.0 ≡ false) }
-    ensures put { IfOk result (λ put. IsTrue put
-        → with_field (Some frame.old) field.now ≡ Some frame.new) }
+fn with_text(frame: Option<FrameWriter>, text: &[u8]) -> Result<Option<FrameWriter>, Memory>
+    ensures { IfOk result (λ fields. fields ≡ spec.with_text frame text.now) }
 {
-    let tag = field.tag();
-    let value = field.value();
-    let left = frame.left();
-    if is_header_tag(tag) || value.len() > left {
-        return Ok(false);
+    let Some(field) = read_field(text) else {
+        return Ok(None);
+    };
+    if is_header_tag(field.tag()) {
+        return Ok(None);
     }
-    let digits = decimal_len(tag as u64);
-    if digits + value.len() + 2 > left {
-        return Ok(false);
-    }
-    frame.text(tag, value)?;
-    Ok(true)
+    let fields = with_field(frame, field.tag(), field.value())?;
+    Ok(fields)
 }
 
 /// Whether a tag is of the header that a `say` line writes of itself.
+#[tactic(auto, unfolding(crate::specs::SayReading::is_header_tag))]
 fn is_header_tag(tag: u32) -> bool
     ensures { result ≡ spec.is_header_tag tag }
 {
