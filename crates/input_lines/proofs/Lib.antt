@@ -1,8 +1,8 @@
 pub mod BarLemmas
 pub mod CutLemmas
-pub mod PartLemmas
-pub mod SpellLemmas
 pub mod MadeLemmas
+pub mod PartLemmas
 pub mod SayLemmas
+pub mod SpellLemmas
 pub mod StreamLemmas
 pub mod TagLemmas

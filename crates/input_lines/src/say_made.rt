@@ -3,7 +3,7 @@
 ghost use Rattle.std.specs.Prelude.{◌≡◌, map, fold, Some, IfOk, IfSome, true};
 ghost use Rattle.fix_fields.specs.Frame.{IsValue};
 ghost use Rattle.input_lines.specs.Lines.{first_part, behind_part, parts_of};
-ghost use Rattle.input_lines.specs.SayLine.{fitting, is_plain_part, with_bar};
+ghost use Rattle.input_lines.specs.SayLine as line;
 ghost use Rattle.input_lines.specs.SayReading as spec;
 
 use crate::bars::push_barred;
@@ -40,7 +40,7 @@ pub(crate) fn made_by(
     text: &[u8],
 ) -> Result<Option<Made>, Memory>
     ensures { IfOk result (λ made.
-        made ≡ spec.made_of date.now (map with_bar part.now) number text.now) }
+        made ≡ spec.made_of date.now (map line.with_bar part.now) number text.now) }
 {
     if is_plain_value(part) {
         let made = made_for(alloc, date, part, number, text)?;
@@ -54,7 +54,7 @@ pub(crate) fn made_by(
 /// A part with a vertical bar for each SOH, so that it can be a value of a field.
 #[tactic(auto, using(crate::proofs::TagLemmas::barred_is_value))]
 fn with_bars(alloc: Global, part: &[u8]) -> Result<Vec<u8>, Memory>
-    ensures barred { IfOk result (λ text. text.items ≡ map with_bar part.now) }
+    ensures barred { IfOk result (λ text. text.items ≡ map line.with_bar part.now) }
     ensures value { IfOk result (λ text. IsValue text.items) }
 {
     let mut text = Vec::with_capacity(alloc, part.len())?;
@@ -180,10 +180,10 @@ fn header_frame(
     msg_type: &[u8],
 ) -> Result<Option<FrameWriter>, Memory>
     requires firm { IsValue firm.now }
-    requires trader { is_plain_part trader.now ≡ true }
-    requires msg_type { is_plain_part msg_type.now ≡ true }
+    requires trader { line.is_plain_part trader.now ≡ true }
+    requires msg_type { line.is_plain_part msg_type.now ≡ true }
     ensures { IfOk result (λ fields. fields
-        ≡ fitting (spec.whole_header date.now firm.now number moment trader.now msg_type.now)) }
+        ≡ line.fitting (spec.whole_header date.now firm.now number moment trader.now msg_type.now)) }
 {
     let mut buffer = Buffer::new();
     let digits = buffer.format(number).as_bytes();
@@ -199,10 +199,7 @@ fn header_frame(
 
 /// A frame with the fields of BODY, as long as each is of its form and none of the header, and it
 /// fits.
-fn with_texts(
-    mut frame: Option<FrameWriter>,
-    body: &[u8],
-) -> Result<Option<FrameWriter>, Memory>
+fn with_texts(mut frame: Option<FrameWriter>, body: &[u8]) -> Result<Option<FrameWriter>, Memory>
     ensures { IfOk result (λ fields. fields ≡ fold spec.with_text frame (parts_of 124 body.now)) }
 {
     for text in Parts::new(body, b'|') {

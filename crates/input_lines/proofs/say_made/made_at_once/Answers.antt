@@ -7,5 +7,5 @@ returns c =
     let parts = c.said_parts-parts in
     made_at_once c.args.date.now c.args.firm.now c.args.text.now c.args.number c.in-Some.moment parts.result.trader.now
     parts.result.time.now parts.result.msg_type.now parts.result.body.now c.in_ok-header.header c.in_ok-whole.whole c.in-Some-2.message
-    parts.ensures.trader parts.ensures.time parts.ensures.msg_type parts.ensures.body c.in-Some.ensures (search rules) (search rules)
-    (search rules) c.in_ok-header.ensures c.in_ok-whole.ensures c.in-Some-2.ensures
+    parts.ensures.trader parts.ensures.time parts.ensures.msg_type parts.ensures.body (search rules) (search rules) (search rules)
+    (search rules) c.in_ok-header.ensures c.in_ok-whole.ensures (search rules)
