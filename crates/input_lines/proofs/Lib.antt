@@ -1,5 +1,6 @@
 pub mod BarLemmas
 pub mod CutLemmas
+pub mod MadeLemmas
 pub mod PartLemmas
 pub mod SayLemmas
 pub mod SpellLemmas

@@ -10,6 +10,7 @@ pub mod PartReading
 pub mod ResultSteps
 pub mod RoomLemmas
 pub mod SayLine
+pub mod SayReading
 pub mod StepFaultLemmas
 pub mod StepLemmas
 pub mod StepLines

@@ -1,5 +1,6 @@
 //! Due text: a date, a dealer, and what is due to the dealer, line by line.
 ghost use Rattle.std.specs.Prelude.{◌≡◌, ◌≢◌, ◌≤◌, ◌+◌, length, Ok, Err, IfOk, IfErr, IfSome};
+ghost use Rattle.std.specs.Prelude.{if◌then◌else◌};
 ghost use Rattle.venue_rows.specs.Rows.{dealer_values};
 ghost use Rattle.input_lines.specs.DueLines.{due_of, said_due};
 ghost use Rattle.input_lines.specs.DueText as spec;
@@ -10,7 +11,7 @@ use crate::due_items::read_by_keyword;
 use crate::faults::ProgramFault;
 use crate::lines::{MOST_INPUT, NumberedLines, has_divider, one_past};
 use crate::parts::{cut_part, same_text};
-use crate::say_lines::SayLine;
+use crate::say_made::made_for;
 use fix_fields::{Date, Memory};
 use std::alloc::Global;
 use step_replay::Due;
@@ -126,16 +127,21 @@ fn read_said(
     ensures due { IfOk result (λ due. due ≡ said_due date.now firm.now number text.now) }
     ensures next { IfOk result (λ due. IfSome due (λ due. due.1 ≤ number + 1)) }
 {
-    let Some(said) = SayLine::read(alloc, date, text)? else {
+    let Some(made) = made_for(alloc, date, firm.as_bytes(), number, text)? else {
         return Ok(None);
     };
-    let Some(message) = said.message(alloc, date, firm, number)? else {
-        return Ok(None);
-    };
-    let next = if said.is_numbered() {
-        number
-    } else {
-        number + 1
-    };
-    Ok(Some((Due::Own(said.moment(), message), next)))
+    let next = next_number(number, made.is_numbered);
+    Ok(Some((Due::Own(made.moment, made.message), next)))
+}
+
+/// The number of the next message that has none in its BODY.
+fn next_number(number: u64, is_numbered: bool) -> u64
+    requires { number ≤ 9223372036854775808 }
+    ensures value { result ≡ (if is_numbered then number else number + 1) }
+    ensures most { result ≤ number + 1 }
+{
+    if is_numbered {
+        return number;
+    }
+    number + 1
 }

@@ -68,7 +68,7 @@ pub fn read_fields(alloc: Global, body: &[u8]) -> Result<Option<Vec<Field<'_>>>,
 
 /// The field that a text spells: a tag, an equals sign and a value.
 #[tactic(auto, using(crate::proofs::TagLemmas::value_is_plain))]
-fn read_field(text: &[u8]) -> Option<Field<'_>>
+pub(crate) fn read_field(text: &[u8]) -> Option<Field<'_>>
     ensures { result ≡ spec.said_field text.now }
 {
     let (digits, value) = cut_near(text, b'=');

@@ -50,6 +50,7 @@ mod lines;
 mod parts;
 mod say_frames;
 mod say_lines;
+mod say_made;
 mod step_lines;
 mod step_text;
 mod venue_parts;

@@ -38,7 +38,7 @@ pub(crate) fn begun_frame(alloc: Global, msg_type: &[u8]) -> Result<Option<Frame
 // Inlined, as the next function is, so that a frame is not moved for each of its fields.
 #[inline(always)]
 #[tactic(auto, using(crate::proofs::SpellLemmas::push_fits, crate::proofs::SpellLemmas::push_long, crate::proofs::SpellLemmas::push_none, crate::proofs::SpellLemmas::with_field_none))]
-fn with_field(
+pub(crate) fn with_field(
     frame: Option<FrameWriter>,
     tag: u32,
     value: &[u8],

@@ -1,12 +1,10 @@
 //! A message that a firm sends, field by field: `TRADER TIME TYPE BODY`.
-ghost use Rattle.std.specs.Prelude.{◌≡◌, map, IfOk};
+ghost use Rattle.std.specs.Prelude.{◌≡◌, IfOk};
 ghost use Rattle.std.specs.List.{list_all};
 ghost use Rattle.fix_fields.specs.Frame.{IsValue};
-ghost use Rattle.input_lines.specs.SayLine.{with_bar};
 ghost use Rattle.input_lines.specs.SayLine as spec;
 
-use crate::bars::push_barred;
-use crate::fields::{Field, is_plain_value, read_fields};
+use crate::fields::{Field, read_fields};
 use crate::parts::{cut_part, read_time};
 use crate::say_frames::{begun_frame, finished, has_tag, with_all, with_header_field};
 use fix_fields::{Date, Memory, Moment, moment_bytes};
@@ -100,31 +98,9 @@ impl<'a> SayLine<'a> {
         Ok(message)
     }
 
-    /// The message as a firm with this part as its name would send it, with a vertical bar for each
-    /// SOH in the part. A part without one is not copied.
-    #[tactic(auto, using(crate::proofs::BarLemmas::barred_plain, crate::proofs::TagLemmas::value_is_plain))]
-    pub(crate) fn message_by(
-        &self,
-        alloc: Global,
-        date: &Date,
-        part: &[u8],
-        number: u64,
-    ) -> Result<Option<Message>, Memory>
-        ensures { IfOk result (λ message.
-            message ≡ spec.said_message date.now (map with_bar part.now) number self.now) }
-    {
-        if is_plain_value(part) {
-            let message = self.framed(alloc, date, part, number)?;
-            return Ok(message);
-        }
-        let part = with_bars(alloc, part)?;
-        let message = self.framed(alloc, date, part.as_slice(), number)?;
-        Ok(message)
-    }
-
     /// The message with this value of SenderCompID (49).
     #[tactic(auto, using(crate::proofs::TagLemmas::part_is_value))]
-    fn framed(
+    pub(crate) fn framed(
         &self,
         alloc: Global,
         date: &Date,
@@ -150,20 +126,9 @@ impl<'a> SayLine<'a> {
     }
 }
 
-/// A part with a vertical bar for each SOH, so that it can be a value of a field.
-#[tactic(auto, using(crate::proofs::TagLemmas::barred_is_value))]
-fn with_bars(alloc: Global, part: &[u8]) -> Result<Vec<u8>, Memory>
-    ensures barred { IfOk result (λ text. text.items ≡ map with_bar part.now) }
-    ensures value { IfOk result (λ text. IsValue text.items) }
-{
-    let mut text = Vec::with_capacity(alloc, part.len())?;
-    push_barred(&mut text, part)?;
-    Ok(text)
-}
-
 /// Whether a part may be a trader or a type: it is not empty and has neither a vertical bar nor
 /// SOH.
-fn is_plain_part(part: &[u8]) -> bool
+pub(crate) fn is_plain_part(part: &[u8]) -> bool
     ensures { result ≡ spec.is_plain_part part.now }
 {
     if part.is_empty() {

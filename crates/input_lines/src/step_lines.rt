@@ -10,7 +10,7 @@ use crate::firm_streams::Heard;
 use crate::frame_lines::{read_hexed, read_received};
 use crate::line_steps::Spelled;
 use crate::parts::{cut_part, read_time, same_text};
-use crate::say_lines::SayLine;
+use crate::say_made::made_by;
 use crate::venue_parts::{firm_of, is_room};
 use quote_messages::{RoomRef, read_number};
 use std::alloc::Global;
@@ -84,19 +84,16 @@ fn read_say(
     if part.is_empty() {
         return Err(ProgramFault::Form { line });
     }
-    let Some(said) = SayLine::read(alloc, config.date(), rest)? else {
-        return Err(ProgramFault::Form { line });
-    };
     let firm = firm_of(config, part);
     let number = heard.number_for(firm);
-    let Some(message) = said.message_by(alloc, config.date(), part, number)? else {
+    let Some(made) = made_by(alloc, config.date(), part, number, rest)? else {
         return Err(ProgramFault::Form { line });
     };
     let Some(firm) = firm else {
         return Err(ProgramFault::UnknownFirm { line });
     };
-    let is_counted = !said.is_numbered();
-    Ok(Spelled::Said(firm, said.moment(), message, is_counted))
+    let is_counted = !made.is_numbered;
+    Ok(Spelled::Said(firm, made.moment, made.message, is_counted))
 }
 
 /// Behind `in`: `FIRM TIME FRAME`.
