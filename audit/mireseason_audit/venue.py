@@ -184,6 +184,8 @@ class Run(Closing):
     def close(self, failed: bool = False) -> None:
         if self._process.poll() is None:
             self._process.kill()
+        if self._process.stdin is not None and self._feeder is None:
+            self._process.stdin.close()
         if self._process.stdout is not None:
             self._process.stdout.close()
         self._process.wait()

@@ -130,8 +130,10 @@ class Session:
         return blocks(self.outgoing, self.other)
 
 
-def blocks(rows: list[tuple[int, int, bytes]] | list[tuple[int, int | None, bytes]], size: int
-           ) -> Iterator[Messages]:
+def blocks(
+    rows: list[tuple[int, int, bytes]] | list[tuple[int, int | None, bytes]], size: int
+) -> Iterator[Messages]:
+    """Rows, so many at a time, as columns."""
     for at in range(0, len(rows), size):
         yield Messages(*zip(*rows[at : at + size]))
 
