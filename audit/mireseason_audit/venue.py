@@ -14,6 +14,7 @@ from typing import IO, Self
 
 from .closing import Closing
 from .faults import Unreadable
+from .parents import bound_to
 from .records import SOH
 from .streams import BLOCK, FEED, Growing
 
@@ -116,6 +117,7 @@ class Run(Closing):
                     stdout=self._stdout(files),
                     stderr=self._told,
                     bufsize=BLOCK,
+                    preexec_fn=bound_to(os.getpid()),  # no other thread has been begun yet
                 )
         except OSError as fault:
             self._told.close()
@@ -207,6 +209,7 @@ class Conversation(Closing):
                 stdin=subprocess.PIPE,
                 stdout=subprocess.PIPE,
                 stderr=subprocess.DEVNULL,
+                preexec_fn=bound_to(os.getpid()),
             )
         except OSError as fault:
             raise Unreadable("the venue's program %s: %s" % (self.venue, fault)) from None

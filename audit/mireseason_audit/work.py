@@ -15,6 +15,7 @@ from multiprocessing.sharedctypes import Synchronized
 from typing import Generic, TypeVar
 
 from .faults import Unreadable
+from .parents import is_bound
 from .progress import Progress, Step
 
 Result = TypeVar("Result")
@@ -22,7 +23,6 @@ Job = Callable[[Step], Result]  # what a process does; it tells the step how man
 LOOK = 0.2  # seconds from one look at the counter to the next
 SIGNALS = (signal.SIGTERM, signal.SIGHUP, signal.SIGINT)  # that end a command
 YOUNG = 50_000  # objects: a job makes rows by the thousand, and few that refer to one another
-DEATH_SIGNAL = 1  # PR_SET_PDEATHSIG of prctl(2): the signal when the parent ends
 
 
 class Plan(Generic[Result]):
@@ -159,8 +159,7 @@ def do_job(
     signal.pthread_sigmask(signal.SIG_UNBLOCK, SIGNALS)
     gc.freeze()
     gc.set_threshold(YOUNG)
-    ctypes.CDLL(None).prctl(DEATH_SIGNAL, signal.SIGTERM)
-    if os.getppid() != waiting:
+    if not is_bound(waiting, signal.SIGTERM):
         sys.exit(1)
 
     def step(rows: int) -> None:
