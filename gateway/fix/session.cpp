@@ -33,7 +33,6 @@ constexpr int bytes_field = 96;
 // What the session itself looks at. All other fields are the venue's to judge.
 bool is_of_session(int tag) {
     switch (tag) {
-    case FIX::FIELD::BeginString:
     case FIX::FIELD::MsgType:
     case FIX::FIELD::SenderCompID:
     case FIX::FIELD::TargetCompID:
@@ -44,37 +43,6 @@ bool is_of_session(int tag) {
         return true;
     default:
         return false;
-    }
-}
-
-// The type of a frame, whose third field it is.
-std::string type_of(const std::string &frame) {
-    const std::string mark = "\x01"
-                             "35=";
-    const std::size_t begin = frame.find(mark) + mark.size();
-    return frame.substr(begin, frame.find('\x01', begin) - begin);
-}
-
-// Reads those fields of a message of the application that a session looks at: to keep each of the
-// others as the engine does would take its time in front of every commit. What is a field is as for
-// the engine, and so is where they may stand.
-void read_for_session(const std::string &bytes, FIX::Header &header) {
-    for (auto at = bytes.begin(); at != bytes.end();) {
-        const auto equals = std::find(at, bytes.end(), '=');
-        int tag = 0;
-        if (equals == bytes.end() || !FIX::IntConvertor::convert(at, equals, tag)) {
-            throw FIX::InvalidMessage("a field without a tag");
-        }
-        const auto value = equals + 1;
-        const auto end = std::find(value, bytes.end(), '\x01');
-        if (end == bytes.end()) {
-            throw FIX::InvalidMessage("a field without an end");
-        }
-        if (is_of_session(tag)) {
-            // The first one: another in the body is no matter of the session.
-            header.setField(FIX::StringField(tag, std::string(value, end)), false);
-        }
-        at = end + 1;
     }
 }
 
@@ -136,11 +104,7 @@ bool FirmSession::read(const std::string &bytes, FIX::Message &message) {
         if (!is_frame(bytes)) {
             throw FIX::InvalidMessage("no frame of FIXT.1.1");
         }
-        if (FIX::Message::isAdminMsgType(FIX::MsgType(type_of(bytes)))) {
-            message.setString(bytes, false);
-        } else {
-            read_for_session(bytes, message.getHeader());
-        }
+        message.setString(bytes, false);
         return true;
     } catch (const FIX::InvalidMessage &fault) {
         events_.dropped("no message", firm_ + ": " + fault.what());
@@ -312,11 +276,21 @@ void FirmSession::ask_whether_settled() {
     asked_at_ = number_in(request.getHeader(), FIX::FIELD::MsgSeqNum);
 }
 
-void FirmSession::take_application(FIX::Message &message, const std::string &bytes) {
-    if (is_next_or_kept(number_in(message.getHeader(), FIX::FIELD::MsgSeqNum))) {
-        message.setField(FIX::StringField(bytes_field, bytes));
-        next(message);
+void FirmSession::take_application(const FIX::Message &message, const std::string &bytes) {
+    const FIX::Header &header = message.getHeader();
+    if (!is_next_or_kept(number_in(header, FIX::FIELD::MsgSeqNum))) {
+        return;
     }
+    FIX::Message light;
+    // The first one: another in the body is no matter of the session.
+    light.getHeader().setField(FIX::BeginString(bytes.substr(2, bytes.find('\x01') - 2)));
+    for (const FIX::FieldBase &field : header) {
+        if (is_of_session(field.getTag())) {
+            light.getHeader().setField(field, false);
+        }
+    }
+    light.setField(FIX::StringField(bytes_field, bytes));
+    next(light);
 }
 
 void FirmSession::tick() {

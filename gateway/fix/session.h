@@ -57,8 +57,7 @@ class FirmSession final : private FIX::Application, private FIX::Log {
   private:
     // False where another connection has it.
     bool attach(Connection &connection);
-    // False where it is no message; that is told. Of one of the application those fields are read
-    // that the session looks at.
+    // False where it is no message; that is told.
     bool read(const std::string &bytes, FIX::Message &message);
     void take_logon(const FIX::Message &message);
     void take_admin(const std::string &type, const FIX::Message &message);
@@ -69,7 +68,7 @@ class FirmSession final : private FIX::Application, private FIX::Log {
     bool is_next_or_kept(int number);
     void take_resend_request(FIX::Message message, Connection &connection);
     Connection &own_connection();
-    void take_application(FIX::Message &message, const std::string &bytes);
+    void take_application(const FIX::Message &message, const std::string &bytes);
     std::string refusal_of(const FIX::Message &logon);
     std::string refusal_of_header(const FIX::Header &header);
     void send_logout(const std::string &text);

@@ -99,7 +99,6 @@ void Feeder::entries_came(const std::vector<LoggedEntry> &entries) {
     if (waits_ && unwritten_.empty() && first.place == next_ && first.before == before_) {
         const std::string lines = lines_of(entries);
         unwritten_ = lines.substr(process_.write_at_once(lines));
-        process_.expect_output();
         if (unwritten_.empty()) {
             return;
         }

@@ -9,7 +9,6 @@
 #include <fmt/format.h>
 #include <poll.h>
 #include <spawn.h>
-#include <sys/eventfd.h>
 #include <sys/wait.h>
 #include <unistd.h>
 
@@ -65,46 +64,29 @@ class SpawnPlan {
     posix_spawnattr_t attributes_{};
 };
 
-// How long output that is expected is looked for awake: some times what a line takes the venue, and
-// little beside a commit.
-constexpr auto awake = std::chrono::microseconds(100);
-
-// What is there, empty at the end; nothing where it does not block and there is nothing yet.
-std::optional<std::string> read_some(const Descriptor &descriptor) {
+std::string read_some(const Descriptor &descriptor) {
     std::array<char, 65536> buffer;
     for (;;) {
         const ssize_t count = ::read(descriptor.number(), buffer.data(), buffer.size());
         if (count >= 0) {
             return std::string(buffer.data(), static_cast<std::size_t>(count));
         }
-        if (errno == EAGAIN) {
-            return std::nullopt;
-        }
         if (errno != EINTR) {
-            return std::string();
+            return {};
         }
-    }
-}
-
-void stop_blocking(const Descriptor &descriptor) {
-    // Of this end alone: the process's own still blocks.
-    if (::fcntl(descriptor.number(), F_SETFL, O_NONBLOCK) != 0) {
-        throw std::system_error(errno, std::generic_category(), "a pipe to the venue");
     }
 }
 
 } // namespace
 
-Process::Process(const std::vector<std::string> &command)
-    : bell_(::eventfd(0, EFD_CLOEXEC | EFD_NONBLOCK)) {
-    if (bell_.number() < 0) {
-        throw std::system_error(errno, std::generic_category(), "an event descriptor");
-    }
+Process::Process(const std::vector<std::string> &command) {
     Pipe in = make_pipe();
     Pipe out = make_pipe();
     Pipe err = make_pipe();
-    stop_blocking(in.write);
-    stop_blocking(out.read);
+    // Of this end alone: the process's own still blocks.
+    if (::fcntl(in.write.number(), F_SETFL, O_NONBLOCK) != 0) {
+        throw std::system_error(errno, std::generic_category(), "a pipe to the venue");
+    }
     SpawnPlan plan;
     plan.use(in.read, STDIN_FILENO);
     plan.use(out.write, STDOUT_FILENO);
@@ -159,36 +141,11 @@ void Process::close_input() {
 }
 
 std::string Process::read_output() {
-    Clock::time_point awake_until;
-    for (;;) {
-        if (auto bytes = read_some(output_)) {
-            return std::move(*bytes);
-        }
-        if (Clock::now() >= awake_until) {
-            awake_until = wait_for_output();
-        }
-    }
-}
-
-Process::Clock::time_point Process::wait_for_output() {
-    std::array<pollfd, 2> set{{{output_.number(), POLLIN, 0}, {bell_.number(), POLLIN, 0}}};
-    ::poll(set.data(), set.size(), -1);
-    std::uint64_t rung = 0;
-    if (set[1].revents == 0 || ::read(bell_.number(), &rung, sizeof rung) < 0) {
-        return {};
-    }
-    return Clock::now() + awake;
+    return read_some(output_);
 }
 
 std::string Process::read_errors() {
-    return read_some(errors_).value_or("");
-}
-
-void Process::expect_output() {
-    const std::uint64_t one = 1;
-    // A bell that is full rings already.
-    const ssize_t written = ::write(bell_.number(), &one, sizeof one);
-    static_cast<void>(written);
+    return read_some(errors_);
 }
 
 void Process::kill() {

@@ -4,8 +4,6 @@
 
 #include "descriptor.h"
 
-#include <chrono>
-#include <optional>
 #include <string>
 #include <string_view>
 #include <vector>
@@ -33,25 +31,16 @@ class Process {
     // The next bytes of its standard output or error, empty at the end.
     std::string read_output();
     std::string read_errors();
-    // It was given something that it answers at once, as a rule. Whoever reads its output is woken
-    // now, and not by the answer, and looks for it awake for a little while; of any thread.
-    void expect_output();
     // And all that it has started: else its output would not end.
     void kill();
     // Waits for its end, and says how it ended.
     std::string wait();
 
   private:
-    using Clock = std::chrono::steady_clock;
-
-    // Sleeps until there is output, or some is expected. Until when that is looked for awake.
-    Clock::time_point wait_for_output();
-
     pid_t pid_ = -1;
     Descriptor input_;
-    Descriptor output_; // does not block
+    Descriptor output_;
     Descriptor errors_;
-    Descriptor bell_; // rings where output is expected
 };
 
 } // namespace gateway
