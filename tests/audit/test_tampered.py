@@ -20,6 +20,7 @@ from mireseason_audit import sqlite_log, streams
 from mireseason_audit.check import report
 from mireseason_audit.faults import Unreadable, Wrong
 from mireseason_audit.main import Work, checked, parser_of, source_of
+from mireseason_audit.streams import Growing
 from mireseason_audit.venue import Run, Venue
 
 CHANGES = int(os.environ.get("CHANGES", "500"))
@@ -37,26 +38,33 @@ class KeptVenue(Venue):
 
     kept: Path = Path()
 
-    def run(self, arguments: list[str], input_: Path, output: Path | None = None) -> Run:
-        asked = " ".join(arguments).encode() + b"\0" + input_.read_bytes()
-        digest = hashlib.sha256(asked).hexdigest()
+    def run(
+        self, arguments: list[str], input_: Path | Growing, output: Path | None = None
+    ) -> Run:
+        text = text_of(input_)
+        digest = hashlib.sha256(" ".join(arguments).encode() + b"\0" + text).hexdigest()
         parts = [self.kept / (digest + end) for end in (".out", ".err", ".status")]
         if not parts[2].exists():
-            self.answer(arguments, input_, parts)
+            self.answer(arguments, text, parts)
         print_it = Venue(("/bin/sh", "-c", PRINT, "sh"))
         return Run(print_it, [str(path) for path in parts], input_, output)
 
-    def answer(self, arguments: list[str], input_: Path, parts: list[Path]) -> None:
+    def answer(self, arguments: list[str], text: bytes, parts: list[Path]) -> None:
         mine = [path.with_name("%s.%d" % (path.name, os.getpid())) for path in parts]
-        with input_.open("rb") as file, mine[0].open("wb") as out, mine[1].open("wb") as err:
+        with mine[0].open("wb") as out, mine[1].open("wb") as err:
             words = [*self.words, *arguments]
-            done = subprocess.run(words, stdin=file, stdout=out, stderr=err, check=False)
+            done = subprocess.run(words, input=text, stdout=out, stderr=err, check=False)
         mine[2].write_text("%d" % done.returncode)
         for one, path in zip(mine, parts):
             os.replace(one, path)
 
     def version(self) -> str:
         return "the venue of the tests"
+
+
+def text_of(input_: Path | Growing) -> bytes:
+    """All of an input, also of one that still grows."""
+    return b"".join(input_.blocks() if isinstance(input_, Growing) else streams.blocks_of(input_))
 
 
 @dataclass(frozen=True)
