@@ -6,6 +6,8 @@ import os
 import pwd
 import shutil
 import struct
+from collections.abc import Iterator
+from contextlib import contextmanager
 from pathlib import Path
 
 from parts.run import run, tried
@@ -64,14 +66,23 @@ class Disk:
                     size += part
 
     def empty(self) -> None:
+        """For good: what is gone stays gone behind a cut of power, too."""
         self.ballast.unlink(missing_ok=True)
+        with self.opened() as place:
+            os.fsync(place)
 
     def cut_power(self) -> None:
         """From here on nothing is written. The host's processes have to be ended before it is
         attached again."""
+        with self.opened() as place:
+            fcntl.ioctl(place, SHUT_DOWN, struct.pack("I", WRITE_NOTHING))
+
+    @contextmanager
+    def opened(self) -> Iterator[int]:
+        """Its topmost folder."""
         place = os.open(self.mount, os.O_RDONLY)
         try:
-            fcntl.ioctl(place, SHUT_DOWN, struct.pack("I", WRITE_NOTHING))
+            yield place
         finally:
             os.close(place)
 

@@ -11,8 +11,8 @@
 # `rt run` there builds, or tests/model/program.py, the second implementation. GATEWAY has a gateway
 # that is built already; terms, logs and appends need the other programs of that build beside it.
 # JOBS=2 plays the days beside the other parts: half an hour, and not three quarters, with twice the
-# memory (2 GB for each three database hosts). Several runs may go on at one time. Short: two venues
-# behind one gateway, and one day of nine faults. The last line counts all: `N passed, M failed`.
+# memory (2 GB for each three database hosts). Several runs may go on at one time. Short: a disk, two
+# venues behind one gateway, and one day of nine faults. The last line counts all: `N passed, M failed`.
 set -eu
 here=$(cd "$(dirname "$0")" && pwd)
 root=$(cd "$here/../.." && pwd)
@@ -60,6 +60,7 @@ part() {
         part days python3 "$here/replicas.py" "$gateway" "$work/player" $days "$@" -- $venue
     }
     others() {
+        part disks python3 "$here/disks.py"
         part venues python3 "$here/venues.py" "$gateway" "$work/player" -- $venue
         [ -z "$short" ] || return 0
         part several python3 "$here/replicas.py" "$gateway" "$work/player" "$@" $several -- $venue
