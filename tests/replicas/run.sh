@@ -12,7 +12,8 @@
 # that is built already; terms, logs and appends need the other programs of that build beside it.
 # JOBS=2 plays the days beside the other parts: half an hour, and not three quarters, with twice the
 # memory (2 GB for each three database hosts). Several runs may go on at one time. Short: a disk, two
-# venues behind one gateway, and one day of nine faults. The last line counts all: `N passed, M failed`.
+# venues behind one gateway, and one day of nine faults. The last line counts all: `N passed, M
+# failed`.
 set -eu
 here=$(cd "$(dirname "$0")" && pwd)
 root=$(cd "$here/../.." && pwd)
