@@ -46,7 +46,12 @@ Connection::Connection(Descriptor socket, std::string peer, const TlsServer *tls
         throw std::runtime_error("no event descriptor for a connection");
     }
     events_.connection_opened(peer_);
-    thread_ = std::thread([this] { run(); });
+    try {
+        thread_ = std::thread([this] { run(); });
+    } catch (const std::exception &fault) {
+        events_.connection_closed(peer_, fault.what());
+        throw;
+    }
 }
 
 Connection::~Connection() {
@@ -306,7 +311,8 @@ void Connection::keep_time() {
         over = closing_ && (unwritten_ == 0 || now >= close_at_);
     }
     if (over) {
-        shut("the session ended it");
+        // Nobody else has it ended so.
+        shut("the session ended it: " + session_->last_event());
     } else if (wants_write_ && session_ != nullptr &&
                now - progress_ >= seconds(settings_.send_seconds)) {
         shut("the firm takes no byte");

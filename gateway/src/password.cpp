@@ -32,6 +32,12 @@ bool has_hash(const std::string &password, const std::string &hash) {
            CRYPTO_memcmp(own.data(), hash.data(), own.size()) == 0;
 }
 
+// Without the dollar it would be one of DES, for which any two letters are a salt: a password that
+// stands where its hash has to be.
+bool is_hash(const std::string &text) {
+    return text.starts_with('$') && ::crypt_checksalt(text.c_str()) != CRYPT_SALT_INVALID;
+}
+
 std::string new_hash(const std::string &password) {
     char setting[CRYPT_GENSALT_OUTPUT_SIZE] = "";
     if (::crypt_gensalt_rn(nullptr, 0, nullptr, 0, setting, sizeof setting) == nullptr) {

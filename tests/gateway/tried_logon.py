@@ -1,5 +1,6 @@
 """Faults before a session stands: credentials, firms, connections without an end, and TLS."""
 
+import resource
 import ssl
 import subprocess
 from pathlib import Path
@@ -181,6 +182,23 @@ def late_logon(stage: Stage) -> None:
     stage.ping(stage.dealer)
 
 
+def logon_at_fault(stage: Stage) -> None:
+    """A Logon that the engine would leave without an answer: 1137 is not 9, or 52 is no moment. Its number is not used up."""
+    stage.open(stage.other)
+    header = {35: b"A", 49: DEALER.name.encode(), 56: b"VENUE", 34: b"1", 52: b""}
+    body = {98: b"0", 108: b"30", 553: DEALER.name.encode(), 554: DEALER.password.encode(), 1137: b"9"}
+    for tag, value in ((1137, None), (1137, b"7"), (52, None), (52, b"yesterday")):
+        before, fields = stage.counters(), header | {52: now()} | body | {tag: value}
+        with Wire(stage.door.port) as wire:
+            wire.raw(framed(b"".join(b"%d=%s\x01" % item for item in fields.items() if item[1] is not None)))
+            message = wire.read_kind(b"5")
+            check(message is not None and message.value(58), "no Logout with a text where %d is %r" % (tag, value))
+            check(wire.closed_within(SLACK), "the connection stays where %d is %r" % (tag, value))
+        check(grown(before, stage.counters()), "no counter has grown where %d is %r" % (tag, value))
+    stage.log_on(stage.dealer)
+    stage.ping(stage.dealer)
+
+
 def half_a_logon(stage: Stage) -> None:
     """Connections that say nothing, or half a Logon, end at the limit; nobody waits for them."""
     stage.open()
@@ -215,6 +233,21 @@ def many_connections(stage: Stage) -> None:
     for wire in wires:
         check(wire.closed_within(LOGON_SECONDS + SLACK), "a silent connection stays")
         wire.socket.close()
+    stage.log_on(stage.dealer)
+    stage.ping(stage.dealer)
+
+
+def no_descriptor_left(stage: Stage) -> None:
+    """Connections past what the process may have open: that is told, and a firm logs on once there is room."""
+    stage.open(stage.other)
+    pid = stage.door.process.pid
+    limits, used = resource.prlimit(pid, resource.RLIMIT_NOFILE), len(list(Path("/proc/%d/fd" % pid).iterdir()))
+    resource.prlimit(pid, resource.RLIMIT_NOFILE, (used + 5, limits[1]))
+    wires = [Wire(stage.door.port) for _ in range(20)]
+    until("it is told", LONG, lambda: b"Too many open files" in stage.door.told.read_bytes())
+    for wire in wires:
+        wire.socket.close()
+    resource.prlimit(pid, resource.RLIMIT_NOFILE, limits)
     stage.log_on(stage.dealer)
     stage.ping(stage.dealer)
 
@@ -355,5 +388,5 @@ def plain_to_tls(stage: Stage) -> None:
 
 
 TRIED = [wrong_password, wrong_password_of_one_away, wrong_words, unknown_firm, words_of_a_stranger, stranger_in_a_firms_name, second_connection,
-         numbers_are_not_reset, reset_as_the_first, heartbeats, late_logon, half_a_logon, endless_logon, many_connections,
-         beyond_the_loopback, by_tls, tls_begun_anew, certificate_of_another_firm, certificate_of_another_authority, plain_to_tls]
+         numbers_are_not_reset, reset_as_the_first, heartbeats, late_logon, logon_at_fault, half_a_logon, endless_logon, many_connections,
+         no_descriptor_left, beyond_the_loopback, by_tls, tls_begun_anew, certificate_of_another_firm, certificate_of_another_authority, plain_to_tls]
