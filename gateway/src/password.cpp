@@ -1,6 +1,7 @@
 #include "password.h"
 
 #include <memory>
+#include <semaphore>
 #include <stdexcept>
 
 #include <crypt.h>
@@ -10,8 +11,27 @@ namespace gateway {
 
 namespace {
 
+// So many passwords are looked at at one time: each takes 16 MB and a processor for tens of
+// milliseconds, and whoever connects may ask for it.
+constexpr std::ptrdiff_t at_once = 4;
+
+class Turn {
+  public:
+    Turn() { turns().acquire(); }
+    ~Turn() { turns().release(); }
+    Turn(const Turn &) = delete;
+    Turn &operator=(const Turn &) = delete;
+
+  private:
+    static std::counting_semaphore<> &turns() {
+        static std::counting_semaphore<> all(at_once);
+        return all;
+    }
+};
+
 // The data is 32 KB: too much for a stack.
 std::string crypt(const std::string &password, const std::string &setting) {
+    const Turn turn;
     const auto data = std::make_unique<crypt_data>();
     const char *hash = ::crypt_r(password.c_str(), setting.c_str(), data.get());
     const std::string text = hash == nullptr ? "" : hash;

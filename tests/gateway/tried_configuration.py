@@ -20,6 +20,14 @@ def configuration_at_fault(stage: Stage) -> None:
         stage.refused(word)
 
 
+def beyond_the_loopback(stage: Stage) -> None:
+    stage.door.write()
+    file = stage.folder / "gateway.toml"
+    text = file.read_text()
+    file.write_text(text.replace('listen = "127.0.0.1"', 'listen = "0.0.0.0"'))
+    stage.refused("plain_tcp_beyond_loopback|loopback")
+
+
 def password_in_the_clear(stage: Stage) -> None:
     """A password in the place of its hash: it would be right for nobody."""
     stage.door.write()
@@ -77,4 +85,4 @@ def configured(site: Path, folder: Path) -> subprocess.CompletedProcess[str]:
     return subprocess.run(words, capture_output=True, text=True, timeout=60, check=False)
 
 
-TRIED = [configuration_at_fault, password_in_the_clear, part_without_a_command, checked_beforehand, password_of_a_shell]
+TRIED = [configuration_at_fault, beyond_the_loopback, password_in_the_clear, part_without_a_command, checked_beforehand, password_of_a_shell]
