@@ -68,7 +68,8 @@ void set_body(FIX::Message &message, const std::string &body) {
 
 FirmSession::FirmSession(const SessionStart &start, const EngineSettings &settings,
                          EngineEvents &events)
-    : firm_(start.firm), settings_(settings), host_(*start.host), events_(events), store_(start) {
+    : firm_(start.firm), name_(session_name(start.venue, start.firm)), settings_(settings),
+      host_(*start.host), events_(events), store_(start) {
     // From midnight to midnight is always.
     const FIX::TimeRange always(FIX::UtcTimeOnly(0, 0, 0), FIX::UtcTimeOnly(0, 0, 0));
     FIX::Application &application = *this;
@@ -104,7 +105,7 @@ bool FirmSession::read(const std::string &bytes, FIX::Message &message) {
         message.setString(bytes, false);
         return true;
     } catch (const FIX::InvalidMessage &fault) {
-        events_.dropped("no message", firm_ + ": " + fault.what());
+        events_.dropped("no message", name_ + ": " + fault.what());
         return false;
     }
 }
@@ -154,7 +155,7 @@ void FirmSession::next(const FIX::Message &message) {
     try {
         session_->next(message, FIX::UtcTimeStamp());
     } catch (const std::exception &fault) {
-        events_.dropped("session", firm_ + ": " + fault.what());
+        events_.dropped("session", name_ + ": " + fault.what());
         end(fault.what());
     }
 }
@@ -168,7 +169,7 @@ void FirmSession::take_admin(const std::string &type, const FIX::Message &messag
     if (type == "5" && number != expected) {
         end_uncounted();
     } else if (type == "3" && number > expected) {
-        events_.dropped("gap", firm_);
+        events_.dropped("gap", name_);
     } else if (resets || is_next_or_kept(number)) {
         next(message);
     }
@@ -196,7 +197,7 @@ void FirmSession::reject(const FIX::Header &header, int tag, int reason, const s
         return;
     }
     if (number > expected) {
-        events_.dropped("gap", firm_);
+        events_.dropped("gap", name_);
         return;
     }
     FIX::Message reject;
@@ -234,7 +235,7 @@ bool FirmSession::is_next_or_kept(int number) {
         return true;
     }
     if (ahead_.size() >= settings_.gap_messages) {
-        events_.dropped("gap", firm_);
+        events_.dropped("gap", name_);
         if (*ahead_.rbegin() < expected) {
             // The firm has passed over all that the engine keeps, and keeps until the connection
             // ends: with no room for a message behind the new gap it would never ask for that.
@@ -323,7 +324,7 @@ void FirmSession::onLogout(const FIX::SessionID &) {
 void FirmSession::toAdmin(FIX::Message &message, const FIX::SessionID &) {
     if (text_in(message.getHeader(), FIX::FIELD::MsgType) == "3" &&
         !message.isSetField(FIX::FIELD::ApplSeqNum)) {
-        events_.dropped("session reject", firm_ + ": " + text_in(message, FIX::FIELD::Text));
+        events_.dropped("session reject", name_ + ": " + text_in(message, FIX::FIELD::Text));
     }
 }
 
@@ -374,7 +375,7 @@ void FirmSession::fromApp(const FIX::Message &message,
 }
 
 void FirmSession::onEvent(const std::string &text) {
-    events_.session_event(firm_, text);
+    events_.session_event(name_, text);
     // The engine tells why it ends a connection, and then that it does.
     if (text != "Disconnecting") {
         remember(text);

@@ -130,6 +130,7 @@ class FirmSession final : private FIX::Application, private FIX::Log {
     };
 
     std::string firm_;
+    std::string name_; // for events: with the venue, where there are several
     const EngineSettings &settings_;
     SessionHost &host_;
     EngineEvents &events_;

@@ -41,7 +41,7 @@ bool FirmSession::admit(Connection &connection, const std::string &bytes) {
         Clock::now() + (refusal.empty() ? old_connection : std::chrono::seconds(0));
     while (!attach(connection)) {
         if (Clock::now() >= latest || connection.is_shut()) {
-            events_.refused("second connection", connection.peer() + ": " + firm_);
+            events_.refused("second connection", connection.peer() + ": " + name_);
             connection.shut("the firm has a connection");
             return false;
         }
@@ -146,7 +146,7 @@ std::string FirmSession::refusal_of_sender(const FIX::Message &logon,
 // A stock engine that misses messages counts a Logout in the place of the first of them, and never
 // asks for that one. So where it may miss one of the venue it is not told why.
 void FirmSession::refuse(const std::string &why) {
-    events_.refused("logon", firm_ + ": " + why);
+    events_.refused("logon", name_ + ": " + why);
     if (store_.last_carried() <= had_) {
         send_logout(why);
     }
