@@ -1,5 +1,6 @@
 #include "engine.h"
 
+#include "check_settings.h"
 #include "connection.h"
 #include "session.h"
 

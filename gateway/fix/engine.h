@@ -108,10 +108,6 @@ struct EngineSettings {
     std::size_t waiting_bytes = 4194304;
 };
 
-// Throws std::runtime_error where an engine could not begin with them: by the address, or by a
-// certificate or a key that can't be used.
-void check_settings(const EngineSettings &settings);
-
 // The name of a firm's session with a venue. A venue that is the only one has no name.
 std::string session_name(const std::string &venue, const std::string &firm);
 

@@ -1,4 +1,5 @@
 // mireseason-gateway CONFIG
+#include "check_settings.h"
 #include "gateway.h"
 #include "password.h"
 
