@@ -4,6 +4,7 @@
 
 #include <array>
 #include <cerrno>
+#include <cstring>
 #include <stdexcept>
 
 #include <poll.h>
@@ -43,7 +44,7 @@ Connection::Connection(Descriptor socket, std::string peer, const TlsServer *tls
       bell_(::eventfd(0, EFD_CLOEXEC | EFD_NONBLOCK)), cutter_(settings.message_bytes),
       opened_(Clock::now()), progress_(opened_), ticked_(opened_) {
     if (bell_.number() < 0) {
-        throw std::runtime_error("no event descriptor for a connection");
+        throw std::runtime_error(std::string("no event descriptor: ") + std::strerror(errno));
     }
     events_.connection_opened(peer_);
     try {

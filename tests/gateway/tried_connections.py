@@ -1,6 +1,7 @@
 """Connections that never become a session, and more of them than there is room for."""
 
 import resource
+from collections.abc import Callable
 from pathlib import Path
 
 from stage import DEALER, LOGON_SECONDS, Stage, check
@@ -68,16 +69,24 @@ def many_passwords(stage: Stage) -> None:
 def no_descriptor_left(stage: Stage) -> None:
     """Connections past what the process may have open: that is told, and a firm logs on once there is room."""
     stage.open(stage.other)
-    pid = stage.door.process.pid
-    limits, used = resource.prlimit(pid, resource.RLIMIT_NOFILE), len(list(Path("/proc/%d/fd" % pid).iterdir()))
-    resource.prlimit(pid, resource.RLIMIT_NOFILE, (used + 5, limits[1]))
-    wires = [Wire(stage.door.port) for _ in range(20)]
-    until("it is told", LONG, lambda: b"Too many open files" in stage.door.told.read_bytes())
-    for wire in wires:
-        wire.socket.close()
-    resource.prlimit(pid, resource.RLIMIT_NOFILE, limits)
+    for spare in (4, 5):  # a connection takes two: one time none is left for the next one, and one time a single one
+        told = len(stage.door.told.read_bytes())
+        without_descriptors(stage, spare, lambda: b"Too many open files" in stage.door.told.read_bytes()[told:])
     stage.log_on(stage.dealer)
     stage.ping(stage.dealer)
+
+
+def without_descriptors(stage: Stage, spare: int, is_told: Callable[[], bool]) -> None:
+    """Waits, while the gateway may open so many more and twenty connections come."""
+    pid = stage.door.process.pid
+    limits, used = resource.prlimit(pid, resource.RLIMIT_NOFILE), len(list(Path("/proc/%d/fd" % pid).iterdir()))
+    resource.prlimit(pid, resource.RLIMIT_NOFILE, (used + spare, limits[1]))
+    wires = [Wire(stage.door.port) for _ in range(20)]
+    until("it is told", LONG, is_told)
+    resource.prlimit(pid, resource.RLIMIT_NOFILE, limits)
+    for wire in wires:
+        wire.socket.close()
+    until("its connections have ended", LONG, lambda: stage.counters()["mireseason_connections"] == 1)
 
 
 TRIED = [half_a_logon, endless_logon, many_connections, many_passwords, no_descriptor_left]
