@@ -180,9 +180,8 @@ class ConfigReader {
         const fs::path file = section("fix").beside(section("fix").text("credentials"));
         for (const auto &[key, node] : parse(file, read_file(file))) {
             const std::string firm(key.str());
-            if (std::none_of(configs.begin(), configs.end(), [&](const Config &config) {
-                    return config.credentials.contains(firm);
-                })) {
+            const auto has = [&](const Config &each) { return each.credentials.contains(firm); };
+            if (std::ranges::none_of(configs, has)) {
                 fail(file, fmt::format("the venue has no firm {}", firm));
             }
         }
