@@ -17,6 +17,9 @@ DATABASE_FILES = ("etcd.yml", "patroni.yml", "make_database.sh")
 WORDS = ("GATEWAY", "READER", "REPLICATION", "REWIND")  # what has a password
 ALONE = ""  # the name of a venue that is the only one
 LEFT = re.compile(r"@[A-Z0-9_]+@")
+# They stand in YAML, in SQL within a command of a shell, and in a pgpass: no other character is the
+# same in all of them.
+PASSWORD = re.compile(r"[A-Za-z0-9._~+-]+")
 
 
 @dataclass(frozen=True)
@@ -96,14 +99,15 @@ def read_site(path: Path) -> Site:
     """A site from its file; Fault with what is wrong with it."""
     try:
         table = tomllib.loads(path.read_text())
-        passwords = {word.upper(): text(secret) for word, secret in table["passwords"].items()}
+        passwords = {word.upper(): password(word, secret)
+                     for word, secret in table["passwords"].items()}
         if set(passwords) != set(WORDS):
             raise ValueError("the passwords are those of %s" % ", ".join(WORDS).lower())
         venue = table["venue"]
         return Site(text(table["network"]), texts(table["databases"]), texts(table["gateways"]),
                     passwords, tuple(map(text, venue["command"])), text(table["security"]),
                     tuple(map(text, venue.get("names", [ALONE]))))
-    except (OSError, ValueError, AttributeError) as fault:
+    except (OSError, ValueError, AttributeError, TypeError) as fault:
         raise Fault("%s: %s" % (path, fault)) from fault
     except KeyError as fault:
         raise Fault("%s: %s is missing" % (path, fault)) from fault
@@ -112,6 +116,12 @@ def read_site(path: Path) -> Site:
 def text(value: Any) -> str:
     if not isinstance(value, str):
         raise ValueError("%r is no text" % value)
+    return value
+
+
+def password(word: str, value: Any) -> str:
+    if not PASSWORD.fullmatch(text(value)):
+        raise ValueError("the password of %s is not of letters, digits and . _ ~ + - alone" % word)
     return value
 
 

@@ -4,6 +4,7 @@
 
 #include <array>
 #include <cerrno>
+#include <cstring>
 #include <stdexcept>
 
 #include <poll.h>
@@ -43,10 +44,15 @@ Connection::Connection(Descriptor socket, std::string peer, const TlsServer *tls
       bell_(::eventfd(0, EFD_CLOEXEC | EFD_NONBLOCK)), cutter_(settings.message_bytes),
       opened_(Clock::now()), progress_(opened_), ticked_(opened_) {
     if (bell_.number() < 0) {
-        throw std::runtime_error("no event descriptor for a connection");
+        throw std::runtime_error(std::string("no event descriptor: ") + std::strerror(errno));
     }
     events_.connection_opened(peer_);
-    thread_ = std::thread([this] { run(); });
+    try {
+        thread_ = std::thread([this] { run(); });
+    } catch (const std::exception &fault) {
+        events_.connection_closed(peer_, fault.what());
+        throw;
+    }
 }
 
 Connection::~Connection() {
@@ -306,7 +312,8 @@ void Connection::keep_time() {
         over = closing_ && (unwritten_ == 0 || now >= close_at_);
     }
     if (over) {
-        shut("the session ended it");
+        // Nobody else has it ended so.
+        shut("the session ended it: " + session_->last_event());
     } else if (wants_write_ && session_ != nullptr &&
                now - progress_ >= seconds(settings_.send_seconds)) {
         shut("the firm takes no byte");

@@ -1,5 +1,6 @@
 #include "engine.h"
 
+#include "check_settings.h"
 #include "connection.h"
 #include "session.h"
 
@@ -35,26 +36,47 @@ std::string text_of(const sockaddr_in &address) {
     return std::string(text) + ":" + std::to_string(ntohs(address.sin_port));
 }
 
-Descriptor listen_at(const std::string &address, std::uint16_t port) {
-    const std::string where = address + ":" + std::to_string(port);
-    sockaddr_in at{};
-    at.sin_family = AF_INET;
-    at.sin_port = htons(port);
-    if (::inet_pton(AF_INET, address.c_str(), &at.sin_addr) != 1) {
-        throw std::runtime_error(where + ": no address of IPv4");
+std::string where(const EngineSettings &settings) {
+    return settings.address + ":" + std::to_string(settings.port);
+}
+
+sockaddr_in address_of(const EngineSettings &settings) {
+    sockaddr_in address{};
+    address.sin_family = AF_INET;
+    address.sin_port = htons(settings.port);
+    if (::inet_pton(AF_INET, settings.address.c_str(), &address.sin_addr) != 1) {
+        throw std::runtime_error(where(settings) + ": no address of IPv4");
     }
+    return address;
+}
+
+// Null for plain TCP.
+std::unique_ptr<TlsServer> tls_of(const EngineSettings &settings) {
+    return settings.certificate.empty()
+               ? nullptr
+               : std::make_unique<TlsServer>(settings.certificate, settings.key,
+                                             settings.authorities, settings.client_certificates);
+}
+
+Descriptor listen_at(const EngineSettings &settings) {
+    const sockaddr_in at = address_of(settings);
     Descriptor socket(::socket(AF_INET, SOCK_STREAM | SOCK_CLOEXEC | SOCK_NONBLOCK, 0));
     const int yes = 1;
     if (socket.number() < 0 ||
         ::setsockopt(socket.number(), SOL_SOCKET, SO_REUSEADDR, &yes, sizeof yes) != 0 ||
         ::bind(socket.number(), reinterpret_cast<const sockaddr *>(&at), sizeof at) != 0 ||
         ::listen(socket.number(), 64) != 0) {
-        throw fault_of(where);
+        throw fault_of(where(settings));
     }
     return socket;
 }
 
 } // namespace
+
+void check_settings(const EngineSettings &settings) {
+    address_of(settings);
+    tls_of(settings);
+}
 
 std::string session_name(const std::string &venue, const std::string &firm) {
     return venue.empty() ? firm : venue + "/" + firm;
@@ -64,14 +86,10 @@ class Engine::Parts {
   public:
     Parts(const EngineSettings &settings, const std::vector<SessionStart> &starts,
           EngineEvents &events)
-        : settings_(settings), events_(events), bell_(::eventfd(0, EFD_CLOEXEC | EFD_NONBLOCK)) {
+        : settings_(settings), events_(events), bell_(::eventfd(0, EFD_CLOEXEC | EFD_NONBLOCK)),
+          tls_(tls_of(settings_)) {
         if (bell_.number() < 0) {
             throw fault_of("no event descriptor");
-        }
-        if (!settings_.certificate.empty()) {
-            tls_ =
-                std::make_unique<TlsServer>(settings_.certificate, settings_.key,
-                                            settings_.authorities, settings_.client_certificates);
         }
         for (const SessionStart &start : starts) {
             sessions_[session_name(start.venue, start.firm)] =
@@ -81,7 +99,7 @@ class Engine::Parts {
     ~Parts() { stop(""); }
 
     void listen() {
-        socket_ = listen_at(settings_.address, settings_.port);
+        socket_ = listen_at(settings_);
         thread_ = std::thread([this] { run(); });
     }
 
@@ -142,10 +160,7 @@ class Engine::Parts {
         Descriptor socket(::accept4(socket_.number(), reinterpret_cast<sockaddr *>(&address), &size,
                                     SOCK_CLOEXEC | SOCK_NONBLOCK));
         if (socket.number() < 0) {
-            if (errno == EMFILE || errno == ENFILE) {
-                // It stays in the queue until a descriptor is free.
-                std::this_thread::sleep_for(milliseconds(100));
-            }
+            not_accepted(errno);
             return;
         }
         const std::string peer = text_of(address);
@@ -161,6 +176,16 @@ class Engine::Parts {
         } catch (const std::exception &fault) {
             events_.refused("connection", peer + ": " + fault.what());
         }
+    }
+
+    // One whose peer has gone meanwhile is no fault; another stays in the queue until there is a
+    // descriptor, or memory.
+    void not_accepted(int fault) {
+        if (fault == EAGAIN || fault == EINTR || fault == ECONNABORTED) {
+            return;
+        }
+        events_.refused("connection", std::strerror(fault));
+        std::this_thread::sleep_for(milliseconds(500));
     }
 
     const EngineSettings settings_;

@@ -24,9 +24,6 @@ const std::string question = "MIRESEASON-";
 constexpr auto settling = std::chrono::seconds(10);
 constexpr auto filling = std::chrono::seconds(30);
 
-// Resent at once: so much of a firm's day is in memory at a time.
-constexpr int resent_at_once = 500;
-
 // The field in which the bytes of a message ride through the engine: RawData (96), never sent.
 constexpr int bytes_field = 96;
 
@@ -71,7 +68,8 @@ void set_body(FIX::Message &message, const std::string &body) {
 
 FirmSession::FirmSession(const SessionStart &start, const EngineSettings &settings,
                          EngineEvents &events)
-    : firm_(start.firm), settings_(settings), host_(*start.host), events_(events), store_(start) {
+    : firm_(start.firm), name_(session_name(start.venue, start.firm)), settings_(settings),
+      host_(*start.host), events_(events), store_(start) {
     // From midnight to midnight is always.
     const FIX::TimeRange always(FIX::UtcTimeOnly(0, 0, 0), FIX::UtcTimeOnly(0, 0, 0));
     FIX::Application &application = *this;
@@ -107,7 +105,7 @@ bool FirmSession::read(const std::string &bytes, FIX::Message &message) {
         message.setString(bytes, false);
         return true;
     } catch (const FIX::InvalidMessage &fault) {
-        events_.dropped("no message", firm_ + ": " + fault.what());
+        events_.dropped("no message", name_ + ": " + fault.what());
         return false;
     }
 }
@@ -123,9 +121,10 @@ void FirmSession::take(const std::string &bytes) {
     if (type == "A") {
         take_logon(message);
     } else if (missing != 0) {
-        reject_without(missing, message.getHeader());
+        reject(message.getHeader(), missing, FIX::SessionRejectReason_REQUIRED_TAG_MISSING,
+               "Required tag missing");
     } else if (type == "2") {
-        take_resend_request(std::move(message), own_connection());
+        take_resend_request(message, own_connection());
     } else if (message.isAdmin()) {
         look_for_answer(type, message);
         take_admin(type, message);
@@ -156,8 +155,8 @@ void FirmSession::next(const FIX::Message &message) {
     try {
         session_->next(message, FIX::UtcTimeStamp());
     } catch (const std::exception &fault) {
-        events_.dropped("session", firm_ + ": " + fault.what());
-        session_->disconnect();
+        events_.dropped("session", name_ + ": " + fault.what());
+        end(fault.what());
     }
 }
 
@@ -170,30 +169,35 @@ void FirmSession::take_admin(const std::string &type, const FIX::Message &messag
     if (type == "5" && number != expected) {
         end_uncounted();
     } else if (type == "3" && number > expected) {
-        events_.dropped("gap", firm_);
+        events_.dropped("gap", name_);
     } else if (resets || is_next_or_kept(number)) {
         next(message);
     }
+}
+
+void FirmSession::end(const std::string &why) {
+    remember(why);
+    session_->disconnect();
 }
 
 void FirmSession::end_uncounted() {
     if (session_->isLoggedOn() && !session_->sentLogout()) {
         send_logout("");
     }
-    session_->disconnect();
+    end("a Logout that is not the next message");
 }
 
 // What is ahead of a gap comes again, and is rejected then.
-void FirmSession::reject_without(int tag, const FIX::Header &header) {
+void FirmSession::reject(const FIX::Header &header, int tag, int reason, const std::string &text) {
     const int number = number_in(header, FIX::FIELD::MsgSeqNum);
     const int expected = session_->getExpectedTargetNum();
     if (number < 1) {
         // As the engine does where this field alone lacks.
-        session_->disconnect();
+        end("a message without a number");
         return;
     }
     if (number > expected) {
-        events_.dropped("gap", firm_);
+        events_.dropped("gap", name_);
         return;
     }
     FIX::Message reject;
@@ -201,8 +205,8 @@ void FirmSession::reject_without(int tag, const FIX::Header &header) {
     reject.setField(FIX::RefSeqNum(number));
     reject.setField(FIX::RefTagID(tag));
     reject.setField(FIX::RefMsgType(text_in(header, FIX::FIELD::MsgType)));
-    reject.setField(FIX::SessionRejectReason(FIX::SessionRejectReason_REQUIRED_TAG_MISSING));
-    reject.setField(FIX::Text("Required tag missing"));
+    reject.setField(FIX::SessionRejectReason(reason));
+    reject.setField(FIX::Text(text));
     session_->send(reject);
     if (number == expected) {
         pass_over(number);
@@ -226,46 +230,21 @@ void FirmSession::pass_over(int number) {
 
 // The engine asks for all of a gap: so what is not kept comes again.
 bool FirmSession::is_next_or_kept(int number) {
-    if (number <= session_->getExpectedTargetNum()) {
+    const int expected = session_->getExpectedTargetNum();
+    if (number <= expected) {
         return true;
     }
     if (ahead_.size() >= settings_.gap_messages) {
-        events_.dropped("gap", firm_);
+        events_.dropped("gap", name_);
+        if (*ahead_.rbegin() < expected) {
+            // The firm has passed over all that the engine keeps, and keeps until the connection
+            // ends: with no room for a message behind the new gap it would never ask for that.
+            end("too much is kept that was passed over");
+        }
         return false;
     }
     ahead_.insert(number);
     return true;
-}
-
-// The engine reads a whole gap into memory before it sends the first message of it; given piece by
-// piece, a gap of any length takes little.
-void FirmSession::take_resend_request(FIX::Message message, Connection &connection) {
-    const int last_sent = session_->getExpectedSenderNum() - 1;
-    const int first = number_in(message, FIX::FIELD::BeginSeqNo);
-    const int asked = number_in(message, FIX::FIELD::EndSeqNo);
-    if (first < 1 || asked < 0 || first > last_sent) {
-        next(message);
-        return;
-    }
-    const bool fills_gap = had_ < asked_at_;
-    if (fills_gap) {
-        settled_at_ = settled_by_;
-    }
-    const int last = asked == 0 ? last_sent : std::min(asked, last_sent);
-    bool there = true;
-    for (int from = first; there && from <= last; from += resent_at_once) {
-        message.setField(FIX::BeginSeqNo(from));
-        message.setField(FIX::EndSeqNo(std::min(from + resent_at_once - 1, last)));
-        next(message);
-        // Not under the lock: others have to be able to shut a connection that takes nothing.
-        connection.drain();
-        there = session_->isLoggedOn();
-    }
-    if (there && fills_gap) {
-        // The one behind the Logon was part of the gap, and is left out of it like all of the
-        // session's.
-        ask_whether_settled();
-    }
 }
 
 void FirmSession::ask_whether_settled() {
@@ -345,7 +324,7 @@ void FirmSession::onLogout(const FIX::SessionID &) {
 void FirmSession::toAdmin(FIX::Message &message, const FIX::SessionID &) {
     if (text_in(message.getHeader(), FIX::FIELD::MsgType) == "3" &&
         !message.isSetField(FIX::FIELD::ApplSeqNum)) {
-        events_.dropped("session reject", firm_ + ": " + text_in(message, FIX::FIELD::Text));
+        events_.dropped("session reject", name_ + ": " + text_in(message, FIX::FIELD::Text));
     }
 }
 
@@ -396,7 +375,21 @@ void FirmSession::fromApp(const FIX::Message &message,
 }
 
 void FirmSession::onEvent(const std::string &text) {
-    events_.session_event(firm_, text);
+    events_.session_event(name_, text);
+    // The engine tells why it ends a connection, and then that it does.
+    if (text != "Disconnecting") {
+        remember(text);
+    }
+}
+
+void FirmSession::remember(const std::string &event) {
+    const std::lock_guard<std::mutex> lock(event_mutex_);
+    last_event_ = event;
+}
+
+std::string FirmSession::last_event() const {
+    const std::lock_guard<std::mutex> lock(event_mutex_);
+    return last_event_;
 }
 
 } // namespace gateway

@@ -53,6 +53,8 @@ class FirmSession final : private FIX::Application, private FIX::Log {
     void log_out(const std::string &reason);
 
     const std::string &firm() const { return firm_; }
+    // What was told last: where the session has ended its connection, why. Any thread may ask.
+    std::string last_event() const;
 
   private:
     // False where another connection has it.
@@ -62,11 +64,16 @@ class FirmSession final : private FIX::Application, private FIX::Log {
     void take_logon(const FIX::Message &message);
     void take_admin(const std::string &type, const FIX::Message &message);
     void end_uncounted();
-    void reject_without(int tag, const FIX::Header &header);
+    // Ends the connection.
+    void end(const std::string &why);
+    void remember(const std::string &event);
+    // The session's Reject of a message, which is counted.
+    void reject(const FIX::Header &header, int tag, int reason, const std::string &text);
     void pass_over(int number);
     // Whether the next one is expected, or the engine may keep this one until then.
     bool is_next_or_kept(int number);
-    void take_resend_request(FIX::Message message, Connection &connection);
+    void take_resend_request(const FIX::Message &request, Connection &connection);
+    bool resend(FIX::Message request, int last_sent, Connection &connection);
     Connection &own_connection();
     void take_application(const FIX::Message &message, const std::string &bytes);
     std::string refusal_of(const FIX::Message &logon);
@@ -123,6 +130,7 @@ class FirmSession final : private FIX::Application, private FIX::Log {
     };
 
     std::string firm_;
+    std::string name_; // for events: with the venue, where there are several
     const EngineSettings &settings_;
     SessionHost &host_;
     EngineEvents &events_;
@@ -146,6 +154,9 @@ class FirmSession final : private FIX::Application, private FIX::Log {
     Connection *connection_ = nullptr;
     std::string farewell_; // why the session is to be logged out, until it is
     std::set<int> ahead_;  // numbers that the engine keeps while an earlier one is missing
+
+    mutable std::mutex event_mutex_;
+    std::string last_event_;
 
     std::unique_ptr<FIX::Session> session_;
 };

@@ -18,14 +18,14 @@ constexpr auto old_connection = std::chrono::seconds(2);
 // The longest time between two heartbeats that a firm may ask for.
 constexpr int longest_heartbeat = 300;
 
-// Whether a message was sent about now. What is no moment is the engine's to refuse.
+// Whether a message says that it was sent about now.
 bool is_of_now(const FIX::Header &header, int seconds) {
     try {
         FIX::SendingTime sent;
         header.getField(sent);
         return std::abs(FIX::UtcTimeStamp() - sent.getValue()) <= seconds;
     } catch (const FIX::Exception &) {
-        return true;
+        return false;
     }
 }
 
@@ -41,7 +41,7 @@ bool FirmSession::admit(Connection &connection, const std::string &bytes) {
         Clock::now() + (refusal.empty() ? old_connection : std::chrono::seconds(0));
     while (!attach(connection)) {
         if (Clock::now() >= latest || connection.is_shut()) {
-            events_.refused("second connection", connection.peer() + ": " + firm_);
+            events_.refused("second connection", connection.peer() + ": " + name_);
             connection.shut("the firm has a connection");
             return false;
         }
@@ -58,6 +58,7 @@ bool FirmSession::attach(Connection &connection) {
         return false;
     }
     has_logged_on_ = false;
+    remember("");
     session_->logon();
     session_->setResponder(&connection);
     connection_ = &connection;
@@ -115,10 +116,13 @@ std::string FirmSession::refusal_of(const FIX::Message &logon) {
     if (heartbeat < 1 || heartbeat > longest_heartbeat) {
         return "108 is not 1 to 300";
     }
+    if (text_in(logon, FIX::FIELD::DefaultApplVerID) != FIX::ApplVerID_FIX50SP2) {
+        return "1137 is not 9";
+    }
     return refusal_of_header(logon.getHeader());
 }
 
-// What the engine would answer by a Logout of its own.
+// What the engine would answer by a Logout of its own, or by none.
 std::string FirmSession::refusal_of_header(const FIX::Header &header) {
     const int expected = session_->getExpectedTargetNum();
     if (number_in(header, FIX::FIELD::MsgSeqNum) < expected) {
@@ -142,17 +146,17 @@ std::string FirmSession::refusal_of_sender(const FIX::Message &logon,
 // A stock engine that misses messages counts a Logout in the place of the first of them, and never
 // asks for that one. So where it may miss one of the venue it is not told why.
 void FirmSession::refuse(const std::string &why) {
-    events_.refused("logon", firm_ + ": " + why);
+    events_.refused("logon", name_ + ": " + why);
     if (store_.last_carried() <= had_) {
         send_logout(why);
     }
-    session_->disconnect();
+    end(why);
 }
 
 // The same holds until it has said that it misses nothing.
 void FirmSession::bid_farewell(const std::string &reason) {
     if (had_ < asked_at_) {
-        session_->disconnect();
+        end(reason);
     } else {
         session_->logout(reason);
     }

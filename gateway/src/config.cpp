@@ -1,5 +1,7 @@
 #include "config.h"
 
+#include "password.h"
+
 #include <algorithm>
 #include <array>
 #include <fstream>
@@ -142,14 +144,16 @@ class ConfigReader {
 
     // The venues' names: the parts [venue.NAME], or no name for a part [venue] with a command.
     std::vector<std::string> venues() const {
-        std::vector<std::string> names;
         const toml::table *venue = table_["venue"].as_table();
-        if (venue != nullptr && !venue->contains("command")) {
-            for (const auto &[key, node] : *venue) {
-                if (node.is_table()) {
-                    names.emplace_back(key.str());
-                }
+        if (venue == nullptr || venue->contains("command")) {
+            return {""};
+        }
+        std::vector<std::string> names;
+        for (const auto &[key, node] : *venue) {
+            if (!node.is_table()) {
+                section("venue").fail_at(key.str(), "stands in a part without a command");
             }
+            names.emplace_back(key.str());
         }
         return names.empty() ? std::vector<std::string>{""} : names;
     }
@@ -176,9 +180,8 @@ class ConfigReader {
         const fs::path file = section("fix").beside(section("fix").text("credentials"));
         for (const auto &[key, node] : parse(file, read_file(file))) {
             const std::string firm(key.str());
-            if (std::none_of(configs.begin(), configs.end(), [&](const Config &config) {
-                    return config.credentials.contains(firm);
-                })) {
+            const auto has = [&](const Config &each) { return each.credentials.contains(firm); };
+            if (std::ranges::none_of(configs, has)) {
                 fail(file, fmt::format("the venue has no firm {}", firm));
             }
         }
@@ -289,14 +292,16 @@ class ConfigReader {
         const toml::table table = parse(file, read_file(file));
         for (const auto &[key, node] : table) {
             const std::string firm(key.str());
-            const auto &names = config_.firms.names;
-            if (std::find(names.begin(), names.end(), firm) == names.end()) {
+            if (std::ranges::find(config_.firms.names, firm) == config_.firms.names.end()) {
                 continue;
             }
             Section row(file, firm, node.as_table());
             Credentials &own = config_.credentials[firm];
             own.username = row.text_of_need("username");
             own.password_hash = row.text_of_need("password");
+            if (!is_hash(own.password_hash)) {
+                row.fail_at("password", "is no hash: --hash makes one");
+            }
             own.cancel_on_disconnect = row.text("cancel_on_disconnect");
             row.end();
             if (!own.cancel_on_disconnect.empty()) {

@@ -1,4 +1,5 @@
 // mireseason-gateway CONFIG
+#include "check_settings.h"
 #include "gateway.h"
 #include "password.h"
 
@@ -90,6 +91,7 @@ class Signals {
 int serve(const std::string &path, bool only_check) {
     std::vector<gateway::Config> configs = gateway::read_configs(path);
     if (only_check) {
+        gateway::check_settings(configs.front().engine);
         for (const gateway::Config &config : configs) {
             std::cout << path << " is a configuration of " << config.firms.names.size()
                       << " firms\n";

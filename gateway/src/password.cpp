@@ -1,6 +1,7 @@
 #include "password.h"
 
 #include <memory>
+#include <semaphore>
 #include <stdexcept>
 
 #include <crypt.h>
@@ -10,8 +11,27 @@ namespace gateway {
 
 namespace {
 
+// So many passwords are looked at at one time: each takes 16 MB and a processor for tens of
+// milliseconds, and whoever connects may ask for it.
+constexpr std::ptrdiff_t at_once = 4;
+
+class Turn {
+  public:
+    Turn() { turns().acquire(); }
+    ~Turn() { turns().release(); }
+    Turn(const Turn &) = delete;
+    Turn &operator=(const Turn &) = delete;
+
+  private:
+    static std::counting_semaphore<> &turns() {
+        static std::counting_semaphore<> all(at_once);
+        return all;
+    }
+};
+
 // The data is 32 KB: too much for a stack.
 std::string crypt(const std::string &password, const std::string &setting) {
+    const Turn turn;
     const auto data = std::make_unique<crypt_data>();
     const char *hash = ::crypt_r(password.c_str(), setting.c_str(), data.get());
     const std::string text = hash == nullptr ? "" : hash;
@@ -30,6 +50,12 @@ bool has_hash(const std::string &password, const std::string &hash) {
     const std::string own = crypt(password, hash);
     return !own.empty() && own.size() == hash.size() &&
            CRYPTO_memcmp(own.data(), hash.data(), own.size()) == 0;
+}
+
+// Without the dollar it would be one of DES, for which any two letters are a salt: a password that
+// stands where its hash has to be.
+bool is_hash(const std::string &text) {
+    return text.starts_with('$') && ::crypt_checksalt(text.c_str()) != CRYPT_SALT_INVALID;
 }
 
 std::string new_hash(const std::string &password) {

@@ -10,6 +10,9 @@ namespace gateway {
 // whatever the answer is.
 bool has_hash(const std::string &password, const std::string &hash);
 
+// Whether a text is a hash that any password can have.
+bool is_hash(const std::string &text);
+
 // The hash of a password with a new salt. Throws std::runtime_error.
 std::string new_hash(const std::string &password);
 

@@ -301,7 +301,8 @@ void VenueDay::cancel_all_of(const std::string &name, Firm &firm) {
         name, std::nullopt,
         cancel_of_all(name, firm.credentials.cancel_on_disconnect, firm.entries + 1, moment));
     ++firm.entries;
-    events_->info("cancel of all firm={} trader={}", name, firm.credentials.cancel_on_disconnect);
+    events_->info("cancel of all firm={} trader={}{}", name, firm.credentials.cancel_on_disconnect,
+                  of_venue());
 }
 
 // For events: which venue it is, where there are several.

@@ -25,12 +25,12 @@ std::string VenueDay::refusal_of(const LogonFacts &facts) {
 void VenueDay::logged_on(const std::string &firm) {
     log_->put_logged_on(firm, true);
     metrics_.logged_on();
-    events_->info("logged on firm={}", firm);
+    events_->info("logged on firm={}{}", firm, of_venue());
 }
 
 void VenueDay::logged_off(const std::string &firm) {
     metrics_.logged_off();
-    events_->info("logged off firm={}", firm);
+    events_->info("logged off firm={}{}", firm, of_venue());
     try {
         cancel_all_of(firm, firm_of(firm));
         log_->put_logged_on(firm, false);

@@ -12,6 +12,8 @@ from wait import LONG, until
 SESSION_TAGS = (8, 9, 10, 35, 49, 56, 34, 52, 43, 97, 122)  # of the frame and the session's header
 VENUE_NUMBER, VENUE_MOMENT = 1181, 60
 
+Fields = list[tuple[int, bytes]]
+
 
 @dataclass(frozen=True)
 class Identity:
@@ -65,7 +67,7 @@ def read_received(line: bytes) -> Received:
     return received_of(bytes.fromhex(digits.decode()), int(moment))
 
 
-def frame(kind: str, fields: list[tuple[int, bytes]]) -> bytes:
+def frame(kind: str, fields: Fields) -> bytes:
     """Bytes of a message that a player reads; the engine puts its own header and trailer."""
     body = b"".join(b"%d=%s\x01" % item for item in fields)
     head = b"35=%s\x0149=X\x0156=Y\x0134=1\x0152=20250314-09:00:00\x01" % kind.encode()
@@ -103,6 +105,7 @@ class Firm:
     tls: bool = False
     environment: dict[str, str] = field(default_factory=dict)
     received: list[Received] = field(default_factory=list)  # each message that came, also again
+    told: dict[str, Fields] = field(default_factory=dict)  # what it was told to send under a name, with 35
     sent: dict[str, int] = field(default_factory=dict)  # the session number under which a named message is in the store
     refused: dict[str, str] = field(default_factory=dict)
     admin: list[Received] = field(default_factory=list)  # the engine's own Rejects and Logouts
@@ -138,7 +141,8 @@ class Firm:
         except BrokenPipeError:
             pass  # it was ended; what it was told is not done
 
-    def send(self, name: str, kind: str, fields: list[tuple[int, bytes]]) -> None:
+    def send(self, name: str, kind: str, fields: Fields) -> None:
+        self.told[name] = [(35, kind.encode()), *fields]
         self.order("send %s %s" % (name, frame(kind, fields).hex()))
 
     def look(self) -> None:

@@ -1,6 +1,6 @@
 """Holds what firms received and what the gateway logged against the venue's own answers over the log."""
 
-from collections.abc import Iterator
+from collections.abc import Iterable, Iterator
 
 from firm import SESSION_TAGS, VENUE_MOMENT, VENUE_NUMBER, Firm, Received
 from frames import read_frame, read_time
@@ -8,6 +8,7 @@ from ledger import Ledger, Mark, fields_of
 
 MOST_LATE = 120_000  # milliseconds that a clock line may be late: the gateway may have been away, and its venue be fed again
 BEHIND_MOMENT = {b"S": 537, b"AI": 297, b"R": 453}  # the field in front of which 60 stands; it is the last one of others
+APPLICATION_VERSION = 1128
 REF_NUMBER = 45  # of a Reject: the number of the message that is meant
 
 
@@ -78,6 +79,22 @@ def unlogged(firm: Firm, ledger: Ledger) -> Iterator[str]:
     for name, number in firm.sent.items():
         if number not in numbers and b"%d" % number not in rejected:
             yield "%s: %s, the session's %d, is not in the log" % (firm.name, name, number)
+
+
+def altered(firm: Firm, ledger: Ledger) -> Iterator[str]:
+    """Messages that stand in the log with other fields than the firm's engine was told to send, which may put them in another
+    order; and a log that does not have them in the session's order."""
+    messages = {entry.number: entry.message for entry in ledger.messages_of(firm.name)}
+    if list(messages) != sorted(messages):
+        yield "%s: the log has the session's messages in another order: %r" % (firm.name, list(messages))
+    for name, number in firm.sent.items():
+        if number in messages and told_fields(fields_of(messages[number])) != told_fields(firm.told[name]):
+            yield "%s: %s, the session's %d, is %r in the log, and was %r" % (firm.name, name, number, messages[number], firm.told[name])
+
+
+def told_fields(fields: Iterable[tuple[int, bytes]]) -> list[tuple[int, bytes]]:
+    """35 and what is neither of the session nor put there by the engine."""
+    return sorted(item for item in fields if item[0] == 35 or item[0] not in (*SESSION_TAGS, APPLICATION_VERSION))
 
 
 def unkept(ledger: Ledger, answers: dict[str, list[bytes]]) -> Iterator[str]:

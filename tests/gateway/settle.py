@@ -7,7 +7,7 @@ from pathlib import Path
 
 from door import Door
 from firm import Firm
-from held import clock_faults, count_of, differences, unkept, unlogged
+from held import altered, clock_faults, count_of, differences, unkept, unlogged
 from ledger import Ledger, answers, answers_to, marks
 from wait import LONG, until, within
 
@@ -69,5 +69,6 @@ def faults(door: Door, firms: list[Firm], status: int, ledger: Ledger) -> Iterat
         firm.look()
         yield from differences(firm, answers_to(program, day, firm.name), ledger)
         yield from unlogged(firm, ledger)
+        yield from altered(firm, ledger)
     yield from unkept(ledger, wanted)
     yield from clock_faults(ledger, marks(program, day))

@@ -111,10 +111,17 @@ class Stage:
 
     def memory(self) -> int:
         """The resident bytes of the gateway's process; 0 where they would say nothing."""
+        return self._bytes("VmRSS")
+
+    def most_memory(self) -> int:
+        """The same when there were most of them."""
+        return self._bytes("VmHWM")
+
+    def _bytes(self, what: str) -> int:
         if not self.tools.measures:
             return 0
         text = Path("/proc/%d/status" % self.door.process.pid).read_text()
-        return int(re.search(r"VmRSS:\s+(\d+) kB", text).group(1)) * 1024
+        return int(re.search(r"%s:\s+(\d+) kB" % what, text).group(1)) * 1024
 
     def worked(self) -> float:
         """The seconds of a processor that the gateway has had."""

@@ -20,7 +20,10 @@ sys.dont_write_bytecode = True
 sys.path.insert(0, str(ROOT / "tests" / "model"))
 
 import tried_away
+import tried_configuration
+import tried_connections
 import tried_disk
+import tried_gaps
 import tried_log
 import tried_logon
 import tried_messages
@@ -76,7 +79,8 @@ def main() -> None:
     words = read_words()
     programs = programs_of(words.gateway, words.venue)
     tools = Tools(programs, words.player.resolve(), DICTIONARIES, words.shim.resolve(), not words.sanitized)
-    tests = tried_log.TRIED + tried_logon.TRIED + tried_messages.TRIED + tried_away.TRIED
+    tests = tried_configuration.TRIED + tried_log.TRIED + tried_connections.TRIED + tried_logon.TRIED
+    tests += tried_messages.TRIED + tried_gaps.TRIED + tried_away.TRIED
     tests += tried_disk.QUICK if words.quick else tried_disk.TRIED
     chosen = [test for test in tests if words.only in test.__name__]
     with ThreadPoolExecutor(words.jobs) as jobs:

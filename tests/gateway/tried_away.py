@@ -7,6 +7,7 @@ from held import milliseconds
 from market import moment_in
 from stage import DEALER, Stage, check
 from wait import LONG, until
+from wire import Wire
 
 SOON = 25  # seconds: less than the gateway waits at most for a firm that fills a gap
 AS_AUCTIONS = 30  # or for so many times what an auction takes, on a machine that is slower than that
@@ -136,5 +137,16 @@ def cancelled_for_one_gone(stage: Stage) -> None:
     stage.whole()
 
 
+def one_that_says_nothing(stage: Stage) -> None:
+    """A firm that answers no TestRequest is disconnected, and the operator is told why."""
+    stage.open(stage.other)
+    with Wire(stage.door.port) as wire:
+        wire.logon(DEALER.name.encode(), DEALER.password.encode(), heartbeat=b"1")
+        check(wire.closed_within(LONG), "the connection stays")
+    until("it is told", LONG, lambda: b"Timed out waiting for heartbeat" in stage.door.told.read_bytes())
+    stage.log_on(stage.dealer)
+    stage.ping(stage.dealer)
+
+
 TRIED = [reject_for_one_away, one_that_was_away, sent_while_away, gaps_on_both_sides, deadline_passes, deadline_while_away,
-         clock_set_forward, cancelled_for_one_gone]
+         clock_set_forward, cancelled_for_one_gone, one_that_says_nothing]

@@ -44,16 +44,6 @@ def place_of_a_quote(stage: Stage) -> int:
     return [entry.place for entry in stage.door.ledger().messages_of("DLR1") if b"\x0135=S\x01" in entry.message][0]
 
 
-def configuration_at_fault(stage: Stage) -> None:
-    """A key that is none, and a level of events that is none: the gateway ends, and names it."""
-    stage.door.write()
-    file = stage.folder / "gateway.toml"
-    text = file.read_text()
-    for events, word in (('level = "loud"', "level"), ('levels = "info"', "levels")):
-        file.write_text(text + "[events]\n" + events + "\n")
-        stage.refused(word)
-
-
 def changed_configuration(stage: Stage) -> None:
     ended_day(stage)
     file = stage.folder / "venue.toml"
@@ -311,6 +301,6 @@ def venue_that_hangs(stage: Stage) -> None:
     stage.whole()
 
 
-TRIED = [configuration_at_fault, changed_configuration, entry_taken_out, last_entry_taken_out, byte_of_an_entry, byte_of_sent,
+TRIED = [changed_configuration, entry_taken_out, last_entry_taken_out, byte_of_an_entry, byte_of_sent,
          byte_of_outgoing, outgoing_taken_out, last_sent_taken_out, another_program, another_log_form, another_date, midnight, two_gateways,
          venue_that_ends, venue_that_says_something, venue_that_hangs, asked_to_end, ended_while_one_fills, more_than_may_wait, ended_at_once]

@@ -1,4 +1,4 @@
-"""Faults before a session stands: credentials, firms, connections without an end, and TLS."""
+"""Faults before a session stands: credentials, firms, and TLS."""
 
 import ssl
 import subprocess
@@ -10,7 +10,6 @@ from wait import LONG, until, within
 from wire import Wire, a_while_ago, framed, now
 
 SLACK = LONG  # that a limit of the gateway may be late on a busy machine
-MOST_GROWTH = 24 * 2**20
 REFUSED = 'mireseason_refused_total{reason="logon"}'
 NO_MESSAGE, SECOND = 'mireseason_dropped_total{reason="no message"}', 'mireseason_refused_total{reason="second connection"}'
 
@@ -181,50 +180,21 @@ def late_logon(stage: Stage) -> None:
     stage.ping(stage.dealer)
 
 
-def half_a_logon(stage: Stage) -> None:
-    """Connections that say nothing, or half a Logon, end at the limit; nobody waits for them."""
-    stage.open()
-    with Wire(stage.door.port) as silent, Wire(stage.door.port) as half:
-        half.raw(b"8=FIXT.1.1\x019=100\x0135=A\x0149=DLR1\x01")
-        stage.log_on(stage.other)
-        stage.ping(stage.other)
-        check(half.closed_within(LOGON_SECONDS + SLACK), "half a Logon stays")
-        check(silent.closed_within(SLACK), "a silent connection stays")
-    stage.log_on(stage.dealer)
-
-
-def endless_logon(stage: Stage) -> None:
-    """Bytes that never become a Logon: the connection ends, and memory does not grow with them."""
+def logon_at_fault(stage: Stage) -> None:
+    """A Logon that the engine would leave without an answer: 1137 is not 9, or 52 is no moment. Its number is not used up."""
     stage.open(stage.other)
-    for begin in (b"8=FIXT.1.1\x019=999999999\x0135=A\x01", b"8=FIXT.1.1\x019=", b"x", b"8=FIXT.1.1\x019=5\x0135=A\x01\x0110="):
-        before = stage.memory()
+    header = {35: b"A", 49: DEALER.name.encode(), 56: b"VENUE", 34: b"1", 52: b""}
+    body = {98: b"0", 108: b"30", 553: DEALER.name.encode(), 554: DEALER.password.encode(), 1137: b"9"}
+    for tag, value in ((1137, None), (1137, b"7"), (52, None), (52, b"yesterday")):
+        before, fields = stage.counters(), header | {52: now()} | body | {tag: value}
         with Wire(stage.door.port) as wire:
-            wire.raw(begin)
-            taken = sum(wire.raw(b"z" * 65536) for _ in range(1024) if not wire.closed_within(0))
-            check(taken < 1024 or wire.closed_within(LOGON_SECONDS + SLACK), "64 MiB behind %r are taken" % begin)
-        check(stage.memory() - before < MOST_GROWTH, "%d bytes of memory more behind %r" % (stage.memory() - before, begin))
-    stage.ping(stage.other)
-
-
-def many_connections(stage: Stage) -> None:
-    """As many silent connections as the limit allows, and more: a firm logs on once they have ended."""
-    stage.door.limits["connections"] = 40
-    stage.open(stage.other)
-    wires = [Wire(stage.door.port) for _ in range(100)]
-    stage.ping(stage.other)
-    for wire in wires:
-        check(wire.closed_within(LOGON_SECONDS + SLACK), "a silent connection stays")
-        wire.socket.close()
+            wire.raw(framed(b"".join(b"%d=%s\x01" % item for item in fields.items() if item[1] is not None)))
+            message = wire.read_kind(b"5")
+            check(message is not None and message.value(58), "no Logout with a text where %d is %r" % (tag, value))
+            check(wire.closed_within(SLACK), "the connection stays where %d is %r" % (tag, value))
+        check(grown(before, stage.counters()), "no counter has grown where %d is %r" % (tag, value))
     stage.log_on(stage.dealer)
     stage.ping(stage.dealer)
-
-
-def beyond_the_loopback(stage: Stage) -> None:
-    stage.door.write()
-    file = stage.folder / "gateway.toml"
-    text = file.read_text()
-    file.write_text(text.replace('listen = "127.0.0.1"', 'listen = "0.0.0.0"'))
-    stage.refused("plain_tcp_beyond_loopback|loopback")
 
 
 # ---------------------------------------------------------------- TLS
@@ -355,5 +325,5 @@ def plain_to_tls(stage: Stage) -> None:
 
 
 TRIED = [wrong_password, wrong_password_of_one_away, wrong_words, unknown_firm, words_of_a_stranger, stranger_in_a_firms_name, second_connection,
-         numbers_are_not_reset, reset_as_the_first, heartbeats, late_logon, half_a_logon, endless_logon, many_connections,
-         beyond_the_loopback, by_tls, tls_begun_anew, certificate_of_another_firm, certificate_of_another_authority, plain_to_tls]
+         numbers_are_not_reset, reset_as_the_first, heartbeats, late_logon, logon_at_fault, by_tls, tls_begun_anew, certificate_of_another_firm,
+         certificate_of_another_authority, plain_to_tls]

@@ -7,7 +7,7 @@ from pathlib import Path
 import parts.gateway
 from door import venue_text
 from firm import Firm, Identity, Places
-from held import clock_faults, count_of, differences, unkept, unlogged
+from held import altered, clock_faults, count_of, differences, unkept, unlogged
 from ledger import Ledger, answers, marks
 from market import Act, Market
 from reach import ROOT
@@ -89,6 +89,7 @@ class Side:
             firm.look()
             yield from differences(firm, wanted.get(firm.name, []), ledger)
             yield from unlogged(firm, ledger)
+            yield from altered(firm, ledger)
         yield from unkept(ledger, wanted)
         for fault in clock_faults(ledger, marks(venue, ledger.day())):
             if LATE not in fault:

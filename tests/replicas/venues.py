@@ -102,6 +102,15 @@ class TwoVenues:
                 yield "a Logon to the venue %r is taken" % venue
             firm.kill()
 
+    def untold(self) -> Iterator[str]:
+        """Sessions that logged on of which the gateway did not tell at which venue."""
+        told = (self.folder / "told").read_text()
+        for side in self.sides:
+            for firm in side.firms:
+                words = "logged on firm=%s venue=%s" % (firm.name, side.name)
+                if words not in told:
+                    yield "the gateway did not tell `%s`" % words
+
     def settled(self) -> Iterator[str]:
         """What is wrong in the end; the gateway has ended."""
         for look in range(LOOKS):
@@ -142,7 +151,7 @@ def main() -> None:
         try:
             both.open()
             both.play(words.messages)
-            faults = [*both.refused(), *both.settled()]
+            faults = [*both.untold(), *both.refused(), *both.settled()]
         except TooLong as fault:
             faults = [str(fault)]
         finally:
