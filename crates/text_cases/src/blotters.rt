@@ -2,7 +2,7 @@
 
 use crate::printing::{len_of, push_number, u32_of};
 use blotter::blotter_text;
-use case_lines::{Call, CaseFault, Words, bond_of, name_of, price_of, quantity_of, side_of};
+use case_lines::{Call, CaseFault, Place, Words, bond_of, name_of, price_of, quantity_of, side_of};
 use market_terms::{FirmLines, Quantity, QuoteLine, QuoteState, RequestLine, RequestState, Side};
 use std::alloc::Global;
 use venue_rows::BondId;
@@ -20,17 +20,15 @@ pub struct BlotterCases {
     requests: Vec<RequestLine>,
 }
 
-impl BlotterCases {
-    /// The place before its first call.
-    pub(crate) fn begun(alloc: Global) -> Self {
-        BlotterCases {
+impl Place for BlotterCases {
+    fn new(alloc: Global) -> Result<Self, CaseFault> {
+        Ok(BlotterCases {
             quotes: Vec::new(alloc),
             requests: Vec::new(alloc),
-        }
+        })
     }
 
-    /// Makes a call.
-    pub(crate) fn make(&mut self, call: &mut Call<'_>) -> Result<(), CaseFault> {
+    fn call(&mut self, call: &mut Call<'_>) -> Result<(), CaseFault> {
         match call.name {
             "quote" => self.add_quotes(1, call.words.rest()),
             "quote_times" => self.add_quotes(len_of(call.words.number()?)?, call.words.rest()),
@@ -43,7 +41,9 @@ impl BlotterCases {
             _ => Err(CaseFault::Form),
         }
     }
+}
 
+impl BlotterCases {
     /// `quote_times N ..`: N lines more of a dealer.
     fn add_quotes(&mut self, count: usize, line: &str) -> Result<(), CaseFault> {
         for _ in 0..count {

@@ -4,7 +4,7 @@ use crate::configuration_rows::{push_place_of_trader, push_row_or_none, push_row
 use crate::printing::{
     len_of, push_line, push_number, push_number_or_none, push_truth, u16_of, u32_of,
 };
-use case_lines::{Call, CaseFault, Words, bytes_of, push_text};
+use case_lines::{Call, CaseFault, Place, Words, bytes_of, push_text};
 use std::alloc::Global;
 use std::fmt::Write;
 use std::str;
@@ -31,18 +31,16 @@ pub struct ConfigCases {
     kept: Option<VenueConfig>,
 }
 
-impl ConfigCases {
-    /// The place before its first call.
-    pub(crate) fn begun(alloc: Global) -> Self {
-        ConfigCases {
+impl Place for ConfigCases {
+    fn new(alloc: Global) -> Result<Self, CaseFault> {
+        Ok(ConfigCases {
             text: String::new(alloc),
             config: None,
             kept: None,
-        }
+        })
     }
 
-    /// Makes a call.
-    pub(crate) fn make(&mut self, call: &mut Call<'_>) -> Result<(), CaseFault> {
+    fn call(&mut self, call: &mut Call<'_>) -> Result<(), CaseFault> {
         match call.name {
             "read" => self.read(call.alloc, call.words.rest(), &mut call.answer),
             "begin" => self.begin(call.alloc),
@@ -58,7 +56,9 @@ impl ConfigCases {
             name => push_found(&mut call.answer, self.read_before()?, name, &mut call.words),
         }
     }
+}
 
+impl ConfigCases {
     /// What was read.
     fn read_before(&self) -> Result<&VenueConfig, CaseFault> {
         self.config.as_ref().ok_or(CaseFault::NotOpen)

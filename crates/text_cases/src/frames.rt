@@ -4,7 +4,7 @@ use crate::buffers::ByteBuffer;
 use crate::printing::{
     garbled_name, push_field, push_line, push_number, push_value_or_none, u32_of,
 };
-use case_lines::{Call, CaseFault, Words};
+use case_lines::{Call, CaseFault, Place, Words};
 use fix_fields::{Frame, Garbled, read_frame};
 use std::alloc::Global;
 use std::fmt::Write;
@@ -24,16 +24,14 @@ pub struct FrameCases {
     buffer: ByteBuffer,
 }
 
-impl FrameCases {
-    /// The place before its first call.
-    pub(crate) fn begun(alloc: Global) -> Self {
-        FrameCases {
+impl Place for FrameCases {
+    fn new(alloc: Global) -> Result<Self, CaseFault> {
+        Ok(FrameCases {
             buffer: ByteBuffer::new(alloc),
-        }
+        })
     }
 
-    /// Makes a call.
-    pub(crate) fn make(&mut self, call: &mut Call<'_>) -> Result<(), CaseFault> {
+    fn call(&mut self, call: &mut Call<'_>) -> Result<(), CaseFault> {
         match call.name {
             "bytes" => self.buffer.set(call.alloc, call.words.rest()),
             "add" => self.buffer.add(call.alloc, call.words.rest()),

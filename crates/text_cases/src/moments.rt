@@ -1,7 +1,7 @@
 //! Dates and moments.
 
 use crate::printing::{push_line, push_number, push_number_or_none, push_truth, u32_of};
-use case_lines::{Call, CaseFault, Words, bytes_of};
+use case_lines::{Call, CaseFault, Place, Words, bytes_of};
 use fix_fields::{Date, Moment, MomentFault, moment_text, read_moment, time_text};
 use std::alloc::Global;
 use std::str;
@@ -15,14 +15,12 @@ use std::str;
 #[derive(Drop)]
 pub struct MomentCases {}
 
-impl MomentCases {
-    /// The place before its first call.
-    pub(crate) fn begun(_alloc: Global) -> Self {
-        MomentCases {}
+impl Place for MomentCases {
+    fn new(_alloc: Global) -> Result<Self, CaseFault> {
+        Ok(MomentCases {})
     }
 
-    /// Makes a call.
-    pub(crate) fn make(&mut self, call: &mut Call<'_>) -> Result<(), CaseFault> {
+    fn call(&mut self, call: &mut Call<'_>) -> Result<(), CaseFault> {
         match call.name {
             "date" => push_date(call.alloc, &mut call.answer, call.words.rest()),
             "moment" => push_moment(&mut call.answer, &mut call.words),

@@ -2,7 +2,7 @@
 
 use crate::printing::{push_line, push_number, push_number_or_none, push_truth, u32_of};
 use bond_prices::{Grid, PriceFault, Ticks, on_grid, price_text, read_price, thirty_seconds};
-use case_lines::{Call, CaseFault, Words, bytes_of, price_of};
+use case_lines::{Call, CaseFault, Place, Words, bytes_of, price_of};
 use std::alloc::Global;
 use std::fmt::Write;
 
@@ -20,14 +20,12 @@ use std::fmt::Write;
 #[derive(Drop)]
 pub struct PriceCases {}
 
-impl PriceCases {
-    /// The place before its first call.
-    pub(crate) fn begun(_alloc: Global) -> Self {
-        PriceCases {}
+impl Place for PriceCases {
+    fn new(_alloc: Global) -> Result<Self, CaseFault> {
+        Ok(PriceCases {})
     }
 
-    /// Makes a call.
-    pub(crate) fn make(&mut self, call: &mut Call<'_>) -> Result<(), CaseFault> {
+    fn call(&mut self, call: &mut Call<'_>) -> Result<(), CaseFault> {
         match call.name {
             "read" => push_reading(call.alloc, &mut call.answer, call.words.rest()),
             "fault" => push_fault(call.alloc, &mut call.answer, call.words.rest()),

@@ -3,7 +3,7 @@
 use crate::printing::{push_field, push_line, push_number_field};
 use crate::received_from_dealers::{dealer_row, push_dealer_message};
 use crate::received_from_investors::{investor_row, push_investor_message};
-use case_lines::{Call, CaseFault, Words, day, frame_of, piped_bytes_of};
+use case_lines::{Call, CaseFault, Place, Words, day, frame_of, piped_bytes_of};
 use fix_fields::{Date, read_frame};
 use quote_messages::{
     Arrival, Reject, SessionFault, read_dealer, read_investor, receive_dealer, receive_investor,
@@ -28,16 +28,14 @@ pub struct ReceivedCases {
     body: String,
 }
 
-impl ReceivedCases {
-    /// The place before its first call.
-    pub(crate) fn begun(alloc: Global) -> Self {
-        ReceivedCases {
+impl Place for ReceivedCases {
+    fn new(alloc: Global) -> Result<Self, CaseFault> {
+        Ok(ReceivedCases {
             body: String::new(alloc),
-        }
+        })
     }
 
-    /// Makes a call.
-    pub(crate) fn make(&mut self, call: &mut Call<'_>) -> Result<(), CaseFault> {
+    fn call(&mut self, call: &mut Call<'_>) -> Result<(), CaseFault> {
         match call.name {
             "body" => self.set_body(call.alloc, call.words.rest()),
             "change" => self.change(call.alloc, &mut call.words),
@@ -80,7 +78,9 @@ impl ReceivedCases {
             _ => Err(CaseFault::Form),
         }
     }
+}
 
+impl ReceivedCases {
     /// `body BYTES`: the text of the messages.
     fn set_body(&mut self, alloc: Global, text: &str) -> Result<(), CaseFault> {
         self.body = String::from_str(alloc, text)?;

@@ -2,7 +2,7 @@
 
 use crate::buffers::ByteBuffer;
 use crate::printing::{len_of, push_bytes_line, push_line, push_number};
-use case_lines::{Call, CaseFault, Words, piped_bytes_of, stream_fault_name};
+use case_lines::{Call, CaseFault, Place, Words, piped_bytes_of, stream_fault_name};
 use fix_fields::{Messages, Splitter, StreamFault};
 use std::alloc::Global;
 use std::fmt::Write;
@@ -27,17 +27,15 @@ pub struct StreamCases {
     splitter: Splitter,
 }
 
-impl StreamCases {
-    /// The place before its first call.
-    pub(crate) fn begun(alloc: Global) -> Self {
-        StreamCases {
+impl Place for StreamCases {
+    fn new(alloc: Global) -> Result<Self, CaseFault> {
+        Ok(StreamCases {
             buffer: ByteBuffer::new(alloc),
             splitter: Splitter::new(alloc),
-        }
+        })
     }
 
-    /// Makes a call.
-    pub(crate) fn make(&mut self, call: &mut Call<'_>) -> Result<(), CaseFault> {
+    fn call(&mut self, call: &mut Call<'_>) -> Result<(), CaseFault> {
         match call.name {
             "open" => self.open(call.alloc),
             "feed" => self.feed(call.alloc, call.words.rest(), &mut call.answer),
@@ -55,7 +53,9 @@ impl StreamCases {
             _ => Err(CaseFault::Form),
         }
     }
+}
 
+impl StreamCases {
     /// `open`: a splitter of which no byte came yet.
     fn open(&mut self, alloc: Global) -> Result<(), CaseFault> {
         self.splitter = Splitter::new(alloc);

@@ -5,7 +5,7 @@ use crate::printing::{
     push_bytes_line, push_field, push_line, push_number, push_number_field, push_number_or_none,
     push_time_field, push_truth, u16_of,
 };
-use case_lines::{Call, CaseFault, Words, bytes_of};
+use case_lines::{Call, CaseFault, Place, Words, bytes_of};
 use market_terms::{Ask, AskedDealers, Close, HitRefusal, Id, IdBuf, Quantity, Side};
 use std::alloc::Global;
 use std::cmp::Ordering;
@@ -23,14 +23,12 @@ use std::fmt::Write;
 #[derive(Drop)]
 pub struct TermCases {}
 
-impl TermCases {
-    /// The place before its first call.
-    pub(crate) fn begun(_alloc: Global) -> Self {
-        TermCases {}
+impl Place for TermCases {
+    fn new(_alloc: Global) -> Result<Self, CaseFault> {
+        Ok(TermCases {})
     }
 
-    /// Makes a call.
-    pub(crate) fn make(&mut self, call: &mut Call<'_>) -> Result<(), CaseFault> {
+    fn call(&mut self, call: &mut Call<'_>) -> Result<(), CaseFault> {
         match call.name {
             "quantity" => push_quantity(&mut call.answer, &mut call.words),
             "most_quantity" => push_number(&mut call.answer, Quantity::MOST),

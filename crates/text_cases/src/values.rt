@@ -3,7 +3,7 @@
 use crate::buffers::bytes_times;
 use crate::parts::{quote_reason_of, request_reason_of, session_reason_of};
 use crate::printing::{push_bytes_line, push_line, push_number, push_number_or_none};
-use case_lines::{Call, CaseFault, Words, bytes_of, piped_bytes_of};
+use case_lines::{Call, CaseFault, Place, Words, bytes_of, piped_bytes_of};
 use quote_messages::{
     Message, MsgType, SeqNum, expected_number, read_long_number, read_number, read_quantity,
 };
@@ -23,14 +23,12 @@ use std::fmt::Write;
 #[derive(Drop)]
 pub struct ValueCases {}
 
-impl ValueCases {
-    /// The place before its first call.
-    pub(crate) fn begun(_alloc: Global) -> Self {
-        ValueCases {}
+impl Place for ValueCases {
+    fn new(_alloc: Global) -> Result<Self, CaseFault> {
+        Ok(ValueCases {})
     }
 
-    /// Makes a call.
-    pub(crate) fn make(&mut self, call: &mut Call<'_>) -> Result<(), CaseFault> {
+    fn call(&mut self, call: &mut Call<'_>) -> Result<(), CaseFault> {
         match call.name {
             "number" => push_short(&mut call.answer, &bytes_of(call.alloc, call.words.rest())?),
             "long_number" => push_long(&mut call.answer, &bytes_of(call.alloc, call.words.rest())?),

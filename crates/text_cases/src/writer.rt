@@ -2,7 +2,7 @@
 
 use crate::buffers::bytes_times;
 use crate::printing::{len_of, push_bytes_line, push_line, push_number, push_truth, u32_of};
-use case_lines::{Call, CaseFault, Words, piped_bytes_of};
+use case_lines::{Call, CaseFault, Place, Words, piped_bytes_of};
 use fix_fields::{
     FrameWriter, MOST_BODY, MOST_FRAME, decimal_len, fits, is_tag, is_value, read_frame,
 };
@@ -21,14 +21,12 @@ pub struct WriterCases {
     writer: Option<FrameWriter>,
 }
 
-impl WriterCases {
-    /// The place before its first call.
-    pub(crate) fn begun(_alloc: Global) -> Self {
-        WriterCases { writer: None }
+impl Place for WriterCases {
+    fn new(_alloc: Global) -> Result<Self, CaseFault> {
+        Ok(WriterCases { writer: None })
     }
 
-    /// Makes a call.
-    pub(crate) fn make(&mut self, call: &mut Call<'_>) -> Result<(), CaseFault> {
+    fn call(&mut self, call: &mut Call<'_>) -> Result<(), CaseFault> {
         match call.name {
             "new" => self.begin(
                 call.alloc,
@@ -67,7 +65,9 @@ impl WriterCases {
             _ => Err(CaseFault::Form),
         }
     }
+}
 
+impl WriterCases {
     /// `new TYPE`: a frame with this MsgType (35).
     fn begin(
         &mut self,

@@ -8,7 +8,7 @@ use crate::written_to_investors::{
     dealer_declined, hit_report, hit_unknown, pass_report, quote_gone, request_accepted,
     request_expired, request_refused, shown_quote,
 };
-use case_lines::{Call, CaseFault, Words, day, name_of};
+use case_lines::{Call, CaseFault, Place, Words, day, name_of};
 use fix_fields::Memory;
 use quote_messages::{Head, OutMessage, SentMessage, write_out};
 use std::alloc::Global;
@@ -32,17 +32,15 @@ pub struct WrittenCases {
     last: Option<SentMessage>,
 }
 
-impl WrittenCases {
-    /// The place before its first call.
-    pub(crate) fn begun(_alloc: Global) -> Self {
-        WrittenCases {
+impl Place for WrittenCases {
+    fn new(_alloc: Global) -> Result<Self, CaseFault> {
+        Ok(WrittenCases {
             head: None,
             last: None,
-        }
+        })
     }
 
-    /// Makes a call.
-    pub(crate) fn make(&mut self, call: &mut Call<'_>) -> Result<(), CaseFault> {
+    fn call(&mut self, call: &mut Call<'_>) -> Result<(), CaseFault> {
         match call.name {
             "to" => self.take_head(&mut call.words),
             "times" => self.times(&mut call.words, &mut call.answer),
@@ -53,7 +51,9 @@ impl WrittenCases {
             ),
         }
     }
+}
 
+impl WrittenCases {
     /// `to FIRM NUMBER MOMENT`: the header of the next message.
     fn take_head(&mut self, words: &mut Words) -> Result<(), CaseFault> {
         let date = day().ok_or(CaseFault::Form)?;
