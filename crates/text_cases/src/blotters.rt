@@ -34,6 +34,15 @@ impl Place for BlotterCases {
             "quote_times" => self.add_quotes(len_of(call.words.number()?)?, call.words.rest()),
             "request" => self.add_requests(1, call.words.rest()),
             "request_times" => self.add_requests(len_of(call.words.number()?)?, call.words.rest()),
+            _ => self.tell(call),
+        }
+    }
+}
+
+impl BlotterCases {
+    /// Makes a call that answers a blotter.
+    fn tell(&self, call: &mut Call<'_>) -> Result<(), CaseFault> {
+        match call.name {
             "dealer" => push_blotter(call, &FirmLines::Dealer(&self.quotes)),
             "dealer_len" => push_length(call, &FirmLines::Dealer(&self.quotes)),
             "investor" => push_blotter(call, &FirmLines::Investor(&self.requests)),
@@ -41,9 +50,7 @@ impl Place for BlotterCases {
             _ => Err(CaseFault::Form),
         }
     }
-}
 
-impl BlotterCases {
     /// `quote_times N ..`: N lines more of a dealer.
     fn add_quotes(&mut self, count: usize, line: &str) -> Result<(), CaseFault> {
         for _ in 0..count {

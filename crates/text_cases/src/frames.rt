@@ -37,20 +37,30 @@ impl Place for FrameCases {
             "add" => self.buffer.add(call.alloc, call.words.rest()),
             "add_times" => self.buffer.add_times(call.alloc, &mut call.words),
             "add_sum" => self.buffer.add_sum(call.alloc),
-            "len" => push_number(&mut call.answer, self.buffer.as_slice().len() as u64),
-            "read" => push_reading(&mut call.answer, self.buffer.as_slice()),
-            "fault" => push_fault(&mut call.answer, self.buffer.as_slice()),
-            "get" => push_first(&mut call.answer, self.buffer.as_slice(), &mut call.words),
-            "get_len" => push_first_len(&mut call.answer, self.buffer.as_slice(), &mut call.words),
-            "times" => push_times(&mut call.answer, self.buffer.as_slice(), &mut call.words),
-            "fronts" => push_fronts(&mut call.answer, self.buffer.as_slice()),
-            "each_byte_changed" => push_changed(
-                call.alloc,
-                &mut call.answer,
-                self.buffer.as_slice(),
-            ),
-            _ => Err(CaseFault::Form),
+            _ => push_told(call, self.buffer.as_slice()),
         }
+    }
+}
+
+/// What a call asks of bytes.
+fn push_told(call: &mut Call<'_>, bytes: &[u8]) -> Result<(), CaseFault> {
+    match call.name {
+        "len" => push_number(&mut call.answer, bytes.len() as u64),
+        "read" => push_reading(&mut call.answer, bytes),
+        "fault" => push_fault(&mut call.answer, bytes),
+        "fronts" => push_fronts(&mut call.answer, bytes),
+        "each_byte_changed" => push_changed(call.alloc, &mut call.answer, bytes),
+        _ => push_of_tag(call, bytes),
+    }
+}
+
+/// What a call asks of the fields with a tag.
+fn push_of_tag(call: &mut Call<'_>, bytes: &[u8]) -> Result<(), CaseFault> {
+    match call.name {
+        "get" => push_first(&mut call.answer, bytes, &mut call.words),
+        "get_len" => push_first_len(&mut call.answer, bytes, &mut call.words),
+        "times" => push_times(&mut call.answer, bytes, &mut call.words),
+        _ => Err(CaseFault::Form),
     }
 }
 

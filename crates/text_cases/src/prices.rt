@@ -32,15 +32,22 @@ impl Place for PriceCases {
             "price" => push_price(&mut call.answer, &mut call.words),
             "text" => push_text(&mut call.answer, &mut call.words),
             "said" => push_said(&mut call.answer, &mut call.words),
-            "every_price" => push_every_price(&mut call.answer),
             "below" => push_below(&mut call.answer, &mut call.words),
             "same" => push_same(&mut call.answer, &mut call.words),
-            "grid" => push_grid(&mut call.answer, &mut call.words),
-            "finest" => push_number(&mut call.answer, u64::from(Grid::FINEST.get())),
-            "same_grid" => push_same_grid(&mut call.answer, &mut call.words),
-            "on" => push_on(&mut call.answer, &mut call.words),
-            _ => Err(CaseFault::Form),
+            _ => push_of_grids(call),
         }
+    }
+}
+
+/// What is asked of grids.
+fn push_of_grids(call: &mut Call<'_>) -> Result<(), CaseFault> {
+    match call.name {
+        "grid" => push_grid(&mut call.answer, &mut call.words),
+        "finest" => push_number(&mut call.answer, u64::from(Grid::FINEST.get())),
+        "same_grid" => push_same_grid(&mut call.answer, &mut call.words),
+        "on" => push_on(&mut call.answer, &mut call.words),
+        "every_price" => push_every_price(&mut call.answer),
+        _ => Err(CaseFault::Form),
     }
 }
 

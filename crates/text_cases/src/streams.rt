@@ -42,6 +42,15 @@ impl Place for StreamCases {
             "bytes" => self.buffer.set(call.alloc, call.words.rest()),
             "add" => self.buffer.add(call.alloc, call.words.rest()),
             "add_times" => self.buffer.add_times(call.alloc, &mut call.words),
+            _ => self.cut(call),
+        }
+    }
+}
+
+impl StreamCases {
+    /// Makes a call that cuts the stream.
+    fn cut(&mut self, call: &mut Call<'_>) -> Result<(), CaseFault> {
+        match call.name {
             "feed_stream" => self.feed_stream(&mut call.answer),
             "in_pieces" => self.in_pieces(call.alloc, &mut call.words, &mut call.answer),
             "in_two" => push_in_two(call.alloc, &mut call.answer, self.buffer.as_slice()),
@@ -53,9 +62,7 @@ impl Place for StreamCases {
             _ => Err(CaseFault::Form),
         }
     }
-}
 
-impl StreamCases {
     /// `open`: a splitter of which no byte came yet.
     fn open(&mut self, alloc: Global) -> Result<(), CaseFault> {
         self.splitter = Splitter::new(alloc);

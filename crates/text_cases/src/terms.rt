@@ -31,18 +31,25 @@ impl Place for TermCases {
     fn call(&mut self, call: &mut Call<'_>) -> Result<(), CaseFault> {
         match call.name {
             "quantity" => push_quantity(&mut call.answer, &mut call.words),
-            "most_quantity" => push_number(&mut call.answer, Quantity::MOST),
-            "most_dealers" => push_number(&mut call.answer, AskedDealers::MOST as u64),
             "id" => push_id(call.alloc, &mut call.answer, call.words.rest()),
             "order" => push_order(&mut call.answer, &mut call.words),
             "dealers" => push_dealers(call.alloc, &mut call.answer, call.words.rest()),
             "names" => push_names(call.alloc, &mut call.answer, &mut call.words),
-            "sides" => push_sides(&mut call.answer),
-            "closes" => push_closes(&mut call.answer),
-            "refusals" => push_refusals(&mut call.answer),
             "ask" => push_ask(&mut call.answer, &mut call.words),
-            _ => Err(CaseFault::Form),
+            _ => push_constants(call),
         }
+    }
+}
+
+/// The limits, the codes and the names.
+fn push_constants(call: &mut Call<'_>) -> Result<(), CaseFault> {
+    match call.name {
+        "most_quantity" => push_number(&mut call.answer, Quantity::MOST),
+        "most_dealers" => push_number(&mut call.answer, AskedDealers::MOST as u64),
+        "sides" => push_sides(&mut call.answer),
+        "closes" => push_closes(&mut call.answer),
+        "refusals" => push_refusals(&mut call.answer),
+        _ => Err(CaseFault::Form),
     }
 }
 
@@ -128,11 +135,16 @@ fn push_sides(answer: &mut String) -> Result<(), CaseFault> {
 
 /// `closes`: the codes of QuoteRespType (694).
 fn push_closes(answer: &mut String) -> Result<(), CaseFault> {
-    writeln!(answer, "Hit {}", Close::Hit.code())?;
-    writeln!(answer, "Expired {}", Close::Expired.code())?;
-    writeln!(answer, "Cover {}", Close::Cover.code())?;
-    writeln!(answer, "DoneAway {}", Close::DoneAway.code())?;
-    writeln!(answer, "Pass {}", Close::Pass.code())?;
+    push_close(answer, "Hit", &Close::Hit)?;
+    push_close(answer, "Expired", &Close::Expired)?;
+    push_close(answer, "Cover", &Close::Cover)?;
+    push_close(answer, "DoneAway", &Close::DoneAway)?;
+    push_close(answer, "Pass", &Close::Pass)
+}
+
+/// A code of QuoteRespType (694), behind its name.
+fn push_close(answer: &mut String, name: &str, close: &Close) -> Result<(), CaseFault> {
+    writeln!(answer, "{name} {}", close.code())?;
     Ok(())
 }
 

@@ -4,10 +4,7 @@ use crate::printing::{push_bytes_line, push_number, u32_of};
 use crate::written_to_dealers::{
     cancel_report, closing_notice, decline_report, quote_report, reject, shown_request,
 };
-use crate::written_to_investors::{
-    dealer_declined, hit_report, hit_unknown, pass_report, quote_gone, request_accepted,
-    request_expired, request_refused, shown_quote,
-};
+use crate::written_to_investors::message_to_investor;
 use case_lines::{Call, CaseFault, Place, Words, day, name_of};
 use fix_fields::Memory;
 use quote_messages::{Head, OutMessage, SentMessage, write_out};
@@ -96,7 +93,7 @@ fn written(alloc: Global, head: &Head, message: &OutMessage) -> Result<SentMessa
     write_out(alloc, head, message)
 }
 
-/// The message that a call says.
+/// The message that a call says: one to a dealer, or to an investor.
 fn message_of<'a>(name: &str, words: &mut Words<'a>) -> Result<OutMessage<'a>, CaseFault> {
     match name {
         "reject" => reject(words),
@@ -105,15 +102,6 @@ fn message_of<'a>(name: &str, words: &mut Words<'a>) -> Result<OutMessage<'a>, C
         "cancel_answer" => cancel_report(words),
         "decline_answer" => decline_report(words),
         "notice" => closing_notice(words),
-        "accepted" => request_accepted(words),
-        "refused" => request_refused(words),
-        "quote" => shown_quote(words),
-        "gone" => quote_gone(words),
-        "declined" => dealer_declined(words),
-        "hit_answer" => hit_report(words),
-        "hit_unknown" => hit_unknown(words),
-        "pass_answer" => pass_report(words),
-        "expired" => request_expired(words),
-        _ => Err(CaseFault::Form),
+        _ => message_to_investor(name, words),
     }
 }
