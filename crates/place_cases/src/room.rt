@@ -324,8 +324,7 @@ fn push_cover(answer: &mut String, cover: Option<u16>) -> Result<(), CaseFault> 
     push_firms(answer, &[dealer])
 }
 
-/// What a room ends in where this word is hit and lifted. It is tried on a room of its own, which
-/// is made open where it is opening.
+/// What a room ends in where this word is hit and lifted. It is tried on a room of its own.
 fn push_award(
     alloc: Global,
     room: &Room,
@@ -334,13 +333,23 @@ fn push_award(
     answer: &mut String,
 ) -> Result<(), CaseFault> {
     let mut room = room_again(alloc, room)?;
+    push_award_in(&mut room, word, moment, answer)
+}
+
+/// The same in this room, which is made open where it is opening.
+fn push_award_in(
+    room: &mut Room,
+    word: u32,
+    moment: Moment,
+    answer: &mut String,
+) -> Result<(), CaseFault> {
     if room.is_opening() {
-        readied(&mut room)?;
+        readied(room)?;
     }
     if room.question_hit(word, moment).is_err() {
         return Ok(());
     }
-    if hit(&mut room, word, moment, Some(Settled::Lifted))? != Reply::Awarded {
+    if hit(room, word, moment, Some(Settled::Lifted))? != Reply::Awarded {
         return Err(CaseFault::Condition);
     }
     push_end(answer, &room.end())

@@ -1,6 +1,5 @@
 //! Calls that stand for many.
 use super::opened::Opened;
-use crate::messages::push_new;
 use crate::replies::push_line;
 use crate::said::{Came, own};
 use crate::tally::Tally;
@@ -19,7 +18,6 @@ pub(crate) fn push_fronts(opened: &mut Opened, call: &mut Call<'_>) -> Result<()
         front.bytes.push(*byte)?;
         opened.take(&front)?;
     }
-    opened.shown = push_new(&mut call.answer, opened.desk.sent(), opened.shown)?;
     Ok(())
 }
 
@@ -34,9 +32,7 @@ pub(crate) fn push_forged(opened: &mut Opened, call: &mut Call<'_>) -> Result<()
         seen = seen.saturating_add(more);
     }
     let text = format!(in alloc; "{count} bytes, {seen} forgeries seen")?;
-    push_line(&mut call.answer, text.as_str())?;
-    opened.shown = push_new(&mut call.answer, opened.desk.sent(), opened.shown)?;
-    Ok(())
+    push_line(&mut call.answer, text.as_str())
 }
 
 /// A message comes with each bit of a byte changed in turn: how often a word is asked or something
