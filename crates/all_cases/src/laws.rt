@@ -24,12 +24,24 @@ fn each_read<H: Threads + Wait + Sync>(
     let mut paces = Paces::whole();
     for count in (0..=input.len()).step_by(step) {
         paces.input = Pace::up_to(count);
-        let ended = ran(rt, call.alloc, words.as_slice(), input, paces);
-        let mut text = String::new(call.alloc);
-        ended.show(call.alloc, &mut text)?;
+        let text = shown(rt, call.alloc, words.as_slice(), input, paces)?;
         in_row.take(count, text, &mut call.answer)?;
     }
     in_row.end(&mut call.answer)
+}
+
+/// What a run shows.
+fn shown<H: Threads + Wait + Sync>(
+    rt: &H,
+    alloc: Global,
+    words: &[&str],
+    input: &[u8],
+    paces: Paces,
+) -> Result<String, CaseFault> {
+    let ended = ran(rt, alloc, words, input, paces);
+    let mut text = String::new(alloc);
+    ended.show(alloc, &mut text)?;
+    Ok(text)
 }
 
 /// `STEP ARGUMENTS`: the same with a writer that fails, or takes nothing any more. Each answer says
@@ -130,11 +142,24 @@ fn same_live<H: Threads + Wait + Sync>(
     live.tell(alloc, &mut call.answer)?;
     for firm in words_of(alloc, firms)?.as_slice() {
         let own = lines_of(alloc, live.out.as_slice(), firm)?;
-        let replayed = ran_in_form(rt, alloc, &["replay", firm], frames, input)?;
-        let is_same = replayed.status == 0 && own.as_slice() == replayed.out.as_slice();
+        let is_same = is_replayed(rt, alloc, firm, frames, input, own.as_slice())?;
         push_same(alloc, &mut call.answer, firm, is_same)?;
     }
     Ok(())
+}
+
+/// Whether `replay` has these lines for a firm.
+fn is_replayed<H: Threads + Wait + Sync>(
+    rt: &H,
+    alloc: Global,
+    firm: &str,
+    frames: bool,
+    input: &[u8],
+    lines: &[u8],
+) -> Result<bool, CaseFault> {
+    let replayed = ran_in_form(rt, alloc, &["replay", firm], frames, input)?;
+    let is_same = replayed.status == 0 && lines == replayed.out.as_slice();
+    Ok(is_same)
 }
 
 /// `[--frames] DEALER..`: `alone` over what `due` prints of each dealer prints what `replay` has
@@ -147,14 +172,25 @@ fn same_alone<H: Threads + Wait + Sync>(
     let (frames, dealers) = form_of(call.words.rest());
     let alloc = call.alloc;
     for dealer in words_of(alloc, dealers)?.as_slice() {
-        let due = ran(rt, alloc, &["due", dealer], input, Paces::whole());
-        let alone = ran_in_form(rt, alloc, &["alone"], frames, due.out.as_slice())?;
-        let replayed = ran_in_form(rt, alloc, &["replay", dealer], frames, input)?;
-        let are_done = due.status == 0 && alone.status == 0 && replayed.status == 0;
-        let is_same = are_done && alone.out.as_slice() == replayed.out.as_slice();
+        let is_same = is_same_alone(rt, alloc, dealer, frames, input)?;
         push_same(alloc, &mut call.answer, dealer, is_same)?;
     }
     Ok(())
+}
+
+/// Whether it does so for this dealer.
+fn is_same_alone<H: Threads + Wait + Sync>(
+    rt: &H,
+    alloc: Global,
+    dealer: &str,
+    frames: bool,
+    input: &[u8],
+) -> Result<bool, CaseFault> {
+    let due = ran(rt, alloc, &["due", dealer], input, Paces::whole());
+    let alone = ran_in_form(rt, alloc, &["alone"], frames, due.out.as_slice())?;
+    let are_done = due.status == 0 && alone.status == 0;
+    let is_same = is_replayed(rt, alloc, dealer, frames, input, alone.out.as_slice())?;
+    Ok(are_done && is_same)
 }
 
 /// Whether `--frames` stands before the names, and the names.

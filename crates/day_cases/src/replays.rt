@@ -53,25 +53,42 @@ impl Place for Replays {
     }
 
     fn call(&mut self, call: &mut Call<'_>) -> Result<(), CaseFault> {
-        let alloc = call.alloc;
+        if asks_of_firm(call.name) {
+            let firm = call.words.firm()?;
+            return self.tell(call, firm);
+        }
         match call.name {
-            "run" => self.runs(alloc, &mut call.answer),
-            "live" => self.opens_live(alloc),
-            "take" => self.takes(alloc, &mut call.answer),
-            "steps" => put_steps(alloc, &mut call.answer, self.venue.steps.as_slice()),
-            "sent" => self.tell_sent(alloc, call.words.firm()?, &mut call.answer),
-            "frames" => self.tell_frames(call.words.firm()?, &mut call.answer),
-            "last" => self.tell_last(call.words.firm()?, &mut call.answer),
-            "count" => self.tell_count(alloc, call.words.firm()?, &mut call.answer),
-            "blotter" => self.tell_blotter(alloc, call.words.firm()?, &mut call.answer),
-            "due" => self.tell_due(alloc, call.words.firm()?, &mut call.answer),
-            "view" => self.tell_view(alloc, call.words.firm()?, &mut call.answer),
+            "run" => self.runs(call.alloc, &mut call.answer),
+            "live" => self.opens_live(call.alloc),
+            "take" => self.takes(call.alloc, &mut call.answer),
+            "steps" => put_steps(call.alloc, &mut call.answer, self.venue.steps.as_slice()),
             _ => self.venue.call(call),
         }
     }
 }
 
+/// Whether a call with this word asks something of a firm.
+fn asks_of_firm(word: &str) -> bool {
+    matches!(
+        word,
+        "sent" | "frames" | "last" | "count" | "blotter" | "due" | "view"
+    )
+}
+
 impl Replays {
+    /// What a call asks of a firm.
+    fn tell(&self, call: &mut Call<'_>, firm: u16) -> Result<(), CaseFault> {
+        match call.name {
+            "sent" => self.tell_sent(call.alloc, firm, &mut call.answer),
+            "frames" => self.tell_frames(firm, &mut call.answer),
+            "last" => self.tell_last(firm, &mut call.answer),
+            "count" => self.tell_count(call.alloc, firm, &mut call.answer),
+            "blotter" => self.tell_blotter(call.alloc, firm, &mut call.answer),
+            "due" => self.tell_due(call.alloc, firm, &mut call.answer),
+            _ => self.tell_view(call.alloc, firm, &mut call.answer),
+        }
+    }
+
     /// Replays the steps.
     fn runs(&mut self, alloc: Global, answer: &mut String) -> Result<(), CaseFault> {
         match replayed(alloc, &self.venue)? {

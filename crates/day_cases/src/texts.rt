@@ -49,26 +49,31 @@ impl Place for Texts {
     }
 
     fn call(&mut self, call: &mut Call<'_>) -> Result<(), CaseFault> {
-        let alloc = call.alloc;
         match call.name {
-            "<" => self.put_line(alloc, call.words.rest()),
-            "<+" => self.put_times(alloc, 1, call.words.rest()),
+            "<" => self.put_line(call.alloc, call.words.rest()),
+            "<+" => self.put_times(call.alloc, 1, call.words.rest()),
             "<+*" => {
                 let count = call.words.number()?;
-                self.put_times(alloc, count, call.words.rest())
+                self.put_times(call.alloc, count, call.words.rest())
             }
-            "spoken" => self.tell_spoken(alloc, &mut call.answer),
-            "divider" => self.tell_divider(&mut call.answer),
-            "steps" => self.tell_steps(alloc, &mut call.answer),
-            "days" => self.tell_days(alloc, &mut call.answer),
             "firm" | "asked" | "dealer" => self.tell_firm(call),
-            "fault" => tell_fault(alloc, &mut call.words, &mut call.answer),
-            _ => tell_text(call),
+            _ => self.tell(call),
         }
     }
 }
 
 impl Texts {
+    /// A call about the lines of the input, or about a text of its own.
+    fn tell(&self, call: &mut Call<'_>) -> Result<(), CaseFault> {
+        match call.name {
+            "spoken" => self.tell_spoken(call.alloc, &mut call.answer),
+            "divider" => self.tell_divider(&mut call.answer),
+            "steps" => self.tell_steps(call.alloc, &mut call.answer),
+            "days" => self.tell_days(call.alloc, &mut call.answer),
+            _ => tell_text(call),
+        }
+    }
+
     /// A line more.
     fn put_line(&mut self, alloc: Global, text: &str) -> Result<(), CaseFault> {
         let bytes = bytes_of(alloc, text)?;
@@ -182,6 +187,7 @@ fn tell_text(call: &mut Call<'_>) -> Result<(), CaseFault> {
         "said" => tell_said(call),
         "received" => tell_received(call.alloc, call.words.rest(), &mut call.answer),
         "same" => tell_same(call.alloc, &mut call.words, &mut call.answer),
+        "fault" => tell_fault(call.alloc, &mut call.words, &mut call.answer),
         _ => tell_part(call),
     }
 }

@@ -62,6 +62,13 @@ impl Venue {
             "each" => self.put_each(call.alloc, &mut call.words),
             "open" => self.open(call.alloc, &mut call.answer),
             "read" => self.read(call.alloc, &mut call.answer),
+            _ => self.put_step(call),
+        }
+    }
+
+    /// A call that puts a step behind the others.
+    fn put_step(&mut self, call: &mut Call<'_>) -> Result<(), CaseFault> {
+        match call.name {
             "in" => self.comes(call.alloc, &mut call.words),
             "turn" => self.turns(&mut call.words),
             "expire" => self.sweeps(&mut call.words),
