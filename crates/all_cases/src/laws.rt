@@ -189,8 +189,9 @@ fn is_same_alone<H: Threads + Wait + Sync>(
     let due = ran(rt, alloc, &["due", dealer], input, Paces::whole());
     let alone = ran_in_form(rt, alloc, &["alone"], frames, due.out.as_slice())?;
     let are_done = due.status == 0 && alone.status == 0;
-    let is_same = is_replayed(rt, alloc, dealer, frames, input, alone.out.as_slice())?;
-    Ok(are_done && is_same)
+    let has_lines = is_replayed(rt, alloc, dealer, frames, input, alone.out.as_slice())?;
+    let is_same = are_done && has_lines;
+    Ok(is_same)
 }
 
 /// Whether `--frames` stands before the names, and the names.
