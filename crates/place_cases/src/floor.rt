@@ -40,7 +40,9 @@ pub(crate) struct Counts {
 
 /// The places before the day. There is no event, and no message.
 pub(crate) fn new_floor(alloc: Global) -> Result<Floor, CaseFault> {
-    let config = read_config(alloc, VENUE).map_err(|_| CaseFault::Form)?;
+    let Ok(config) = read_config(alloc, VENUE) else {
+        return Err(CaseFault::Form);
+    };
     floor_of(alloc, &config)
 }
 

@@ -177,7 +177,9 @@ impl RoomPlace {
     fn book(&self, alloc: Global, words: &mut Words, answer: &mut String) -> Result<(), CaseFault> {
         let moment = Moment::new(0).ok_or(CaseFault::Form)?;
         for text in words.rest().split(' ') {
-            let word = text.parse::<u32>().map_err(|_| CaseFault::Form)?;
+            let Ok(word) = text.parse::<u32>() else {
+                return Err(CaseFault::Form);
+            };
             push_award(alloc, &self.room, word, moment, answer)?;
         }
         Ok(())

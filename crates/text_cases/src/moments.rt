@@ -1,6 +1,6 @@
 //! Dates and moments.
 
-use crate::printing::{push_line, push_number, push_number_or_none, push_truth, u32_of};
+use crate::printing::{push_line, push_number, push_truth, u32_of};
 use case_lines::{Call, CaseFault, Place, Words, bytes_of};
 use fix_fields::{Date, Moment, MomentFault, moment_text, read_moment, time_text};
 use std::alloc::Global;
@@ -48,8 +48,10 @@ fn push_date(alloc: Global, answer: &mut String, text: &str) -> Result<(), CaseF
 /// `moment NUMBER`: the number, where it is a moment.
 fn push_moment(answer: &mut String, words: &mut Words) -> Result<(), CaseFault> {
     let number = u32_of(words.number()?)?;
-    let moment = Moment::new(number).map(|moment| u64::from(moment.get()));
-    push_number_or_none(answer, moment)
+    match Moment::new(number) {
+        Some(moment) => push_number(answer, u64::from(moment.get())),
+        None => push_line(answer, "none"),
+    }
 }
 
 /// `read DATE TEXT`: the moment, or the fault.

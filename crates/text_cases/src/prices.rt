@@ -1,6 +1,6 @@
 //! Prices and grids.
 
-use crate::printing::{push_line, push_number, push_number_or_none, push_truth, u32_of};
+use crate::printing::{push_line, push_number, push_truth, u32_of};
 use bond_prices::{Grid, PriceFault, Ticks, on_grid, price_text, read_price, thirty_seconds};
 use case_lines::{Call, CaseFault, Place, Words, bytes_of, price_of};
 use std::alloc::Global;
@@ -88,8 +88,10 @@ pub(crate) fn grid_of(words: &mut Words) -> Result<Grid, CaseFault> {
 /// `price NUMBER`: the number, where it is a price.
 fn push_price(answer: &mut String, words: &mut Words) -> Result<(), CaseFault> {
     let number = u32_of(words.number()?)?;
-    let price = Ticks::new(number).map(|price| u64::from(price.get()));
-    push_number_or_none(answer, price)
+    match Ticks::new(number) {
+        Some(price) => push_number(answer, u64::from(price.get())),
+        None => push_line(answer, "none"),
+    }
 }
 
 /// `text NUMBER`: the text in points.
@@ -154,6 +156,8 @@ fn push_on(answer: &mut String, words: &mut Words) -> Result<(), CaseFault> {
 /// `grid STEPS`: the steps, where they are a grid.
 fn push_grid(answer: &mut String, words: &mut Words) -> Result<(), CaseFault> {
     let steps = u32_of(words.number()?)?;
-    let grid = Grid::new(steps).map(|grid| u64::from(grid.get()));
-    push_number_or_none(answer, grid)
+    match Grid::new(steps) {
+        Some(grid) => push_number(answer, u64::from(grid.get())),
+        None => push_line(answer, "none"),
+    }
 }

@@ -77,7 +77,10 @@ fn push_price(
 
 /// A quantity, where it stood.
 fn push_size(answer: &mut String, tag: u32, size: Option<Quantity>) -> Result<(), CaseFault> {
-    push_number_if(answer, tag, size.map(|size| size.get()))
+    match size {
+        None => Ok(()),
+        Some(size) => push_number_field(answer, tag, size.get()),
+    }
 }
 
 /// A number, where it stood.

@@ -2,8 +2,8 @@
 
 use crate::parts::{ask_with_grid, id_of};
 use crate::printing::{
-    push_bytes_line, push_field, push_line, push_number, push_number_field, push_number_or_none,
-    push_time_field, push_truth, u16_of,
+    push_bytes_line, push_field, push_line, push_number, push_number_field, push_time_field,
+    push_truth, u16_of,
 };
 use case_lines::{Call, CaseFault, Place, Words, bytes_of};
 use market_terms::{Ask, AskedDealers, Close, HitRefusal, Id, IdBuf, Quantity, Side};
@@ -56,8 +56,10 @@ fn push_constants(call: &mut Call<'_>) -> Result<(), CaseFault> {
 /// `quantity NUMBER`: the number, where it is a quantity.
 fn push_quantity(answer: &mut String, words: &mut Words) -> Result<(), CaseFault> {
     let number = words.number()?;
-    let quantity = Quantity::new(number).map(|quantity| quantity.get());
-    push_number_or_none(answer, quantity)
+    match Quantity::new(number) {
+        Some(quantity) => push_number(answer, quantity.get()),
+        None => push_line(answer, "none"),
+    }
 }
 
 /// `id BYTES`: the identifier; kept; its copy; and once more as an identifier.

@@ -66,6 +66,9 @@ impl Rows {
 
     /// The configuration.
     pub(crate) fn config(&self, alloc: Global) -> Result<VenueConfig, CaseFault> {
-        read_config(alloc, self.text.as_str()).map_err(|_| CaseFault::Condition)
+        let Ok(config) = read_config(alloc, self.text.as_str()) else {
+            return Err(CaseFault::Condition);
+        };
+        Ok(config)
     }
 }
