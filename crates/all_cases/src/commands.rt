@@ -105,9 +105,6 @@ impl Commands {
         rt: &H,
         call: &mut Call<'_>,
     ) -> Result<(), CaseFault> {
-        if self.inputs.take(call)? {
-            return Ok(());
-        }
         match call.name {
             "run" => self.show(rt, call),
             "ends" => self.show_ends(rt, call),
@@ -116,7 +113,7 @@ impl Commands {
             "told" => self.told(call),
             "each" => each(rt, call, self.inputs.bytes.as_slice()),
             "same" => same(rt, call, self.inputs.bytes.as_slice()),
-            _ => Err(CaseFault::Form),
+            _ => self.inputs.take(call),
         }
     }
 }

@@ -4,13 +4,13 @@ use crate::cycles::put_cycle;
 use crate::desk_events::{bring, comes_to_desk};
 use crate::empty_days::{empty_dealer, empty_investor, empty_room};
 use crate::events::{event_in, is_event};
-use crate::values::{actor_in, kind_in, settled_named};
+use crate::values::{actor_in, kind_in, message_of, settled_named};
 use crate::venues::Venue;
-use case_lines::{Call, CaseFault, Place, Words, frame_of, piped_bytes_of};
+use case_lines::{Call, CaseFault, Place, Words};
 use day_weaving::{WeaveFault, weave};
 use dealer_desk::DealerEvent;
 use investor_desk::InvestorDesk;
-use quote_messages::{Message, SentMessage};
+use quote_messages::SentMessage;
 use recorded_days::{Action, DayRecord, DealerDay, Inbound, InvestorDay};
 use std::alloc::Global;
 use std::mem::replace;
@@ -177,10 +177,7 @@ impl Records {
     /// `action ACTOR KIND TIME`, and the word and its settlement.
     fn put_action(&mut self, words: &mut Words<'_>) -> Result<(), CaseFault> {
         let by = actor_in(words)?;
-        let kind = kind_in(words)?;
-        let moment = words.moment()?;
-        let word = word_in(words)?;
-        let action = Action { kind, moment, word };
+        let action = action_in(words)?;
         let Actor::Firm(firm) = by else {
             self.clock.push(action)?;
             return Ok(());
@@ -226,8 +223,7 @@ impl Records {
     fn put_message(&mut self, alloc: Global, words: &mut Words<'_>) -> Result<(), CaseFault> {
         let firm = words.firm()?;
         let moment = words.moment()?;
-        let body = piped_bytes_of(alloc, words.rest())?;
-        let bytes = Message::new(frame_of(alloc, body.as_slice())?);
+        let bytes = message_of(alloc, words.rest())?;
         let inbound = Inbound { moment, bytes };
         if self.is_dealer(firm) {
             self.dealer(firm)?.inbox.push(inbound)?;
@@ -273,12 +269,11 @@ impl Records {
     /// `take TIME BODY`.
     fn take(&mut self, alloc: Global, words: &mut Words<'_>) -> Result<(), CaseFault> {
         let moment = words.moment()?;
-        let body = piped_bytes_of(alloc, words.rest())?;
-        let bytes = frame_of(alloc, body.as_slice())?;
+        let message = message_of(alloc, words.rest())?;
         let Some(desk) = &mut self.desk else {
             return Err(CaseFault::NotOpen);
         };
-        let _duty = desk.take(moment, bytes.as_slice())?;
+        let _duty = desk.take(moment, message.as_bytes())?;
         Ok(())
     }
 
@@ -353,6 +348,14 @@ fn put_weave_fault(
         }
         WeaveFault::Memory => Err(CaseFault::Memory),
     }
+}
+
+/// `KIND TIME`, and the word and its settlement.
+fn action_in(words: &mut Words<'_>) -> Result<Action, CaseFault> {
+    let kind = kind_in(words)?;
+    let moment = words.moment()?;
+    let word = word_in(words)?;
+    Ok(Action { kind, moment, word })
 }
 
 /// The word that an action asked, and its settlement, where the call goes on.

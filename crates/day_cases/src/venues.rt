@@ -1,10 +1,9 @@
 //! A configuration, and steps that lines of a day spell.
 use crate::answers::{put, put_count, put_fault};
 use crate::steps::put_spelled;
-use crate::values::actor_in;
-use case_lines::{Call, CaseFault, Words, frame_of, piped_bytes_of};
+use crate::values::{actor_in, message_of};
+use case_lines::{Call, CaseFault, Words};
 use market_terms::RoomRef;
-use quote_messages::Message;
 use std::alloc::Global;
 use step_replay::Step;
 use venue_config::read_config;
@@ -136,8 +135,7 @@ impl Venue {
     fn comes(&mut self, alloc: Global, words: &mut Words<'_>) -> Result<(), CaseFault> {
         let firm = words.firm()?;
         let moment = words.moment()?;
-        let body = piped_bytes_of(alloc, words.rest())?;
-        let message = Message::new(frame_of(alloc, body.as_slice())?);
+        let message = message_of(alloc, words.rest())?;
         self.steps.push(Step::In(firm, moment, message))?;
         Ok(())
     }

@@ -1,6 +1,7 @@
 //! What is left to be done, as text, and what the desks have sent in a step.
 use crate::events::push_until;
 use crate::replies::{push_ask, push_firms, push_number, push_time, push_word, reply_name};
+use bond_prices::Ticks;
 use case_lines::{CaseFault, frame_of, push_bytes};
 use fix_fields::Moment;
 use market_terms::{Duty, ResponseRef, RoomRef};
@@ -100,19 +101,27 @@ fn push_quoted(answer: &mut String, duty: &Duty) -> Result<(), CaseFault> {
             ..
         } => {
             push_number(answer, u64::from(*quote))?;
-            push_number(answer, u64::from(price.get()))?;
-            push_until(answer, *valid_until)
+            push_price(answer, *price, *valid_until)
         }
         Duty::Relay { offer, .. } => {
             push_word(answer, offer.dealer.as_str())?;
             push_number(answer, u64::from(offer.word))?;
-            push_number(answer, u64::from(offer.price.get()))?;
-            push_until(answer, offer.valid_until)
+            push_price(answer, offer.price, offer.valid_until)
         }
         Duty::Unpost { quote, .. } => push_number(answer, u64::from(*quote)),
         Duty::Gone { word, .. } => push_number(answer, u64::from(*word)),
         other => push_answered(answer, other),
     }
+}
+
+/// A price in 256ths, and the moment at which its validity ends, where there is one.
+fn push_price(
+    answer: &mut String,
+    price: Ticks,
+    valid_until: Option<Moment>,
+) -> Result<(), CaseFault> {
+    push_number(answer, u64::from(price.get()))?;
+    push_until(answer, valid_until)
 }
 
 /// The response that a duty bears, and the word that it asks or what the room replied to it. The

@@ -3,9 +3,10 @@
 use crate::printing::{len_of, push_number, u32_of};
 use blotter::blotter_text;
 use case_lines::{Call, CaseFault, Place, Words, bond_of, name_of, price_of, quantity_of, side_of};
+use fix_fields::Moment;
 use market_terms::{FirmLines, Quantity, QuoteLine, QuoteState, RequestLine, RequestState, Side};
 use std::alloc::Global;
-use venue_rows::BondId;
+use venue_rows::{BondId, Name};
 
 /// The place `blotters`: blotters of lines.
 ///
@@ -85,9 +86,7 @@ fn push_length(call: &mut Call<'_>, lines: &FirmLines) -> Result<(), CaseFault> 
 
 /// NUMBER MOMENT TRADER REQUEST BOND SIDE QUANTITY PRICE STATE.
 fn quote_of(words: &mut Words) -> Result<QuoteLine, CaseFault> {
-    let q = u32_of(words.number()?)?;
-    let moment = words.moment()?;
-    let trader = name_of(words)?;
+    let (q, moment, trader) = front_of(words)?;
     let request = words.number()?;
     let (bond, side, quantity) = traded_of(words)?;
     let price = price_of(words)?;
@@ -104,6 +103,14 @@ fn quote_of(words: &mut Words) -> Result<QuoteLine, CaseFault> {
         price,
         state,
     })
+}
+
+/// NUMBER MOMENT TRADER: what each line begins with.
+fn front_of(words: &mut Words) -> Result<(u32, Moment, Name), CaseFault> {
+    let number = u32_of(words.number()?)?;
+    let moment = words.moment()?;
+    let trader = name_of(words)?;
+    Ok((number, moment, trader))
 }
 
 /// BOND SIDE QUANTITY.
@@ -128,9 +135,7 @@ fn quote_state_of(word: &str) -> Result<QuoteState, CaseFault> {
 
 /// NUMBER MOMENT TRADER BOND SIDE QUANTITY STATE.
 fn request_of(words: &mut Words) -> Result<RequestLine, CaseFault> {
-    let n = u32_of(words.number()?)?;
-    let moment = words.moment()?;
-    let trader = name_of(words)?;
+    let (n, moment, trader) = front_of(words)?;
     let (bond, side, quantity) = traded_of(words)?;
     let state = request_state_of(words)?;
     words.end()?;
