@@ -32,6 +32,7 @@ impl Place for PriceCases {
             "price" => push_price(&mut call.answer, &mut call.words),
             "text" => push_text(&mut call.answer, &mut call.words),
             "said" => push_said(&mut call.answer, &mut call.words),
+            "every_price" => push_every_price(&mut call.answer),
             "below" => push_below(&mut call.answer, &mut call.words),
             "same" => push_same(&mut call.answer, &mut call.words),
             _ => push_of_grids(call),
@@ -46,7 +47,6 @@ fn push_of_grids(call: &mut Call<'_>) -> Result<(), CaseFault> {
         "finest" => push_number(&mut call.answer, u64::from(Grid::FINEST.get())),
         "same_grid" => push_same_grid(&mut call.answer, &mut call.words),
         "on" => push_on(&mut call.answer, &mut call.words),
-        "every_price" => push_every_price(&mut call.answer),
         _ => Err(CaseFault::Form),
     }
 }
