@@ -1,6 +1,8 @@
 //! What is left to be done, as text, and what the desks have sent in a step.
 use crate::events::push_until;
-use crate::replies::{push_ask, push_firms, push_number, push_time, push_word, reply_name};
+use crate::replies::{
+    push_ask, push_firms, push_line, push_number, push_time, push_word, reply_name,
+};
 use bond_prices::Ticks;
 use case_lines::{CaseFault, frame_of, push_bytes};
 use fix_fields::Moment;
@@ -12,7 +14,7 @@ use std::alloc::Global;
 pub(crate) fn push_duties(answer: &mut String, duties: &[Duty]) -> Result<(), CaseFault> {
     for duty in duties {
         push_duty(answer, duty)?;
-        answer.push('\n')?;
+        push_line(answer, "")?;
     }
     Ok(())
 }
@@ -23,8 +25,7 @@ pub(crate) fn push_left(answer: &mut String, left: &Option<Duty>) -> Result<(), 
         return Ok(());
     };
     push_duty(answer, duty)?;
-    answer.push('\n')?;
-    Ok(())
+    push_line(answer, "")
 }
 
 /// What a duty is, its moment, its room, and what else it bears.
@@ -45,8 +46,8 @@ fn push_head(answer: &mut String, duty: &Duty) -> Result<(), CaseFault> {
     };
     answer.push_str(what)?;
     push_time(answer, moment)?;
-    push_number(answer, u64::from(room.investor))?;
-    push_number(answer, u64::from(room.n))
+    write!(answer, " {} {}", room.investor, room.n)?;
+    Ok(())
 }
 
 /// What a duty is, its room, and its moment, where it has a room.

@@ -35,8 +35,7 @@ fn push_message(answer: &mut String, message: &SentMessage) -> Result<(), CaseFa
     let header = header_of(&mut fields)?;
     push_header(answer, &header)?;
     push_fields(answer, fields)?;
-    answer.push('\n')?;
-    Ok(())
+    push_line(answer, "")
 }
 
 /// The header that fields begin with. SenderCompID (49) is that of the venue.
@@ -132,8 +131,7 @@ pub(crate) fn push_count_line(answer: &mut String, count: usize) -> Result<(), C
 /// The day.
 pub(crate) fn push_date(answer: &mut String, date: &Date) -> Result<(), CaseFault> {
     push_bytes(answer, date.digits().as_slice())?;
-    answer.push('\n')?;
-    Ok(())
+    push_line(answer, "")
 }
 
 /// Traders, a space before each, up to the line's end.
@@ -144,6 +142,5 @@ pub(crate) fn push_traders(answer: &mut String, traders: &Traders) -> Result<(),
             push_bytes(answer, trader)?;
         }
     }
-    answer.push('\n')?;
-    Ok(())
+    push_line(answer, "")
 }

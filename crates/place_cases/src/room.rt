@@ -1,6 +1,6 @@
 //! A room.
 use crate::events::{push_event, push_request, room_again};
-use crate::replies::{push_firms, push_line, push_number, push_truth, refusal_name, reply_name};
+use crate::replies::{push_line, push_truth, refusal_name, reply_name};
 use crate::terms::{dealers, last_moment, request, settled};
 use bond_prices::Ticks;
 use case_lines::{Call, CaseFault, Place, Words, price_of, side_of};
@@ -156,14 +156,12 @@ impl RoomPlace {
         };
         answer.push_str("request")?;
         push_request(answer, request)?;
-        answer.push('\n')?;
-        Ok(())
+        push_line(answer, "")
     }
 
     fn length(&self, answer: &mut String) -> Result<(), CaseFault> {
-        answer.push_str("events")?;
-        push_number(answer, self.room.events().len() as u64)?;
-        answer.push('\n')?;
+        let count = self.room.events().len();
+        writeln!(answer, "events {count}")?;
         Ok(())
     }
 
@@ -279,9 +277,7 @@ fn last_settled(words: &mut Words) -> Result<Option<Settled>, CaseFault> {
 
 /// The word that a hit asks.
 fn push_asked(answer: &mut String, word: u32) -> Result<(), CaseFault> {
-    answer.push_str("asks")?;
-    push_number(answer, u64::from(word))?;
-    answer.push('\n')?;
+    writeln!(answer, "asks {word}")?;
     Ok(())
 }
 
@@ -293,8 +289,7 @@ fn push_end(answer: &mut String, end: &Option<End>) -> Result<(), CaseFault> {
     answer.push_str(kind_name(end.kind))?;
     push_winner(answer, end.winner)?;
     push_cover(answer, end.cover)?;
-    answer.push('\n')?;
-    Ok(())
+    push_line(answer, "")
 }
 
 /// What an end is called in a line.
@@ -311,10 +306,8 @@ fn push_winner(answer: &mut String, winner: Option<(u16, u32)>) -> Result<(), Ca
     let Some((dealer, word)) = winner else {
         return Ok(());
     };
-    answer.push_str(" to")?;
-    push_number(answer, u64::from(dealer))?;
-    answer.push_str(" word")?;
-    push_number(answer, u64::from(word))
+    write!(answer, " to {dealer} word {word}")?;
+    Ok(())
 }
 
 /// The cover, where there is one.
@@ -322,8 +315,8 @@ fn push_cover(answer: &mut String, cover: Option<u16>) -> Result<(), CaseFault> 
     let Some(dealer) = cover else {
         return Ok(());
     };
-    answer.push_str(" cover")?;
-    push_firms(answer, &[dealer])
+    write!(answer, " cover {dealer}")?;
+    Ok(())
 }
 
 /// What a room ends in where this word is hit and lifted. It is tried on a room of its own.

@@ -6,7 +6,7 @@ ghost use Rattle.std.specs.Prelude.{◌≡◌};
 
 use crate::duties::{push_duties, push_sent};
 use crate::floor::{Counts, Floor, INVESTOR, ROOM, counts_of, new_floor};
-use crate::replies::{push_line, push_number};
+use crate::replies::push_line;
 use crate::said::framed;
 use crate::terms::{request, response};
 use at_room::does_in_room;
@@ -244,14 +244,9 @@ fn push_all_sent(
 
 /// What the places have seen: the events of DLR1, DLR2, INV1 and the room, then the messages.
 fn push_seen(answer: &mut String, seen: &Counts) -> Result<(), CaseFault> {
-    answer.push_str("events")?;
-    for count in [seen.first, seen.second, seen.investor, seen.room] {
-        push_number(answer, count as u64)?;
-    }
-    answer.push_str(" messages")?;
-    for count in [seen.to_first, seen.to_second, seen.to_investor] {
-        push_number(answer, count as u64)?;
-    }
-    answer.push('\n')?;
+    let (first, second, investor, room) = (seen.first, seen.second, seen.investor, seen.room);
+    write!(answer, "events {first} {second} {investor} {room}")?;
+    let (first, second, investor) = (seen.to_first, seen.to_second, seen.to_investor);
+    writeln!(answer, " messages {first} {second} {investor}")?;
     Ok(())
 }

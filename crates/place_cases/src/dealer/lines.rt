@@ -1,7 +1,6 @@
 //! What a desk knows, as lines.
 use crate::blotters::{BlotterLine, push_front, push_terms};
 use crate::messages::{push_count_line, push_traders};
-use crate::replies::{push_line, push_number, push_word};
 use crate::tally::Tally;
 use crate::terms::quote_word;
 use case_lines::CaseFault;
@@ -16,9 +15,9 @@ impl BlotterLine for QuoteLine {
         push_front(answer, self.q, self.moment, &self.trader)?;
         write!(answer, " R{}", self.request)?;
         push_terms(answer, self.side, &self.bond, self.quantity)?;
-        push_number(answer, u64::from(self.price.get()))?;
-        push_word(answer, quote_word(self.state))?;
-        push_line(answer, "")
+        let (price, state) = (self.price.get(), quote_word(self.state));
+        writeln!(answer, " {price} {state}")?;
+        Ok(())
     }
 }
 

@@ -37,8 +37,11 @@ fn push_state(answer: &mut String, state: &RequestState) -> Result<(), CaseFault
 /// `NAME REQUESTS OPEN QUANTITY TRADER ..`.
 pub(crate) fn push_row(answer: &mut String, row: &InvestorRow) -> Result<(), CaseFault> {
     answer.push_str(row.name.as_str())?;
-    write!(answer, " {} {}", row.requests, row.open_limit)?;
-    push_number(answer, row.quantity)?;
+    write!(
+        answer,
+        " {} {} {}",
+        row.requests, row.open_limit, row.quantity
+    )?;
     push_traders(answer, &row.traders)
 }
 
@@ -56,8 +59,7 @@ pub(crate) fn push_event(
         answer.push(' ')?;
         push_bytes(answer, message.as_bytes())?;
     }
-    answer.push('\n')?;
-    Ok(())
+    push_line(answer, "")
 }
 
 /// The call that brought an event, and its moment.
