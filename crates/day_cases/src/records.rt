@@ -76,7 +76,7 @@ impl Place for Records {
         match call.name {
             "begin" => self.begin(call.alloc),
             "end" => self.end(call.alloc),
-            "count" => self.tell_count(call.alloc, call.words.firm()?, &mut call.answer),
+            "count" => self.tell_count(call.words.firm()?, &mut call.answer),
             "due" => self.tell_due(call.alloc, call.words.firm()?, &mut call.answer),
             "weave" | "woven" => self.tell_steps(call),
             _ => self.changes(call),
@@ -296,11 +296,11 @@ impl Records {
     }
 
     /// How many messages a firm was sent.
-    fn tell_count(&self, alloc: Global, firm: u16, answer: &mut String) -> Result<(), CaseFault> {
+    fn tell_count(&self, firm: u16, answer: &mut String) -> Result<(), CaseFault> {
         let Some(sent) = self.record()?.sent(firm) else {
             return put(answer, "none");
         };
-        put_count(alloc, answer, sent.len(), "messages")
+        put_count(answer, sent.len(), "messages")
     }
 
     /// What was due to a dealer.
@@ -328,9 +328,9 @@ impl Records {
 /// The steps that a day is woven into, or how many there are.
 fn put_woven(call: &mut Call<'_>, steps: &[Step]) -> Result<(), CaseFault> {
     if call.name == "woven" {
-        return put_count(call.alloc, &mut call.answer, steps.len(), "steps");
+        return put_count(&mut call.answer, steps.len(), "steps");
     }
-    put_steps(call.alloc, &mut call.answer, steps)
+    put_steps(&mut call.answer, steps)
 }
 
 /// Why a day is not woven.
@@ -343,8 +343,8 @@ fn put_weave_fault(
         WeaveFault::Malformed => put(answer, "malformed"),
         WeaveFault::Cycle(actions) => put_cycle(alloc, answer, actions.as_slice()),
         WeaveFault::Differs(firm) => {
-            let line = format!(in alloc; "differs {firm}")?;
-            put(answer, line.as_str())
+            writeln!(answer, "differs {firm}")?;
+            Ok(())
         }
         WeaveFault::Memory => Err(CaseFault::Memory),
     }

@@ -14,8 +14,7 @@ pub(crate) fn tell_fields(alloc: Global, text: &str, answer: &mut String) -> Res
         return put(answer, "none");
     };
     for field in fields.as_slice() {
-        let tag = format!(in alloc; "{}=", field.tag())?;
-        answer.push_str(tag.as_str())?;
+        write!(answer, "{}=", field.tag())?;
         push_text(answer, field.value())?;
         answer.push('\n')?;
     }

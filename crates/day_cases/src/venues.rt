@@ -123,12 +123,7 @@ impl Venue {
         if let Some(fault) = fault {
             return put_fault(answer, &fault);
         }
-        put_count(
-            alloc,
-            answer,
-            self.steps.len().saturating_sub(before),
-            "steps",
-        )
+        put_count(answer, self.steps.len().saturating_sub(before), "steps")
     }
 
     /// `in FIRM TIME BODY`: the frame of a body comes.
