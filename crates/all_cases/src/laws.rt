@@ -40,7 +40,7 @@ fn shown<H: Threads + Wait + Sync>(
 ) -> Result<String, CaseFault> {
     let ended = ran(rt, alloc, words, input, paces);
     let mut text = String::new(alloc);
-    ended.show(alloc, &mut text)?;
+    ended.show(&mut text)?;
     Ok(text)
 }
 
@@ -104,7 +104,7 @@ fn told_of_prefix(
     count: usize,
 ) -> Result<String, CaseFault> {
     let mut text = String::new(alloc);
-    ended.tell(alloc, &mut text)?;
+    ended.tell(&mut text)?;
     let is_prefix = whole.get(..count) == Some(ended.out.as_slice());
     text.push_str(if is_prefix {
         "a prefix\n"
@@ -139,11 +139,11 @@ fn same_live<H: Threads + Wait + Sync>(
     let (frames, firms) = form_of(call.words.rest());
     let lines = without_turns(alloc, input)?;
     let live = ran_in_form(rt, alloc, &["live"], frames, lines.as_slice())?;
-    live.tell(alloc, &mut call.answer)?;
+    live.tell(&mut call.answer)?;
     for firm in words_of(alloc, firms)?.as_slice() {
         let own = lines_of(alloc, live.out.as_slice(), firm)?;
         let is_same = is_replayed(rt, alloc, firm, frames, input, own.as_slice())?;
-        push_same(alloc, &mut call.answer, firm, is_same)?;
+        push_same(&mut call.answer, firm, is_same)?;
     }
     Ok(())
 }
@@ -173,7 +173,7 @@ fn same_alone<H: Threads + Wait + Sync>(
     let alloc = call.alloc;
     for dealer in words_of(alloc, dealers)?.as_slice() {
         let is_same = is_same_alone(rt, alloc, dealer, frames, input)?;
-        push_same(alloc, &mut call.answer, dealer, is_same)?;
+        push_same(&mut call.answer, dealer, is_same)?;
     }
     Ok(())
 }
@@ -241,14 +241,8 @@ fn lines_of(alloc: Global, text: &[u8], firm: &str) -> Result<Vec<u8>, CaseFault
 }
 
 /// Answers whether two texts of a firm are the same.
-fn push_same(
-    alloc: Global,
-    answer: &mut String,
-    firm: &str,
-    is_same: bool,
-) -> Result<(), CaseFault> {
+fn push_same(answer: &mut String, firm: &str, is_same: bool) -> Result<(), CaseFault> {
     let word = if is_same { "same" } else { "differs" };
-    let line = format!(in alloc; "{firm} {word}\n")?;
-    answer.push_str(line.as_str())?;
+    writeln!(answer, "{firm} {word}")?;
     Ok(())
 }

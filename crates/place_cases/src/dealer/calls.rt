@@ -5,12 +5,11 @@ use super::opened::{Dropped, Opened, Taken};
 use crate::blotters::{push_line_numbered, push_lines};
 use crate::duties::push_left;
 use crate::messages::{push_count_line, push_date, push_frames, push_new, push_number_line};
-use crate::replies::{push_line, push_truth};
+use crate::replies::push_truth;
 use crate::terms::{ask, room};
 use case_lines::{Call, CaseFault, Words, close_of};
 use dealer_desk::DealerDesk;
 use market_terms::RoomRef;
-use std::alloc::Global;
 
 /// Makes a call of an open desk, and answers behind it what the desk has sent since the last one.
 pub(crate) fn called(opened: &mut Opened, call: &mut Call<'_>) -> Result<(), CaseFault> {
@@ -109,29 +108,29 @@ fn comes(opened: &mut Opened, call: &mut Call<'_>) -> Result<(), CaseFault> {
 fn take(opened: &mut Opened, call: &mut Call<'_>) -> Result<(), CaseFault> {
     let came = opened.speaker.say(call)?;
     let taken = opened.take(&came)?;
-    push_taken(call.alloc, &mut call.answer, &taken)
+    push_taken(&mut call.answer, &taken)
 }
 
 /// `TRADER TIME TYPE BODY`.
 fn judge(opened: &mut Opened, call: &mut Call<'_>) -> Result<(), CaseFault> {
     let came = opened.speaker.say(call)?;
     let taken = opened.receive_judged(&came)?;
-    push_taken(call.alloc, &mut call.answer, &taken)
+    push_taken(&mut call.answer, &taken)
 }
 
 /// The word that was asked, and what is left to be done.
-fn push_taken(alloc: Global, answer: &mut String, taken: &Taken) -> Result<(), CaseFault> {
-    push_word(alloc, answer, taken.0)?;
+fn push_taken(answer: &mut String, taken: &Taken) -> Result<(), CaseFault> {
+    push_word(answer, taken.0)?;
     push_left(answer, &taken.1)
 }
 
 /// `word N` of the quote whose word was asked, where one was.
-fn push_word(alloc: Global, answer: &mut String, asked: Option<u32>) -> Result<(), CaseFault> {
+fn push_word(answer: &mut String, asked: Option<u32>) -> Result<(), CaseFault> {
     let Some(quote) = asked else {
         return Ok(());
     };
-    let text = format!(in alloc; "word {quote}")?;
-    push_line(answer, text.as_str())
+    writeln!(answer, "word {quote}")?;
+    Ok(())
 }
 
 /// `N`.
@@ -181,7 +180,7 @@ fn drop_quietly(opened: &mut Opened, words: &mut Words<'_>) -> Result<(), CaseFa
 /// The word that was asked, what is left to be done in the room, and of the drop.
 fn push_dropped(opened: &mut Opened, call: &mut Call<'_>) -> Result<(), CaseFault> {
     let (asked, unpost, further) = drop_one(opened, &mut call.words)?;
-    push_word(call.alloc, &mut call.answer, asked)?;
+    push_word(&mut call.answer, asked)?;
     push_left(&mut call.answer, &unpost)?;
     push_left(&mut call.answer, &further)
 }

@@ -1,6 +1,5 @@
 //! Calls that stand for many.
 use super::opened::Opened;
-use crate::replies::push_line;
 use crate::said::{Came, own};
 use crate::tally::Tally;
 use case_lines::{Call, CaseFault};
@@ -31,8 +30,8 @@ pub(crate) fn push_forged(opened: &mut Opened, call: &mut Call<'_>) -> Result<()
         let more = forged_byte(opened, alloc, &whole, n)?;
         seen = seen.saturating_add(more);
     }
-    let text = format!(in alloc; "{count} bytes, {seen} forgeries seen")?;
-    push_line(&mut call.answer, text.as_str())
+    writeln!(call.answer, "{count} bytes, {seen} forgeries seen")?;
+    Ok(())
 }
 
 /// A message comes with each bit of a byte changed in turn: how often a word is asked or something
