@@ -1,6 +1,6 @@
 //! Blotters of lines.
 
-use crate::printing::{len_of, push_number, u32_of};
+use crate::printing::push_number;
 use blotter::blotter_text;
 use case_lines::{Call, CaseFault, Place, Words, bond_of, name_of, price_of, quantity_of, side_of};
 use fix_fields::Moment;
@@ -32,9 +32,9 @@ impl Place for BlotterCases {
     fn call(&mut self, call: &mut Call<'_>) -> Result<(), CaseFault> {
         match call.name {
             "quote" => self.add_quotes(1, call.words.rest()),
-            "quote_times" => self.add_quotes(len_of(call.words.number()?)?, call.words.rest()),
+            "quote_times" => self.add_quotes(call.words.number()? as usize, call.words.rest()),
             "request" => self.add_requests(1, call.words.rest()),
-            "request_times" => self.add_requests(len_of(call.words.number()?)?, call.words.rest()),
+            "request_times" => self.add_requests(call.words.number()? as usize, call.words.rest()),
             _ => self.tell(call),
         }
     }
@@ -107,7 +107,7 @@ fn quote_of(words: &mut Words) -> Result<QuoteLine, CaseFault> {
 
 /// NUMBER MOMENT TRADER: what each line begins with.
 fn front_of(words: &mut Words) -> Result<(u32, Moment, Name), CaseFault> {
-    let number = u32_of(words.number()?)?;
+    let number = words.short_number()?;
     let moment = words.moment()?;
     let trader = name_of(words)?;
     Ok((number, moment, trader))

@@ -1,6 +1,5 @@
 //! Bytes that calls put together.
 
-use crate::printing::len_of;
 use case_lines::{Call, CaseFault, Words, check_sum_of, piped_bytes_of};
 use std::alloc::Global;
 
@@ -61,7 +60,7 @@ pub(crate) fn bytes_in(call: &mut Call<'_>) -> Result<Vec<u8>, CaseFault> {
 
 /// `N BYTES`: these bytes N times.
 fn bytes_times(alloc: Global, words: &mut Words) -> Result<Vec<u8>, CaseFault> {
-    let count = len_of(words.number()?)?;
+    let count = words.number()? as usize;
     let bytes = piped_bytes_of(alloc, words.rest())?;
     let bytes = repeated(alloc, bytes.as_slice(), count)?;
     Ok(bytes)

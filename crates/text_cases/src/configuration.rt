@@ -1,9 +1,7 @@
 //! Configurations that are read.
 
 use crate::configuration_rows::{push_place_of_trader, push_row_or_none, push_rows, push_trader};
-use crate::printing::{
-    len_of, push_line, push_number, push_number_or_none, push_truth, u16_of, u32_of,
-};
+use crate::printing::{push_line, push_number, push_number_or_none, push_truth};
 use case_lines::{Call, CaseFault, Place, Words, bytes_of, push_text};
 use std::alloc::Global;
 use std::fmt::Write;
@@ -97,7 +95,7 @@ impl ConfigCases {
 
     /// `add_times N TEXT`: N lines more, each with its number where `#` stands.
     fn add_times(&mut self, words: &mut Words) -> Result<(), CaseFault> {
-        let count = len_of(words.number()?)?;
+        let count = words.number()? as usize;
         let line = words.rest();
         let Some((front, back)) = line.split_once('#') else {
             return add_lines(&mut self.text, count, line);
@@ -159,7 +157,7 @@ pub(crate) fn dealer_of<'a>(
     config: &'a VenueConfig,
     words: &mut Words,
 ) -> Result<&'a DealerRow, CaseFault> {
-    let firm = u16_of(words.number()?)?;
+    let firm = words.firm()?;
     config.dealer(firm).ok_or(CaseFault::Condition)
 }
 
@@ -241,8 +239,8 @@ fn push_has_room(
     config: &VenueConfig,
     words: &mut Words,
 ) -> Result<(), CaseFault> {
-    let firm = u16_of(words.number()?)?;
-    let number = u32_of(words.number()?)?;
+    let firm = words.firm()?;
+    let number = words.short_number()?;
     push_truth(answer, config.has_room(firm, number))
 }
 

@@ -1,9 +1,7 @@
 //! Frames that are read.
 
 use crate::buffers::ByteBuffer;
-use crate::printing::{
-    garbled_name, push_field, push_line, push_number, push_value_or_none, u32_of,
-};
+use crate::printing::{garbled_name, push_field, push_line, push_number, push_value_or_none};
 use case_lines::{Call, CaseFault, Place, Words};
 use fix_fields::{Frame, Garbled, read_frame};
 use std::alloc::Global;
@@ -108,14 +106,14 @@ fn frame_of(bytes: &[u8]) -> Result<Frame<'_>, CaseFault> {
 
 /// `get TAG`: the first value.
 fn push_first(answer: &mut String, bytes: &[u8], words: &mut Words) -> Result<(), CaseFault> {
-    let tag = u32_of(words.number()?)?;
+    let tag = words.short_number()?;
     let frame = frame_of(bytes)?;
     push_value_or_none(answer, frame.get(tag))
 }
 
 /// `get_len TAG`: the length of the first value.
 fn push_first_len(answer: &mut String, bytes: &[u8], words: &mut Words) -> Result<(), CaseFault> {
-    let tag = u32_of(words.number()?)?;
+    let tag = words.short_number()?;
     let frame = frame_of(bytes)?;
     let value = frame.get(tag).ok_or(CaseFault::Condition)?;
     push_number(answer, value.len() as u64)
@@ -123,7 +121,7 @@ fn push_first_len(answer: &mut String, bytes: &[u8], words: &mut Words) -> Resul
 
 /// `times TAG`: how many fields have it.
 fn push_times(answer: &mut String, bytes: &[u8], words: &mut Words) -> Result<(), CaseFault> {
-    let tag = u32_of(words.number()?)?;
+    let tag = words.short_number()?;
     let frame = frame_of(bytes)?;
     push_number(answer, frame.times(tag) as u64)
 }

@@ -1,6 +1,6 @@
 //! Dates and moments.
 
-use crate::printing::{push_line, push_number, push_truth, u32_of};
+use crate::printing::{push_line, push_number, push_truth};
 use case_lines::{Call, CaseFault, Place, Words, bytes_of};
 use fix_fields::{Date, Moment, MomentFault, moment_text, read_moment, time_text};
 use std::alloc::Global;
@@ -47,7 +47,7 @@ fn push_date(alloc: Global, answer: &mut String, text: &str) -> Result<(), CaseF
 
 /// `moment NUMBER`: the number, where it is a moment.
 fn push_moment(answer: &mut String, words: &mut Words) -> Result<(), CaseFault> {
-    let number = u32_of(words.number()?)?;
+    let number = words.short_number()?;
     match Moment::new(number) {
         Some(moment) => push_number(answer, u64::from(moment.get())),
         None => push_line(answer, "none"),
@@ -73,7 +73,7 @@ fn date_of(words: &mut Words) -> Result<Date, CaseFault> {
 
 /// The moment that a number is.
 fn moment_of(words: &mut Words) -> Result<Moment, CaseFault> {
-    let number = u32_of(words.number()?)?;
+    let number = words.short_number()?;
     Moment::new(number).ok_or(CaseFault::Condition)
 }
 

@@ -1,6 +1,6 @@
 //! Prices and grids.
 
-use crate::printing::{push_line, push_number, push_truth, u32_of};
+use crate::printing::{push_line, push_number, push_truth};
 use bond_prices::{Grid, PriceFault, Ticks, on_grid, price_text, read_price, thirty_seconds};
 use case_lines::{Call, CaseFault, Place, Words, bytes_of, price_of};
 use std::alloc::Global;
@@ -81,13 +81,13 @@ fn push_fault(alloc: Global, answer: &mut String, text: &str) -> Result<(), Case
 
 /// The grid that a number is.
 pub(crate) fn grid_of(words: &mut Words) -> Result<Grid, CaseFault> {
-    let steps = u32_of(words.number()?)?;
+    let steps = words.short_number()?;
     Grid::new(steps).ok_or(CaseFault::Condition)
 }
 
 /// `price NUMBER`: the number, where it is a price.
 fn push_price(answer: &mut String, words: &mut Words) -> Result<(), CaseFault> {
-    let number = u32_of(words.number()?)?;
+    let number = words.short_number()?;
     match Ticks::new(number) {
         Some(price) => push_number(answer, u64::from(price.get())),
         None => push_line(answer, "none"),
@@ -155,7 +155,7 @@ fn push_on(answer: &mut String, words: &mut Words) -> Result<(), CaseFault> {
 
 /// `grid STEPS`: the steps, where they are a grid.
 fn push_grid(answer: &mut String, words: &mut Words) -> Result<(), CaseFault> {
-    let steps = u32_of(words.number()?)?;
+    let steps = words.short_number()?;
     match Grid::new(steps) {
         Some(grid) => push_number(answer, u64::from(grid.get())),
         None => push_line(answer, "none"),

@@ -1,7 +1,7 @@
 //! Streams that are cut.
 
 use crate::buffers::ByteBuffer;
-use crate::printing::{len_of, push_bytes_line, push_line, push_number};
+use crate::printing::{push_bytes_line, push_line, push_number};
 use case_lines::{Call, CaseFault, Place, Words, piped_bytes_of, stream_fault_name};
 use fix_fields::{Messages, Splitter, StreamFault};
 use std::alloc::Global;
@@ -93,7 +93,7 @@ impl StreamCases {
         words: &mut Words,
         answer: &mut String,
     ) -> Result<(), CaseFault> {
-        let size = len_of(words.number()?)?;
+        let size = words.number()? as usize;
         let mut cutting = Cutting::new(alloc, self.buffer.as_slice());
         for piece in self.buffer.as_slice().chunks(size.max(1)) {
             cutting.feed(piece, answer)?;

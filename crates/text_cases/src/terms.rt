@@ -3,7 +3,7 @@
 use crate::parts::{ask_with_grid, id_of};
 use crate::printing::{
     push_bytes_line, push_field, push_line, push_number, push_number_field, push_time_field,
-    push_truth, u16_of,
+    push_truth,
 };
 use case_lines::{Call, CaseFault, Place, Words, bytes_of};
 use market_terms::{Ask, AskedDealers, Close, HitRefusal, Id, IdBuf, Quantity, Side};
@@ -94,7 +94,7 @@ fn numbers_of(alloc: Global, line: &str) -> Result<Vec<u16>, CaseFault> {
     let mut numbers = Vec::new(alloc);
     for word in line.split(' ') {
         if !word.is_empty() {
-            let number = u16_of(Words::of(word).number()?)?;
+            let number = Words::of(word).firm()?;
             numbers.push(number)?;
         }
     }
@@ -122,7 +122,7 @@ fn push_dealers(alloc: Global, answer: &mut String, line: &str) -> Result<(), Ca
 
 /// `names DEALER NUMBER ..`: whether a dealer is one of them.
 fn push_names(alloc: Global, answer: &mut String, words: &mut Words) -> Result<(), CaseFault> {
-    let dealer = u16_of(words.number()?)?;
+    let dealer = words.firm()?;
     let numbers = numbers_of(alloc, words.rest())?;
     let dealers = AskedDealers::new(numbers.as_slice()).ok_or(CaseFault::Condition)?;
     push_truth(answer, dealers.names(dealer))

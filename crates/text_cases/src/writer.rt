@@ -1,7 +1,7 @@
 //! Frames that are written.
 
 use crate::buffers::bytes_in;
-use crate::printing::{len_of, push_bytes_line, push_line, push_number, push_truth, u32_of};
+use crate::printing::{push_bytes_line, push_line, push_number, push_truth};
 use case_lines::{Call, CaseFault, Place, Words, piped_bytes_of};
 use fix_fields::{
     FrameWriter, MOST_BODY, MOST_FRAME, decimal_len, fits, is_tag, is_value, read_frame,
@@ -50,7 +50,7 @@ impl WriterCases {
 
     /// `text TAG VALUE`: one field more, whose value is a text.
     fn text(&mut self, call: &mut Call<'_>) -> Result<(), CaseFault> {
-        let tag = tag_of(&mut call.words)?;
+        let tag = call.words.short_number()?;
         let value = bytes_in(call)?;
         let Some(writer) = &mut self.writer else {
             return Err(CaseFault::NotOpen);
@@ -61,7 +61,7 @@ impl WriterCases {
 
     /// `number TAG NUMBER`: one field more, whose value is a number.
     fn number(&mut self, words: &mut Words, answer: &mut String) -> Result<(), CaseFault> {
-        let tag = tag_of(words)?;
+        let tag = words.short_number()?;
         let value = words.number()?;
         let Some(writer) = &mut self.writer else {
             return Err(CaseFault::NotOpen);
@@ -128,14 +128,9 @@ fn push_tested(call: &mut Call<'_>) -> Result<(), CaseFault> {
     }
 }
 
-/// The tag that a word is.
-fn tag_of(words: &mut Words) -> Result<u32, CaseFault> {
-    u32_of(words.number()?)
-}
-
 /// `is_tag TAG`: whether it may stand in a body.
 fn push_is_tag(answer: &mut String, words: &mut Words) -> Result<(), CaseFault> {
-    let tag = tag_of(words)?;
+    let tag = words.short_number()?;
     push_truth(answer, is_tag(tag))
 }
 
@@ -147,9 +142,9 @@ fn push_is_value(alloc: Global, answer: &mut String, text: &str) -> Result<(), C
 
 /// `fits TAG LENGTH LEFT`: whether a field fits.
 fn push_fits(answer: &mut String, words: &mut Words) -> Result<(), CaseFault> {
-    let tag = tag_of(words)?;
-    let len = len_of(words.number()?)?;
-    let left = len_of(words.number()?)?;
+    let tag = words.short_number()?;
+    let len = words.number()? as usize;
+    let left = words.number()? as usize;
     push_truth(answer, fits(tag, len, left))
 }
 

@@ -1,6 +1,6 @@
 //! Messages that a firm is sent.
 
-use crate::printing::{push_bytes_line, push_number, u32_of};
+use crate::printing::{push_bytes_line, push_number};
 use crate::written_to_dealers::{
     cancel_report, closing_notice, decline_report, quote_report, reject, shown_request,
 };
@@ -82,7 +82,7 @@ impl WrittenCases {
 
     /// `times TAG`: how many fields of the last message have it.
     fn times(&self, words: &mut Words, answer: &mut String) -> Result<(), CaseFault> {
-        let tag = u32_of(words.number()?)?;
+        let tag = words.short_number()?;
         let last = self.last.as_ref().ok_or(CaseFault::NotOpen)?;
         push_number(answer, last.frame().times(tag) as u64)
     }
