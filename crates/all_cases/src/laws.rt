@@ -60,8 +60,14 @@ fn each_write<H: Threads + Wait + Sync>(
     paces.out.stops = stops;
     for count in (0..whole.out.len()).step_by(step) {
         paces.out.left = count;
-        let ended = ran(rt, call.alloc, words.as_slice(), input, paces);
-        let text = told_of_prefix(call.alloc, &ended, whole.out.as_slice(), count)?;
+        let text = shown_prefix(
+            rt,
+            call.alloc,
+            words.as_slice(),
+            input,
+            paces,
+            whole.out.as_slice(),
+        )?;
         in_row.take(count, text, &mut call.answer)?;
     }
     in_row.end(&mut call.answer)
@@ -96,16 +102,19 @@ fn step_of(words: &mut Words<'_>) -> Result<usize, CaseFault>
     Ok(step)
 }
 
-/// How a run ended, and whether it printed the first `count` bytes of a text.
-fn told_of_prefix(
+/// How a run ended whose writer takes so many bytes, and whether it printed as many of a text.
+fn shown_prefix<H: Threads + Wait + Sync>(
+    rt: &H,
     alloc: Global,
-    ended: &Ended,
+    words: &[&str],
+    input: &[u8],
+    paces: Paces,
     whole: &[u8],
-    count: usize,
 ) -> Result<String, CaseFault> {
+    let ended = ran(rt, alloc, words, input, paces);
     let mut text = String::new(alloc);
     ended.tell(&mut text)?;
-    let is_prefix = whole.get(..count) == Some(ended.out.as_slice());
+    let is_prefix = whole.get(..paces.out.left) == Some(ended.out.as_slice());
     text.push_str(if is_prefix {
         "a prefix\n"
     } else {
@@ -135,14 +144,25 @@ fn same_live<H: Threads + Wait + Sync>(
     call: &mut Call<'_>,
     input: &[u8],
 ) -> Result<(), CaseFault> {
-    let alloc = call.alloc;
     let (frames, firms) = form_of(call.words.rest());
-    let lines = without_turns(alloc, input)?;
-    let live = ran_in_form(rt, alloc, &["live"], frames, lines.as_slice())?;
+    let lines = without_turns(call.alloc, input)?;
+    let live = ran_in_form(rt, call.alloc, &["live"], frames, lines.as_slice())?;
     live.tell(&mut call.answer)?;
-    for firm in words_of(alloc, firms)?.as_slice() {
-        let own = lines_of(alloc, live.out.as_slice(), firm)?;
-        let is_same = is_replayed(rt, alloc, firm, frames, input, own.as_slice())?;
+    same_firms(rt, call, firms, frames, input, live.out.as_slice())
+}
+
+/// Whether `replay` has for each firm its lines of what `live` printed.
+fn same_firms<H: Threads + Wait + Sync>(
+    rt: &H,
+    call: &mut Call<'_>,
+    firms: &str,
+    frames: bool,
+    input: &[u8],
+    printed: &[u8],
+) -> Result<(), CaseFault> {
+    for firm in words_of(call.alloc, firms)?.as_slice() {
+        let own = lines_of(call.alloc, printed, firm)?;
+        let is_same = is_replayed(rt, call.alloc, firm, frames, input, own.as_slice())?;
         push_same(&mut call.answer, firm, is_same)?;
     }
     Ok(())

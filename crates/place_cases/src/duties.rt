@@ -41,32 +41,53 @@ fn push_duty(answer: &mut String, duty: &Duty) -> Result<(), CaseFault> {
 
 /// What a duty is, its moment, and its room: the number of the investor, and that of its request.
 fn push_head(answer: &mut String, duty: &Duty) -> Result<(), CaseFault> {
-    let Some((what, room, moment)) = head_of(duty) else {
+    let Some((room, moment)) = place_of(duty) else {
         return Err(CaseFault::Form);
     };
-    answer.push_str(what)?;
+    answer.push_str(what_of(duty))?;
     push_time(answer, moment)?;
     write!(answer, " {} {}", room.investor, room.n)?;
     Ok(())
 }
 
-/// What a duty is, its room, and its moment, where it has a room.
-fn head_of(duty: &Duty) -> Option<(&str, RoomRef, Moment)> {
+/// What a duty is.
+fn what_of(duty: &Duty) -> &'static str {
     match duty {
-        Duty::Open { room, moment, .. } => Some(("open", *room, *moment)),
-        Duty::Show { room, moment, .. } => Some(("show", *room, *moment)),
-        Duty::Ready { room, moment } => Some(("ready", *room, *moment)),
-        Duty::Post { room, moment, .. } => Some(("post", *room, *moment)),
-        Duty::Relay { room, moment, .. } => Some(("relay", *room, *moment)),
-        Duty::Unpost { room, moment, .. } => Some(("unpost", *room, *moment)),
-        Duty::Gone { room, moment, .. } => Some(("gone", *room, *moment)),
-        Duty::Decline { room, moment } => Some(("decline", *room, *moment)),
-        Duty::Declined { room, moment } => Some(("declined", *room, *moment)),
-        Duty::Hit { room, moment, .. } => Some(("hit", *room, *moment)),
-        Duty::Pass { room, moment, .. } => Some(("pass", *room, *moment)),
-        Duty::Answer { room, moment, .. } => Some(("answer", *room, *moment)),
-        Duty::Close { room, moment } => Some(("close", *room, *moment)),
-        Duty::Tell { room, moment, .. } => Some(("tell", *room, *moment)),
+        Duty::Open { .. } => "open",
+        Duty::Show { .. } => "show",
+        Duty::Ready { .. } => "ready",
+        Duty::Post { .. } => "post",
+        Duty::Relay { .. } => "relay",
+        Duty::Unpost { .. } => "unpost",
+        Duty::Gone { .. } => "gone",
+        Duty::Decline { .. } => "decline",
+        Duty::Declined { .. } => "declined",
+        Duty::Hit { .. } => "hit",
+        Duty::Pass { .. } => "pass",
+        Duty::Answer { .. } => "answer",
+        Duty::Close { .. } => "close",
+        Duty::Tell { .. } => "tell",
+        Duty::Drop { .. } => "drop",
+    }
+}
+
+/// The room and the moment of a duty, where it has a room.
+fn place_of(duty: &Duty) -> Option<(RoomRef, Moment)> {
+    match duty {
+        Duty::Open { room, moment, .. }
+        | Duty::Show { room, moment, .. }
+        | Duty::Ready { room, moment }
+        | Duty::Post { room, moment, .. }
+        | Duty::Relay { room, moment, .. }
+        | Duty::Unpost { room, moment, .. }
+        | Duty::Gone { room, moment, .. }
+        | Duty::Decline { room, moment }
+        | Duty::Declined { room, moment }
+        | Duty::Hit { room, moment, .. }
+        | Duty::Pass { room, moment, .. }
+        | Duty::Answer { room, moment, .. }
+        | Duty::Close { room, moment }
+        | Duty::Tell { room, moment, .. } => Some((*room, *moment)),
         Duty::Drop { .. } => None,
     }
 }
