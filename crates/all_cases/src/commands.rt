@@ -47,7 +47,7 @@ impl Commands {
         call: &mut Call<'_>,
     ) -> Result<(), CaseFault> {
         self.run(rt, call.alloc, call.words.rest())?;
-        self.last.show(call.alloc, &mut call.answer)
+        self.last.show(&mut call.answer)
     }
 
     /// `ends FIRST LAST ARGUMENTS`: the same with the first and the last lines of what was printed.
@@ -59,8 +59,7 @@ impl Commands {
         let first = call.words.number()?;
         let last = call.words.number()?;
         self.run(rt, call.alloc, call.words.rest())?;
-        self.last
-            .show_ends(call.alloc, first, last, &mut call.answer)
+        self.last.show_ends(first, last, &mut call.answer)
     }
 
     /// `in_step ARGUMENTS`: the same where each line of steps is given once the answer of the one
@@ -73,7 +72,7 @@ impl Commands {
         let words = words_of(call.alloc, call.words.rest())?;
         let input = self.inputs.bytes.as_slice();
         self.last = ran_in_step(rt, call.alloc, words.as_slice(), input);
-        self.last.show(call.alloc, &mut call.answer)
+        self.last.show(&mut call.answer)
     }
 
     /// `process ARGUMENTS`: the same of a process with these arguments, which may be any bytes.
@@ -84,7 +83,7 @@ impl Commands {
     ) -> Result<(), CaseFault> {
         let input = self.inputs.bytes.as_slice();
         self.last = ended_process(rt, call.alloc, call.words.rest(), input)?;
-        self.last.show(call.alloc, &mut call.answer)
+        self.last.show(&mut call.answer)
     }
 
     /// `told LINES`: the first lines that the last run told on standard error.
@@ -105,9 +104,6 @@ impl Commands {
         rt: &H,
         call: &mut Call<'_>,
     ) -> Result<(), CaseFault> {
-        if self.inputs.take(call)? {
-            return Ok(());
-        }
         match call.name {
             "run" => self.show(rt, call),
             "ends" => self.show_ends(rt, call),
@@ -116,7 +112,7 @@ impl Commands {
             "told" => self.told(call),
             "each" => each(rt, call, self.inputs.bytes.as_slice()),
             "same" => same(rt, call, self.inputs.bytes.as_slice()),
-            _ => Err(CaseFault::Form),
+            _ => self.inputs.take(call),
         }
     }
 }

@@ -5,7 +5,6 @@ use std::alloc::Global;
 /// Answers, one for each count; those in a row that are equal are told once.
 #[derive(Drop)]
 pub(crate) struct InRow {
-    alloc: Global,
     first: usize,
     last: usize,
     text: String,
@@ -15,7 +14,6 @@ impl InRow {
     /// No answer yet.
     pub(crate) fn new(alloc: Global) -> InRow {
         InRow {
-            alloc,
             first: 0,
             last: 0,
             text: String::new(alloc),
@@ -46,8 +44,7 @@ impl InRow {
             return Ok(());
         }
         let (first, last) = (self.first, self.last);
-        let counts = format!(in self.alloc; "{first} to {last}\n")?;
-        answer.push_str(counts.as_str())?;
+        writeln!(answer, "{first} to {last}")?;
         answer.push_str(self.text.as_str())?;
         Ok(())
     }

@@ -26,20 +26,25 @@ impl Inputs {
         }
     }
 
-    /// Makes a call, where it is one on the input or the streams. It answers whether it is.
-    pub(crate) fn take(&mut self, call: &mut Call<'_>) -> Result<bool, CaseFault> {
+    /// Makes a call on the input or the streams.
+    pub(crate) fn take(&mut self, call: &mut Call<'_>) -> Result<(), CaseFault> {
         match call.name {
-            "<" => self.put(call.alloc, call.words.rest(), "\n")?,
-            "<+" => self.put(call.alloc, call.words.rest(), "")?,
-            "<*" => self.put_often(call, "\n")?,
-            "<+*" => self.put_often(call, "")?,
-            "empty" => self.bytes.clear(),
-            "reader" => set(&mut self.paces.input, &mut call.words)?,
-            "writer" => set(&mut self.paces.out, &mut call.words)?,
-            "error" => set(&mut self.paces.err, &mut call.words)?,
-            _ => return Ok(false),
+            "<" => self.put(call.alloc, call.words.rest(), "\n"),
+            "<+" => self.put(call.alloc, call.words.rest(), ""),
+            "<*" => self.put_often(call, "\n"),
+            "<+*" => self.put_often(call, ""),
+            "empty" => self.empty(),
+            "reader" => set(&mut self.paces.input, &mut call.words),
+            "writer" => set(&mut self.paces.out, &mut call.words),
+            "error" => set(&mut self.paces.err, &mut call.words),
+            _ => Err(CaseFault::Form),
         }
-        Ok(true)
+    }
+
+    /// The input is empty again.
+    fn empty(&mut self) -> Result<(), CaseFault> {
+        self.bytes.clear();
+        Ok(())
     }
 
     /// Puts a text and its end behind the input.

@@ -24,12 +24,24 @@ fn each_read<H: Threads + Wait + Sync>(
     let mut paces = Paces::whole();
     for count in (0..=input.len()).step_by(step) {
         paces.input = Pace::up_to(count);
-        let ended = ran(rt, call.alloc, words.as_slice(), input, paces);
-        let mut text = String::new(call.alloc);
-        ended.show(call.alloc, &mut text)?;
+        let text = shown(rt, call.alloc, words.as_slice(), input, paces)?;
         in_row.take(count, text, &mut call.answer)?;
     }
     in_row.end(&mut call.answer)
+}
+
+/// What a run shows.
+fn shown<H: Threads + Wait + Sync>(
+    rt: &H,
+    alloc: Global,
+    words: &[&str],
+    input: &[u8],
+    paces: Paces,
+) -> Result<String, CaseFault> {
+    let ended = ran(rt, alloc, words, input, paces);
+    let mut text = String::new(alloc);
+    ended.show(&mut text)?;
+    Ok(text)
 }
 
 /// `STEP ARGUMENTS`: the same with a writer that fails, or takes nothing any more. Each answer says
@@ -48,8 +60,14 @@ fn each_write<H: Threads + Wait + Sync>(
     paces.out.stops = stops;
     for count in (0..whole.out.len()).step_by(step) {
         paces.out.left = count;
-        let ended = ran(rt, call.alloc, words.as_slice(), input, paces);
-        let text = told_of_prefix(call.alloc, &ended, whole.out.as_slice(), count)?;
+        let text = shown_prefix(
+            rt,
+            call.alloc,
+            words.as_slice(),
+            input,
+            paces,
+            whole.out.as_slice(),
+        )?;
         in_row.take(count, text, &mut call.answer)?;
     }
     in_row.end(&mut call.answer)
@@ -84,16 +102,19 @@ fn step_of(words: &mut Words<'_>) -> Result<usize, CaseFault>
     Ok(step)
 }
 
-/// How a run ended, and whether it printed the first `count` bytes of a text.
-fn told_of_prefix(
+/// How a run ended whose writer takes so many bytes, and whether it printed as many of a text.
+fn shown_prefix<H: Threads + Wait + Sync>(
+    rt: &H,
     alloc: Global,
-    ended: &Ended,
+    words: &[&str],
+    input: &[u8],
+    paces: Paces,
     whole: &[u8],
-    count: usize,
 ) -> Result<String, CaseFault> {
+    let ended = ran(rt, alloc, words, input, paces);
     let mut text = String::new(alloc);
-    ended.tell(alloc, &mut text)?;
-    let is_prefix = whole.get(..count) == Some(ended.out.as_slice());
+    ended.tell(&mut text)?;
+    let is_prefix = whole.get(..paces.out.left) == Some(ended.out.as_slice());
     text.push_str(if is_prefix {
         "a prefix\n"
     } else {
@@ -123,18 +144,42 @@ fn same_live<H: Threads + Wait + Sync>(
     call: &mut Call<'_>,
     input: &[u8],
 ) -> Result<(), CaseFault> {
-    let alloc = call.alloc;
     let (frames, firms) = form_of(call.words.rest());
-    let lines = without_turns(alloc, input)?;
-    let live = ran_in_form(rt, alloc, &["live"], frames, lines.as_slice())?;
-    live.tell(alloc, &mut call.answer)?;
-    for firm in words_of(alloc, firms)?.as_slice() {
-        let own = lines_of(alloc, live.out.as_slice(), firm)?;
-        let replayed = ran_in_form(rt, alloc, &["replay", firm], frames, input)?;
-        let is_same = replayed.status == 0 && own.as_slice() == replayed.out.as_slice();
-        push_same(alloc, &mut call.answer, firm, is_same)?;
+    let lines = without_turns(call.alloc, input)?;
+    let live = ran_in_form(rt, call.alloc, &["live"], frames, lines.as_slice())?;
+    live.tell(&mut call.answer)?;
+    same_firms(rt, call, firms, frames, input, live.out.as_slice())
+}
+
+/// Whether `replay` has for each firm its lines of what `live` printed.
+fn same_firms<H: Threads + Wait + Sync>(
+    rt: &H,
+    call: &mut Call<'_>,
+    firms: &str,
+    frames: bool,
+    input: &[u8],
+    printed: &[u8],
+) -> Result<(), CaseFault> {
+    for firm in words_of(call.alloc, firms)?.as_slice() {
+        let own = lines_of(call.alloc, printed, firm)?;
+        let is_same = is_replayed(rt, call.alloc, firm, frames, input, own.as_slice())?;
+        push_same(&mut call.answer, firm, is_same)?;
     }
     Ok(())
+}
+
+/// Whether `replay` has these lines for a firm.
+fn is_replayed<H: Threads + Wait + Sync>(
+    rt: &H,
+    alloc: Global,
+    firm: &str,
+    frames: bool,
+    input: &[u8],
+    lines: &[u8],
+) -> Result<bool, CaseFault> {
+    let replayed = ran_in_form(rt, alloc, &["replay", firm], frames, input)?;
+    let is_same = replayed.status == 0 && lines == replayed.out.as_slice();
+    Ok(is_same)
 }
 
 /// `[--frames] DEALER..`: `alone` over what `due` prints of each dealer prints what `replay` has
@@ -147,14 +192,26 @@ fn same_alone<H: Threads + Wait + Sync>(
     let (frames, dealers) = form_of(call.words.rest());
     let alloc = call.alloc;
     for dealer in words_of(alloc, dealers)?.as_slice() {
-        let due = ran(rt, alloc, &["due", dealer], input, Paces::whole());
-        let alone = ran_in_form(rt, alloc, &["alone"], frames, due.out.as_slice())?;
-        let replayed = ran_in_form(rt, alloc, &["replay", dealer], frames, input)?;
-        let are_done = due.status == 0 && alone.status == 0 && replayed.status == 0;
-        let is_same = are_done && alone.out.as_slice() == replayed.out.as_slice();
-        push_same(alloc, &mut call.answer, dealer, is_same)?;
+        let is_same = is_same_alone(rt, alloc, dealer, frames, input)?;
+        push_same(&mut call.answer, dealer, is_same)?;
     }
     Ok(())
+}
+
+/// Whether it does so for this dealer.
+fn is_same_alone<H: Threads + Wait + Sync>(
+    rt: &H,
+    alloc: Global,
+    dealer: &str,
+    frames: bool,
+    input: &[u8],
+) -> Result<bool, CaseFault> {
+    let due = ran(rt, alloc, &["due", dealer], input, Paces::whole());
+    let alone = ran_in_form(rt, alloc, &["alone"], frames, due.out.as_slice())?;
+    let are_done = due.status == 0 && alone.status == 0;
+    let has_lines = is_replayed(rt, alloc, dealer, frames, input, alone.out.as_slice())?;
+    let is_same = are_done && has_lines;
+    Ok(is_same)
 }
 
 /// Whether `--frames` stands before the names, and the names.
@@ -204,14 +261,8 @@ fn lines_of(alloc: Global, text: &[u8], firm: &str) -> Result<Vec<u8>, CaseFault
 }
 
 /// Answers whether two texts of a firm are the same.
-fn push_same(
-    alloc: Global,
-    answer: &mut String,
-    firm: &str,
-    is_same: bool,
-) -> Result<(), CaseFault> {
+fn push_same(answer: &mut String, firm: &str, is_same: bool) -> Result<(), CaseFault> {
     let word = if is_same { "same" } else { "differs" };
-    let line = format!(in alloc; "{firm} {word}\n")?;
-    answer.push_str(line.as_str())?;
+    writeln!(answer, "{firm} {word}")?;
     Ok(())
 }

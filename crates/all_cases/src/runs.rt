@@ -79,9 +79,8 @@ impl Ended {
 
     /// The status, and what was told on standard error: each line of it behind `! `. What is told
     /// of wrong arguments is `..` alone.
-    pub(crate) fn tell(&self, alloc: Global, answer: &mut String) -> Result<(), CaseFault> {
-        let status = format!(in alloc; "{}\n", self.status)?;
-        answer.push_str(status.as_str())?;
+    pub(crate) fn tell(&self, answer: &mut String) -> Result<(), CaseFault> {
+        writeln!(answer, "{}", self.status)?;
         if self.status == 2 {
             let told = if self.err.is_empty() { "" } else { "! ..\n" };
             answer.push_str(told)?;
@@ -91,8 +90,8 @@ impl Ended {
     }
 
     /// The same, and behind it each line of standard output.
-    pub(crate) fn show(&self, alloc: Global, answer: &mut String) -> Result<(), CaseFault> {
-        self.tell(alloc, answer)?;
+    pub(crate) fn show(&self, answer: &mut String) -> Result<(), CaseFault> {
+        self.tell(answer)?;
         push_lines(answer, "", self.out.as_slice())
     }
 
@@ -100,19 +99,17 @@ impl Ended {
     /// many others there are.
     pub(crate) fn show_ends(
         &self,
-        alloc: Global,
         first: u64,
         last: u64,
         answer: &mut String,
     ) -> Result<(), CaseFault> {
-        self.tell(alloc, answer)?;
+        self.tell(answer)?;
         let (front, behind) = cut_behind(self.out.as_slice(), first);
         let lines = count_lines(behind);
         let between = lines.saturating_sub(last);
         let (_, end) = cut_behind(behind, between);
         push_lines(answer, "", front)?;
-        let left_out = format!(in alloc; ".. {between}\n")?;
-        answer.push_str(left_out.as_str())?;
+        writeln!(answer, ".. {between}")?;
         push_lines(answer, "", end)
     }
 }

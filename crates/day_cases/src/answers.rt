@@ -4,7 +4,6 @@ use fix_fields::{Moment, moment_text};
 use input_lines::{Parts, ProgramFault, fault_line};
 use market_terms::RoomRef;
 use quote_messages::SentMessage;
-use std::alloc::Global;
 use step_replay::{Actor, ReplayFault, Step};
 
 /// Puts a line.
@@ -54,28 +53,19 @@ pub(crate) fn put_fault(answer: &mut String, fault: &ProgramFault) -> Result<(),
 }
 
 /// Puts the line that tells a fault of a list of steps.
-pub(crate) fn put_replay_fault(
-    alloc: Global,
-    answer: &mut String,
-    fault: ReplayFault,
-) -> Result<(), CaseFault> {
-    let line = match fault {
-        ReplayFault::UnknownFirm(k) => format!(in alloc; "unknown firm at {k}")?,
-        ReplayFault::UnknownRoom(k) => format!(in alloc; "unknown room at {k}")?,
+pub(crate) fn put_replay_fault(answer: &mut String, fault: ReplayFault) -> Result<(), CaseFault> {
+    match fault {
+        ReplayFault::UnknownFirm(k) => writeln!(answer, "unknown firm at {k}")?,
+        ReplayFault::UnknownRoom(k) => writeln!(answer, "unknown room at {k}")?,
         ReplayFault::Memory => return Err(CaseFault::Memory),
-    };
-    put(answer, line.as_str())
+    }
+    Ok(())
 }
 
 /// Puts a count and what is counted.
-pub(crate) fn put_count(
-    alloc: Global,
-    answer: &mut String,
-    count: usize,
-    what: &str,
-) -> Result<(), CaseFault> {
-    let line = format!(in alloc; "{count} {what}")?;
-    put(answer, line.as_str())
+pub(crate) fn put_count(answer: &mut String, count: usize, what: &str) -> Result<(), CaseFault> {
+    writeln!(answer, "{count} {what}")?;
+    Ok(())
 }
 
 /// Puts a message as its bytes, with a bar for each SOH.
@@ -95,44 +85,38 @@ pub(crate) fn put_frames(answer: &mut String, messages: &[SentMessage]) -> Resul
 
 /// Puts steps, a line each: `in FIRM TIME BYTES`, `turn FIRM`, `turn CLOCK` or `expire FIRM N
 /// TIME`, with firms by their numbers.
-pub(crate) fn put_steps(
-    alloc: Global,
-    answer: &mut String,
-    steps: &[Step],
-) -> Result<(), CaseFault> {
+pub(crate) fn put_steps(answer: &mut String, steps: &[Step]) -> Result<(), CaseFault> {
     for step in steps {
-        put_step(alloc, answer, step)?;
+        put_step(answer, step)?;
     }
     Ok(())
 }
 
 /// Puts a step.
-fn put_step(alloc: Global, answer: &mut String, step: &Step) -> Result<(), CaseFault> {
+fn put_step(answer: &mut String, step: &Step) -> Result<(), CaseFault> {
     match step {
         Step::In(firm, moment, message) => {
-            let front = format!(in alloc; "in {firm} ")?;
-            answer.push_str(front.as_str())?;
+            write!(answer, "in {firm} ")?;
             put_time(answer, *moment)?;
             put_bytes(answer, message.as_bytes())
         }
-        Step::Turn(Actor::Firm(firm)) => {
-            let line = format!(in alloc; "turn {firm}")?;
-            put(answer, line.as_str())
-        }
-        Step::Turn(Actor::Clock) => put(answer, "turn CLOCK"),
-        Step::Expire(room, moment) => put_sweep(alloc, answer, *room, *moment),
+        Step::Turn(by) => put_turn(answer, *by),
+        Step::Expire(room, moment) => put_sweep(answer, *room, *moment),
     }
 }
 
+/// Puts a turn.
+fn put_turn(answer: &mut String, by: Actor) -> Result<(), CaseFault> {
+    match by {
+        Actor::Firm(firm) => writeln!(answer, "turn {firm}")?,
+        Actor::Clock => writeln!(answer, "turn CLOCK")?,
+    }
+    Ok(())
+}
+
 /// Puts a sweep.
-fn put_sweep(
-    alloc: Global,
-    answer: &mut String,
-    room: RoomRef,
-    moment: Moment,
-) -> Result<(), CaseFault> {
-    let front = format!(in alloc; "expire {} {} ", room.investor, room.n)?;
-    answer.push_str(front.as_str())?;
+fn put_sweep(answer: &mut String, room: RoomRef, moment: Moment) -> Result<(), CaseFault> {
+    write!(answer, "expire {} {} ", room.investor, room.n)?;
     let Some(date) = day() else {
         return Err(CaseFault::Condition);
     };

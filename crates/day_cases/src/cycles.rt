@@ -17,7 +17,7 @@ pub(crate) fn put_cycle(
     }
     keys.sort()?;
     for (rank, number) in keys.as_slice() {
-        put_action(alloc, answer, *rank, *number)?;
+        put_action(answer, *rank, *number)?;
     }
     Ok(())
 }
@@ -34,11 +34,11 @@ fn rank_of(by: Actor) -> u32 {
 const CLOCK: u32 = 65_536;
 
 /// Puts an action.
-fn put_action(alloc: Global, answer: &mut String, rank: u32, number: u64) -> Result<(), CaseFault> {
-    let line = if rank == CLOCK {
-        format!(in alloc; "CLOCK {number}")?
-    } else {
-        format!(in alloc; "{rank} {number}")?
-    };
-    put(answer, line.as_str())
+fn put_action(answer: &mut String, rank: u32, number: u64) -> Result<(), CaseFault> {
+    if rank == CLOCK {
+        writeln!(answer, "CLOCK {number}")?;
+        return Ok(());
+    }
+    writeln!(answer, "{rank} {number}")?;
+    Ok(())
 }

@@ -1,11 +1,11 @@
 //! Events at a dealer's desk that words of a call spell.
-use crate::values::settled_named;
-use case_lines::{Call, CaseFault, Words, close_of, frame_of, piped_bytes_of};
+use crate::values::{message_of, settled_named};
+use case_lines::{Call, CaseFault, Words, close_of};
 use dealer_desk::DealerEvent;
 use fix_fields::Moment;
 use input_lines::{MOST_INPUT, read_due_text};
 use market_terms::RoomRef;
-use quote_messages::{Ask, Message};
+use quote_messages::Ask;
 use quote_word::Settled;
 use std::alloc::Global;
 use step_replay::Due;
@@ -29,8 +29,7 @@ pub(crate) fn event_in(call: &mut Call<'_>) -> Result<DealerEvent, CaseFault> {
 fn own_in(alloc: Global, words: &mut Words<'_>) -> Result<DealerEvent, CaseFault> {
     let moment = words.moment()?;
     let settlement = settlement_in(words)?;
-    let body = piped_bytes_of(alloc, words.rest())?;
-    let message = Message::new(frame_of(alloc, body.as_slice())?);
+    let message = message_of(alloc, words.rest())?;
     Ok(DealerEvent::Received {
         moment,
         message,

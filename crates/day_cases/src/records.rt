@@ -4,13 +4,13 @@ use crate::cycles::put_cycle;
 use crate::desk_events::{bring, comes_to_desk};
 use crate::empty_days::{empty_dealer, empty_investor, empty_room};
 use crate::events::{event_in, is_event};
-use crate::values::{actor_in, kind_in, settled_named};
+use crate::values::{actor_in, kind_in, message_of, settled_named};
 use crate::venues::Venue;
-use case_lines::{Call, CaseFault, Place, Words, frame_of, piped_bytes_of};
+use case_lines::{Call, CaseFault, Place, Words};
 use day_weaving::{WeaveFault, weave};
 use dealer_desk::DealerEvent;
 use investor_desk::InvestorDesk;
-use quote_messages::{Message, SentMessage};
+use quote_messages::SentMessage;
 use recorded_days::{Action, DayRecord, DealerDay, Inbound, InvestorDay};
 use std::alloc::Global;
 use std::mem::replace;
@@ -76,7 +76,7 @@ impl Place for Records {
         match call.name {
             "begin" => self.begin(call.alloc),
             "end" => self.end(call.alloc),
-            "count" => self.tell_count(call.alloc, call.words.firm()?, &mut call.answer),
+            "count" => self.tell_count(call.words.firm()?, &mut call.answer),
             "due" => self.tell_due(call.alloc, call.words.firm()?, &mut call.answer),
             "weave" | "woven" => self.tell_steps(call),
             _ => self.changes(call),
@@ -177,10 +177,7 @@ impl Records {
     /// `action ACTOR KIND TIME`, and the word and its settlement.
     fn put_action(&mut self, words: &mut Words<'_>) -> Result<(), CaseFault> {
         let by = actor_in(words)?;
-        let kind = kind_in(words)?;
-        let moment = words.moment()?;
-        let word = word_in(words)?;
-        let action = Action { kind, moment, word };
+        let action = action_in(words)?;
         let Actor::Firm(firm) = by else {
             self.clock.push(action)?;
             return Ok(());
@@ -226,8 +223,7 @@ impl Records {
     fn put_message(&mut self, alloc: Global, words: &mut Words<'_>) -> Result<(), CaseFault> {
         let firm = words.firm()?;
         let moment = words.moment()?;
-        let body = piped_bytes_of(alloc, words.rest())?;
-        let bytes = Message::new(frame_of(alloc, body.as_slice())?);
+        let bytes = message_of(alloc, words.rest())?;
         let inbound = Inbound { moment, bytes };
         if self.is_dealer(firm) {
             self.dealer(firm)?.inbox.push(inbound)?;
@@ -273,12 +269,11 @@ impl Records {
     /// `take TIME BODY`.
     fn take(&mut self, alloc: Global, words: &mut Words<'_>) -> Result<(), CaseFault> {
         let moment = words.moment()?;
-        let body = piped_bytes_of(alloc, words.rest())?;
-        let bytes = frame_of(alloc, body.as_slice())?;
+        let message = message_of(alloc, words.rest())?;
         let Some(desk) = &mut self.desk else {
             return Err(CaseFault::NotOpen);
         };
-        let _duty = desk.take(moment, bytes.as_slice())?;
+        let _duty = desk.take(moment, message.as_bytes())?;
         Ok(())
     }
 
@@ -301,11 +296,11 @@ impl Records {
     }
 
     /// How many messages a firm was sent.
-    fn tell_count(&self, alloc: Global, firm: u16, answer: &mut String) -> Result<(), CaseFault> {
+    fn tell_count(&self, firm: u16, answer: &mut String) -> Result<(), CaseFault> {
         let Some(sent) = self.record()?.sent(firm) else {
             return put(answer, "none");
         };
-        put_count(alloc, answer, sent.len(), "messages")
+        put_count(answer, sent.len(), "messages")
     }
 
     /// What was due to a dealer.
@@ -333,9 +328,9 @@ impl Records {
 /// The steps that a day is woven into, or how many there are.
 fn put_woven(call: &mut Call<'_>, steps: &[Step]) -> Result<(), CaseFault> {
     if call.name == "woven" {
-        return put_count(call.alloc, &mut call.answer, steps.len(), "steps");
+        return put_count(&mut call.answer, steps.len(), "steps");
     }
-    put_steps(call.alloc, &mut call.answer, steps)
+    put_steps(&mut call.answer, steps)
 }
 
 /// Why a day is not woven.
@@ -348,11 +343,19 @@ fn put_weave_fault(
         WeaveFault::Malformed => put(answer, "malformed"),
         WeaveFault::Cycle(actions) => put_cycle(alloc, answer, actions.as_slice()),
         WeaveFault::Differs(firm) => {
-            let line = format!(in alloc; "differs {firm}")?;
-            put(answer, line.as_str())
+            writeln!(answer, "differs {firm}")?;
+            Ok(())
         }
         WeaveFault::Memory => Err(CaseFault::Memory),
     }
+}
+
+/// `KIND TIME`, and the word and its settlement.
+fn action_in(words: &mut Words<'_>) -> Result<Action, CaseFault> {
+    let kind = kind_in(words)?;
+    let moment = words.moment()?;
+    let word = word_in(words)?;
+    Ok(Action { kind, moment, word })
 }
 
 /// The word that an action asked, and its settlement, where the call goes on.

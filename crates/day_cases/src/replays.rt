@@ -53,25 +53,42 @@ impl Place for Replays {
     }
 
     fn call(&mut self, call: &mut Call<'_>) -> Result<(), CaseFault> {
-        let alloc = call.alloc;
+        if asks_of_firm(call.name) {
+            let firm = call.words.firm()?;
+            return self.tell(call, firm);
+        }
         match call.name {
-            "run" => self.runs(alloc, &mut call.answer),
-            "live" => self.opens_live(alloc),
-            "take" => self.takes(alloc, &mut call.answer),
-            "steps" => put_steps(alloc, &mut call.answer, self.venue.steps.as_slice()),
-            "sent" => self.tell_sent(alloc, call.words.firm()?, &mut call.answer),
-            "frames" => self.tell_frames(call.words.firm()?, &mut call.answer),
-            "last" => self.tell_last(call.words.firm()?, &mut call.answer),
-            "count" => self.tell_count(alloc, call.words.firm()?, &mut call.answer),
-            "blotter" => self.tell_blotter(alloc, call.words.firm()?, &mut call.answer),
-            "due" => self.tell_due(alloc, call.words.firm()?, &mut call.answer),
-            "view" => self.tell_view(alloc, call.words.firm()?, &mut call.answer),
+            "run" => self.runs(call.alloc, &mut call.answer),
+            "live" => self.opens_live(call.alloc),
+            "take" => self.takes(call.alloc, &mut call.answer),
+            "steps" => put_steps(&mut call.answer, self.venue.steps.as_slice()),
             _ => self.venue.call(call),
         }
     }
 }
 
+/// Whether a call with this word asks something of a firm.
+fn asks_of_firm(word: &str) -> bool {
+    matches!(
+        word,
+        "sent" | "frames" | "last" | "count" | "blotter" | "due" | "view"
+    )
+}
+
 impl Replays {
+    /// What a call asks of a firm.
+    fn tell(&self, call: &mut Call<'_>, firm: u16) -> Result<(), CaseFault> {
+        match call.name {
+            "sent" => self.tell_sent(call.alloc, firm, &mut call.answer),
+            "frames" => self.tell_frames(firm, &mut call.answer),
+            "last" => self.tell_last(firm, &mut call.answer),
+            "count" => self.tell_count(firm, &mut call.answer),
+            "blotter" => self.tell_blotter(call.alloc, firm, &mut call.answer),
+            "due" => self.tell_due(call.alloc, firm, &mut call.answer),
+            _ => self.tell_view(call.alloc, firm, &mut call.answer),
+        }
+    }
+
     /// Replays the steps.
     fn runs(&mut self, alloc: Global, answer: &mut String) -> Result<(), CaseFault> {
         match replayed(alloc, &self.venue)? {
@@ -79,7 +96,7 @@ impl Replays {
                 self.world = Some(world);
                 Ok(())
             }
-            Err(fault) => put_replay_fault(alloc, answer, fault),
+            Err(fault) => put_replay_fault(answer, fault),
         }
     }
 
@@ -118,16 +135,16 @@ impl Replays {
     }
 
     /// How much a firm was sent, and how many lines its blotter has.
-    fn tell_count(&self, alloc: Global, firm: u16, answer: &mut String) -> Result<(), CaseFault> {
+    fn tell_count(&self, firm: u16, answer: &mut String) -> Result<(), CaseFault> {
         let world = self.world()?;
         let Some(messages) = world.sent(firm) else {
             return put(answer, "none");
         };
-        put_count(alloc, answer, messages.len(), "messages")?;
+        put_count(answer, messages.len(), "messages")?;
         let Some(lines) = world.lines(firm) else {
             return put(answer, "none");
         };
-        put_count(alloc, answer, length_of(&lines), "lines")
+        put_count(answer, length_of(&lines), "lines")
     }
 
     /// A firm's blotter.
@@ -147,7 +164,7 @@ impl Replays {
                 let text = due_lines(alloc, dues.as_slice())?;
                 put_text(answer, text.as_slice())
             }
-            Err(fault) => put_replay_fault(alloc, answer, fault),
+            Err(fault) => put_replay_fault(answer, fault),
         }
     }
 
@@ -208,8 +225,8 @@ fn take_steps(
     let config = venue.config()?;
     for step in venue.steps.as_slice() {
         match live.step(alloc, config, step) {
-            Ok(told) => put_told(alloc, answer, told.as_slice())?,
-            Err(fault) => put_replay_fault(alloc, answer, fault)?,
+            Ok(told) => put_told(answer, told.as_slice())?,
+            Err(fault) => put_replay_fault(answer, fault)?,
         }
     }
     Ok(())
@@ -234,10 +251,9 @@ fn are_same(some: &[SentMessage], others: &[SentMessage]) -> bool {
 }
 
 /// Puts messages, each behind the number of its firm.
-fn put_told(alloc: Global, answer: &mut String, told: &[SentTo]) -> Result<(), CaseFault> {
+fn put_told(answer: &mut String, told: &[SentTo]) -> Result<(), CaseFault> {
     for sent in told {
-        let firm = format!(in alloc; "{} ", sent.firm())?;
-        answer.push_str(firm.as_str())?;
+        write!(answer, "{} ", sent.firm())?;
         put_bytes(answer, sent.as_bytes())?;
     }
     Ok(())

@@ -14,8 +14,7 @@ pub(crate) fn tell_fields(alloc: Global, text: &str, answer: &mut String) -> Res
         return put(answer, "none");
     };
     for field in fields.as_slice() {
-        let tag = format!(in alloc; "{}=", field.tag())?;
-        answer.push_str(tag.as_str())?;
+        write!(answer, "{}=", field.tag())?;
         push_text(answer, field.value())?;
         answer.push('\n')?;
     }
@@ -29,19 +28,27 @@ pub(crate) fn tell_said(call: &mut Call<'_>) -> Result<(), CaseFault> {
     };
     let number = call.words.number()?;
     let date = day()?;
-    let alloc = call.alloc;
-    let text = bytes_of(alloc, call.words.rest())?;
-    let answer = &mut call.answer;
-    let said = SayLine::read(alloc, &date, text.as_slice())?;
+    let text = bytes_of(call.alloc, call.words.rest())?;
+    let said = SayLine::read(call.alloc, &date, text.as_slice())?;
     let Some(said) = &said else {
-        return put(answer, "none");
+        return put(&mut call.answer, "none");
     };
-    put_moment(said, answer)?;
-    let message = said.message(alloc, &date, &firm, number)?;
+    put_moment(said, &mut call.answer)?;
+    put_frame(call, said, &firm, number)
+}
+
+/// The frame of what the firm said as its message with this number.
+fn put_frame(
+    call: &mut Call<'_>,
+    said: &SayLine<'_>,
+    firm: &Name,
+    number: u64,
+) -> Result<(), CaseFault> {
+    let message = said.message(call.alloc, &day()?, firm, number)?;
     let Some(message) = &message else {
-        return put(answer, "too long");
+        return put(&mut call.answer, "too long");
     };
-    put_bytes(answer, message.as_bytes())
+    put_bytes(&mut call.answer, message.as_bytes())
 }
 
 /// The moment, and whether a BODY has its number.

@@ -49,26 +49,31 @@ impl Place for Texts {
     }
 
     fn call(&mut self, call: &mut Call<'_>) -> Result<(), CaseFault> {
-        let alloc = call.alloc;
         match call.name {
-            "<" => self.put_line(alloc, call.words.rest()),
-            "<+" => self.put_times(alloc, 1, call.words.rest()),
+            "<" => self.put_line(call.alloc, call.words.rest()),
+            "<+" => self.put_times(call.alloc, 1, call.words.rest()),
             "<+*" => {
                 let count = call.words.number()?;
-                self.put_times(alloc, count, call.words.rest())
+                self.put_times(call.alloc, count, call.words.rest())
             }
-            "spoken" => self.tell_spoken(alloc, &mut call.answer),
-            "divider" => self.tell_divider(&mut call.answer),
-            "steps" => self.tell_steps(alloc, &mut call.answer),
-            "days" => self.tell_days(alloc, &mut call.answer),
             "firm" | "asked" | "dealer" => self.tell_firm(call),
-            "fault" => tell_fault(alloc, &mut call.words, &mut call.answer),
-            _ => tell_text(call),
+            _ => self.tell(call),
         }
     }
 }
 
 impl Texts {
+    /// A call about the lines of the input, or about a text of its own.
+    fn tell(&self, call: &mut Call<'_>) -> Result<(), CaseFault> {
+        match call.name {
+            "spoken" => self.tell_spoken(&mut call.answer),
+            "divider" => self.tell_divider(&mut call.answer),
+            "steps" => self.tell_steps(call.alloc, &mut call.answer),
+            "days" => self.tell_days(call.alloc, &mut call.answer),
+            _ => tell_text(call),
+        }
+    }
+
     /// A line more.
     fn put_line(&mut self, alloc: Global, text: &str) -> Result<(), CaseFault> {
         let bytes = bytes_of(alloc, text)?;
@@ -92,17 +97,16 @@ impl Texts {
     }
 
     /// The lines that are spoken.
-    fn tell_spoken(&self, alloc: Global, answer: &mut String) -> Result<(), CaseFault> {
+    fn tell_spoken(&self, answer: &mut String) -> Result<(), CaseFault> {
         let input = self.input.as_slice();
         if input.len() > MOST_INPUT {
             return Err(CaseFault::Condition);
         }
         for (number, line) in NumberedLines::new(input) {
-            let front = format!(in alloc; "{number} ")?;
-            answer.push_str(front.as_str())?;
+            write!(answer, "{number} ")?;
             put_text(answer, line)?;
         }
-        put_count(alloc, answer, one_past(input), "is one past")
+        put_count(answer, one_past(input), "is one past")
     }
 
     /// The input as one day.
@@ -146,7 +150,7 @@ impl Texts {
         let name = call.words.rest().as_bytes();
         let answer = &mut call.answer;
         match found(&config, call.name, name) {
-            Ok(Some(firm)) => put_count(call.alloc, answer, usize::from(firm), "is its number"),
+            Ok(Some(firm)) => put_count(answer, usize::from(firm), "is its number"),
             Ok(None) => put(answer, "none"),
             Err(fault) => put_fault(answer, &fault),
         }
@@ -160,7 +164,7 @@ fn tell_day(alloc: Global, day: DayParts<'_>, answer: &mut String) -> Result<(),
         Err(fault) => return put_fault(answer, &fault),
     };
     match read_steps(alloc, &config, day.steps) {
-        Ok(steps) => put_steps(alloc, answer, steps.as_slice()),
+        Ok(steps) => put_steps(answer, steps.as_slice()),
         Err(fault) => put_fault(answer, &fault),
     }
 }
@@ -182,6 +186,7 @@ fn tell_text(call: &mut Call<'_>) -> Result<(), CaseFault> {
         "said" => tell_said(call),
         "received" => tell_received(call.alloc, call.words.rest(), &mut call.answer),
         "same" => tell_same(call.alloc, &mut call.words, &mut call.answer),
+        "fault" => tell_fault(&mut call.words, &mut call.answer),
         _ => tell_part(call),
     }
 }
@@ -190,7 +195,6 @@ fn tell_text(call: &mut Call<'_>) -> Result<(), CaseFault> {
 fn tell_part(call: &mut Call<'_>) -> Result<(), CaseFault> {
     let bytes = bytes_of(call.alloc, call.words.rest())?;
     let text = bytes.as_slice();
-    let alloc = call.alloc;
     let answer = &mut call.answer;
     match call.name {
         "cut" => {
@@ -198,9 +202,9 @@ fn tell_part(call: &mut Call<'_>) -> Result<(), CaseFault> {
             put_quoted(answer, part)?;
             put_quoted(answer, rest)
         }
-        "parts" => put_count(alloc, answer, parts_in(text), "parts"),
+        "parts" => put_count(answer, parts_in(text), "parts"),
         "side" => put(answer, side_name(read_side(text))),
-        "time" => tell_time(alloc, text, answer),
+        "time" => tell_time(text, answer),
         _ => Err(CaseFault::Form),
     }
 }
@@ -231,12 +235,12 @@ fn side_name(side: Option<Side>) -> &'static str {
 }
 
 /// The milliseconds of a time.
-fn tell_time(alloc: Global, text: &[u8], answer: &mut String) -> Result<(), CaseFault> {
+fn tell_time(text: &[u8], answer: &mut String) -> Result<(), CaseFault> {
     let date = day()?;
     let Some(moment) = read_time(&date, text) else {
         return put(answer, "none");
     };
-    put_count(alloc, answer, moment.get() as usize, "milliseconds")
+    put_count(answer, moment.get() as usize, "milliseconds")
 }
 
 /// The day of the texts.
@@ -260,9 +264,9 @@ fn yes_or_no(yes: bool) -> &'static str {
 }
 
 /// `fault NAME` or `fault NAME LINE`.
-fn tell_fault(alloc: Global, words: &mut Words<'_>, answer: &mut String) -> Result<(), CaseFault> {
+fn tell_fault(words: &mut Words<'_>, answer: &mut String) -> Result<(), CaseFault> {
     let fault = told_fault(words)?;
     put_fault(answer, &fault)?;
-    let shown = format!(in alloc; "{fault}")?;
-    put(answer, shown.as_str())
+    writeln!(answer, "{fault}")?;
+    Ok(())
 }

@@ -6,16 +6,23 @@ use venue_config::ConfigFault;
 /// The fault that the words of a call name: its name, and the number of its line or its kind.
 pub(crate) fn told_fault(words: &mut Words<'_>) -> Result<ProgramFault, CaseFault> {
     match words.word()? {
+        "Config" => config_fault(words),
+        "Day" => Ok(ProgramFault::Day(unkept_day(words.word()?)?)),
+        "Weave" => Ok(ProgramFault::Weave(unwoven_day(words.word()?)?)),
+        name => other_fault(name, words),
+    }
+}
+
+/// A fault that is its name alone, or one of a line.
+fn other_fault(name: &str, words: &mut Words<'_>) -> Result<ProgramFault, CaseFault> {
+    match name {
         "Read" => Ok(ProgramFault::Read),
         "Input" => Ok(ProgramFault::Input),
         "Parts" => Ok(ProgramFault::Parts),
         "Firm" => Ok(ProgramFault::Firm),
         "Memory" => Ok(ProgramFault::Memory),
         "Write" => Ok(ProgramFault::Write),
-        "Config" => config_fault(words),
-        "Day" => Ok(ProgramFault::Day(unkept_day(words.word()?)?)),
-        "Weave" => Ok(ProgramFault::Weave(unwoven_day(words.word()?)?)),
-        other => line_fault(other, words),
+        _ => line_fault(name, words),
     }
 }
 

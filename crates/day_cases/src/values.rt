@@ -1,7 +1,9 @@
 //! Values that words of a call spell.
-use case_lines::{CaseFault, Words};
+use case_lines::{CaseFault, Words, frame_of, piped_bytes_of};
+use quote_messages::Message;
 use quote_word::Settled;
 use recorded_days::Kind;
+use std::alloc::Global;
 use step_replay::Actor;
 
 /// An actor: `CLOCK`, or the number of a firm.
@@ -14,6 +16,13 @@ pub(crate) fn actor_in(words: &mut Words<'_>) -> Result<Actor, CaseFault> {
         Ok(firm) => Ok(Actor::Firm(firm)),
         Err(_) => Err(CaseFault::Form),
     }
+}
+
+/// The frame of a body, as a message.
+pub(crate) fn message_of(alloc: Global, body: &str) -> Result<Message, CaseFault> {
+    let body = piped_bytes_of(alloc, body)?;
+    let bytes = frame_of(alloc, body.as_slice())?;
+    Ok(Message::new(bytes))
 }
 
 /// What a word is from then on.

@@ -1,10 +1,9 @@
 //! A configuration, and steps that lines of a day spell.
 use crate::answers::{put, put_count, put_fault};
 use crate::steps::put_spelled;
-use crate::values::actor_in;
-use case_lines::{Call, CaseFault, Words, frame_of, piped_bytes_of};
+use crate::values::{actor_in, message_of};
+use case_lines::{Call, CaseFault, Words};
 use market_terms::RoomRef;
-use quote_messages::Message;
 use std::alloc::Global;
 use step_replay::Step;
 use venue_config::read_config;
@@ -62,6 +61,13 @@ impl Venue {
             "each" => self.put_each(call.alloc, &mut call.words),
             "open" => self.open(call.alloc, &mut call.answer),
             "read" => self.read(call.alloc, &mut call.answer),
+            _ => self.put_step(call),
+        }
+    }
+
+    /// A call that puts a step behind the others.
+    fn put_step(&mut self, call: &mut Call<'_>) -> Result<(), CaseFault> {
+        match call.name {
             "in" => self.comes(call.alloc, &mut call.words),
             "turn" => self.turns(&mut call.words),
             "expire" => self.sweeps(&mut call.words),
@@ -117,20 +123,14 @@ impl Venue {
         if let Some(fault) = fault {
             return put_fault(answer, &fault);
         }
-        put_count(
-            alloc,
-            answer,
-            self.steps.len().saturating_sub(before),
-            "steps",
-        )
+        put_count(answer, self.steps.len().saturating_sub(before), "steps")
     }
 
     /// `in FIRM TIME BODY`: the frame of a body comes.
     fn comes(&mut self, alloc: Global, words: &mut Words<'_>) -> Result<(), CaseFault> {
         let firm = words.firm()?;
         let moment = words.moment()?;
-        let body = piped_bytes_of(alloc, words.rest())?;
-        let message = Message::new(frame_of(alloc, body.as_slice())?);
+        let message = message_of(alloc, words.rest())?;
         self.steps.push(Step::In(firm, moment, message))?;
         Ok(())
     }

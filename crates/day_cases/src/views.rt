@@ -52,7 +52,7 @@ impl Views {
         }
         match read_due_text(alloc, input) {
             Ok(text) => {
-                put_count(alloc, answer, text.dues.len(), "items")?;
+                put_count(answer, text.dues.len(), "items")?;
                 self.due = Some(text);
                 Ok(())
             }

@@ -1,5 +1,5 @@
 //! The lines of a blotter.
-use crate::replies::{push_number, push_time, push_word, side_name};
+use crate::replies::{push_time, push_word, side_name};
 use crate::terms::nth_of;
 use case_lines::{CaseFault, Words};
 use fix_fields::Moment;
@@ -51,7 +51,7 @@ pub(crate) fn push_terms(
     bond: &BondId,
     quantity: Quantity,
 ) -> Result<(), CaseFault> {
-    push_word(answer, side_name(side))?;
-    push_word(answer, bond.as_str())?;
-    push_number(answer, quantity.get())
+    let (side, bond, quantity) = (side_name(side), bond.as_str(), quantity.get());
+    write!(answer, " {side} {bond} {quantity}")?;
+    Ok(())
 }

@@ -3,7 +3,7 @@ ghost use Rattle.std.specs.Prelude.{◌≡◌, ◌<◌, IfOk, All};
 ghost use Rattle.place_cases.specs.declared.board.NamedToken.{NamedToken};
 ghost use Rattle.place_cases.specs.declared.board.NamedReceipt.{NamedReceipt};
 
-use crate::replies::{entry_name, push_line, push_number, push_word, settled_name};
+use crate::replies::{entry_name, push_line, push_word, settled_name};
 use crate::row::push_length;
 use case_lines::{Call, CaseFault, Place, Words};
 use quote_word::{Board, BoardPass, BoardSeen, Met, Receipt, Settled, Words as _};
@@ -185,8 +185,7 @@ impl KnownBoard {
             let (entry, _) = self.board.look(seen.again(), word);
             push_word(answer, entry_name(entry))?;
         }
-        answer.push('\n')?;
-        Ok(())
+        push_line(answer, "")
     }
 
     fn again(&mut self, alloc: Global, words: &mut Words) -> Result<(), CaseFault> {
@@ -224,19 +223,15 @@ impl KnownBoard {
 
 /// A receipt: its word, and what that is.
 fn push_receipt(answer: &mut String, receipt: &Receipt) -> Result<(), CaseFault> {
-    answer.push_str("word")?;
-    push_number(answer, u64::from(receipt.word()))?;
-    push_word(answer, settled_name(receipt.settled()))?;
-    answer.push('\n')?;
+    let (word, settled) = (receipt.word(), settled_name(receipt.settled()));
+    writeln!(answer, "word {word} {settled}")?;
     Ok(())
 }
 
 /// What two receipts were answered.
 fn push_met(answer: &mut String, met: &Met) -> Result<(), CaseFault> {
-    answer.push_str("met")?;
-    push_word(answer, settled_name(met.first()))?;
-    push_word(answer, settled_name(met.second()))?;
-    answer.push('\n')?;
+    let (first, second) = (settled_name(met.first()), settled_name(met.second()));
+    writeln!(answer, "met {first} {second}")?;
     Ok(())
 }
 
@@ -259,7 +254,7 @@ fn passed(
         let settled = pass_one(&mut pass, words)?;
         push_word(answer, settled_name(settled))?;
     }
-    answer.push('\n')?;
+    push_line(answer, "")?;
     Ok(pass.into_seen())
 }
 

@@ -26,7 +26,7 @@ mod opened;
 
 use calls::called;
 use case_lines::{Call, CaseFault, Place};
-use lines::taken_apart;
+use lines::push_taken_apart;
 use opened::Opened;
 use std::alloc::Global;
 
@@ -42,17 +42,33 @@ impl Place for DealerPlace {
     }
 
     fn call(&mut self, call: &mut Call<'_>) -> Result<(), CaseFault> {
-        if call.name == "open" {
-            let opened = Opened::read(call.alloc, &mut call.words)?;
-            self.opened = Some(opened);
-            return Ok(());
+        match call.name {
+            "open" => self.open(call),
+            "into_sent" | "into_parts" => self.take_apart(call),
+            _ => self.make(call),
         }
-        if call.name == "into_sent" || call.name == "into_parts" {
-            let Some(opened) = self.opened.take() else {
-                return Err(CaseFault::NotOpen);
-            };
-            return taken_apart(opened, call.name, &mut call.answer);
-        }
+    }
+}
+
+impl DealerPlace {
+    /// The desk of a dealer at the start of the day.
+    fn open(&mut self, call: &mut Call<'_>) -> Result<(), CaseFault> {
+        let opened = Opened::read(call.alloc, &mut call.words)?;
+        self.opened = Some(opened);
+        Ok(())
+    }
+
+    /// The desk is taken apart.
+    fn take_apart(&mut self, call: &mut Call<'_>) -> Result<(), CaseFault> {
+        let Some(opened) = self.opened.take() else {
+            return Err(CaseFault::NotOpen);
+        };
+        let Opened { desk, .. } = opened;
+        push_taken_apart(desk, call.name, &mut call.answer)
+    }
+
+    /// Makes a call of the desk that is open.
+    fn make(&mut self, call: &mut Call<'_>) -> Result<(), CaseFault> {
         let Some(opened) = &mut self.opened else {
             return Err(CaseFault::NotOpen);
         };

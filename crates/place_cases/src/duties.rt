@@ -1,6 +1,9 @@
 //! What is left to be done, as text, and what the desks have sent in a step.
 use crate::events::push_until;
-use crate::replies::{push_ask, push_firms, push_number, push_time, push_word, reply_name};
+use crate::replies::{
+    push_ask, push_firms, push_line, push_number, push_time, push_word, reply_name,
+};
+use bond_prices::Ticks;
 use case_lines::{CaseFault, frame_of, push_bytes};
 use fix_fields::Moment;
 use market_terms::{Duty, ResponseRef, RoomRef};
@@ -11,7 +14,7 @@ use std::alloc::Global;
 pub(crate) fn push_duties(answer: &mut String, duties: &[Duty]) -> Result<(), CaseFault> {
     for duty in duties {
         push_duty(answer, duty)?;
-        answer.push('\n')?;
+        push_line(answer, "")?;
     }
     Ok(())
 }
@@ -22,8 +25,7 @@ pub(crate) fn push_left(answer: &mut String, left: &Option<Duty>) -> Result<(), 
         return Ok(());
     };
     push_duty(answer, duty)?;
-    answer.push('\n')?;
-    Ok(())
+    push_line(answer, "")
 }
 
 /// What a duty is, its moment, its room, and what else it bears.
@@ -39,32 +41,53 @@ fn push_duty(answer: &mut String, duty: &Duty) -> Result<(), CaseFault> {
 
 /// What a duty is, its moment, and its room: the number of the investor, and that of its request.
 fn push_head(answer: &mut String, duty: &Duty) -> Result<(), CaseFault> {
-    let Some((what, room, moment)) = head_of(duty) else {
+    let Some((room, moment)) = place_of(duty) else {
         return Err(CaseFault::Form);
     };
-    answer.push_str(what)?;
+    answer.push_str(what_of(duty))?;
     push_time(answer, moment)?;
-    push_number(answer, u64::from(room.investor))?;
-    push_number(answer, u64::from(room.n))
+    write!(answer, " {} {}", room.investor, room.n)?;
+    Ok(())
 }
 
-/// What a duty is, its room, and its moment, where it has a room.
-fn head_of(duty: &Duty) -> Option<(&str, RoomRef, Moment)> {
+/// What a duty is.
+fn what_of(duty: &Duty) -> &'static str {
     match duty {
-        Duty::Open { room, moment, .. } => Some(("open", *room, *moment)),
-        Duty::Show { room, moment, .. } => Some(("show", *room, *moment)),
-        Duty::Ready { room, moment } => Some(("ready", *room, *moment)),
-        Duty::Post { room, moment, .. } => Some(("post", *room, *moment)),
-        Duty::Relay { room, moment, .. } => Some(("relay", *room, *moment)),
-        Duty::Unpost { room, moment, .. } => Some(("unpost", *room, *moment)),
-        Duty::Gone { room, moment, .. } => Some(("gone", *room, *moment)),
-        Duty::Decline { room, moment } => Some(("decline", *room, *moment)),
-        Duty::Declined { room, moment } => Some(("declined", *room, *moment)),
-        Duty::Hit { room, moment, .. } => Some(("hit", *room, *moment)),
-        Duty::Pass { room, moment, .. } => Some(("pass", *room, *moment)),
-        Duty::Answer { room, moment, .. } => Some(("answer", *room, *moment)),
-        Duty::Close { room, moment } => Some(("close", *room, *moment)),
-        Duty::Tell { room, moment, .. } => Some(("tell", *room, *moment)),
+        Duty::Open { .. } => "open",
+        Duty::Show { .. } => "show",
+        Duty::Ready { .. } => "ready",
+        Duty::Post { .. } => "post",
+        Duty::Relay { .. } => "relay",
+        Duty::Unpost { .. } => "unpost",
+        Duty::Gone { .. } => "gone",
+        Duty::Decline { .. } => "decline",
+        Duty::Declined { .. } => "declined",
+        Duty::Hit { .. } => "hit",
+        Duty::Pass { .. } => "pass",
+        Duty::Answer { .. } => "answer",
+        Duty::Close { .. } => "close",
+        Duty::Tell { .. } => "tell",
+        Duty::Drop { .. } => "drop",
+    }
+}
+
+/// The room and the moment of a duty, where it has a room.
+fn place_of(duty: &Duty) -> Option<(RoomRef, Moment)> {
+    match duty {
+        Duty::Open { room, moment, .. }
+        | Duty::Show { room, moment, .. }
+        | Duty::Ready { room, moment }
+        | Duty::Post { room, moment, .. }
+        | Duty::Relay { room, moment, .. }
+        | Duty::Unpost { room, moment, .. }
+        | Duty::Gone { room, moment, .. }
+        | Duty::Decline { room, moment }
+        | Duty::Declined { room, moment }
+        | Duty::Hit { room, moment, .. }
+        | Duty::Pass { room, moment, .. }
+        | Duty::Answer { room, moment, .. }
+        | Duty::Close { room, moment }
+        | Duty::Tell { room, moment, .. } => Some((*room, *moment)),
         Duty::Drop { .. } => None,
     }
 }
@@ -100,19 +123,27 @@ fn push_quoted(answer: &mut String, duty: &Duty) -> Result<(), CaseFault> {
             ..
         } => {
             push_number(answer, u64::from(*quote))?;
-            push_number(answer, u64::from(price.get()))?;
-            push_until(answer, *valid_until)
+            push_price(answer, *price, *valid_until)
         }
         Duty::Relay { offer, .. } => {
             push_word(answer, offer.dealer.as_str())?;
             push_number(answer, u64::from(offer.word))?;
-            push_number(answer, u64::from(offer.price.get()))?;
-            push_until(answer, offer.valid_until)
+            push_price(answer, offer.price, offer.valid_until)
         }
         Duty::Unpost { quote, .. } => push_number(answer, u64::from(*quote)),
         Duty::Gone { word, .. } => push_number(answer, u64::from(*word)),
         other => push_answered(answer, other),
     }
+}
+
+/// A price in 256ths, and the moment at which its validity ends, where there is one.
+fn push_price(
+    answer: &mut String,
+    price: Ticks,
+    valid_until: Option<Moment>,
+) -> Result<(), CaseFault> {
+    push_number(answer, u64::from(price.get()))?;
+    push_until(answer, valid_until)
 }
 
 /// The response that a duty bears, and the word that it asks or what the room replied to it. The

@@ -1,5 +1,7 @@
 //! The events of a room, printed as the calls that they are of, and tried on another room.
-use crate::replies::{push_ask, push_firms, push_number, push_time, push_word, settled_name};
+use crate::replies::{
+    push_ask, push_firms, push_line, push_number, push_time, push_word, settled_name,
+};
 use crate::room::{declined, hit, opened, posted, readied, unposted};
 use bond_prices::Ticks;
 use case_lines::CaseFault;
@@ -81,8 +83,7 @@ fn tries_rest(room: &mut Room, event: &RoomEvent) -> Result<(), CaseFault> {
 /// A line for an event.
 pub(crate) fn push_event(answer: &mut String, event: &RoomEvent) -> Result<(), CaseFault> {
     push_tried(answer, event)?;
-    answer.push('\n')?;
-    Ok(())
+    push_line(answer, "")
 }
 
 /// An event.
@@ -140,8 +141,8 @@ pub(crate) fn push_request(answer: &mut String, request: &RoomRequest) -> Result
 
 /// What was tried, and of which dealer.
 fn push_of_dealer(answer: &mut String, tried: &str, dealer: u16) -> Result<(), CaseFault> {
-    answer.push_str(tried)?;
-    push_number(answer, u64::from(dealer))
+    write!(answer, "{tried} {dealer}")?;
+    Ok(())
 }
 
 /// What was tried, and when.

@@ -40,10 +40,16 @@ pub(crate) struct Counts {
 
 /// The places before the day. There is no event, and no message.
 pub(crate) fn new_floor(alloc: Global) -> Result<Floor, CaseFault> {
-    let config = read_config(alloc, VENUE).map_err(|_| CaseFault::Form)?;
-    let first = dealer(alloc, &config, 0)?;
-    let second = dealer(alloc, &config, 1)?;
-    let investor = investor(alloc, &config)?;
+    let Ok(config) = read_config(alloc, VENUE) else {
+        return Err(CaseFault::Form);
+    };
+    floor_of(alloc, &config)
+}
+
+/// The places of a configuration. A desk is alive at few of its exits, since each of them drops it.
+fn floor_of(alloc: Global, config: &VenueConfig) -> Result<Floor, CaseFault> {
+    let investor = investor(alloc, config)?;
+    let (first, second) = two_dealers(alloc, config)?;
     let room = Room::vacant(alloc);
     Ok(Floor {
         first,
@@ -51,6 +57,13 @@ pub(crate) fn new_floor(alloc: Global) -> Result<Floor, CaseFault> {
         investor,
         room,
     })
+}
+
+/// The desks of DLR1 and DLR2.
+fn two_dealers(alloc: Global, config: &VenueConfig) -> Result<(DealerDesk, DealerDesk), CaseFault> {
+    let first = dealer(alloc, config, 0)?;
+    let second = dealer(alloc, config, 1)?;
+    Ok((first, second))
 }
 
 /// The desk of a dealer.

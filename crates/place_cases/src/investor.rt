@@ -21,7 +21,7 @@ mod venue;
 
 use calls::called;
 use case_lines::{Call, CaseFault, Place};
-use lines::taken_apart;
+use lines::push_taken_apart;
 use opened::Opened;
 use std::alloc::Global;
 use venue::Rows;
@@ -40,20 +40,34 @@ impl Place for InvestorPlace {
     }
 
     fn call(&mut self, call: &mut Call<'_>) -> Result<(), CaseFault> {
-        if self.rows.add(call)? {
-            return Ok(());
+        match call.name {
+            "bond" | "dealer" | "investor" => self.rows.add(call),
+            "open" => self.open(call),
+            "into_parts" => self.take_apart(&mut call.answer),
+            _ => self.make(call),
         }
-        if call.name == "open" {
-            let opened = Opened::read(call.alloc, &self.rows, &mut call.words)?;
-            self.opened = Some(opened);
-            return Ok(());
-        }
-        if call.name == "into_parts" {
-            let Some(opened) = self.opened.take() else {
-                return Err(CaseFault::NotOpen);
-            };
-            return taken_apart(opened, &mut call.answer);
-        }
+    }
+}
+
+impl InvestorPlace {
+    /// The desk of an investor at the start of the day.
+    fn open(&mut self, call: &mut Call<'_>) -> Result<(), CaseFault> {
+        let opened = Opened::read(call.alloc, &self.rows, &mut call.words)?;
+        self.opened = Some(opened);
+        Ok(())
+    }
+
+    /// The desk is taken apart.
+    fn take_apart(&mut self, answer: &mut String) -> Result<(), CaseFault> {
+        let Some(opened) = self.opened.take() else {
+            return Err(CaseFault::NotOpen);
+        };
+        let Opened { desk, .. } = opened;
+        push_taken_apart(desk, answer)
+    }
+
+    /// Makes a call of the desk that is open.
+    fn make(&mut self, call: &mut Call<'_>) -> Result<(), CaseFault> {
         let Some(opened) = &mut self.opened else {
             return Err(CaseFault::NotOpen);
         };

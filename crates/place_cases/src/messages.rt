@@ -19,27 +19,54 @@ pub(crate) fn push_new(
     Ok(sent.len())
 }
 
+/// What stands before the body of a message: MsgType (35), TargetCompID (56), MsgSeqNum (34), and
+/// the time of day of SendingTime (52).
+#[derive(Drop)]
+struct Header<'a> {
+    msg_type: &'a [u8],
+    firm: &'a [u8],
+    number: &'a [u8],
+    time: &'a [u8],
+}
+
 /// `FIRM N TIME TYPE BODY`.
 fn push_message(answer: &mut String, message: &SentMessage) -> Result<(), CaseFault> {
     let mut fields = message.frame().fields();
-    let msg_type = next_value(&mut fields, 35)?;
-    let sender = next_value(&mut fields, 49)?;
-    let firm = next_value(&mut fields, 56)?;
-    let number = next_value(&mut fields, 34)?;
-    let time = next_value(&mut fields, 52)?;
-    if sender != b"VENUE".as_slice() {
+    let header = header_of(&mut fields)?;
+    push_header(answer, &header)?;
+    push_fields(answer, fields)?;
+    push_line(answer, "")
+}
+
+/// The header that fields begin with. SenderCompID (49) is that of the venue.
+fn header_of<'a>(fields: &mut Fields<'a>) -> Result<Header<'a>, CaseFault> {
+    let msg_type = next_value(fields, 35)?;
+    if next_value(fields, 49)? != b"VENUE".as_slice() {
         return Err(CaseFault::Condition);
     }
-    push_bytes(answer, firm)?;
+    let firm = next_value(fields, 56)?;
+    let number = next_value(fields, 34)?;
+    let time = time_of_day(next_value(fields, 52)?)?;
+    Ok(Header {
+        msg_type,
+        firm,
+        number,
+        time,
+    })
+}
+
+/// `FIRM N TIME TYPE`.
+fn push_header(answer: &mut String, header: &Header<'_>) -> Result<(), CaseFault> {
+    push_bytes(answer, header.firm)?;
+    push_next(answer, header.number)?;
+    push_next(answer, header.time)?;
+    push_next(answer, header.msg_type)
+}
+
+/// Bytes behind a space.
+fn push_next(answer: &mut String, bytes: &[u8]) -> Result<(), CaseFault> {
     answer.push(' ')?;
-    push_bytes(answer, number)?;
-    answer.push(' ')?;
-    push_bytes(answer, time_of_day(time)?)?;
-    answer.push(' ')?;
-    push_bytes(answer, msg_type)?;
-    push_fields(answer, fields)?;
-    answer.push('\n')?;
-    Ok(())
+    push_bytes(answer, bytes)
 }
 
 /// The value of the next field, which has this tag.
@@ -104,8 +131,7 @@ pub(crate) fn push_count_line(answer: &mut String, count: usize) -> Result<(), C
 /// The day.
 pub(crate) fn push_date(answer: &mut String, date: &Date) -> Result<(), CaseFault> {
     push_bytes(answer, date.digits().as_slice())?;
-    answer.push('\n')?;
-    Ok(())
+    push_line(answer, "")
 }
 
 /// Traders, a space before each, up to the line's end.
@@ -116,6 +142,5 @@ pub(crate) fn push_traders(answer: &mut String, traders: &Traders) -> Result<(),
             push_bytes(answer, trader)?;
         }
     }
-    answer.push('\n')?;
-    Ok(())
+    push_line(answer, "")
 }

@@ -45,10 +45,9 @@ pub(crate) fn push_firms(answer: &mut String, firms: &[u16]) -> Result<(), CaseF
 
 /// What is asked for: the investor, the bond, the side, the quantity, the deadline and the grid.
 pub(crate) fn push_ask(answer: &mut String, ask: &Ask) -> Result<(), CaseFault> {
-    push_word(answer, ask.investor.as_str())?;
-    push_word(answer, ask.bond.as_str())?;
-    push_word(answer, side_name(ask.side))?;
-    push_number(answer, ask.quantity.get())?;
+    let (investor, bond) = (ask.investor.as_str(), ask.bond.as_str());
+    let (side, quantity) = (side_name(ask.side), ask.quantity.get());
+    write!(answer, " {investor} {bond} {side} {quantity}")?;
     push_time(answer, ask.deadline)?;
     push_number(answer, u64::from(ask.grid.get()))
 }

@@ -1,6 +1,6 @@
 //! A room.
 use crate::events::{push_event, push_request, room_again};
-use crate::replies::{push_firms, push_line, push_number, push_truth, refusal_name, reply_name};
+use crate::replies::{push_line, push_truth, refusal_name, reply_name};
 use crate::terms::{dealers, last_moment, request, settled};
 use bond_prices::Ticks;
 use case_lines::{Call, CaseFault, Place, Words, price_of, side_of};
@@ -156,14 +156,12 @@ impl RoomPlace {
         };
         answer.push_str("request")?;
         push_request(answer, request)?;
-        answer.push('\n')?;
-        Ok(())
+        push_line(answer, "")
     }
 
     fn length(&self, answer: &mut String) -> Result<(), CaseFault> {
-        answer.push_str("events")?;
-        push_number(answer, self.room.events().len() as u64)?;
-        answer.push('\n')?;
+        let count = self.room.events().len();
+        writeln!(answer, "events {count}")?;
         Ok(())
     }
 
@@ -177,7 +175,9 @@ impl RoomPlace {
     fn book(&self, alloc: Global, words: &mut Words, answer: &mut String) -> Result<(), CaseFault> {
         let moment = Moment::new(0).ok_or(CaseFault::Form)?;
         for text in words.rest().split(' ') {
-            let word = text.parse::<u32>().map_err(|_| CaseFault::Form)?;
+            let Ok(word) = text.parse::<u32>() else {
+                return Err(CaseFault::Form);
+            };
             push_award(alloc, &self.room, word, moment, answer)?;
         }
         Ok(())
@@ -277,9 +277,7 @@ fn last_settled(words: &mut Words) -> Result<Option<Settled>, CaseFault> {
 
 /// The word that a hit asks.
 fn push_asked(answer: &mut String, word: u32) -> Result<(), CaseFault> {
-    answer.push_str("asks")?;
-    push_number(answer, u64::from(word))?;
-    answer.push('\n')?;
+    writeln!(answer, "asks {word}")?;
     Ok(())
 }
 
@@ -291,8 +289,7 @@ fn push_end(answer: &mut String, end: &Option<End>) -> Result<(), CaseFault> {
     answer.push_str(kind_name(end.kind))?;
     push_winner(answer, end.winner)?;
     push_cover(answer, end.cover)?;
-    answer.push('\n')?;
-    Ok(())
+    push_line(answer, "")
 }
 
 /// What an end is called in a line.
@@ -309,10 +306,8 @@ fn push_winner(answer: &mut String, winner: Option<(u16, u32)>) -> Result<(), Ca
     let Some((dealer, word)) = winner else {
         return Ok(());
     };
-    answer.push_str(" to")?;
-    push_number(answer, u64::from(dealer))?;
-    answer.push_str(" word")?;
-    push_number(answer, u64::from(word))
+    write!(answer, " to {dealer} word {word}")?;
+    Ok(())
 }
 
 /// The cover, where there is one.
@@ -320,12 +315,11 @@ fn push_cover(answer: &mut String, cover: Option<u16>) -> Result<(), CaseFault> 
     let Some(dealer) = cover else {
         return Ok(());
     };
-    answer.push_str(" cover")?;
-    push_firms(answer, &[dealer])
+    write!(answer, " cover {dealer}")?;
+    Ok(())
 }
 
-/// What a room ends in where this word is hit and lifted. It is tried on a room of its own, which
-/// is made open where it is opening.
+/// What a room ends in where this word is hit and lifted. It is tried on a room of its own.
 fn push_award(
     alloc: Global,
     room: &Room,
@@ -334,13 +328,23 @@ fn push_award(
     answer: &mut String,
 ) -> Result<(), CaseFault> {
     let mut room = room_again(alloc, room)?;
+    push_award_in(&mut room, word, moment, answer)
+}
+
+/// The same in this room, which is made open where it is opening.
+fn push_award_in(
+    room: &mut Room,
+    word: u32,
+    moment: Moment,
+    answer: &mut String,
+) -> Result<(), CaseFault> {
     if room.is_opening() {
-        readied(&mut room)?;
+        readied(room)?;
     }
     if room.question_hit(word, moment).is_err() {
         return Ok(());
     }
-    if hit(&mut room, word, moment, Some(Settled::Lifted))? != Reply::Awarded {
+    if hit(room, word, moment, Some(Settled::Lifted))? != Reply::Awarded {
         return Err(CaseFault::Condition);
     }
     push_end(answer, &room.end())

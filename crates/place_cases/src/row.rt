@@ -1,5 +1,5 @@
 //! A row of words in a list.
-use crate::replies::{push_line, push_number, push_truth, settled_name};
+use crate::replies::{push_line, push_truth, settled_name};
 use crate::terms::settled;
 use case_lines::{Call, CaseFault, Place};
 use quote_word::{PlainWords, Settled, Words};
@@ -59,9 +59,7 @@ impl RowPlace {
 
 /// How many words there are.
 pub(crate) fn push_length(answer: &mut String, count: u32) -> Result<(), CaseFault> {
-    answer.push_str("words")?;
-    push_number(answer, u64::from(count))?;
-    answer.push('\n')?;
+    writeln!(answer, "words {count}")?;
     Ok(())
 }
 

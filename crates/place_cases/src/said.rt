@@ -1,6 +1,7 @@
 //! What comes to a desk of its own firm.
 use case_lines::{Call, CaseFault, frame_of, piped_bytes_of};
 use fix_fields::{Moment, moment_text};
+use itoa::Buffer;
 use std::alloc::Global;
 
 /// A message as it comes.
@@ -51,34 +52,36 @@ impl Speaker {
         said: (&str, &str, &str),
     ) -> Result<Came, CaseFault> {
         let number = self.numbered.saturating_add(1);
-        let header = self.header(alloc, said, moment, number)?;
+        let mut body = String::new(alloc);
+        self.push_header(&mut body, said, moment, number)?;
         let fields = said.2;
         if !has_field(fields, "34=") {
             self.numbered = number;
         }
-        let bytes = framed(alloc, header, fields)?;
+        push_behind(&mut body, fields)?;
+        let bytes = framed(alloc, body.as_str())?;
         Ok(Came { moment, bytes })
     }
 
-    /// The fields of the header, but for those that stand in `fields`, each with a bar behind it.
-    fn header(
+    /// Puts the fields of the header, but for those that stand in `fields`, each with a bar behind
+    /// it.
+    fn push_header(
         &self,
-        alloc: Global,
+        header: &mut String,
         said: (&str, &str, &str),
         moment: Moment,
         number: u64,
-    ) -> Result<String, CaseFault> {
+    ) -> Result<(), CaseFault> {
         let (trader, msg_type, fields) = said;
-        let number = format!(in alloc; "{number}")?;
+        let mut digits = Buffer::new();
         let date = case_lines::day().ok_or(CaseFault::Form)?;
         let time = moment_text(&date, moment);
-        let mut header = format!(in alloc; "35={msg_type}|")?;
-        push_unless(&mut header, fields, "49=", self.name.as_str())?;
-        push_unless(&mut header, fields, "56=", "VENUE")?;
-        push_unless(&mut header, fields, "34=", number.as_str())?;
-        push_unless(&mut header, fields, "52=", time.as_str())?;
-        push_unless(&mut header, fields, "50=", trader)?;
-        Ok(header)
+        push_part(header, "35=", msg_type)?;
+        push_unless(header, fields, "49=", self.name.as_str())?;
+        push_unless(header, fields, "56=", "VENUE")?;
+        push_unless(header, fields, "34=", digits.format(number))?;
+        push_unless(header, fields, "52=", time.as_str())?;
+        push_unless(header, fields, "50=", trader)
     }
 }
 
@@ -87,6 +90,11 @@ fn push_unless(header: &mut String, fields: &str, tag: &str, value: &str) -> Res
     if has_field(fields, tag) {
         return Ok(());
     }
+    push_part(header, tag, value)
+}
+
+/// A field, with a bar behind it.
+fn push_part(header: &mut String, tag: &str, value: &str) -> Result<(), CaseFault> {
     header.push_str(tag)?;
     header.push_str(value)?;
     header.push('|')?;
@@ -98,15 +106,18 @@ fn has_field(fields: &str, tag: &str) -> bool {
     fields.split('|').any(|field| field.starts_with(tag))
 }
 
-/// The frame of a header and of fields behind it, with a bar behind the last one where there is
-/// none.
-fn framed(alloc: Global, header: String, fields: &str) -> Result<Vec<u8>, CaseFault> {
-    let mut body = header;
-    body.push_str(fields)?;
-    if !body.as_str().ends_with('|') {
-        body.push('|')?;
+/// Fields behind a header, with a bar behind the last one where there is none.
+fn push_behind(header: &mut String, fields: &str) -> Result<(), CaseFault> {
+    header.push_str(fields)?;
+    if !header.as_str().ends_with('|') {
+        header.push('|')?;
     }
-    let body = piped_bytes_of(alloc, body.as_str())?;
+    Ok(())
+}
+
+/// The frame of a body, in which a bar stands for each SOH.
+pub(crate) fn framed(alloc: Global, body: &str) -> Result<Vec<u8>, CaseFault> {
+    let body = piped_bytes_of(alloc, body)?;
     frame_of(alloc, body.as_slice())
 }
 

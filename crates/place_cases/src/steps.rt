@@ -6,12 +6,13 @@ ghost use Rattle.std.specs.Prelude.{◌≡◌};
 
 use crate::duties::{push_duties, push_sent};
 use crate::floor::{Counts, Floor, INVESTOR, ROOM, counts_of, new_floor};
-use crate::replies::{push_line, push_number};
+use crate::replies::push_line;
+use crate::said::framed;
 use crate::terms::{request, response};
 use at_room::does_in_room;
-use case_lines::{Call, CaseFault, Place, Words, close_of, frame_of, piped_bytes_of};
+use case_lines::{Call, CaseFault, Place, Words, close_of};
 use dealer_desk::DealerDesk;
-use fix_fields::Memory;
+use fix_fields::{Memory, Moment};
 use market_terms::RoomRef;
 use quote_word::{Board, BoardPass, BoardSeen, PlainWords};
 use std::alloc::Global;
@@ -72,8 +73,8 @@ impl SharedRow {
 
 impl Place for StepPlace {
     fn new(alloc: Global) -> Result<Self, CaseFault> {
-        let floor = new_floor(alloc)?;
         let row = PlainWords::new(alloc, 0)?;
+        let floor = new_floor(alloc)?;
         Ok(StepPlace {
             floor,
             row: Row::Plain(row),
@@ -130,12 +131,20 @@ impl StepPlace {
     fn own(&mut self, alloc: Global, words: &mut Words) -> Result<Duties, CaseFault> {
         let firm = words.word()?;
         let moment = words.moment()?;
-        let body = piped_bytes_of(alloc, words.rest())?;
-        let bytes = frame_of(alloc, body.as_slice())?;
-        let bytes = bytes.as_slice();
+        let bytes = framed(alloc, words.rest())?;
         if firm == "INV1" {
-            return done(own_investor(&mut self.floor.investor, moment, bytes));
+            return done(own_investor(&mut self.floor.investor, moment, bytes.as_slice()));
         }
+        self.own_of_dealer(firm, moment, bytes.as_slice())
+    }
+
+    /// Bytes come to the desk of a dealer.
+    fn own_of_dealer(
+        &mut self,
+        firm: &str,
+        moment: Moment,
+        bytes: &[u8],
+    ) -> Result<Duties, CaseFault> {
         let (desk, first) = dealer_at(&mut self.floor, firm)?;
         match &mut self.row {
             Row::Plain(row) => done(own_dealer(desk, row, first, moment, bytes)),
@@ -235,14 +244,9 @@ fn push_all_sent(
 
 /// What the places have seen: the events of DLR1, DLR2, INV1 and the room, then the messages.
 fn push_seen(answer: &mut String, seen: &Counts) -> Result<(), CaseFault> {
-    answer.push_str("events")?;
-    for count in [seen.first, seen.second, seen.investor, seen.room] {
-        push_number(answer, count as u64)?;
-    }
-    answer.push_str(" messages")?;
-    for count in [seen.to_first, seen.to_second, seen.to_investor] {
-        push_number(answer, count as u64)?;
-    }
-    answer.push('\n')?;
+    let (first, second, investor, room) = (seen.first, seen.second, seen.investor, seen.room);
+    write!(answer, "events {first} {second} {investor} {room}")?;
+    let (first, second, investor) = (seen.to_first, seen.to_second, seen.to_investor);
+    writeln!(answer, " messages {first} {second} {investor}")?;
     Ok(())
 }

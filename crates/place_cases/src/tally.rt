@@ -1,12 +1,10 @@
 //! Answers that are told together.
-use crate::replies::push_line;
 use case_lines::CaseFault;
 use std::alloc::Global;
 
 /// Equal texts one behind another, counted.
 #[derive(Drop)]
 pub(crate) struct Tally {
-    alloc: Global,
     text: String,
     count: u64,
 }
@@ -15,7 +13,6 @@ impl Tally {
     /// None yet.
     pub(crate) fn nothing(alloc: Global) -> Tally {
         Tally {
-            alloc,
             text: String::new(alloc),
             count: 0,
         }
@@ -40,7 +37,7 @@ impl Tally {
         }
         let count = self.count;
         let told = self.text.as_str();
-        let text = format!(in self.alloc; "{count}: {told}")?;
-        push_line(answer, text.as_str())
+        writeln!(answer, "{count}: {told}")?;
+        Ok(())
     }
 }

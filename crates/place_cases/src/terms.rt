@@ -12,7 +12,7 @@ pub(crate) fn nth(words: &mut Words<'_>) -> Result<usize, CaseFault> {
     let Some(before) = n.checked_sub(1) else {
         return Err(CaseFault::Form);
     };
-    usize::try_from(before).map_err(|_| CaseFault::Form)
+    Ok(before as usize)
 }
 
 /// The one with the number that is the next word.
@@ -27,8 +27,12 @@ pub(crate) fn room(words: &mut Words<'_>) -> Result<RoomRef, CaseFault> {
     let Some((firm, n)) = word.split_once('.') else {
         return Err(CaseFault::Form);
     };
-    let investor = firm.parse::<u16>().map_err(|_| CaseFault::Form)?;
-    let n = n.parse::<u32>().map_err(|_| CaseFault::Form)?;
+    let Ok(investor) = firm.parse::<u16>() else {
+        return Err(CaseFault::Form);
+    };
+    let Ok(n) = n.parse::<u32>() else {
+        return Err(CaseFault::Form);
+    };
     Ok(RoomRef { investor, n })
 }
 
@@ -93,7 +97,9 @@ pub(crate) fn response(words: &mut Words<'_>) -> Result<ResponseRef, CaseFault> 
     match words.word()? {
         "pass" => Ok(ResponseRef { id, k: None }),
         number => {
-            let quote = number.parse::<u64>().map_err(|_| CaseFault::Form)?;
+            let Ok(quote) = number.parse::<u64>() else {
+                return Err(CaseFault::Form);
+            };
             Ok(ResponseRef { id, k: Some(quote) })
         }
     }

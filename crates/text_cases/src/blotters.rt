@@ -1,11 +1,12 @@
 //! Blotters of lines.
 
-use crate::printing::{len_of, push_number, u32_of};
+use crate::printing::push_number;
 use blotter::blotter_text;
-use case_lines::{Call, CaseFault, Words, bond_of, name_of, price_of, quantity_of, side_of};
+use case_lines::{Call, CaseFault, Place, Words, bond_of, name_of, price_of, quantity_of, side_of};
+use fix_fields::Moment;
 use market_terms::{FirmLines, Quantity, QuoteLine, QuoteState, RequestLine, RequestState, Side};
 use std::alloc::Global;
-use venue_rows::BondId;
+use venue_rows::{BondId, Name};
 
 /// The place `blotters`: blotters of lines.
 ///
@@ -20,22 +21,29 @@ pub struct BlotterCases {
     requests: Vec<RequestLine>,
 }
 
-impl BlotterCases {
-    /// The place before its first call.
-    pub(crate) fn begun(alloc: Global) -> Self {
-        BlotterCases {
+impl Place for BlotterCases {
+    fn new(alloc: Global) -> Result<Self, CaseFault> {
+        Ok(BlotterCases {
             quotes: Vec::new(alloc),
             requests: Vec::new(alloc),
-        }
+        })
     }
 
-    /// Makes a call.
-    pub(crate) fn make(&mut self, call: &mut Call<'_>) -> Result<(), CaseFault> {
+    fn call(&mut self, call: &mut Call<'_>) -> Result<(), CaseFault> {
         match call.name {
             "quote" => self.add_quotes(1, call.words.rest()),
-            "quote_times" => self.add_quotes(len_of(call.words.number()?)?, call.words.rest()),
+            "quote_times" => self.add_quotes(call.words.number()? as usize, call.words.rest()),
             "request" => self.add_requests(1, call.words.rest()),
-            "request_times" => self.add_requests(len_of(call.words.number()?)?, call.words.rest()),
+            "request_times" => self.add_requests(call.words.number()? as usize, call.words.rest()),
+            _ => self.tell(call),
+        }
+    }
+}
+
+impl BlotterCases {
+    /// Makes a call that answers a blotter.
+    fn tell(&self, call: &mut Call<'_>) -> Result<(), CaseFault> {
+        match call.name {
             "dealer" => push_blotter(call, &FirmLines::Dealer(&self.quotes)),
             "dealer_len" => push_length(call, &FirmLines::Dealer(&self.quotes)),
             "investor" => push_blotter(call, &FirmLines::Investor(&self.requests)),
@@ -78,9 +86,7 @@ fn push_length(call: &mut Call<'_>, lines: &FirmLines) -> Result<(), CaseFault> 
 
 /// NUMBER MOMENT TRADER REQUEST BOND SIDE QUANTITY PRICE STATE.
 fn quote_of(words: &mut Words) -> Result<QuoteLine, CaseFault> {
-    let q = u32_of(words.number()?)?;
-    let moment = words.moment()?;
-    let trader = name_of(words)?;
+    let (q, moment, trader) = front_of(words)?;
     let request = words.number()?;
     let (bond, side, quantity) = traded_of(words)?;
     let price = price_of(words)?;
@@ -97,6 +103,14 @@ fn quote_of(words: &mut Words) -> Result<QuoteLine, CaseFault> {
         price,
         state,
     })
+}
+
+/// NUMBER MOMENT TRADER: what each line begins with.
+fn front_of(words: &mut Words) -> Result<(u32, Moment, Name), CaseFault> {
+    let number = words.short_number()?;
+    let moment = words.moment()?;
+    let trader = name_of(words)?;
+    Ok((number, moment, trader))
 }
 
 /// BOND SIDE QUANTITY.
@@ -121,9 +135,7 @@ fn quote_state_of(word: &str) -> Result<QuoteState, CaseFault> {
 
 /// NUMBER MOMENT TRADER BOND SIDE QUANTITY STATE.
 fn request_of(words: &mut Words) -> Result<RequestLine, CaseFault> {
-    let n = u32_of(words.number()?)?;
-    let moment = words.moment()?;
-    let trader = name_of(words)?;
+    let (n, moment, trader) = front_of(words)?;
     let (bond, side, quantity) = traded_of(words)?;
     let state = request_state_of(words)?;
     words.end()?;

@@ -1,7 +1,6 @@
 //! Bytes that calls put together.
 
-use crate::printing::len_of;
-use case_lines::{CaseFault, Words, check_sum_of, piped_bytes_of};
+use case_lines::{Call, CaseFault, Words, check_sum_of, piped_bytes_of};
 use std::alloc::Global;
 
 /// Bytes that calls put together.
@@ -51,9 +50,17 @@ impl ByteBuffer {
     }
 }
 
+/// The bytes that a call ends with; of one that is named `.._times` so many times.
+pub(crate) fn bytes_in(call: &mut Call<'_>) -> Result<Vec<u8>, CaseFault> {
+    if call.name.ends_with("_times") {
+        return bytes_times(call.alloc, &mut call.words);
+    }
+    piped_bytes_of(call.alloc, call.words.rest())
+}
+
 /// `N BYTES`: these bytes N times.
-pub(crate) fn bytes_times(alloc: Global, words: &mut Words) -> Result<Vec<u8>, CaseFault> {
-    let count = len_of(words.number()?)?;
+fn bytes_times(alloc: Global, words: &mut Words) -> Result<Vec<u8>, CaseFault> {
+    let count = words.number()? as usize;
     let bytes = piped_bytes_of(alloc, words.rest())?;
     let bytes = repeated(alloc, bytes.as_slice(), count)?;
     Ok(bytes)

@@ -1,10 +1,8 @@
 //! Configurations that are read.
 
 use crate::configuration_rows::{push_place_of_trader, push_row_or_none, push_rows, push_trader};
-use crate::printing::{
-    len_of, push_line, push_number, push_number_or_none, push_truth, u16_of, u32_of,
-};
-use case_lines::{Call, CaseFault, Words, bytes_of, push_text};
+use crate::printing::{push_line, push_number, push_number_or_none, push_truth};
+use case_lines::{Call, CaseFault, Place, Words, bytes_of, push_text};
 use std::alloc::Global;
 use std::fmt::Write;
 use std::str;
@@ -31,18 +29,16 @@ pub struct ConfigCases {
     kept: Option<VenueConfig>,
 }
 
-impl ConfigCases {
-    /// The place before its first call.
-    pub(crate) fn begun(alloc: Global) -> Self {
-        ConfigCases {
+impl Place for ConfigCases {
+    fn new(alloc: Global) -> Result<Self, CaseFault> {
+        Ok(ConfigCases {
             text: String::new(alloc),
             config: None,
             kept: None,
-        }
+        })
     }
 
-    /// Makes a call.
-    pub(crate) fn make(&mut self, call: &mut Call<'_>) -> Result<(), CaseFault> {
+    fn call(&mut self, call: &mut Call<'_>) -> Result<(), CaseFault> {
         match call.name {
             "read" => self.read(call.alloc, call.words.rest(), &mut call.answer),
             "begin" => self.begin(call.alloc),
@@ -50,12 +46,21 @@ impl ConfigCases {
             "add_times" => self.add_times(&mut call.words),
             "len" => push_number(&mut call.answer, self.text.len() as u64),
             "read_lines" => self.read_lines(call.alloc, &mut call.answer),
+            _ => self.hold(call),
+        }
+    }
+}
+
+impl ConfigCases {
+    /// Makes a call about what was read.
+    fn hold(&mut self, call: &mut Call<'_>) -> Result<(), CaseFault> {
+        match call.name {
             "copy" => self.copy(call.alloc),
             "keep" => self.keep(),
             "is_same" => self.is_same(&mut call.words, &mut call.answer),
             "limits" => push_limits(&mut call.answer),
             "faults" => push_faults(&mut call.answer),
-            name => push_found(&mut call.answer, self.read_before()?, name, &mut call.words),
+            _ => push_found(call, self.read_before()?),
         }
     }
 
@@ -90,7 +95,7 @@ impl ConfigCases {
 
     /// `add_times N TEXT`: N lines more, each with its number where `#` stands.
     fn add_times(&mut self, words: &mut Words) -> Result<(), CaseFault> {
-        let count = len_of(words.number()?)?;
+        let count = words.number()? as usize;
         let line = words.rest();
         let Some((front, back)) = line.split_once('#') else {
             return add_lines(&mut self.text, count, line);
@@ -152,36 +157,51 @@ pub(crate) fn dealer_of<'a>(
     config: &'a VenueConfig,
     words: &mut Words,
 ) -> Result<&'a DealerRow, CaseFault> {
-    let firm = u16_of(words.number()?)?;
+    let firm = words.firm()?;
     config.dealer(firm).ok_or(CaseFault::Condition)
 }
 
-/// What is found in a configuration.
-fn push_found(
-    answer: &mut String,
-    config: &VenueConfig,
-    name: &str,
-    words: &mut Words,
-) -> Result<(), CaseFault> {
-    match name {
-        "date" => push_date(answer, config),
-        "counts" => push_counts(answer, config),
-        "dealer_count" => push_number(answer, u64::from(config.dealer_count())),
-        "bonds" => push_rows(answer, config.bonds()),
-        "dealers" => push_rows(answer, config.dealers()),
-        "investors" => push_rows(answer, config.investors()),
-        "bond" => push_row_or_none(answer, config.bond(words.rest().as_bytes()).as_ref()),
-        "dealer" => push_row_or_none(answer, config.dealer(words.firm()?)),
-        "investor" => push_row_or_none(answer, config.investor(words.firm()?)),
-        "dealer_named" => push_dealer_named(answer, config, words.rest()),
-        "firm" => push_firm(answer, config, words.rest()),
-        "has_room" => push_has_room(answer, config, words),
-        "trader" => push_trader(answer, dealer_of(config, words)?, words.rest()),
-        "has_trader" => push_has_trader(answer, dealer_of(config, words)?, words.rest()),
-        "trader_at" => push_place_of_trader(answer, dealer_of(config, words)?, words),
-        "is_own_copy" => push_is_own_copy(answer, dealer_of(config, words)?),
+/// What a configuration has.
+fn push_found(call: &mut Call<'_>, config: &VenueConfig) -> Result<(), CaseFault> {
+    match call.name {
+        "date" => push_date(&mut call.answer, config),
+        "counts" => push_counts(&mut call.answer, config),
+        "dealer_count" => push_number(&mut call.answer, u64::from(config.dealer_count())),
+        "bonds" => push_rows(&mut call.answer, config.bonds()),
+        "dealers" => push_rows(&mut call.answer, config.dealers()),
+        "investors" => push_rows(&mut call.answer, config.investors()),
+        _ => push_one(call, config),
+    }
+}
+
+/// What is found in a configuration by a name or a number.
+fn push_one(call: &mut Call<'_>, config: &VenueConfig) -> Result<(), CaseFault> {
+    match call.name {
+        "bond" => push_bond(&mut call.answer, config, call.words.rest()),
+        "dealer" => push_row_or_none(&mut call.answer, config.dealer(call.words.firm()?)),
+        "investor" => push_row_or_none(&mut call.answer, config.investor(call.words.firm()?)),
+        "dealer_named" => push_dealer_named(&mut call.answer, config, call.words.rest()),
+        "firm" => push_firm(&mut call.answer, config, call.words.rest()),
+        "has_room" => push_has_room(&mut call.answer, config, &mut call.words),
+        _ => push_of_dealer(call, config),
+    }
+}
+
+/// What is asked of a dealer's row.
+fn push_of_dealer(call: &mut Call<'_>, config: &VenueConfig) -> Result<(), CaseFault> {
+    let row = dealer_of(config, &mut call.words)?;
+    match call.name {
+        "trader" => push_trader(&mut call.answer, row, call.words.rest()),
+        "has_trader" => push_has_trader(&mut call.answer, row, call.words.rest()),
+        "trader_at" => push_place_of_trader(&mut call.answer, row, &mut call.words),
+        "is_own_copy" => push_is_own_copy(&mut call.answer, row),
         _ => Err(CaseFault::Form),
     }
+}
+
+/// `bond ID`: the row of the bond.
+fn push_bond(answer: &mut String, config: &VenueConfig, id: &str) -> Result<(), CaseFault> {
+    push_row_or_none(answer, config.bond(id.as_bytes()).as_ref())
 }
 
 /// `date`: its digits.
@@ -219,8 +239,8 @@ fn push_has_room(
     config: &VenueConfig,
     words: &mut Words,
 ) -> Result<(), CaseFault> {
-    let firm = u16_of(words.number()?)?;
-    let number = u32_of(words.number()?)?;
+    let firm = words.firm()?;
+    let number = words.short_number()?;
     push_truth(answer, config.has_room(firm, number))
 }
 

@@ -1,6 +1,6 @@
 //! The rows of a configuration as lines.
 
-use crate::printing::{len_of, push_line, push_value_or_none};
+use crate::printing::{push_line, push_value_or_none};
 use case_lines::{CaseFault, Words, push_text};
 use std::fmt::Write;
 use venue_rows::{BondRow, DealerRow, InvestorRow, Traders};
@@ -86,6 +86,6 @@ pub(crate) fn push_place_of_trader(
     row: &DealerRow,
     words: &mut Words,
 ) -> Result<(), CaseFault> {
-    let place = len_of(words.number()?)?;
+    let place = words.number()? as usize;
     push_value_or_none(answer, row.traders.get(place))
 }

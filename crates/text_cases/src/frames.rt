@@ -1,10 +1,8 @@
 //! Frames that are read.
 
 use crate::buffers::ByteBuffer;
-use crate::printing::{
-    garbled_name, push_field, push_line, push_number, push_value_or_none, u32_of,
-};
-use case_lines::{Call, CaseFault, Words};
+use crate::printing::{garbled_name, push_field, push_line, push_number, push_value_or_none};
+use case_lines::{Call, CaseFault, Place, Words};
 use fix_fields::{Frame, Garbled, read_frame};
 use std::alloc::Global;
 use std::fmt::Write;
@@ -24,35 +22,43 @@ pub struct FrameCases {
     buffer: ByteBuffer,
 }
 
-impl FrameCases {
-    /// The place before its first call.
-    pub(crate) fn begun(alloc: Global) -> Self {
-        FrameCases {
+impl Place for FrameCases {
+    fn new(alloc: Global) -> Result<Self, CaseFault> {
+        Ok(FrameCases {
             buffer: ByteBuffer::new(alloc),
-        }
+        })
     }
 
-    /// Makes a call.
-    pub(crate) fn make(&mut self, call: &mut Call<'_>) -> Result<(), CaseFault> {
+    fn call(&mut self, call: &mut Call<'_>) -> Result<(), CaseFault> {
         match call.name {
             "bytes" => self.buffer.set(call.alloc, call.words.rest()),
             "add" => self.buffer.add(call.alloc, call.words.rest()),
             "add_times" => self.buffer.add_times(call.alloc, &mut call.words),
             "add_sum" => self.buffer.add_sum(call.alloc),
-            "len" => push_number(&mut call.answer, self.buffer.as_slice().len() as u64),
-            "read" => push_reading(&mut call.answer, self.buffer.as_slice()),
-            "fault" => push_fault(&mut call.answer, self.buffer.as_slice()),
-            "get" => push_first(&mut call.answer, self.buffer.as_slice(), &mut call.words),
-            "get_len" => push_first_len(&mut call.answer, self.buffer.as_slice(), &mut call.words),
-            "times" => push_times(&mut call.answer, self.buffer.as_slice(), &mut call.words),
-            "fronts" => push_fronts(&mut call.answer, self.buffer.as_slice()),
-            "each_byte_changed" => push_changed(
-                call.alloc,
-                &mut call.answer,
-                self.buffer.as_slice(),
-            ),
-            _ => Err(CaseFault::Form),
+            _ => push_told(call, self.buffer.as_slice()),
         }
+    }
+}
+
+/// What a call asks of bytes.
+fn push_told(call: &mut Call<'_>, bytes: &[u8]) -> Result<(), CaseFault> {
+    match call.name {
+        "len" => push_number(&mut call.answer, bytes.len() as u64),
+        "read" => push_reading(&mut call.answer, bytes),
+        "fault" => push_fault(&mut call.answer, bytes),
+        "fronts" => push_fronts(&mut call.answer, bytes),
+        "each_byte_changed" => push_changed(call.alloc, &mut call.answer, bytes),
+        _ => push_of_tag(call, bytes),
+    }
+}
+
+/// What a call asks of the fields with a tag.
+fn push_of_tag(call: &mut Call<'_>, bytes: &[u8]) -> Result<(), CaseFault> {
+    match call.name {
+        "get" => push_first(&mut call.answer, bytes, &mut call.words),
+        "get_len" => push_first_len(&mut call.answer, bytes, &mut call.words),
+        "times" => push_times(&mut call.answer, bytes, &mut call.words),
+        _ => Err(CaseFault::Form),
     }
 }
 
@@ -100,14 +106,14 @@ fn frame_of(bytes: &[u8]) -> Result<Frame<'_>, CaseFault> {
 
 /// `get TAG`: the first value.
 fn push_first(answer: &mut String, bytes: &[u8], words: &mut Words) -> Result<(), CaseFault> {
-    let tag = u32_of(words.number()?)?;
+    let tag = words.short_number()?;
     let frame = frame_of(bytes)?;
     push_value_or_none(answer, frame.get(tag))
 }
 
 /// `get_len TAG`: the length of the first value.
 fn push_first_len(answer: &mut String, bytes: &[u8], words: &mut Words) -> Result<(), CaseFault> {
-    let tag = u32_of(words.number()?)?;
+    let tag = words.short_number()?;
     let frame = frame_of(bytes)?;
     let value = frame.get(tag).ok_or(CaseFault::Condition)?;
     push_number(answer, value.len() as u64)
@@ -115,7 +121,7 @@ fn push_first_len(answer: &mut String, bytes: &[u8], words: &mut Words) -> Resul
 
 /// `times TAG`: how many fields have it.
 fn push_times(answer: &mut String, bytes: &[u8], words: &mut Words) -> Result<(), CaseFault> {
-    let tag = u32_of(words.number()?)?;
+    let tag = words.short_number()?;
     let frame = frame_of(bytes)?;
     push_number(answer, frame.times(tag) as u64)
 }

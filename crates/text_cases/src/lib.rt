@@ -26,7 +26,6 @@ mod configuration_rows;
 mod frames;
 mod moments;
 mod parts;
-mod places;
 mod prices;
 mod printing;
 mod received;

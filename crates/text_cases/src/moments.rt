@@ -1,7 +1,7 @@
 //! Dates and moments.
 
-use crate::printing::{push_line, push_number, push_number_or_none, push_truth, u32_of};
-use case_lines::{Call, CaseFault, Words, bytes_of};
+use crate::printing::{push_line, push_number, push_truth};
+use case_lines::{Call, CaseFault, Place, Words, bytes_of};
 use fix_fields::{Date, Moment, MomentFault, moment_text, read_moment, time_text};
 use std::alloc::Global;
 use std::str;
@@ -15,14 +15,12 @@ use std::str;
 #[derive(Drop)]
 pub struct MomentCases {}
 
-impl MomentCases {
-    /// The place before its first call.
-    pub(crate) fn begun(_alloc: Global) -> Self {
-        MomentCases {}
+impl Place for MomentCases {
+    fn new(_alloc: Global) -> Result<Self, CaseFault> {
+        Ok(MomentCases {})
     }
 
-    /// Makes a call.
-    pub(crate) fn make(&mut self, call: &mut Call<'_>) -> Result<(), CaseFault> {
+    fn call(&mut self, call: &mut Call<'_>) -> Result<(), CaseFault> {
         match call.name {
             "date" => push_date(call.alloc, &mut call.answer, call.words.rest()),
             "moment" => push_moment(&mut call.answer, &mut call.words),
@@ -49,9 +47,11 @@ fn push_date(alloc: Global, answer: &mut String, text: &str) -> Result<(), CaseF
 
 /// `moment NUMBER`: the number, where it is a moment.
 fn push_moment(answer: &mut String, words: &mut Words) -> Result<(), CaseFault> {
-    let number = u32_of(words.number()?)?;
-    let moment = Moment::new(number).map(|moment| u64::from(moment.get()));
-    push_number_or_none(answer, moment)
+    let number = words.short_number()?;
+    match Moment::new(number) {
+        Some(moment) => push_number(answer, u64::from(moment.get())),
+        None => push_line(answer, "none"),
+    }
 }
 
 /// `read DATE TEXT`: the moment, or the fault.
@@ -73,7 +73,7 @@ fn date_of(words: &mut Words) -> Result<Date, CaseFault> {
 
 /// The moment that a number is.
 fn moment_of(words: &mut Words) -> Result<Moment, CaseFault> {
-    let number = u32_of(words.number()?)?;
+    let number = words.short_number()?;
     Moment::new(number).ok_or(CaseFault::Condition)
 }
 

@@ -1,8 +1,8 @@
 //! Prices and grids.
 
-use crate::printing::{push_line, push_number, push_number_or_none, push_truth, u32_of};
+use crate::printing::{push_line, push_number, push_truth};
 use bond_prices::{Grid, PriceFault, Ticks, on_grid, price_text, read_price, thirty_seconds};
-use case_lines::{Call, CaseFault, Words, bytes_of, price_of};
+use case_lines::{Call, CaseFault, Place, Words, bytes_of, price_of};
 use std::alloc::Global;
 use std::fmt::Write;
 
@@ -20,14 +20,12 @@ use std::fmt::Write;
 #[derive(Drop)]
 pub struct PriceCases {}
 
-impl PriceCases {
-    /// The place before its first call.
-    pub(crate) fn begun(_alloc: Global) -> Self {
-        PriceCases {}
+impl Place for PriceCases {
+    fn new(_alloc: Global) -> Result<Self, CaseFault> {
+        Ok(PriceCases {})
     }
 
-    /// Makes a call.
-    pub(crate) fn make(&mut self, call: &mut Call<'_>) -> Result<(), CaseFault> {
+    fn call(&mut self, call: &mut Call<'_>) -> Result<(), CaseFault> {
         match call.name {
             "read" => push_reading(call.alloc, &mut call.answer, call.words.rest()),
             "fault" => push_fault(call.alloc, &mut call.answer, call.words.rest()),
@@ -37,12 +35,19 @@ impl PriceCases {
             "every_price" => push_every_price(&mut call.answer),
             "below" => push_below(&mut call.answer, &mut call.words),
             "same" => push_same(&mut call.answer, &mut call.words),
-            "grid" => push_grid(&mut call.answer, &mut call.words),
-            "finest" => push_number(&mut call.answer, u64::from(Grid::FINEST.get())),
-            "same_grid" => push_same_grid(&mut call.answer, &mut call.words),
-            "on" => push_on(&mut call.answer, &mut call.words),
-            _ => Err(CaseFault::Form),
+            _ => push_of_grids(call),
         }
+    }
+}
+
+/// What is asked of grids.
+fn push_of_grids(call: &mut Call<'_>) -> Result<(), CaseFault> {
+    match call.name {
+        "grid" => push_grid(&mut call.answer, &mut call.words),
+        "finest" => push_number(&mut call.answer, u64::from(Grid::FINEST.get())),
+        "same_grid" => push_same_grid(&mut call.answer, &mut call.words),
+        "on" => push_on(&mut call.answer, &mut call.words),
+        _ => Err(CaseFault::Form),
     }
 }
 
@@ -76,15 +81,17 @@ fn push_fault(alloc: Global, answer: &mut String, text: &str) -> Result<(), Case
 
 /// The grid that a number is.
 pub(crate) fn grid_of(words: &mut Words) -> Result<Grid, CaseFault> {
-    let steps = u32_of(words.number()?)?;
+    let steps = words.short_number()?;
     Grid::new(steps).ok_or(CaseFault::Condition)
 }
 
 /// `price NUMBER`: the number, where it is a price.
 fn push_price(answer: &mut String, words: &mut Words) -> Result<(), CaseFault> {
-    let number = u32_of(words.number()?)?;
-    let price = Ticks::new(number).map(|price| u64::from(price.get()));
-    push_number_or_none(answer, price)
+    let number = words.short_number()?;
+    match Ticks::new(number) {
+        Some(price) => push_number(answer, u64::from(price.get())),
+        None => push_line(answer, "none"),
+    }
 }
 
 /// `text NUMBER`: the text in points.
@@ -148,7 +155,9 @@ fn push_on(answer: &mut String, words: &mut Words) -> Result<(), CaseFault> {
 
 /// `grid STEPS`: the steps, where they are a grid.
 fn push_grid(answer: &mut String, words: &mut Words) -> Result<(), CaseFault> {
-    let steps = u32_of(words.number()?)?;
-    let grid = Grid::new(steps).map(|grid| u64::from(grid.get()));
-    push_number_or_none(answer, grid)
+    let steps = words.short_number()?;
+    match Grid::new(steps) {
+        Some(grid) => push_number(answer, u64::from(grid.get())),
+        None => push_line(answer, "none"),
+    }
 }

@@ -57,21 +57,6 @@ pub(crate) fn push_truth(answer: &mut String, is_so: bool) -> Result<(), CaseFau
     push_line(answer, if is_so { "yes" } else { "no" })
 }
 
-/// A number as a length.
-pub(crate) fn len_of(number: u64) -> Result<usize, CaseFault> {
-    usize::try_from(number).ok().ok_or(CaseFault::Form)
-}
-
-/// A number as one of 32 bits.
-pub(crate) fn u32_of(number: u64) -> Result<u32, CaseFault> {
-    u32::try_from(number).ok().ok_or(CaseFault::Form)
-}
-
-/// A number as one of 16 bits.
-pub(crate) fn u16_of(number: u64) -> Result<u16, CaseFault> {
-    u16::try_from(number).ok().ok_or(CaseFault::Form)
-}
-
 /// A field: a tag, the value, and a bar.
 pub(crate) fn push_field(answer: &mut String, tag: u32, value: &[u8]) -> Result<(), CaseFault> {
     write!(answer, "{tag}=")?;

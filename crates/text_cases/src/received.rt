@@ -3,8 +3,8 @@
 use crate::printing::{push_field, push_line, push_number_field};
 use crate::received_from_dealers::{dealer_row, push_dealer_message};
 use crate::received_from_investors::{investor_row, push_investor_message};
-use case_lines::{Call, CaseFault, Words, day, frame_of, piped_bytes_of};
-use fix_fields::{Date, read_frame};
+use case_lines::{Call, CaseFault, Place, Words, day, frame_of, piped_bytes_of};
+use fix_fields::{Date, Frame, read_frame};
 use quote_messages::{
     Arrival, Reject, SessionFault, read_dealer, read_investor, receive_dealer, receive_investor,
 };
@@ -28,59 +28,25 @@ pub struct ReceivedCases {
     body: String,
 }
 
-impl ReceivedCases {
-    /// The place before its first call.
-    pub(crate) fn begun(alloc: Global) -> Self {
-        ReceivedCases {
+impl Place for ReceivedCases {
+    fn new(alloc: Global) -> Result<Self, CaseFault> {
+        Ok(ReceivedCases {
             body: String::new(alloc),
-        }
+        })
     }
 
-    /// Makes a call.
-    pub(crate) fn make(&mut self, call: &mut Call<'_>) -> Result<(), CaseFault> {
+    fn call(&mut self, call: &mut Call<'_>) -> Result<(), CaseFault> {
         match call.name {
             "body" => self.set_body(call.alloc, call.words.rest()),
             "change" => self.change(call.alloc, &mut call.words),
-            "dealer" => push_from_dealer(call.alloc, &mut call.answer, self.body.as_str()),
-            "dealer_with" => {
-                push_from_dealer(
-                    call.alloc,
-                    &mut call.answer,
-                    self.with(call.alloc, &mut call.words)?.as_str(),
-                )
-            }
-            "investor" => push_from_investor(call.alloc, &mut call.answer, self.body.as_str()),
-            "investor_with" => {
-                push_from_investor(
-                    call.alloc,
-                    &mut call.answer,
-                    self.with(call.alloc, &mut call.words)?.as_str(),
-                )
-            }
-            "from_dealer" => push_dealer_arrival(
-                &mut call.answer,
-                &mut call.words,
-                &self.framed(call.alloc)?,
-            ),
-            "from_investor" => push_investor_arrival(
-                &mut call.answer,
-                &mut call.words,
-                &self.framed(call.alloc)?,
-            ),
-            "raw_from_dealer" => push_dealer_arrival(
-                &mut call.answer,
-                &mut call.words,
-                &self.raw(call.alloc)?,
-            ),
-            "raw_from_investor" => push_investor_arrival(
-                &mut call.answer,
-                &mut call.words,
-                &self.raw(call.alloc)?,
-            ),
-            _ => Err(CaseFault::Form),
+            "dealer" | "investor" => push_read(call, self.body.as_str()),
+            "dealer_with" | "investor_with" => self.read_with(call),
+            _ => self.arrive(call),
         }
     }
+}
 
+impl ReceivedCases {
     /// `body BYTES`: the text of the messages.
     fn set_body(&mut self, alloc: Global, text: &str) -> Result<(), CaseFault> {
         self.body = String::from_str(alloc, text)?;
@@ -104,14 +70,20 @@ impl ReceivedCases {
         Ok(())
     }
 
-    /// The bytes of the body.
-    fn raw(&self, alloc: Global) -> Result<Vec<u8>, CaseFault> {
-        piped_bytes_of(alloc, self.body.as_str())
+    /// `dealer_with PART FORM`, `investor_with PART FORM`: the changed body is read.
+    fn read_with(&self, call: &mut Call<'_>) -> Result<(), CaseFault> {
+        let body = self.with(call.alloc, &mut call.words)?;
+        push_read(call, body.as_str())
     }
 
-    /// The frame of the body.
-    fn framed(&self, alloc: Global) -> Result<Vec<u8>, CaseFault> {
-        framed(alloc, self.body.as_str())
+    /// What becomes of the frame of the body, or of the body alone.
+    fn arrive(&self, call: &mut Call<'_>) -> Result<(), CaseFault> {
+        if call.name.starts_with("raw_") {
+            let bytes = piped_bytes_of(call.alloc, self.body.as_str())?;
+            return push_arrival(call, bytes.as_slice());
+        }
+        let bytes = framed(call.alloc, self.body.as_str())?;
+        push_arrival(call, bytes.as_slice())
     }
 }
 
@@ -126,25 +98,29 @@ fn today() -> Result<Date, CaseFault> {
     day().ok_or(CaseFault::Form)
 }
 
-/// What a dealer's message says, or its fault.
-fn push_from_dealer(alloc: Global, answer: &mut String, body: &str) -> Result<(), CaseFault> {
-    let bytes = framed(alloc, body)?;
+/// What the message of a body says, read as one of the dealer or of the investor; or its fault.
+fn push_read(call: &mut Call<'_>, body: &str) -> Result<(), CaseFault> {
+    let bytes = framed(call.alloc, body)?;
     let frame = read_frame(bytes.as_slice())
         .ok()
         .ok_or(CaseFault::Condition)?;
-    match read_dealer(&today()?, &dealer_row()?, &frame) {
+    if call.name.starts_with("dealer") {
+        return push_from_dealer(&mut call.answer, &frame);
+    }
+    push_from_investor(&mut call.answer, &frame)
+}
+
+/// What a dealer's message says, or its fault.
+fn push_from_dealer(answer: &mut String, frame: &Frame) -> Result<(), CaseFault> {
+    match read_dealer(&today()?, &dealer_row()?, frame) {
         Ok(message) => push_dealer_message(answer, &message),
         Err(fault) => push_fault(answer, fault),
     }
 }
 
 /// What an investor's message says, or its fault.
-fn push_from_investor(alloc: Global, answer: &mut String, body: &str) -> Result<(), CaseFault> {
-    let bytes = framed(alloc, body)?;
-    let frame = read_frame(bytes.as_slice())
-        .ok()
-        .ok_or(CaseFault::Condition)?;
-    match read_investor(&today()?, &investor_row()?, &frame) {
+fn push_from_investor(answer: &mut String, frame: &Frame) -> Result<(), CaseFault> {
+    match read_investor(&today()?, &investor_row()?, frame) {
         Ok(message) => push_investor_message(answer, &message),
         Err(fault) => push_fault(answer, fault),
     }
@@ -156,30 +132,37 @@ fn push_fault(answer: &mut String, fault: SessionFault) -> Result<(), CaseFault>
     Ok(())
 }
 
-/// What becomes of a dealer's bytes.
-fn push_dealer_arrival(
-    answer: &mut String,
-    words: &mut Words,
-    bytes: &Vec<u8>,
-) -> Result<(), CaseFault> {
-    let expected = words.number()?;
+/// What becomes of bytes of the dealer or of the investor.
+fn push_arrival(call: &mut Call<'_>, bytes: &[u8]) -> Result<(), CaseFault> {
+    match call.name {
+        "from_dealer" | "raw_from_dealer" => {
+            push_dealer_arrival(&mut call.answer, call.words.number()?, bytes)
+        }
+        "from_investor" | "raw_from_investor" => {
+            push_investor_arrival(&mut call.answer, call.words.number()?, bytes)
+        }
+        _ => Err(CaseFault::Form),
+    }
+}
+
+/// What becomes of a dealer's bytes, where this number is expected.
+fn push_dealer_arrival(answer: &mut String, expected: u64, bytes: &[u8]) -> Result<(), CaseFault> {
     let row = dealer_row()?;
-    let arrival = receive_dealer(&today()?, &row, expected, bytes.as_slice());
+    let arrival = receive_dealer(&today()?, &row, expected, bytes);
     let Some(message) = taken(answer, &arrival)? else {
         return Ok(());
     };
     push_dealer_message(answer, message)
 }
 
-/// What becomes of an investor's bytes.
+/// What becomes of an investor's bytes, where this number is expected.
 fn push_investor_arrival(
     answer: &mut String,
-    words: &mut Words,
-    bytes: &Vec<u8>,
+    expected: u64,
+    bytes: &[u8],
 ) -> Result<(), CaseFault> {
-    let expected = words.number()?;
     let row = investor_row()?;
-    let arrival = receive_investor(&today()?, &row, expected, bytes.as_slice());
+    let arrival = receive_investor(&today()?, &row, expected, bytes);
     let Some(message) = taken(answer, &arrival)? else {
         return Ok(());
     };

@@ -53,13 +53,18 @@ fn push_quote(answer: &mut String, quote: &Quote) -> Result<(), CaseFault> {
     push_field(answer, 117, quote.id.as_bytes())?;
     push_field(answer, 131, quote.request.as_bytes())?;
     push_field(answer, 48, quote.bond.as_bytes())?;
-    push_price(answer, 132, quote.bid)?;
-    push_price(answer, 133, quote.offer)?;
-    push_size(answer, 134, quote.bid_size)?;
-    push_size(answer, 135, quote.offer_size)?;
+    push_two_sides(answer, quote)?;
     push_number_if(answer, 537, quote.quote_type)?;
     push_time_if(answer, 62, quote.valid_until)?;
     push_line(answer, "")
+}
+
+/// The prices and the sizes of a quote.
+fn push_two_sides(answer: &mut String, quote: &Quote) -> Result<(), CaseFault> {
+    push_price(answer, 132, quote.bid)?;
+    push_price(answer, 133, quote.offer)?;
+    push_size(answer, 134, quote.bid_size)?;
+    push_size(answer, 135, quote.offer_size)
 }
 
 /// A price, or the name of its fault, where it stood.
@@ -77,7 +82,10 @@ fn push_price(
 
 /// A quantity, where it stood.
 fn push_size(answer: &mut String, tag: u32, size: Option<Quantity>) -> Result<(), CaseFault> {
-    push_number_if(answer, tag, size.map(|size| size.get()))
+    match size {
+        None => Ok(()),
+        Some(size) => push_number_field(answer, tag, size.get()),
+    }
 }
 
 /// A number, where it stood.

@@ -1,8 +1,8 @@
 //! Streams that are cut.
 
 use crate::buffers::ByteBuffer;
-use crate::printing::{len_of, push_bytes_line, push_line, push_number};
-use case_lines::{Call, CaseFault, Words, piped_bytes_of, stream_fault_name};
+use crate::printing::{push_bytes_line, push_line, push_number};
+use case_lines::{Call, CaseFault, Place, Words, piped_bytes_of, stream_fault_name};
 use fix_fields::{Messages, Splitter, StreamFault};
 use std::alloc::Global;
 use std::fmt::Write;
@@ -27,23 +27,30 @@ pub struct StreamCases {
     splitter: Splitter,
 }
 
-impl StreamCases {
-    /// The place before its first call.
-    pub(crate) fn begun(alloc: Global) -> Self {
-        StreamCases {
+impl Place for StreamCases {
+    fn new(alloc: Global) -> Result<Self, CaseFault> {
+        Ok(StreamCases {
             buffer: ByteBuffer::new(alloc),
             splitter: Splitter::new(alloc),
-        }
+        })
     }
 
-    /// Makes a call.
-    pub(crate) fn make(&mut self, call: &mut Call<'_>) -> Result<(), CaseFault> {
+    fn call(&mut self, call: &mut Call<'_>) -> Result<(), CaseFault> {
         match call.name {
             "open" => self.open(call.alloc),
             "feed" => self.feed(call.alloc, call.words.rest(), &mut call.answer),
             "bytes" => self.buffer.set(call.alloc, call.words.rest()),
             "add" => self.buffer.add(call.alloc, call.words.rest()),
             "add_times" => self.buffer.add_times(call.alloc, &mut call.words),
+            _ => self.cut(call),
+        }
+    }
+}
+
+impl StreamCases {
+    /// Makes a call that cuts the stream.
+    fn cut(&mut self, call: &mut Call<'_>) -> Result<(), CaseFault> {
+        match call.name {
             "feed_stream" => self.feed_stream(&mut call.answer),
             "in_pieces" => self.in_pieces(call.alloc, &mut call.words, &mut call.answer),
             "in_two" => push_in_two(call.alloc, &mut call.answer, self.buffer.as_slice()),
@@ -86,7 +93,7 @@ impl StreamCases {
         words: &mut Words,
         answer: &mut String,
     ) -> Result<(), CaseFault> {
-        let size = len_of(words.number()?)?;
+        let size = words.number()? as usize;
         let mut cutting = Cutting::new(alloc, self.buffer.as_slice());
         for piece in self.buffer.as_slice().chunks(size.max(1)) {
             cutting.feed(piece, answer)?;

@@ -2,10 +2,10 @@
 
 use crate::parts::{ask_with_grid, id_of};
 use crate::printing::{
-    push_bytes_line, push_field, push_line, push_number, push_number_field, push_number_or_none,
-    push_time_field, push_truth, u16_of,
+    push_bytes_line, push_field, push_line, push_number, push_number_field, push_time_field,
+    push_truth,
 };
-use case_lines::{Call, CaseFault, Words, bytes_of};
+use case_lines::{Call, CaseFault, Place, Words, bytes_of};
 use market_terms::{Ask, AskedDealers, Close, HitRefusal, Id, IdBuf, Quantity, Side};
 use std::alloc::Global;
 use std::cmp::Ordering;
@@ -23,36 +23,43 @@ use std::fmt::Write;
 #[derive(Drop)]
 pub struct TermCases {}
 
-impl TermCases {
-    /// The place before its first call.
-    pub(crate) fn begun(_alloc: Global) -> Self {
-        TermCases {}
+impl Place for TermCases {
+    fn new(_alloc: Global) -> Result<Self, CaseFault> {
+        Ok(TermCases {})
     }
 
-    /// Makes a call.
-    pub(crate) fn make(&mut self, call: &mut Call<'_>) -> Result<(), CaseFault> {
+    fn call(&mut self, call: &mut Call<'_>) -> Result<(), CaseFault> {
         match call.name {
             "quantity" => push_quantity(&mut call.answer, &mut call.words),
-            "most_quantity" => push_number(&mut call.answer, Quantity::MOST),
-            "most_dealers" => push_number(&mut call.answer, AskedDealers::MOST as u64),
             "id" => push_id(call.alloc, &mut call.answer, call.words.rest()),
             "order" => push_order(&mut call.answer, &mut call.words),
             "dealers" => push_dealers(call.alloc, &mut call.answer, call.words.rest()),
             "names" => push_names(call.alloc, &mut call.answer, &mut call.words),
-            "sides" => push_sides(&mut call.answer),
-            "closes" => push_closes(&mut call.answer),
-            "refusals" => push_refusals(&mut call.answer),
             "ask" => push_ask(&mut call.answer, &mut call.words),
-            _ => Err(CaseFault::Form),
+            _ => push_constants(call),
         }
+    }
+}
+
+/// The limits, the codes and the names.
+fn push_constants(call: &mut Call<'_>) -> Result<(), CaseFault> {
+    match call.name {
+        "most_quantity" => push_number(&mut call.answer, Quantity::MOST),
+        "most_dealers" => push_number(&mut call.answer, AskedDealers::MOST as u64),
+        "sides" => push_sides(&mut call.answer),
+        "closes" => push_closes(&mut call.answer),
+        "refusals" => push_refusals(&mut call.answer),
+        _ => Err(CaseFault::Form),
     }
 }
 
 /// `quantity NUMBER`: the number, where it is a quantity.
 fn push_quantity(answer: &mut String, words: &mut Words) -> Result<(), CaseFault> {
     let number = words.number()?;
-    let quantity = Quantity::new(number).map(|quantity| quantity.get());
-    push_number_or_none(answer, quantity)
+    match Quantity::new(number) {
+        Some(quantity) => push_number(answer, quantity.get()),
+        None => push_line(answer, "none"),
+    }
 }
 
 /// `id BYTES`: the identifier; kept; its copy; and once more as an identifier.
@@ -87,7 +94,7 @@ fn numbers_of(alloc: Global, line: &str) -> Result<Vec<u16>, CaseFault> {
     let mut numbers = Vec::new(alloc);
     for word in line.split(' ') {
         if !word.is_empty() {
-            let number = u16_of(Words::of(word).number()?)?;
+            let number = Words::of(word).firm()?;
             numbers.push(number)?;
         }
     }
@@ -115,7 +122,7 @@ fn push_dealers(alloc: Global, answer: &mut String, line: &str) -> Result<(), Ca
 
 /// `names DEALER NUMBER ..`: whether a dealer is one of them.
 fn push_names(alloc: Global, answer: &mut String, words: &mut Words) -> Result<(), CaseFault> {
-    let dealer = u16_of(words.number()?)?;
+    let dealer = words.firm()?;
     let numbers = numbers_of(alloc, words.rest())?;
     let dealers = AskedDealers::new(numbers.as_slice()).ok_or(CaseFault::Condition)?;
     push_truth(answer, dealers.names(dealer))
@@ -130,11 +137,16 @@ fn push_sides(answer: &mut String) -> Result<(), CaseFault> {
 
 /// `closes`: the codes of QuoteRespType (694).
 fn push_closes(answer: &mut String) -> Result<(), CaseFault> {
-    writeln!(answer, "Hit {}", Close::Hit.code())?;
-    writeln!(answer, "Expired {}", Close::Expired.code())?;
-    writeln!(answer, "Cover {}", Close::Cover.code())?;
-    writeln!(answer, "DoneAway {}", Close::DoneAway.code())?;
-    writeln!(answer, "Pass {}", Close::Pass.code())?;
+    push_close(answer, "Hit", &Close::Hit)?;
+    push_close(answer, "Expired", &Close::Expired)?;
+    push_close(answer, "Cover", &Close::Cover)?;
+    push_close(answer, "DoneAway", &Close::DoneAway)?;
+    push_close(answer, "Pass", &Close::Pass)
+}
+
+/// A code of QuoteRespType (694), behind its name.
+fn push_close(answer: &mut String, name: &str, close: &Close) -> Result<(), CaseFault> {
+    writeln!(answer, "{name} {}", close.code())?;
     Ok(())
 }
 

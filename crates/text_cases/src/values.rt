@@ -1,9 +1,9 @@
 //! The texts and numbers of fields.
 
-use crate::buffers::bytes_times;
+use crate::buffers::bytes_in;
 use crate::parts::{quote_reason_of, request_reason_of, session_reason_of};
 use crate::printing::{push_bytes_line, push_line, push_number, push_number_or_none};
-use case_lines::{Call, CaseFault, Words, bytes_of, piped_bytes_of};
+use case_lines::{Call, CaseFault, Place, Words, bytes_of};
 use quote_messages::{
     Message, MsgType, SeqNum, expected_number, read_long_number, read_number, read_quantity,
 };
@@ -23,62 +23,53 @@ use std::fmt::Write;
 #[derive(Drop)]
 pub struct ValueCases {}
 
-impl ValueCases {
-    /// The place before its first call.
-    pub(crate) fn begun(_alloc: Global) -> Self {
-        ValueCases {}
+impl Place for ValueCases {
+    fn new(_alloc: Global) -> Result<Self, CaseFault> {
+        Ok(ValueCases {})
     }
 
-    /// Makes a call.
-    pub(crate) fn make(&mut self, call: &mut Call<'_>) -> Result<(), CaseFault> {
+    fn call(&mut self, call: &mut Call<'_>) -> Result<(), CaseFault> {
         match call.name {
-            "number" => push_short(&mut call.answer, &bytes_of(call.alloc, call.words.rest())?),
-            "long_number" => push_long(&mut call.answer, &bytes_of(call.alloc, call.words.rest())?),
-            "quantity" => push_quantity(
-                &mut call.answer,
-                &bytes_of(call.alloc, call.words.rest())?,
-            ),
-            "msg_type" => push_msg_type(
-                &mut call.answer,
-                &bytes_of(call.alloc, call.words.rest())?,
-            ),
-            "seq_num" => push_seq_num(&mut call.answer, &bytes_of(call.alloc, call.words.rest())?),
             "expected" => push_expected(&mut call.answer, &mut call.words),
-            "session_reason" => push_number(
-                &mut call.answer,
-                session_reason_of(call.words.word()?)?.code(),
-            ),
-            "quote_reason" => push_number(
-                &mut call.answer,
-                quote_reason_of(call.words.word()?)?.code(),
-            ),
-            "request_reason" => push_number(
-                &mut call.answer,
-                request_reason_of(call.words.word()?)?.code(),
-            ),
-            "message" => push_message(
-                call.alloc,
-                &mut call.answer,
-                &piped_bytes_of(call.alloc, call.words.rest())?,
-            ),
-            "message_times" => push_message_len(
-                call.alloc,
-                &mut call.answer,
-                &bytes_times(call.alloc, &mut call.words)?,
-            ),
-            _ => Err(CaseFault::Form),
+            "message" => push_message(call),
+            "message_times" => push_message_len(call),
+            "session_reason" | "quote_reason" | "request_reason" => push_code(call),
+            _ => push_value(call),
         }
     }
 }
 
-/// `number BYTES`: the number that 1 to 9 digits spell.
-fn push_short(answer: &mut String, text: &[u8]) -> Result<(), CaseFault> {
-    push_number_or_none(answer, read_number(text))
+/// The code of a reason.
+fn push_code(call: &mut Call<'_>) -> Result<(), CaseFault> {
+    let code = code_of(call.name, call.words.word()?)?;
+    push_number(&mut call.answer, code)
 }
 
-/// `long_number BYTES`: the number that 1 to 16 digits spell.
-fn push_long(answer: &mut String, text: &[u8]) -> Result<(), CaseFault> {
-    push_number_or_none(answer, read_long_number(text))
+/// The code of a reason of this kind.
+fn code_of(kind: &str, name: &str) -> Result<u64, CaseFault> {
+    match kind {
+        "session_reason" => Ok(session_reason_of(name)?.code()),
+        "quote_reason" => Ok(quote_reason_of(name)?.code()),
+        _ => Ok(request_reason_of(name)?.code()),
+    }
+}
+
+/// What the text of a field is.
+fn push_value(call: &mut Call<'_>) -> Result<(), CaseFault> {
+    let text = bytes_of(call.alloc, call.words.rest())?;
+    push_value_of(&mut call.answer, call.name, text.as_slice())
+}
+
+/// What a text is as a field of this kind.
+fn push_value_of(answer: &mut String, kind: &str, text: &[u8]) -> Result<(), CaseFault> {
+    match kind {
+        "number" => push_number_or_none(answer, read_number(text)),
+        "long_number" => push_number_or_none(answer, read_long_number(text)),
+        "quantity" => push_quantity(answer, text),
+        "msg_type" => push_msg_type(answer, text),
+        "seq_num" => push_seq_num(answer, text),
+        _ => Err(CaseFault::Form),
+    }
 }
 
 /// `quantity BYTES`: the quantity, or the code of the reason.
@@ -122,18 +113,20 @@ fn push_expected(answer: &mut String, words: &mut Words) -> Result<(), CaseFault
 }
 
 /// `message BYTES`: a message of them, copied, and one of the list that it is kept in.
-fn push_message(alloc: Global, answer: &mut String, bytes: &[u8]) -> Result<(), CaseFault> {
-    let copy = Message::copy_of(alloc, bytes)?;
-    push_bytes_line(answer, copy.as_bytes())?;
+fn push_message(call: &mut Call<'_>) -> Result<(), CaseFault> {
+    let bytes = bytes_in(call)?;
+    let copy = Message::copy_of(call.alloc, bytes.as_slice())?;
+    push_bytes_line(&mut call.answer, copy.as_bytes())?;
     let again = Message::new(copy.into_bytes());
-    push_bytes_line(answer, again.as_bytes())
+    push_bytes_line(&mut call.answer, again.as_bytes())
 }
 
 /// `message_times N BYTES`: the length of a message of these bytes N times, copied.
-fn push_message_len(alloc: Global, answer: &mut String, bytes: &[u8]) -> Result<(), CaseFault> {
-    let copy = Message::copy_of(alloc, bytes)?;
-    if copy.as_bytes() != bytes {
-        return push_line(answer, "other");
+fn push_message_len(call: &mut Call<'_>) -> Result<(), CaseFault> {
+    let bytes = bytes_in(call)?;
+    let copy = Message::copy_of(call.alloc, bytes.as_slice())?;
+    if copy.as_bytes() != bytes.as_slice() {
+        return push_line(&mut call.answer, "other");
     }
-    push_number(answer, copy.as_bytes().len() as u64)
+    push_number(&mut call.answer, copy.as_bytes().len() as u64)
 }

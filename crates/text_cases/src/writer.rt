@@ -1,8 +1,8 @@
 //! Frames that are written.
 
-use crate::buffers::bytes_times;
-use crate::printing::{len_of, push_bytes_line, push_line, push_number, push_truth, u32_of};
-use case_lines::{Call, CaseFault, Words, piped_bytes_of};
+use crate::buffers::bytes_in;
+use crate::printing::{push_bytes_line, push_line, push_number, push_truth};
+use case_lines::{Call, CaseFault, Place, Words, piped_bytes_of};
 use fix_fields::{
     FrameWriter, MOST_BODY, MOST_FRAME, decimal_len, fits, is_tag, is_value, read_frame,
 };
@@ -21,85 +21,47 @@ pub struct WriterCases {
     writer: Option<FrameWriter>,
 }
 
-impl WriterCases {
-    /// The place before its first call.
-    pub(crate) fn begun(_alloc: Global) -> Self {
-        WriterCases { writer: None }
+impl Place for WriterCases {
+    fn new(_alloc: Global) -> Result<Self, CaseFault> {
+        Ok(WriterCases { writer: None })
     }
 
-    /// Makes a call.
-    pub(crate) fn make(&mut self, call: &mut Call<'_>) -> Result<(), CaseFault> {
+    fn call(&mut self, call: &mut Call<'_>) -> Result<(), CaseFault> {
         match call.name {
-            "new" => self.begin(
-                call.alloc,
-                piped_bytes_of(call.alloc, call.words.rest())?,
-                &mut call.answer,
-            ),
-            "new_times" => self.begin(
-                call.alloc,
-                bytes_times(call.alloc, &mut call.words)?,
-                &mut call.answer,
-            ),
-            "text" => {
-                let tag = tag_of(&mut call.words)?;
-                self.text(
-                    tag,
-                    piped_bytes_of(call.alloc, call.words.rest())?,
-                    &mut call.answer,
-                )
-            }
-            "text_times" => {
-                let tag = tag_of(&mut call.words)?;
-                self.text(
-                    tag,
-                    bytes_times(call.alloc, &mut call.words)?,
-                    &mut call.answer,
-                )
-            }
+            "new" | "new_times" => self.begin(call),
+            "text" | "text_times" => self.text(call),
             "number" => self.number(&mut call.words, &mut call.answer),
             "finish" => self.finish(&mut call.answer),
             "finish_len" => self.finish_len(&mut call.answer),
-            "is_tag" => push_is_tag(&mut call.answer, &mut call.words),
-            "is_value" => push_is_value(call.alloc, &mut call.answer, call.words.rest()),
-            "fits" => push_fits(&mut call.answer, &mut call.words),
-            "decimal_len" => push_decimal_len(&mut call.answer, &mut call.words),
-            "limits" => push_limits(&mut call.answer),
-            _ => Err(CaseFault::Form),
+            _ => push_tested(call),
         }
     }
+}
 
+impl WriterCases {
     /// `new TYPE`: a frame with this MsgType (35).
-    fn begin(
-        &mut self,
-        alloc: Global,
-        msg_type: Vec<u8>,
-        answer: &mut String,
-    ) -> Result<(), CaseFault> {
-        if !is_value(msg_type.as_slice()) || !fits(35, msg_type.len(), MOST_BODY) {
-            return Err(CaseFault::Condition);
-        }
-        let writer = FrameWriter::new(alloc, msg_type.as_slice())?;
+    fn begin(&mut self, call: &mut Call<'_>) -> Result<(), CaseFault> {
+        let msg_type = bytes_in(call)?;
+        let writer = new_writer(call.alloc, msg_type.as_slice())?;
         let left = writer.left() as u64;
         self.writer = Some(writer);
-        push_number(answer, left)
+        push_number(&mut call.answer, left)
     }
 
-    /// One field more, whose value is a text.
-    fn text(&mut self, tag: u32, value: Vec<u8>, answer: &mut String) -> Result<(), CaseFault> {
-        let value = value.as_slice();
+    /// `text TAG VALUE`: one field more, whose value is a text.
+    fn text(&mut self, call: &mut Call<'_>) -> Result<(), CaseFault> {
+        let tag = call.words.short_number()?;
+        let value = bytes_in(call)?;
         let Some(writer) = &mut self.writer else {
             return Err(CaseFault::NotOpen);
         };
-        if !is_tag(tag) || !is_value(value) || !fits(tag, value.len(), writer.left()) {
-            return Err(CaseFault::Condition);
-        }
-        writer.text(tag, value)?;
-        push_number(answer, writer.left() as u64)
+        let left = write_text(writer, tag, value.as_slice())?;
+        push_number(&mut call.answer, left)
     }
 
     /// `number TAG NUMBER`: one field more, whose value is a number.
     fn number(&mut self, words: &mut Words, answer: &mut String) -> Result<(), CaseFault> {
-        let tag = tag_of(words)?;
+        let tag = words.short_number()?;
         let value = words.number()?;
         let Some(writer) = &mut self.writer else {
             return Err(CaseFault::NotOpen);
@@ -136,14 +98,39 @@ impl WriterCases {
     }
 }
 
-/// The tag that a word is.
-fn tag_of(words: &mut Words) -> Result<u32, CaseFault> {
-    u32_of(words.number()?)
+/// A frame with this MsgType (35).
+fn new_writer(alloc: Global, msg_type: &[u8]) -> Result<FrameWriter, CaseFault> {
+    if !is_value(msg_type) || !fits(35, msg_type.len(), MOST_BODY) {
+        return Err(CaseFault::Condition);
+    }
+    let writer = FrameWriter::new(alloc, msg_type)?;
+    Ok(writer)
+}
+
+/// One field more, whose value is a text. It answers how many bytes are left.
+fn write_text(writer: &mut FrameWriter, tag: u32, value: &[u8]) -> Result<u64, CaseFault> {
+    if !is_tag(tag) || !is_value(value) || !fits(tag, value.len(), writer.left()) {
+        return Err(CaseFault::Condition);
+    }
+    writer.text(tag, value)?;
+    Ok(writer.left() as u64)
+}
+
+/// A test, or the limits.
+fn push_tested(call: &mut Call<'_>) -> Result<(), CaseFault> {
+    match call.name {
+        "is_tag" => push_is_tag(&mut call.answer, &mut call.words),
+        "is_value" => push_is_value(call.alloc, &mut call.answer, call.words.rest()),
+        "fits" => push_fits(&mut call.answer, &mut call.words),
+        "decimal_len" => push_decimal_len(&mut call.answer, &mut call.words),
+        "limits" => push_limits(&mut call.answer),
+        _ => Err(CaseFault::Form),
+    }
 }
 
 /// `is_tag TAG`: whether it may stand in a body.
 fn push_is_tag(answer: &mut String, words: &mut Words) -> Result<(), CaseFault> {
-    let tag = tag_of(words)?;
+    let tag = words.short_number()?;
     push_truth(answer, is_tag(tag))
 }
 
@@ -155,9 +142,9 @@ fn push_is_value(alloc: Global, answer: &mut String, text: &str) -> Result<(), C
 
 /// `fits TAG LENGTH LEFT`: whether a field fits.
 fn push_fits(answer: &mut String, words: &mut Words) -> Result<(), CaseFault> {
-    let tag = tag_of(words)?;
-    let len = len_of(words.number()?)?;
-    let left = len_of(words.number()?)?;
+    let tag = words.short_number()?;
+    let len = words.number()? as usize;
+    let left = words.number()? as usize;
     push_truth(answer, fits(tag, len, left))
 }
 

@@ -1,14 +1,11 @@
 //! Messages that a firm is sent.
 
-use crate::printing::{push_bytes_line, push_number, u32_of};
+use crate::printing::{push_bytes_line, push_number};
 use crate::written_to_dealers::{
     cancel_report, closing_notice, decline_report, quote_report, reject, shown_request,
 };
-use crate::written_to_investors::{
-    dealer_declined, hit_report, hit_unknown, pass_report, quote_gone, request_accepted,
-    request_expired, request_refused, shown_quote,
-};
-use case_lines::{Call, CaseFault, Words, day, name_of};
+use crate::written_to_investors::message_to_investor;
+use case_lines::{Call, CaseFault, Place, Words, day, name_of};
 use fix_fields::Memory;
 use quote_messages::{Head, OutMessage, SentMessage, write_out};
 use std::alloc::Global;
@@ -32,17 +29,15 @@ pub struct WrittenCases {
     last: Option<SentMessage>,
 }
 
-impl WrittenCases {
-    /// The place before its first call.
-    pub(crate) fn begun(_alloc: Global) -> Self {
-        WrittenCases {
+impl Place for WrittenCases {
+    fn new(_alloc: Global) -> Result<Self, CaseFault> {
+        Ok(WrittenCases {
             head: None,
             last: None,
-        }
+        })
     }
 
-    /// Makes a call.
-    pub(crate) fn make(&mut self, call: &mut Call<'_>) -> Result<(), CaseFault> {
+    fn call(&mut self, call: &mut Call<'_>) -> Result<(), CaseFault> {
         match call.name {
             "to" => self.take_head(&mut call.words),
             "times" => self.times(&mut call.words, &mut call.answer),
@@ -53,7 +48,9 @@ impl WrittenCases {
             ),
         }
     }
+}
 
+impl WrittenCases {
     /// `to FIRM NUMBER MOMENT`: the header of the next message.
     fn take_head(&mut self, words: &mut Words) -> Result<(), CaseFault> {
         let date = day().ok_or(CaseFault::Form)?;
@@ -85,7 +82,7 @@ impl WrittenCases {
 
     /// `times TAG`: how many fields of the last message have it.
     fn times(&self, words: &mut Words, answer: &mut String) -> Result<(), CaseFault> {
-        let tag = u32_of(words.number()?)?;
+        let tag = words.short_number()?;
         let last = self.last.as_ref().ok_or(CaseFault::NotOpen)?;
         push_number(answer, last.frame().times(tag) as u64)
     }
@@ -96,7 +93,7 @@ fn written(alloc: Global, head: &Head, message: &OutMessage) -> Result<SentMessa
     write_out(alloc, head, message)
 }
 
-/// The message that a call says.
+/// The message that a call says: one to a dealer, or to an investor.
 fn message_of<'a>(name: &str, words: &mut Words<'a>) -> Result<OutMessage<'a>, CaseFault> {
     match name {
         "reject" => reject(words),
@@ -105,15 +102,6 @@ fn message_of<'a>(name: &str, words: &mut Words<'a>) -> Result<OutMessage<'a>, C
         "cancel_answer" => cancel_report(words),
         "decline_answer" => decline_report(words),
         "notice" => closing_notice(words),
-        "accepted" => request_accepted(words),
-        "refused" => request_refused(words),
-        "quote" => shown_quote(words),
-        "gone" => quote_gone(words),
-        "declined" => dealer_declined(words),
-        "hit_answer" => hit_report(words),
-        "hit_unknown" => hit_unknown(words),
-        "pass_answer" => pass_report(words),
-        "expired" => request_expired(words),
-        _ => Err(CaseFault::Form),
+        _ => message_to_investor(name, words),
     }
 }

@@ -4,7 +4,6 @@ use crate::parts::{
     ask_with_grid, id_of, id_or_none, quote_reason_of, quote_reason_or_none, quoted_or_none,
     session_reason_of, word_or_none,
 };
-use crate::printing::u32_of;
 use case_lines::{CaseFault, Words, close_of};
 use quote_messages::{
     CancelStatus, ClosingNotice, MsgType, OutMessage, Reject, Request, SeqNum, SessionFault,
@@ -14,7 +13,7 @@ use quote_messages::{
 pub(crate) fn reject<'a>(words: &mut Words<'a>) -> Result<OutMessage<'a>, CaseFault> {
     let number = words.word()?;
     let number = SeqNum::new(number.as_bytes()).ok_or(CaseFault::Condition)?;
-    let tag = u32_of(words.number()?)?;
+    let tag = words.short_number()?;
     let reason = session_reason_of(words.word()?)?;
     let msg_type = msg_type_or_none(words)?;
     Ok(OutMessage::Reject(Reject {

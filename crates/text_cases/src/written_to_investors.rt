@@ -4,14 +4,40 @@ use crate::parts::{id_of, moment_or_none, request_reason_of, word_or_none};
 use case_lines::{CaseFault, Words, bond_of, name_of, price_of, quantity_of, refusal_of, side_of};
 use quote_messages::{HitRefusal, OutMessage, PassStatus, ShownQuote};
 
+/// The message to an investor that a call says.
+pub(crate) fn message_to_investor<'a>(
+    name: &str,
+    words: &mut Words<'a>,
+) -> Result<OutMessage<'a>, CaseFault> {
+    match name {
+        "accepted" => request_accepted(words),
+        "refused" => request_refused(words),
+        "quote" => shown_quote(words),
+        "gone" => quote_gone(words),
+        "declined" => dealer_declined(words),
+        "expired" => request_expired(words),
+        _ => answer_to_response(name, words),
+    }
+}
+
+/// The answer to a hit or a pass that a call says.
+fn answer_to_response<'a>(name: &str, words: &mut Words<'a>) -> Result<OutMessage<'a>, CaseFault> {
+    match name {
+        "hit_answer" => hit_report(words),
+        "hit_unknown" => hit_unknown(words),
+        "pass_answer" => pass_report(words),
+        _ => Err(CaseFault::Form),
+    }
+}
+
 /// `accepted REQUEST`.
-pub(crate) fn request_accepted<'a>(words: &mut Words<'a>) -> Result<OutMessage<'a>, CaseFault> {
+fn request_accepted<'a>(words: &mut Words<'a>) -> Result<OutMessage<'a>, CaseFault> {
     let request = id_of(words)?;
     Ok(OutMessage::RequestAccepted { request })
 }
 
 /// `refused REQUEST BOND REASON`.
-pub(crate) fn request_refused<'a>(words: &mut Words<'a>) -> Result<OutMessage<'a>, CaseFault> {
+fn request_refused<'a>(words: &mut Words<'a>) -> Result<OutMessage<'a>, CaseFault> {
     let request = id_of(words)?;
     let bond = id_of(words)?;
     let reason = request_reason_of(words.word()?)?;
@@ -23,7 +49,7 @@ pub(crate) fn request_refused<'a>(words: &mut Words<'a>) -> Result<OutMessage<'a
 }
 
 /// `quote REQUEST NUMBER BOND SIDE PRICE QUANTITY UNTIL DEALER`.
-pub(crate) fn shown_quote<'a>(words: &mut Words<'a>) -> Result<OutMessage<'a>, CaseFault> {
+fn shown_quote<'a>(words: &mut Words<'a>) -> Result<OutMessage<'a>, CaseFault> {
     let request = id_of(words)?;
     let number = words.number()?;
     let bond = bond_of(words)?;
@@ -45,21 +71,21 @@ pub(crate) fn shown_quote<'a>(words: &mut Words<'a>) -> Result<OutMessage<'a>, C
 }
 
 /// `gone REQUEST NUMBER`.
-pub(crate) fn quote_gone<'a>(words: &mut Words<'a>) -> Result<OutMessage<'a>, CaseFault> {
+fn quote_gone<'a>(words: &mut Words<'a>) -> Result<OutMessage<'a>, CaseFault> {
     let request = id_of(words)?;
     let quote = words.number()?;
     Ok(OutMessage::QuoteGone { request, quote })
 }
 
 /// `declined REQUEST DEALER`.
-pub(crate) fn dealer_declined<'a>(words: &mut Words<'a>) -> Result<OutMessage<'a>, CaseFault> {
+fn dealer_declined<'a>(words: &mut Words<'a>) -> Result<OutMessage<'a>, CaseFault> {
     let request = id_of(words)?;
     let dealer = name_of(words)?;
     Ok(OutMessage::DealerDeclined { request, dealer })
 }
 
 /// `hit_answer ID REQUEST NUMBER REFUSAL`.
-pub(crate) fn hit_report<'a>(words: &mut Words<'a>) -> Result<OutMessage<'a>, CaseFault> {
+fn hit_report<'a>(words: &mut Words<'a>) -> Result<OutMessage<'a>, CaseFault> {
     let id = id_of(words)?;
     let request = id_of(words)?;
     let quote = words.number()?;
@@ -82,14 +108,14 @@ fn refusal_or_none(words: &mut Words) -> Result<Option<HitRefusal>, CaseFault> {
 }
 
 /// `hit_unknown ID QUOTE`.
-pub(crate) fn hit_unknown<'a>(words: &mut Words<'a>) -> Result<OutMessage<'a>, CaseFault> {
+fn hit_unknown<'a>(words: &mut Words<'a>) -> Result<OutMessage<'a>, CaseFault> {
     let id = id_of(words)?;
     let quote = id_of(words)?;
     Ok(OutMessage::HitUnknown { id, quote })
 }
 
 /// `pass_answer ID REQUEST STATUS`.
-pub(crate) fn pass_report<'a>(words: &mut Words<'a>) -> Result<OutMessage<'a>, CaseFault> {
+fn pass_report<'a>(words: &mut Words<'a>) -> Result<OutMessage<'a>, CaseFault> {
     let id = id_of(words)?;
     let request = id_of(words)?;
     let status = pass_status_of(words.word()?)?;
@@ -111,7 +137,7 @@ fn pass_status_of(word: &str) -> Result<PassStatus, CaseFault> {
 }
 
 /// `expired REQUEST`.
-pub(crate) fn request_expired<'a>(words: &mut Words<'a>) -> Result<OutMessage<'a>, CaseFault> {
+fn request_expired<'a>(words: &mut Words<'a>) -> Result<OutMessage<'a>, CaseFault> {
     let request = id_of(words)?;
     Ok(OutMessage::RequestExpired { request })
 }

@@ -5,57 +5,74 @@ use super::opened::{Dropped, Opened, Taken};
 use crate::blotters::{push_line_numbered, push_lines};
 use crate::duties::push_left;
 use crate::messages::{push_count_line, push_date, push_frames, push_new, push_number_line};
-use crate::replies::{push_line, push_truth};
+use crate::replies::push_truth;
 use crate::terms::{ask, room};
 use case_lines::{Call, CaseFault, Words, close_of};
+use dealer_desk::DealerDesk;
 use market_terms::RoomRef;
-use std::alloc::Global;
 
-/// Makes a call of an open desk.
+/// Makes a call of an open desk, and answers behind it what the desk has sent since the last one.
 pub(crate) fn called(opened: &mut Opened, call: &mut Call<'_>) -> Result<(), CaseFault> {
-    match call.name {
-        "shown" => shown(opened, &mut call.words)?,
-        "show" => show(opened, call)?,
-        "say" | "own" | "long" => comes(opened, call)?,
-        "take" => take(opened, call)?,
-        "judge" => judge(opened, call)?,
-        "lifted" => lifted(opened, &mut call.words)?,
-        "closed" => closed(opened, &mut call.words)?,
-        "tell" => push_truth(&mut call.answer, tell(opened, &mut call.words)?)?,
-        "tell_request" => push_truth(&mut call.answer, tell_request(opened, &mut call.words)?)?,
-        "drop" => drop_quietly(opened, &mut call.words)?,
-        "drop_one" => push_dropped(opened, call)?,
-        _ => return called_many(opened, call),
-    }
+    make(opened, call)?;
     opened.shown = push_new(&mut call.answer, opened.desk.sent(), opened.shown)?;
     Ok(())
 }
 
+/// Makes a call by which a request is shown, or a message or bytes come.
+fn make(opened: &mut Opened, call: &mut Call<'_>) -> Result<(), CaseFault> {
+    match call.name {
+        "shown" => shown(opened, &mut call.words),
+        "show" => show(opened, call),
+        "say" | "own" | "long" => comes(opened, call),
+        "take" => take(opened, call),
+        "judge" => judge(opened, call),
+        "lifted" => lifted(opened, &mut call.words),
+        _ => make_later(opened, call),
+    }
+}
+
+/// Makes a call about the end of a request, or about a drop.
+fn make_later(opened: &mut Opened, call: &mut Call<'_>) -> Result<(), CaseFault> {
+    match call.name {
+        "closed" => closed(opened, &mut call.words),
+        "tell" => push_truth(&mut call.answer, tell(opened, &mut call.words)?),
+        "tell_request" => push_truth(&mut call.answer, tell_request(opened, &mut call.words)?),
+        "drop" => drop_quietly(opened, &mut call.words),
+        "drop_one" => push_dropped(opened, call),
+        _ => make_many(opened, call),
+    }
+}
+
 /// Makes a call that stands for many, or one of a reader.
-fn called_many(opened: &mut Opened, call: &mut Call<'_>) -> Result<(), CaseFault> {
+fn make_many(opened: &mut Opened, call: &mut Call<'_>) -> Result<(), CaseFault> {
     match call.name {
         "fronts" => push_fronts(opened, call),
         "forged" => push_forged(opened, call),
         "quotes" => push_quotes(opened, call),
-        _ => read(opened, call),
+        _ => read(&opened.desk, call),
     }
 }
 
 /// Makes a call of a reader.
-fn read(opened: &Opened, call: &mut Call<'_>) -> Result<(), CaseFault> {
-    let desk = &opened.desk;
-    let answer = &mut call.answer;
+fn read(desk: &DealerDesk, call: &mut Call<'_>) -> Result<(), CaseFault> {
     match call.name {
-        "was_shown" => push_truth(answer, desk.was_shown(room(&mut call.words)?)),
-        "exposure" => push_number_line(answer, desk.exposure()),
-        "events" => push_count_line(answer, desk.events().len()),
-        "sent" => push_count_line(answer, desk.sent().len()),
-        "frames" => push_frames(answer, desk.sent(), &mut call.words),
-        "lines" => push_lines(answer, desk.lines()),
-        "line" => push_line_numbered(answer, desk.lines(), &mut call.words),
-        "states" => push_states(call.alloc, answer, desk.lines()),
-        "date" => push_date(answer, desk.date()),
-        "row" => push_row(answer, desk.row()),
+        "was_shown" => push_truth(&mut call.answer, desk.was_shown(room(&mut call.words)?)),
+        "exposure" => push_number_line(&mut call.answer, desk.exposure()),
+        "events" => push_count_line(&mut call.answer, desk.events().len()),
+        "date" => push_date(&mut call.answer, desk.date()),
+        "row" => push_row(&mut call.answer, desk.row()),
+        _ => read_lists(desk, call),
+    }
+}
+
+/// Makes a call of a reader of the messages or of the lines.
+fn read_lists(desk: &DealerDesk, call: &mut Call<'_>) -> Result<(), CaseFault> {
+    match call.name {
+        "sent" => push_count_line(&mut call.answer, desk.sent().len()),
+        "frames" => push_frames(&mut call.answer, desk.sent(), &mut call.words),
+        "lines" => push_lines(&mut call.answer, desk.lines()),
+        "line" => push_line_numbered(&mut call.answer, desk.lines(), &mut call.words),
+        "states" => push_states(call.alloc, &mut call.answer, desk.lines()),
         _ => Err(CaseFault::Form),
     }
 }
@@ -91,29 +108,29 @@ fn comes(opened: &mut Opened, call: &mut Call<'_>) -> Result<(), CaseFault> {
 fn take(opened: &mut Opened, call: &mut Call<'_>) -> Result<(), CaseFault> {
     let came = opened.speaker.say(call)?;
     let taken = opened.take(&came)?;
-    push_taken(call.alloc, &mut call.answer, &taken)
+    push_taken(&mut call.answer, &taken)
 }
 
 /// `TRADER TIME TYPE BODY`.
 fn judge(opened: &mut Opened, call: &mut Call<'_>) -> Result<(), CaseFault> {
     let came = opened.speaker.say(call)?;
     let taken = opened.receive_judged(&came)?;
-    push_taken(call.alloc, &mut call.answer, &taken)
+    push_taken(&mut call.answer, &taken)
 }
 
 /// The word that was asked, and what is left to be done.
-fn push_taken(alloc: Global, answer: &mut String, taken: &Taken) -> Result<(), CaseFault> {
-    push_word(alloc, answer, taken.0)?;
+fn push_taken(answer: &mut String, taken: &Taken) -> Result<(), CaseFault> {
+    push_word(answer, taken.0)?;
     push_left(answer, &taken.1)
 }
 
 /// `word N` of the quote whose word was asked, where one was.
-fn push_word(alloc: Global, answer: &mut String, asked: Option<u32>) -> Result<(), CaseFault> {
+fn push_word(answer: &mut String, asked: Option<u32>) -> Result<(), CaseFault> {
     let Some(quote) = asked else {
         return Ok(());
     };
-    let text = format!(in alloc; "word {quote}")?;
-    push_line(answer, text.as_str())
+    writeln!(answer, "word {quote}")?;
+    Ok(())
 }
 
 /// `N`.
@@ -163,7 +180,7 @@ fn drop_quietly(opened: &mut Opened, words: &mut Words<'_>) -> Result<(), CaseFa
 /// The word that was asked, what is left to be done in the room, and of the drop.
 fn push_dropped(opened: &mut Opened, call: &mut Call<'_>) -> Result<(), CaseFault> {
     let (asked, unpost, further) = drop_one(opened, &mut call.words)?;
-    push_word(call.alloc, &mut call.answer, asked)?;
+    push_word(&mut call.answer, asked)?;
     push_left(&mut call.answer, &unpost)?;
     push_left(&mut call.answer, &further)
 }

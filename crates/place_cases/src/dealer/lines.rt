@@ -1,11 +1,10 @@
 //! What a desk knows, as lines.
-use super::opened::Opened;
 use crate::blotters::{BlotterLine, push_front, push_terms};
 use crate::messages::{push_count_line, push_traders};
-use crate::replies::{push_line, push_number, push_word};
 use crate::tally::Tally;
 use crate::terms::quote_word;
 use case_lines::CaseFault;
+use dealer_desk::DealerDesk;
 use market_terms::QuoteLine;
 use std::alloc::Global;
 use venue_rows::DealerRow;
@@ -16,9 +15,9 @@ impl BlotterLine for QuoteLine {
         push_front(answer, self.q, self.moment, &self.trader)?;
         write!(answer, " R{}", self.request)?;
         push_terms(answer, self.side, &self.bond, self.quantity)?;
-        push_number(answer, u64::from(self.price.get()))?;
-        push_word(answer, quote_word(self.state))?;
-        push_line(answer, "")
+        let (price, state) = (self.price.get(), quote_word(self.state));
+        writeln!(answer, " {price} {state}")?;
+        Ok(())
     }
 }
 
@@ -44,17 +43,27 @@ pub(crate) fn push_row(answer: &mut String, row: &DealerRow) -> Result<(), CaseF
 }
 
 /// How many messages a desk gives away, or how many events, messages and lines.
-pub(crate) fn taken_apart(
-    opened: Opened,
+pub(crate) fn push_taken_apart(
+    desk: DealerDesk,
     word: &str,
     answer: &mut String,
 ) -> Result<(), CaseFault> {
-    let Opened { desk, .. } = opened;
     if word == "into_sent" {
-        return push_count_line(answer, desk.into_sent().len());
+        return push_count_line(answer, count_of_sent(desk));
     }
+    let (events, sent, lines) = counts_of(desk);
+    push_count_line(answer, events)?;
+    push_count_line(answer, sent)?;
+    push_count_line(answer, lines)
+}
+
+/// How many messages a desk gives away.
+fn count_of_sent(desk: DealerDesk) -> usize {
+    desk.into_sent().len()
+}
+
+/// How many events, messages and lines a desk gives away.
+fn counts_of(desk: DealerDesk) -> (usize, usize, usize) {
     let (events, sent, lines) = desk.into_parts();
-    push_count_line(answer, events.len())?;
-    push_count_line(answer, sent.len())?;
-    push_count_line(answer, lines.len())
+    (events.len(), sent.len(), lines.len())
 }

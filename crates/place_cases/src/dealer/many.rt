@@ -1,7 +1,5 @@
 //! Calls that stand for many.
 use super::opened::Opened;
-use crate::messages::push_new;
-use crate::replies::push_line;
 use crate::said::{Came, own};
 use crate::tally::Tally;
 use case_lines::{Call, CaseFault};
@@ -19,7 +17,6 @@ pub(crate) fn push_fronts(opened: &mut Opened, call: &mut Call<'_>) -> Result<()
         front.bytes.push(*byte)?;
         opened.take(&front)?;
     }
-    opened.shown = push_new(&mut call.answer, opened.desk.sent(), opened.shown)?;
     Ok(())
 }
 
@@ -33,9 +30,7 @@ pub(crate) fn push_forged(opened: &mut Opened, call: &mut Call<'_>) -> Result<()
         let more = forged_byte(opened, alloc, &whole, n)?;
         seen = seen.saturating_add(more);
     }
-    let text = format!(in alloc; "{count} bytes, {seen} forgeries seen")?;
-    push_line(&mut call.answer, text.as_str())?;
-    opened.shown = push_new(&mut call.answer, opened.desk.sent(), opened.shown)?;
+    writeln!(call.answer, "{count} bytes, {seen} forgeries seen")?;
     Ok(())
 }
 

@@ -8,38 +8,49 @@ use crate::messages::{push_count_line, push_date, push_frames, push_new, push_nu
 use crate::replies::push_truth;
 use crate::terms::{last_moment, offer, reply, response};
 use case_lines::{Call, CaseFault, Words, name_of};
+use investor_desk::InvestorDesk;
 
-/// Makes a call of an open desk.
+/// Makes a call of an open desk, and answers behind it what the desk has sent since the last one.
 pub(crate) fn called(opened: &mut Opened, call: &mut Call<'_>) -> Result<(), CaseFault> {
-    match call.name {
-        "say" | "own" | "long" => comes(opened, call)?,
-        "quote_came" => quote_came(opened, &mut call.words)?,
-        "quote_gone" => quote_gone(opened, &mut call.words)?,
-        "dealer_declined" => dealer_declined(opened, &mut call.words)?,
-        "answered" => answered(opened, &mut call.words)?,
-        "closed" => closed(opened, &mut call.words)?,
-        "requests" => return push_requests(opened, call),
-        _ => return read(opened, call),
-    }
+    make(opened, call)?;
     opened.shown = push_new(&mut call.answer, opened.desk.sent(), opened.shown)?;
     Ok(())
 }
 
-/// Makes a call of a reader.
-fn read(opened: &Opened, call: &mut Call<'_>) -> Result<(), CaseFault> {
-    let desk = &opened.desk;
-    let answer = &mut call.answer;
+/// Makes a call.
+fn make(opened: &mut Opened, call: &mut Call<'_>) -> Result<(), CaseFault> {
     match call.name {
-        "knows" => push_truth(answer, knows(opened, &mut call.words)?),
-        "events" => push_count_line(answer, desk.events().len()),
-        "event" => push_event(answer, desk.events(), &mut call.words),
-        "sent" => push_count_line(answer, desk.sent().len()),
-        "frames" => push_frames(answer, desk.sent(), &mut call.words),
-        "lines" => push_lines(answer, desk.lines()),
-        "line" => push_line_numbered(answer, desk.lines(), &mut call.words),
-        "date" => push_date(answer, desk.date()),
-        "firm" => push_number_line(answer, u64::from(desk.firm())),
-        "row" => push_row(answer, desk.row()),
+        "say" | "own" | "long" => comes(opened, call),
+        "quote_came" => quote_came(opened, &mut call.words),
+        "quote_gone" => quote_gone(opened, &mut call.words),
+        "dealer_declined" => dealer_declined(opened, &mut call.words),
+        "answered" => answered(opened, &mut call.words),
+        "closed" => closed(opened, &mut call.words),
+        "requests" => push_requests(opened, call),
+        _ => read(&opened.desk, call),
+    }
+}
+
+/// Makes a call of a reader.
+fn read(desk: &InvestorDesk, call: &mut Call<'_>) -> Result<(), CaseFault> {
+    match call.name {
+        "knows" => push_truth(&mut call.answer, knows(desk, &mut call.words)?),
+        "events" => push_count_line(&mut call.answer, desk.events().len()),
+        "event" => push_event(&mut call.answer, desk.events(), &mut call.words),
+        "date" => push_date(&mut call.answer, desk.date()),
+        "firm" => push_number_line(&mut call.answer, u64::from(desk.firm())),
+        "row" => push_row(&mut call.answer, desk.row()),
+        _ => read_lists(desk, call),
+    }
+}
+
+/// Makes a call of a reader of the messages or of the lines.
+fn read_lists(desk: &InvestorDesk, call: &mut Call<'_>) -> Result<(), CaseFault> {
+    match call.name {
+        "sent" => push_count_line(&mut call.answer, desk.sent().len()),
+        "frames" => push_frames(&mut call.answer, desk.sent(), &mut call.words),
+        "lines" => push_lines(&mut call.answer, desk.lines()),
+        "line" => push_line_numbered(&mut call.answer, desk.lines(), &mut call.words),
         _ => Err(CaseFault::Form),
     }
 }
@@ -98,11 +109,11 @@ fn answered(opened: &mut Opened, words: &mut Words<'_>) -> Result<(), CaseFault>
 }
 
 /// `N` or `N QUOTE`.
-fn knows(opened: &Opened, words: &mut Words<'_>) -> Result<bool, CaseFault> {
+fn knows(desk: &InvestorDesk, words: &mut Words<'_>) -> Result<bool, CaseFault> {
     let n = words.short_number()?;
     if words.is_at_end() {
-        return Ok(opened.desk.knows(n, None));
+        return Ok(desk.knows(n, None));
     }
     let k = words.number()?;
-    Ok(opened.desk.knows(n, Some(k)))
+    Ok(desk.knows(n, Some(k)))
 }

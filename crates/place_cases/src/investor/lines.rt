@@ -1,12 +1,11 @@
 //! What a desk knows, as lines.
-use super::opened::Opened;
 use crate::blotters::{BlotterLine, push_front, push_terms};
 use crate::messages::{push_count_line, push_traders};
 use crate::replies::{push_line, push_number, push_time, push_word};
 use crate::terms::nth_of;
 use case_lines::{CaseFault, Words, push_bytes};
 use fix_fields::Moment;
-use investor_desk::InvestorEvent;
+use investor_desk::{InvestorDesk, InvestorEvent};
 use market_terms::{RequestLine, RequestState};
 use venue_rows::InvestorRow;
 
@@ -38,8 +37,11 @@ fn push_state(answer: &mut String, state: &RequestState) -> Result<(), CaseFault
 /// `NAME REQUESTS OPEN QUANTITY TRADER ..`.
 pub(crate) fn push_row(answer: &mut String, row: &InvestorRow) -> Result<(), CaseFault> {
     answer.push_str(row.name.as_str())?;
-    write!(answer, " {} {}", row.requests, row.open_limit)?;
-    push_number(answer, row.quantity)?;
+    write!(
+        answer,
+        " {} {} {}",
+        row.requests, row.open_limit, row.quantity
+    )?;
     push_traders(answer, &row.traders)
 }
 
@@ -57,8 +59,7 @@ pub(crate) fn push_event(
         answer.push(' ')?;
         push_bytes(answer, message.as_bytes())?;
     }
-    answer.push('\n')?;
-    Ok(())
+    push_line(answer, "")
 }
 
 /// The call that brought an event, and its moment.
@@ -73,11 +74,16 @@ fn kind_of(event: &InvestorEvent) -> (&'static str, Moment) {
     }
 }
 
+/// How many events, messages and lines a desk gives away, a line each.
+pub(crate) fn push_taken_apart(desk: InvestorDesk, answer: &mut String) -> Result<(), CaseFault> {
+    let (events, sent, lines) = counts_of(desk);
+    push_count_line(answer, events)?;
+    push_count_line(answer, sent)?;
+    push_count_line(answer, lines)
+}
+
 /// How many events, messages and lines a desk gives away.
-pub(crate) fn taken_apart(opened: Opened, answer: &mut String) -> Result<(), CaseFault> {
-    let Opened { desk, .. } = opened;
+fn counts_of(desk: InvestorDesk) -> (usize, usize, usize) {
     let (events, sent, lines) = desk.into_parts();
-    push_count_line(answer, events.len())?;
-    push_count_line(answer, sent.len())?;
-    push_count_line(answer, lines.len())
+    (events.len(), sent.len(), lines.len())
 }

@@ -26,10 +26,10 @@ impl Opened {
     ) -> Result<Opened, CaseFault> {
         let name = words.word()?;
         words.end()?;
-        let config = rows.config(alloc)?;
-        let desk = desk_of(alloc, &config, name)?;
         let speaker = Speaker::of(alloc, name)?;
+        let config = rows.config(alloc)?;
         let dealers = dealers_of(alloc, &config)?;
+        let desk = desk_of(alloc, &config, name)?;
         Ok(Opened {
             desk,
             speaker,

@@ -1,5 +1,5 @@
 //! A configuration, row by row.
-use case_lines::{Call, CaseFault};
+use case_lines::{Call, CaseFault, Words};
 use std::alloc::Global;
 use venue_config::read_config;
 use venue_rows::VenueConfig;
@@ -17,56 +17,58 @@ impl Rows {
         Ok(Rows { text })
     }
 
-    /// Adds a row, where the call names one. It answers whether it does.
-    pub(crate) fn add(&mut self, call: &mut Call<'_>) -> Result<bool, CaseFault> {
+    /// Adds the row that a call names.
+    pub(crate) fn add(&mut self, call: &mut Call<'_>) -> Result<(), CaseFault> {
         match call.name {
-            "bond" => self.bond(call)?,
-            "dealer" => self.dealer(call)?,
-            "investor" => self.investor(call)?,
-            _ => return Ok(false),
+            "bond" => self.bond(&mut call.words),
+            "dealer" => self.dealer(&mut call.words),
+            "investor" => self.investor(&mut call.words),
+            _ => Err(CaseFault::Form),
         }
-        Ok(true)
     }
 
     /// `ID GRID`.
-    fn bond(&mut self, call: &mut Call<'_>) -> Result<(), CaseFault> {
-        let id = call.words.word()?;
-        let grid = call.words.short_number()?;
-        let text = format!(in call.alloc; "[[bond]]\nid = \"{id}\"\ngrid = {grid}\n")?;
-        self.text.push_str(text.as_str())?;
+    fn bond(&mut self, words: &mut Words<'_>) -> Result<(), CaseFault> {
+        let id = words.word()?;
+        let grid = words.short_number()?;
+        write!(self.text, "[[bond]]\nid = \"{id}\"\ngrid = {grid}\n")?;
         Ok(())
     }
 
     /// `NAME`: a dealer of one trader, whose limits no investor sees.
-    fn dealer(&mut self, call: &mut Call<'_>) -> Result<(), CaseFault> {
-        let name = call.words.word()?;
-        let text = format!(in call.alloc; "[[dealer]]\nname = \"{name}\"\ntraders = [\"T1\"]\n")?;
-        self.text.push_str(text.as_str())?;
+    fn dealer(&mut self, words: &mut Words<'_>) -> Result<(), CaseFault> {
+        let name = words.word()?;
+        write!(
+            self.text,
+            "[[dealer]]\nname = \"{name}\"\ntraders = [\"T1\"]\n"
+        )?;
         self.text.push_str("quotes = 1\nexposure = 1\n")?;
         Ok(())
     }
 
     /// `NAME REQUESTS OPEN QUANTITY TRADER`.
-    fn investor(&mut self, call: &mut Call<'_>) -> Result<(), CaseFault> {
-        let name = call.words.word()?;
-        let requests = call.words.short_number()?;
-        let open = call.words.short_number()?;
-        let quantity = call.words.number()?;
-        let trader = call.words.word()?;
-        let alloc = call.alloc;
-        let firm = format!(in alloc;
+    fn investor(&mut self, words: &mut Words<'_>) -> Result<(), CaseFault> {
+        let name = words.word()?;
+        let requests = words.short_number()?;
+        let open = words.short_number()?;
+        let quantity = words.number()?;
+        let trader = words.word()?;
+        write!(
+            self.text,
             "[[investor]]\nname = \"{name}\"\ntraders = [\"{trader}\"]\n"
         )?;
-        let limits = format!(in alloc;
+        write!(
+            self.text,
             "requests = {requests}\nopen = {open}\nquantity = {quantity}\n"
         )?;
-        self.text.push_str(firm.as_str())?;
-        self.text.push_str(limits.as_str())?;
         Ok(())
     }
 
     /// The configuration.
     pub(crate) fn config(&self, alloc: Global) -> Result<VenueConfig, CaseFault> {
-        read_config(alloc, self.text.as_str()).map_err(|_| CaseFault::Condition)
+        let Ok(config) = read_config(alloc, self.text.as_str()) else {
+            return Err(CaseFault::Condition);
+        };
+        Ok(config)
     }
 }
