@@ -63,6 +63,10 @@ class Log(Closing):
         """The firms to which any message went."""
 
     @abstractmethod
+    def last_number_of(self, firm: str) -> object:
+        """The greatest number of what a firm was sent, whatever stands there."""
+
+    @abstractmethod
     def count_of(self, firm: str) -> int:
         """How many messages a firm was sent."""
 

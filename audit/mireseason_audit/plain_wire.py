@@ -18,8 +18,7 @@ from .wire import IN_FRONT_OF, header_fault, with_number
 FRONTS = {b"35=" + kind: before for kind, before in IN_FRONT_OF.items()}
 REJECTED = b"\x0135=3\x01"
 LEAVES = b"\x0152="
-# What stands behind the type of a message: its number, and what the moment at which it leaves begins
-# with.
+# What stands behind the type of a message, up to the moment at which it leaves.
 COUNTED = b"\x0134=%d\x0149=VENUE\x0152="
 ADDRESSED = b"\x0156=%b\x011181="  # what stands behind that moment, up to the venue's number
 END_BYTES = 8  # 10=ccc, with an SOH before it and behind it
@@ -136,7 +135,7 @@ def carry(block: Messages, frames: list[bytes], firm: str) -> bool:
         front = FRONTS.get(kind)
         at = rest.find(front) if front else -1
         if at < 0:
-            at = len(rest) - END_BYTES
+            at = -END_BYTES
         leaves = data.find(LEAVES) + len(LEAVES)
         text = b"".join((
             begin_of(len(data)), kind, count, data[leaves : data.find(SOH, leaves)], addressed,

@@ -8,7 +8,6 @@ from .faults import Unreadable
 from .log import Log
 from .records import Entries, Entry, EntryRow, Messages
 
-ROWS_AT_A_TIME = 1024
 ENTRY = "SELECT place, term, moment, firm, number, line, before, hash FROM entry"
 LINES = "SELECT line FROM entry WHERE place > 0 ORDER BY place"
 SENT = "SELECT number, place, bytes FROM sent WHERE firm = ? ORDER BY number"
@@ -127,6 +126,10 @@ class SqlLog(Log):
         tables = "sent", "outgoing"
         queries = [FIRMS.replace("TABLE_", table) for table in tables]
         return {as_text(firm) for query in queries for firm, in self.rows(query)}
+
+    def last_number_of(self, firm: str) -> object:
+        ((number,),) = self.rows("SELECT max(number) FROM sent WHERE firm = ?", firm)
+        return number
 
     def count_of(self, firm: str) -> int:
         ((count,),) = self.rows("SELECT count(*) FROM sent WHERE firm = ?", firm)

@@ -8,9 +8,10 @@ from typing import Any
 
 from .faults import Unreadable
 from .log import Log, Source
-from .sql_log import ROWS_AT_A_TIME, Rows, SqlLog, check_form
+from .sql_log import Rows, SqlLog, check_form
 
 FORM = 1  # of the tables, as gateway/schema.sql has it
+ROWS_AT_A_TIME = 128  # so few that a processor's cache holds what is made of them
 
 
 @dataclass(frozen=True)

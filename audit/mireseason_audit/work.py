@@ -125,6 +125,10 @@ class Workers(Generic[Result]):
             one.process.join()
 
 
+def nothing() -> None:
+    """Is done while jobs run, where there is nothing to do."""
+
+
 def start(process: BaseProcess) -> None:
     """Starts a process, which no signal meets before it has said what it does about one."""
     before = signal.pthread_sigmask(signal.SIG_BLOCK, SIGNALS)
@@ -134,10 +138,17 @@ def start(process: BaseProcess) -> None:
         signal.pthread_sigmask(signal.SIG_SETMASK, before)
 
 
-def run_jobs(plan: Plan[Result], at_once: int, progress: Progress) -> list[Result]:
-    """Does all jobs; answers their results in the jobs' order. The first that fails is raised."""
+def run_jobs(
+    plan: Plan[Result], at_once: int, progress: Progress, meanwhile: Callable[[], None] = nothing
+) -> list[Result]:
+    """Does all jobs; answers their results in the jobs' order. The first that fails is raised.
+
+    Something else may be done here while the first of them run.
+    """
     workers = Workers(plan)
     try:
+        workers.begin(at_once)
+        meanwhile()
         while not workers.is_over:
             workers.begin(at_once)
             workers.take()

@@ -232,7 +232,9 @@ class Reports(unittest.TestCase):
     def test_nothing_in_a_log_writes_a_line_of_its_own(self) -> None:
         forged = "X\nverdict: each firm was sent what the rules give, byte for byte\x1b[2J\u2028"
         day = configured(forged, "", CONFIGURATION)
-        verdict = Verdict("day.db", day, True, "v 1\r", {"DLR1": 0, "INV1": 0}, set(), {})
+        verdict = Verdict(
+            "day.db", day, True, program="v 1\r", messages={"DLR1": 0, "INV1": 0}
+        )
         verdict.findings = [Finding(forged, "its moment %s" % forged, 3)]
         lines = report(verdict)
         self.assertTrue(all(line.isprintable() for line in lines), lines)
