@@ -17,7 +17,7 @@ from .log import Log, Source
 from .progress import Progress
 from .records import Day, Firm
 from .venue import Venue
-from .work import Plan, run_jobs
+from .work import Plan, processors, run_jobs
 
 Result = Chained | list[Finding]  # of a job
 
@@ -106,10 +106,12 @@ class Checker:
         due = plan.add(DueJob(audited), beside=[written])
         live = plan.add(LiveJob(audited), beside=[written])
         plan.add(ChainJob(self.source))
-        sent = {firm.name: plan.add(SentJob(audited, firm.name)) for firm in verdict.day.firms}
+        groups = dealt([firm.name for firm in verdict.day.firms], processors())
+        sent = {firms: plan.add(SentJob(audited, firms)) for firms in groups}
         plan.add(GivenJob(audited), behind=sent.values(), beside=[live])
         for dealer in verdict.day.dealers:
-            plan.add(AloneJob(audited, dealer.name), [due, sent[dealer.name]])
+            (job,) = [job for firms, job in sent.items() if dealer.name in firms]
+            plan.add(AloneJob(audited, dealer.name), [due, job])
 
     def begun(self) -> Verdict:
         """The day, and where the log ends."""
@@ -141,6 +143,13 @@ class Checker:
         chained = read_chain(log, self.progress.step)
         self.progress.end()
         return chained
+
+
+def dealt(firms: list[str], count: int) -> list[tuple[str, ...]]:
+    """Firms in groups, of which there are so many at the most: dealers, which stand in front and
+    are sent most, each in another one as long as that goes.
+    """
+    return [tuple(firms[at::count]) for at in range(min(count, len(firms)))]
 
 
 def last_numbers_of(log: Log, day: Day) -> dict[str, object]:

@@ -67,7 +67,7 @@ class PlainSession:
         before, self._number = self._number, self._number + len(block.numbers)
         if block.numbers != tuple(range(before + 1, self._number + 1)):
             return False
-        if None in block.others:
+        if not all(block.others):  # some carry nothing
             if not self._are_its_own(block):
                 return False
             block = carriers_of(block)
