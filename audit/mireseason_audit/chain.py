@@ -9,7 +9,7 @@ from .findings import Finding
 from .lines import firm_and_time
 from .log import Log
 from .progress import Step
-from .records import Day, Entry, EntryRow
+from .records import Day, Entries, Entry, EntryRow
 from .streams import FEED, Growing
 
 NO_HASH = bytes(32)
@@ -19,12 +19,20 @@ NO_NUMBER = (0, 0)
 Numbers = dict[str, tuple[int, int]]  # of each firm, a number of its session, and an entry's place
 
 
+def hashes_of(rows: Iterable[EntryRow]) -> list[bytes]:
+    """The hashes that entries must have, from their other columns."""
+    return [
+        sha256(
+            f"{before.hex()} {place} {term} {moment} {firm or '-'} "
+            f"{'-' if number is None else number} {len(line)}\n".encode() + line
+        ).digest()
+        for place, term, moment, firm, number, line, before, _ in rows
+    ]
+
+
 def hash_of(entry: EntryRow) -> bytes:
-    """The hash that an entry must have, from its other columns."""
-    place, term, moment, firm, number, line, before, _ = entry
-    count = "-" if number is None else number
-    head = f"{before.hex()} {place} {term} {moment} {firm or '-'} {count} {len(line)}\n"
-    return sha256(head.encode() + line).digest()
+    """The hash that an entry must have."""
+    return hashes_of([entry])[0]
 
 
 @dataclass
@@ -46,16 +54,16 @@ class ChainReader:
     def __init__(self, has_chain: bool) -> None:
         self.found = Chained()
         self._has_chain = has_chain
-        self._before: EntryRow | None = None
+        self._before: Entry | None = None
         self._told: set[str] = set()
 
-    def take_rows(self, rows: list[EntryRow]) -> None:
+    def take_block(self, block: Entries) -> None:
         """Entries in their order: together where all are plainly right, else one by one."""
         if self._before is None:  # entry 0 is like no other
-            self.take(Entry._make(rows[0]))
-            rows = rows[1:]
-        if rows and not self._pass(rows):
-            for row in rows:
+            self.take(block.entry(0))
+            block = block.behind_first()
+        if block.places and not self._pass(block):
+            for row in block.rows():
                 self.take(Entry._make(row))
 
     def take(self, entry: Entry) -> None:
@@ -64,16 +72,17 @@ class ChainReader:
             self._check_chain(entry)
         if entry.place > 0:
             self._check_line(entry)
-        self._note([entry])
+        self._note(Entries.of([entry]))
 
-    def _note(self, rows: list[EntryRow]) -> None:
-        """Keeps what is left of entries behind them."""
+    def _note(self, block: Entries) -> None:
+        """Keeps what is left of entries behind them. Their places are one behind the other."""
         found = self.found
-        found.entries += len(rows)
-        self._before = rows[-1]
-        found.last_place, found.last = rows[-1][0], rows[-1][7]
-        found.firms.update({row[3] for row in rows if row[3] is not None})
-        marks = {row[0]: row[7].hex() for row in rows if row[0] % CHECKPOINT == 0}
+        found.entries += len(block.places)
+        self._before = block.entry(-1)
+        found.last_place, found.last = block.places[-1], block.hashes[-1]
+        found.firms.update(firm for firm in set(block.firms) if firm is not None)
+        marked = slice(-block.places[0] % CHECKPOINT, None, CHECKPOINT)
+        marks = zip(block.places[marked], map(bytes.hex, block.hashes[marked]))
         found.checkpoints.update(marks)
 
     def tell(self, kind: str, entry: Entry, text: str) -> None:
@@ -83,34 +92,30 @@ class ChainReader:
 
     # ------------------------------------------------------------ many entries
 
-    def _pass(self, rows: list[EntryRow]) -> bool:
+    def _pass(self, block: Entries) -> bool:
         """Takes entries that are plainly right: all that `take` looks at is as it should be."""
         if self._before is None or not self._has_chain:
             return False
-        places, terms, moments, firms, numbers, lines, links, hashes = zip(*rows)
-        before = self._before
-        first = before[0] + 1
-        moved = self._moved_numbers(firms, numbers, places)
-        if moved is None or places != tuple(range(first, first + len(rows))):
+        before, first = self._before, self._before.place + 1
+        moved = self._moved_numbers(block)
+        if moved is None or block.places != tuple(range(first, first + len(block.places))):
             return False
-        if not never_falls([before[1], *terms]) or not never_falls([before[2], *moments]):
+        if not never_falls([before.term, *block.terms]):
             return False
-        if links != (before[7], *hashes[:-1]):
+        if not never_falls([before.moment, *block.moments]):
             return False
-        if not all(map(is_step_line, lines, firms, moments)):
+        if block.befores != (before.hash, *block.hashes[:-1]) or not are_step_lines(block):
             return False
-        if tuple(map(hash_of, rows)) != hashes:
+        if tuple(hashes_of(block.rows())) != block.hashes:
             return False
         self.found.numbers = moved
-        self._note(rows)
+        self._note(block)
         return True
 
-    def _moved_numbers(
-        self, firms: Iterable[str | None], numbers: Iterable[int | None], places: Iterable[int]
-    ) -> Numbers | None:
+    def _moved_numbers(self, block: Entries) -> Numbers | None:
         """The numbers of the sessions behind some entries; None where one does not rise."""
         moved = dict(self.found.numbers)
-        for firm, number, place in zip(firms, numbers, places):
+        for firm, number, place in zip(block.firms, block.numbers, block.places):
             if firm is not None and number is not None:
                 if number <= moved.get(firm, NO_NUMBER)[0]:
                     return None
@@ -120,7 +125,7 @@ class ChainReader:
     # ------------------------------------------------------------ one entry
 
     def _check_order(self, entry: Entry) -> None:
-        before = None if self._before is None else Entry._make(self._before)
+        before = self._before
         place = 0 if before is None else before.place + 1
         if entry.place != place:
             text = "entry %d is missing" % place
@@ -137,7 +142,7 @@ class ChainReader:
     def _check_chain(self, entry: Entry) -> None:
         if entry.hash != hash_of(entry):
             self.tell("hash", entry, "it was changed: its SHA-256 is another than it says")
-        elif entry.before != (NO_HASH if self._before is None else self._before[7]):
+        elif entry.before != (NO_HASH if self._before is None else self._before.hash):
             self.tell("before", entry, "it does not follow on the entry before it, as that is now")
 
     def _check_line(self, entry: Entry) -> None:
@@ -168,19 +173,35 @@ def never_falls(values: list[int] | list[str]) -> bool:
     return sorted(values) == values
 
 
+def are_step_lines(block: Entries) -> bool:
+    """The same of the lines of many entries."""
+    if b"".join(block.lines).find(FEED) >= 0:
+        return False
+    starts = [
+        f"hex {firm} {moment} ".encode() if firm else b""
+        for firm, moment in zip(block.firms, block.moments)
+    ]
+    if not all(map(bytes.startswith, block.lines, starts)):
+        return False
+    return all(
+        firm or is_step_line(line, firm, moment)
+        for line, firm, moment in zip(block.lines, block.firms, block.moments)
+    )
+
+
 def is_step_line(line: bytes, firm: str | None, moment: str) -> bool:
     """Whether a line is one, and that of this firm at this moment; without a firm, of a clock."""
     if firm:
-        return line.startswith(f"hex {firm} {moment} ".encode()) and FEED not in line
+        return line.startswith(f"hex {firm} {moment} ".encode()) and line.find(FEED) < 0
     return firm is None and line == b"clock " + moment.encode()
 
 
 def read_chain(log: Log, step: Step) -> Chained:
     """One pass over all entries."""
     reader = ChainReader(log.has_chain)
-    for rows in log.entry_blocks():
-        reader.take_rows(rows)
-        step(len(rows))
+    for block in log.entry_blocks():
+        reader.take_block(block)
+        step(len(block.places))
     return reader.found
 
 

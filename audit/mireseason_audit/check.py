@@ -17,7 +17,7 @@ from .log import Log, Source
 from .progress import Progress
 from .records import Day, Firm
 from .venue import Venue
-from .work import Plan, run_jobs
+from .work import Plan, processors, run_jobs
 
 Result = Chained | list[Finding]  # of a job
 
@@ -29,11 +29,12 @@ class Verdict:
     source: str
     day: Day
     has_chain: bool
-    program: str  # what the venue's program says of itself
-    messages: dict[str, int]  # of each firm, how many it was sent
-    addressed: set[str]  # firms to which any message went
-    targets: dict[str, int]  # of each firm, the number that its session expects next
     last_place: int = -1  # of the entries, when the check began
+    last_numbers: dict[str, object] = field(default_factory=dict)  # of what firms were sent, then
+    program: str = ""  # what the venue's program says of itself
+    messages: dict[str, int] = field(default_factory=dict)  # of each firm, how many it was sent
+    addressed: set[str] = field(default_factory=set)  # firms to which any message went
+    targets: dict[str, int] = field(default_factory=dict)  # what the session of each expects next
     chained: Chained = field(default_factory=Chained)
     findings: list[Finding] = field(default_factory=list)
     seal: str = ""  # what was found of the seal, where there is one
@@ -79,19 +80,22 @@ class Checker:
         verdict = self.begun()
         plan: Plan[Result] = Plan()
         self.add_jobs(plan, verdict)
-        self.progress.begin("messages", self.rows_of(verdict))
-        results = run_jobs(plan, self.at_once, self.progress)
+        return judged(verdict, self.run(plan, verdict))
+
+    def run(self, plan: "Plan[Any]", verdict: Verdict) -> list[Any]:
+        """The results of jobs, of which those of a check are some."""
+        results = run_jobs(plan, self.at_once, self.progress, lambda: self.count(verdict))
         self.progress.end()
         self.check_end(verdict)
-        return judged(verdict, results)
+        return results
 
     def check_end(self, verdict: Verdict) -> None:
         """Whether the log still ends where it ended: each job opens it for itself, and what they
         say of logs of different lengths does not agree.
         """
         with self.source.open() as log:
-            last, counts = log.last_place(), counts_of(log, verdict.day)
-        if (last, counts) != (verdict.last_place, verdict.messages):
+            last, numbers = log.last_place(), last_numbers_of(log, verdict.day)
+        if (last, numbers) != (verdict.last_place, verdict.last_numbers):
             text = "%s goes on while it is read, from entry %d to %d: wait until its day is over"
             raise Unreadable(text % (verdict.source, verdict.last_place, last))
 
@@ -102,29 +106,29 @@ class Checker:
         due = plan.add(DueJob(audited), beside=[written])
         live = plan.add(LiveJob(audited), beside=[written])
         plan.add(ChainJob(self.source))
-        sent = {firm.name: plan.add(SentJob(audited, firm.name)) for firm in verdict.day.firms}
+        groups = dealt([firm.name for firm in verdict.day.firms], processors())
+        sent = {firms: plan.add(SentJob(audited, firms)) for firms in groups}
         plan.add(GivenJob(audited), behind=sent.values(), beside=[live])
         for dealer in verdict.day.dealers:
-            plan.add(AloneJob(audited, dealer.name), [due, sent[dealer.name]])
-
-    def rows_of(self, verdict: Verdict) -> int:
-        """How many rows the jobs that tell their steps go over: entries and messages, twice."""
-        return 2 * (verdict.last_place + 1 + sum(verdict.messages.values()))
+            (job,) = [job for firms, job in sent.items() if dealer.name in firms]
+            plan.add(AloneJob(audited, dealer.name), [due, job])
 
     def begun(self) -> Verdict:
-        """The day, and what of it is counted at once."""
+        """The day, and where the log ends."""
         with self.source.open() as log:
             day = log.day()
-            return Verdict(
-                self.source.name,
-                day,
-                log.has_chain,
-                self.venue.version(),
-                counts_of(log, day),
-                log.firms(),
-                log.targets() if log.has_chain else {},
-                log.last_place(),
-            )
+            last, numbers = log.last_place(), last_numbers_of(log, day)
+            return Verdict(self.source.name, day, log.has_chain, last, numbers)
+
+    def count(self, verdict: Verdict) -> None:
+        """What is asked and counted beside the jobs. These go over each row twice."""
+        with self.source.open() as log:
+            verdict.program = self.venue.version()
+            verdict.messages = {firm.name: log.count_of(firm.name) for firm in verdict.day.firms}
+            verdict.addressed = log.firms()
+            verdict.targets = log.targets() if log.has_chain else {}
+        rows = verdict.last_place + 1 + sum(verdict.messages.values())
+        self.progress.begin("messages", 2 * rows)
 
     def write_day(self, day: Day) -> None:
         """The file that the venue reads."""
@@ -141,9 +145,16 @@ class Checker:
         return chained
 
 
-def counts_of(log: Log, day: Day) -> dict[str, int]:
-    """How many messages each firm was sent."""
-    return {firm.name: log.count_of(firm.name) for firm in day.firms}
+def dealt(firms: list[str], count: int) -> list[tuple[str, ...]]:
+    """Firms in groups, of which there are so many at the most: dealers, which stand in front and
+    are sent most, each in another one as long as that goes.
+    """
+    return [tuple(firms[at::count]) for at in range(min(count, len(firms)))]
+
+
+def last_numbers_of(log: Log, day: Day) -> dict[str, object]:
+    """The greatest number of what each firm was sent."""
+    return {firm.name: log.last_number_of(firm.name) for firm in day.firms}
 
 
 def judged(verdict: Verdict, results: Iterable[Result]) -> Verdict:

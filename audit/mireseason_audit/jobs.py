@@ -21,7 +21,7 @@ from .plain_wire import PlainSession
 from .progress import Step
 from .records import SOH, Day, Firm, Messages, Sent
 from .streams import (
-    Followed, Growing, cut_at, is_same, last_line_of, lines_in, lines_of,
+    BLOCK, Followed, Growing, cut_at, is_same, last_line_of, lines_in, lines_of,
 )
 from .venue import LineFault, Venue, message_of
 from .wire import check_wire
@@ -114,17 +114,18 @@ class DayJob(FindingsJob):
 
 @dataclass(frozen=True)
 class SentJob(FindingsJob):
-    """What a firm was sent, left as a file; and what its session carried, against that."""
+    """What some firms were sent, left as files; and what their sessions carried, against that."""
 
-    firm: str
+    firms: tuple[str, ...]
 
     def _findings(self, log: Log, step: Step) -> Iterator[Finding]:
-        sent = kept(log, self.firm, self.audited.files, step)
-        is_right = not log.has_chain or PlainSession(log, self.firm, sent).is_right()
-        for _ in sent:
-            pass
-        if not is_right:
-            yield from check_wire(log, self.firm)
+        for firm in self.firms:
+            sent = kept(log, firm, self.audited.files, step)
+            is_right = not log.has_chain or PlainSession(log, firm, sent).is_right()
+            for _ in sent:
+                pass
+            if not is_right:
+                yield from check_wire(log, firm)
 
 
 class LiveJob(FindingsJob):
@@ -285,15 +286,18 @@ def kept(log: Log, firm: str, files: Files, step: Step) -> Iterator[Messages]:
     file in the end, and nothing is the same as it.
     """
     before, number, is_plain = b"%b " % firm.encode(), 0, True
-    with files.sent(firm).open("wb") as file, files.places(firm).open("wb") as places:
+    with (
+        files.sent(firm).open("wb", BLOCK) as text_file,
+        files.places(firm).open("wb", BLOCK) as places_file,
+    ):
         for block in log.sent_blocks(firm):
             text = before + (b"\n" + before).join([*block.bytes[:-1], block.bytes[-1] + b"\n"])
             count = len(block.numbers)
             is_plain &= block.numbers == tuple(range(number + 1, number + count + 1))
             is_plain &= text.count(b"\n") == count and b"|" not in text
             number += count
-            file.write(text.translate(BARS))
-            array("q", [-1 if place is None else place for place in block.others]).tofile(places)
+            text_file.write(text.translate(BARS))
+            places_file.write(array("q", block.others).tobytes())
             step(count)
             yield block
     if not is_plain:

@@ -6,7 +6,7 @@ from collections.abc import Iterator, Sequence
 
 from .closing import Closing
 from .faults import Wrong
-from .records import Day, Entry, EntryRow, Messages, Outgoing, Sent, configured, day_of
+from .records import Day, Entries, Entry, Messages, Outgoing, Sent, configured, day_of
 
 
 class Log(Closing):
@@ -15,7 +15,7 @@ class Log(Closing):
     has_chain: bool = True  # whether the entries have hashes, and the sessions their messages
 
     @abstractmethod
-    def entry_blocks(self) -> Iterator[list[EntryRow]]:
+    def entry_blocks(self) -> Iterator[Entries]:
         """All entries, by their places."""
 
     @abstractmethod
@@ -63,12 +63,16 @@ class Log(Closing):
         """The firms to which any message went."""
 
     @abstractmethod
+    def last_number_of(self, firm: str) -> object:
+        """The greatest number of what a firm was sent, whatever stands there."""
+
+    @abstractmethod
     def count_of(self, firm: str) -> int:
         """How many messages a firm was sent."""
 
     def entries(self) -> Iterator[Entry]:
         """All entries, one by one."""
-        return (Entry._make(row) for rows in self.entry_blocks() for row in rows)
+        return (Entry._make(row) for block in self.entry_blocks() for row in block.rows())
 
     def sent(self, firm: str) -> Iterator[Sent]:
         """What the venue gave for a firm, one by one."""

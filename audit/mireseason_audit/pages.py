@@ -51,10 +51,7 @@ class Pager:
         plan: Plan[Result | Summary] = Plan()
         plan.add(SummaryJob(checker.source, verdict.day, dictionary, self._book))
         checker.add_jobs(plan, verdict)
-        checker.progress.begin("messages", checker.rows_of(verdict))
-        results = run_jobs(plan, checker.at_once, checker.progress)
-        checker.progress.end()
-        checker.check_end(verdict)
+        results = checker.run(plan, verdict)
         (summary,) = [result for result in results if isinstance(result, Summary)]
         found = [result for result in results if not isinstance(result, Summary)]
         return judged(verdict, found), summary

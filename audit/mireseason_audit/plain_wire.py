@@ -6,9 +6,11 @@ looks at the session message by message, and says what is wrong, if anything is.
 """
 
 from collections.abc import Iterator
-from itertools import compress, repeat
+from functools import lru_cache
+from itertools import compress
+from zlib import adler32
 
-from .frame import sum_of
+from .frame import LONGEST, sum_of
 from .log import Log
 from .records import SOH, Messages
 from .wire import IN_FRONT_OF, header_fault, with_number
@@ -16,15 +18,14 @@ from .wire import IN_FRONT_OF, header_fault, with_number
 FRONTS = {b"35=" + kind: before for kind, before in IN_FRONT_OF.items()}
 REJECTED = b"\x0135=3\x01"
 LEAVES = b"\x0152="
-# A message up to its sum: its length, type and number, the moment at which it leaves, the firm; the
-# venue's number, what stands in front of the venue's moment, that moment, and the rest.
-CARRYING = (
-    b"8=FIXT.1.1\x019=%d\x01%b\x0134=%d\x0149=VENUE\x0152=%b\x0156=%b"
-    b"\x011181=%b%b\x0160=%b%b"
-)
+# What stands behind the type of a message, up to the moment at which it leaves.
+COUNTED = b"\x0134=%d\x0149=VENUE\x0152="
+ADDRESSED = b"\x0156=%b\x011181="  # what stands behind that moment, up to the venue's number
 END_BYTES = 8  # 10=ccc, with an SOH before it and behind it
-# The end of a message, by the sum of all that stands in front of it.
-ENDS = [b"\x0110=%03d\x01" % ((number + 1) % 256) for number in range(256)]
+SUMMED = 256  # bytes, of whose Adler-32 the last byte is one more than that of their sum
+# The end of a message, by the last byte of the Adler-32 of all in front of it: with the SOH that
+# begins it the sum is one more, too.
+ENDS = [b"\x0110=%03d\x01" % number for number in range(256)]
 
 
 class Waiting:
@@ -66,7 +67,7 @@ class PlainSession:
         before, self._number = self._number, self._number + len(block.numbers)
         if block.numbers != tuple(range(before + 1, self._number + 1)):
             return False
-        if None in block.others:
+        if not all(block.others):  # some carry nothing
             if not self._are_its_own(block):
                 return False
             block = carriers_of(block)
@@ -87,7 +88,7 @@ class PlainSession:
         """Whether messages carry frames, of which the places are known."""
         if REJECTED in b"".join(frames):
             frames = self._numbered(places, frames)
-        return all(map(carries, block.bytes, block.numbers, frames, repeat(self._firm.encode())))
+        return carry(block, frames, self._firm)
 
     def _numbered(self, places: list[int], frames: list[bytes]) -> list[bytes]:
         """The frames, each Reject with the number of its session in it."""
@@ -117,28 +118,39 @@ def numbered(frame: bytes, session_number: int | None) -> bytes:
     return SOH.join(parts[:7]) + with_number(SOH + parts[7], session_number)
 
 
-def carries(data: bytes, number: int, frame: bytes, firm: bytes) -> bool:
-    """Whether a message to a firm, with this number of its session, is plainly, byte for byte, the
-    one that carries a frame of the venue. The moment at which it leaves may be any.
+def carry(block: Messages, frames: list[bytes], firm: str) -> bool:
+    """Whether messages to a firm, with these numbers of its session, are plainly, byte for byte,
+    those that carry frames of the venue. The moment at which each leaves may be any.
 
     The header of stock engines is in the order of its tags: 34, 49, 52, 56.
     """
-    parts = frame.split(SOH, 7)  # 8, 9, 35, 49, 56, 34, 52 and the rest
-    if len(parts) < 8:
-        return False
-    kind, rest = parts[2], SOH + parts[7]
-    front = FRONTS.get(kind)
-    at = rest.find(front) if front else -1
-    if at < 0:
-        at = len(rest) - END_BYTES
-    leaves = data.find(LEAVES) + len(LEAVES)
-    text = CARRYING % (
-        length_of(len(data)), kind, number, data[leaves : data.find(SOH, leaves)], firm,
-        parts[5][3:], rest[:at], parts[6][3:], rest[at:-END_BYTES],
-    )
-    return data == text + ENDS[sum_of(text)]
+    counted = (b" ".join([COUNTED] * len(frames)) % block.numbers).split(b" ")
+    addressed = ADDRESSED % firm.encode()
+    for data, count, frame in zip(block.bytes, counted, frames):
+        parts = frame.split(SOH, 7)  # 8, 9, 35, 49, 56, 34, 52 and the rest
+        if len(parts) < 8:
+            return False
+        _, _, kind, _, _, number, moment, rest = parts
+        rest = SOH + rest
+        front = FRONTS.get(kind)
+        at = rest.find(front) if front else -1
+        if at < 0:
+            at = -END_BYTES
+        leaves = data.find(LEAVES) + len(LEAVES)
+        text = b"".join((
+            begin_of(len(data)), kind, count, data[leaves : data.find(SOH, leaves)], addressed,
+            number[3:], rest[:at], b"\x0160=", moment[3:], rest[at:-END_BYTES],
+        ))
+        mark = adler32(text) if len(text) <= SUMMED else sum_of(text) + 1
+        if data != text + ENDS[mark % 256]:
+            return False
+    return True
 
 
-def length_of(size: int) -> int:
-    """The BodyLength (9) of a message of so many bytes in all, of those with two digits to four."""
-    return size - 23 if size < 123 else size - 24 if size < 1024 else size - 25
+@lru_cache(maxsize=LONGEST)
+def begin_of(size: int) -> bytes:
+    """The first two fields of a message of so many bytes in all. Its BodyLength (9) is of those
+    with two digits to four.
+    """
+    length = size - 23 if size < 123 else size - 24 if size < 1024 else size - 25
+    return b"8=FIXT.1.1\x019=%d\x01" % length

@@ -10,9 +10,10 @@ from psycopg2 import sql
 
 from .faults import Unreadable
 from .log import Log, Source
-from .sql_log import ROWS_AT_A_TIME, Rows, SqlLog, check_form
+from .sql_log import Rows, SqlLog, check_form
 
 FORM = 2  # of the tables, as gateway/terms.sql has it
+ROWS_AT_A_TIME = 1024  # each time the server is asked
 
 
 @dataclass(frozen=True)

@@ -3,6 +3,7 @@
 import hashlib
 import re
 import tomllib
+from collections.abc import Iterable
 from dataclasses import dataclass
 from typing import Any, NamedTuple
 
@@ -28,6 +29,34 @@ class Entry(NamedTuple):
 
 
 EntryRow = tuple[int, int, str, str | None, int | None, bytes, bytes, bytes]  # as an Entry has it
+
+
+class Entries(NamedTuple):
+    """Some entries, column by column."""
+
+    places: tuple[int, ...]
+    terms: tuple[int, ...]
+    moments: tuple[str, ...]
+    firms: tuple[str | None, ...]
+    numbers: tuple[int | None, ...]
+    lines: tuple[bytes, ...]
+    befores: tuple[bytes, ...]
+    hashes: tuple[bytes, ...]
+
+    @staticmethod
+    def of(rows: Iterable[tuple[Any, ...]]) -> "Entries":
+        """Those of rows, of which there is at least one."""
+        return Entries(*zip(*rows))
+
+    def rows(self) -> Iterable[EntryRow]:
+        rows: Iterable[Any] = zip(*self)
+        return rows
+
+    def entry(self, at: int) -> Entry:
+        return Entry._make(column[at] for column in self)
+
+    def behind_first(self) -> "Entries":
+        return Entries._make(column[1:] for column in self)
 
 
 class Messages(NamedTuple):

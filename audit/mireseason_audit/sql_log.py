@@ -6,9 +6,8 @@ from typing import Any
 
 from .faults import Unreadable
 from .log import Log
-from .records import Entry, EntryRow, Messages
+from .records import Entries, Entry, EntryRow, Messages
 
-ROWS_AT_A_TIME = 1024
 ENTRY = "SELECT place, term, moment, firm, number, line, before, hash FROM entry"
 LINES = "SELECT line FROM entry WHERE place > 0 ORDER BY place"
 SENT = "SELECT number, place, bytes FROM sent WHERE firm = ? ORDER BY number"
@@ -46,18 +45,19 @@ class SqlLog(Log):
         for rows in self.blocks(query, *values):
             yield from rows
 
-    def entry_blocks(self) -> Iterator[list[EntryRow]]:
-        return map(self._entry_rows, self.blocks(ENTRY + " ORDER BY place"))
+    def entry_blocks(self) -> Iterator[Entries]:
+        return map(self._as_entries, self.blocks(ENTRY + " ORDER BY place"))
 
     def came(self, firm: str) -> Iterator[Entry]:
         for rows in self.blocks(ENTRY + " WHERE firm = ? ORDER BY place", firm):
-            yield from map(Entry._make, self._entry_rows(rows))
+            yield from map(Entry._make, self._as_entries(rows).rows())
 
-    def _entry_rows(self, rows: Rows) -> list[EntryRow]:
+    def _as_entries(self, rows: Rows) -> Entries:
         """The rows with each column as it should be."""
-        if are_of(zip(*rows), ENTRY_TYPES):
-            return rows  # type: ignore[return-value]  # that was just looked at
-        return [self._entry(*row) for row in rows]
+        block = Entries.of(rows)
+        if are_of(block, ENTRY_TYPES):
+            return block
+        return Entries.of(self._entry(*row) for row in rows)
 
     def _entry(
         self, place: int, term: int, moment: Any, firm: Any, number: int | None, *data: Any
@@ -126,6 +126,10 @@ class SqlLog(Log):
         tables = "sent", "outgoing"
         queries = [FIRMS.replace("TABLE_", table) for table in tables]
         return {as_text(firm) for query in queries for firm, in self.rows(query)}
+
+    def last_number_of(self, firm: str) -> object:
+        ((number,),) = self.rows("SELECT max(number) FROM sent WHERE firm = ?", firm)
+        return number
 
     def count_of(self, firm: str) -> int:
         ((count,),) = self.rows("SELECT count(*) FROM sent WHERE firm = ?", firm)

@@ -8,9 +8,10 @@ from typing import Any
 
 from .faults import Unreadable
 from .log import Log, Source
-from .sql_log import ROWS_AT_A_TIME, Rows, SqlLog, check_form
+from .sql_log import Rows, SqlLog, check_form
 
 FORM = 1  # of the tables, as gateway/schema.sql has it
+ROWS_AT_A_TIME = 128  # so few that a processor's cache holds what is made of them
 
 
 @dataclass(frozen=True)
@@ -46,11 +47,25 @@ class SqliteLog(SqlLog):
 
     def blocks(self, query: str, *values: object) -> Iterator[Rows]:
         try:
-            cursor = self._connection.execute(query, values)
-            while rows := cursor.fetchmany(ROWS_AT_A_TIME):
-                yield rows
+            yield from self._blocks(query, values)
         except sqlite3.Error as fault:
             raise Unreadable("%s: %s" % (self._name, fault)) from None
+
+    def _blocks(self, query: str, values: tuple[object, ...]) -> Iterator[Rows]:
+        """The rows; where a text is none, they are read anew, and texts as `text_of` has them."""
+        given = 0
+        try:
+            for rows in fetched(self._connection.execute(query, values)):
+                yield rows
+                given += len(rows)
+        except sqlite3.OperationalError:
+            if self._connection.text_factory is text_of:
+                raise
+            self._connection.text_factory = text_of
+            again = self._connection.execute(query, values)
+            for _ in range(given):
+                again.fetchone()
+            yield from fetched(again)
 
     @staticmethod
     def bytes_of(value: Any) -> bytes:
@@ -61,6 +76,12 @@ class SqliteLog(SqlLog):
 
     def close(self, failed: bool = False) -> None:
         self._connection.close()
+
+
+def fetched(cursor: sqlite3.Cursor) -> Iterator[Rows]:
+    """The rows that are left, so many at a time."""
+    while rows := cursor.fetchmany(ROWS_AT_A_TIME):
+        yield rows
 
 
 def text_of(data: bytes) -> str:
@@ -79,7 +100,6 @@ def connected(path: Path) -> sqlite3.Connection:
     for ending in ("?mode=ro", "?mode=ro&immutable=1"):
         connection = sqlite3.connect(address + ending, uri=True, timeout=10, isolation_level=None)
         try:
-            connection.text_factory = text_of
             connection.execute("BEGIN")
             connection.execute("SELECT 1 FROM sqlite_master").fetchone()
             return connection

@@ -7,7 +7,7 @@ from hashlib import sha256
 from itertools import zip_longest
 from pathlib import Path
 
-BLOCK = 1 << 18
+BLOCK = 1 << 17  # bytes: so few that a processor's cache holds what is made of them
 LAST_BYTES = 4096
 LOOK = 0.02  # seconds from one look at a file that grows to the next
 FEED = b"\n"

@@ -21,6 +21,7 @@ from .progress import Progress, Step
 Result = TypeVar("Result")
 Job = Callable[[Step], Result]  # what a process does; it tells the step how many rows it did
 LOOK = 0.2  # seconds from one look at the counter to the next
+STEP = 1000  # rows of a job that are counted at one time
 SIGNALS = (signal.SIGTERM, signal.SIGHUP, signal.SIGINT)  # that end a command
 YOUNG = 50_000  # objects: a job makes rows by the thousand, and few that refer to one another
 
@@ -125,6 +126,10 @@ class Workers(Generic[Result]):
             one.process.join()
 
 
+def nothing() -> None:
+    """Is done while jobs run, where there is nothing to do."""
+
+
 def start(process: BaseProcess) -> None:
     """Starts a process, which no signal meets before it has said what it does about one."""
     before = signal.pthread_sigmask(signal.SIG_BLOCK, SIGNALS)
@@ -134,10 +139,17 @@ def start(process: BaseProcess) -> None:
         signal.pthread_sigmask(signal.SIG_SETMASK, before)
 
 
-def run_jobs(plan: Plan[Result], at_once: int, progress: Progress) -> list[Result]:
-    """Does all jobs; answers their results in the jobs' order. The first that fails is raised."""
+def run_jobs(
+    plan: Plan[Result], at_once: int, progress: Progress, meanwhile: Callable[[], None] = nothing
+) -> list[Result]:
+    """Does all jobs; answers their results in the jobs' order. The first that fails is raised.
+
+    Something else may be done here while the first of them run.
+    """
     workers = Workers(plan)
     try:
+        workers.begin(at_once)
+        meanwhile()
         while not workers.is_over:
             workers.begin(at_once)
             workers.take()
@@ -162,16 +174,33 @@ def do_job(
     if not is_bound(waiting, signal.SIGTERM):
         sys.exit(1)
 
-    def step(rows: int) -> None:
-        with counter.get_lock():
-            counter.value += rows
-
+    counted = Counted(counter)
     try:
-        answers.send((True, job(step)))
+        result = job(counted.step)
+        counted.tell()
+        answers.send((True, result))
     except Exception as fault:
         fault.add_note(traceback.format_exc())  # where it was, which does not travel with it
         answers.send((False, fault))
     answers.close()
+
+
+@dataclass
+class Counted:
+    """Rows that a job did, told to the counter of all jobs many at a time."""
+
+    counter: "Synchronized[int]"
+    rows: int = 0
+
+    def step(self, rows: int) -> None:
+        self.rows += rows
+        if self.rows >= STEP:
+            self.tell()
+
+    def tell(self) -> None:
+        with self.counter.get_lock():
+            self.counter.value += self.rows
+        self.rows = 0
 
 
 def result_of(one: Running[Result]) -> Result:

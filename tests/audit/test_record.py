@@ -16,10 +16,14 @@ from mireseason_audit.check import Verdict, report
 from mireseason_audit.faults import Wrong
 from mireseason_audit.findings import Finding
 from mireseason_audit.frame import fault_of, fields_of, framed
-from mireseason_audit.plain_wire import carries
-from mireseason_audit.records import Entry, Messages, Outgoing, Sent, configured, day_of
+from mireseason_audit.plain_wire import carry
+from mireseason_audit.records import Entries, Entry, Messages, Outgoing, Sent, configured, day_of
 from mireseason_audit.seal import Sealed, compared, first_of, read_seal, write_seal
 from mireseason_audit.wire import WireReader, carried, header_fault, parts_of
+
+
+def carries(data: bytes, number: int, frame: bytes, firm: str) -> bool:
+    return carry(Messages((number,), (1,), (data,)), [frame], firm)
 
 
 def entry(place: int, moment: str, line: bytes, before: bytes, **other: Any) -> Entry:
@@ -114,7 +118,7 @@ class Chains(unittest.TestCase):
     def in_blocks(self, rows: list[Entry], size: int) -> list[str]:
         reader = ChainReader(has_chain=True)
         for at in range(0, len(rows), size):
-            reader.take_rows(list(rows[at : at + size]))
+            reader.take_block(Entries.of(rows[at : at + size]))
         return [finding.text for finding in reader.found.findings]
 
     def test_the_day_of_entry_0(self) -> None:
@@ -175,13 +179,13 @@ class Sessions(unittest.TestCase):
             body = head.replace(b"%s", parts.kind) + carried(parts, None) + b"\x01"
             wire = framed(fields_of(body))
             self.assertIsNone(fault_of(wire))
-            self.assertTrue(carries(wire, 7, frame, b"DLR1"))
-            self.assertFalse(carries(wire, 8, frame, b"DLR1"))
-            self.assertFalse(carries(wire, 7, frame, b"DLR2"))
+            self.assertTrue(carries(wire, 7, frame, "DLR1"))
+            self.assertFalse(carries(wire, 8, frame, "DLR1"))
+            self.assertFalse(carries(wire, 7, frame, "DLR2"))
             for at in range(len(wire)):
                 for other in (wire[at] ^ 1, 1, 0x7C):
                     changed = wire[:at] + bytes([other]) + wire[at + 1 :]
-                    self.assertEqual(carries(changed, 7, frame, b"DLR1"), changed == wire, at)
+                    self.assertEqual(carries(changed, 7, frame, "DLR1"), changed == wire, at)
 
     def test_a_header_with_another_field(self) -> None:
         """The length and the sum are those of what stands there."""
@@ -201,7 +205,7 @@ class Sessions(unittest.TestCase):
             reader = WireReader(iter([sent]), lambda place: None)
             found = reader.take(Outgoing("DLR1", 1, 2, data))
             self.assertEqual(found is None, is_right, head)
-            self.assertEqual(carries(data, 1, frame, b"DLR1"), is_right, head)
+            self.assertEqual(carries(data, 1, frame, "DLR1"), is_right, head)
 
 
 class OwnMessages(unittest.TestCase):
@@ -228,7 +232,9 @@ class Reports(unittest.TestCase):
     def test_nothing_in_a_log_writes_a_line_of_its_own(self) -> None:
         forged = "X\nverdict: each firm was sent what the rules give, byte for byte\x1b[2J\u2028"
         day = configured(forged, "", CONFIGURATION)
-        verdict = Verdict("day.db", day, True, "v 1\r", {"DLR1": 0, "INV1": 0}, set(), {})
+        verdict = Verdict(
+            "day.db", day, True, program="v 1\r", messages={"DLR1": 0, "INV1": 0}
+        )
         verdict.findings = [Finding(forged, "its moment %s" % forged, 3)]
         lines = report(verdict)
         self.assertTrue(all(line.isprintable() for line in lines), lines)
