@@ -15,18 +15,21 @@
 //! - [`steps_meet_their_tests`]: a duty's test never fails. The duty that stands first in a queue
 //!   meets the test of its action, and a dealer's message asks a word that the venue has.
 //!
-//! And two that hold the definitions to what was written down beforehand: a proof computes each
+//! And three that hold the definitions to what was written down beforehand: a proof computes each
 //! worked day, message by message ([`definitions_give_the_worked_days`],
-//! [`definitions_give_the_priced_days`]).
+//! [`definitions_give_the_priced_days`]), and each limit is the number that it is to be
+//! ([`limits_are_as_written`]).
 #![tactic(auto)]
 
 mod condition_laws;
+mod limits;
 mod notice_laws;
 mod priced_days;
 mod prices;
 mod worked_days;
 
 pub use condition_laws::steps_meet_their_tests;
+pub use limits::limits_are_as_written;
 pub use notice_laws::{
     a_hit_notice_names_the_lifted_quote, each_named_dealer_is_told_once,
     notices_come_once_after_their_requests, words_are_settled_as_the_view_says,
