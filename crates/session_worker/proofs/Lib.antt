@@ -1,3 +1,4 @@
+pub mod ActionLemmas
 pub mod AwardLemmas
 pub mod BroughtLemmas
 pub mod CheckLemmas
