@@ -1,5 +1,5 @@
 //! What lies under the lock of a dealer's desk.
-ghost use Rattle.std.specs.Prelude.{◌≡◌, [], Some, None, All, IfOk, OnOk};
+ghost use Rattle.std.specs.Prelude.{◌≡◌, [], Some, None, All, IfOk, OnErr, OnOk};
 ghost use Rattle.dealer_desk.specs.DealerOutput.{book_at, dealer_output};
 ghost use Rattle.dealer_desk.specs.QuoteLines.{lines_of};
 ghost use Rattle.quote_word.specs.SettleLog.{entry_of, IsLegal};
@@ -96,7 +96,8 @@ impl<J: Naming> LockedDealer<J> {
         self.firm
     }
 
-    /// A message of the dealer comes, from its own session.
+    /// A message of the dealer comes, from its own session. After an error all but the token is as
+    /// before.
     pub(crate) fn receive<G: Gate>(
         &mut self,
         acting: &Acting<'_, G>,
@@ -120,6 +121,7 @@ impl<J: Naming> LockedDealer<J> {
             (steps.own_word self.old.first self.old.desk moment bytes.now))) }
         ensures order { OnOk result
             (self.new.order ≡ with_action self.old.order (acting.now.by, acting.now.number)) }
+        ensures err { OnErr result (self.new ≡ record self.old { seen = self.new.seen }) }
     {
         words_are_asked_event_by_event();
         events_are_settled_one_by_one();
@@ -134,7 +136,7 @@ impl<J: Naming> LockedDealer<J> {
     }
 
     /// The next quote of a cancel of all of the dealer with this number is dropped, of those up to
-    /// `last`.
+    /// `last`. After an error all but the token is as before.
     pub(crate) fn drop_next<G: Gate>(
         &mut self,
         acting: &Acting<'_, G>,
@@ -159,6 +161,7 @@ impl<J: Naming> LockedDealer<J> {
             (steps.drop_word self.old.first self.old.desk last))) }
         ensures order { OnOk result
             (self.new.order ≡ with_action self.old.order (acting.now.by, acting.now.number)) }
+        ensures err { OnErr result (self.new ≡ record self.old { seen = self.new.seen }) }
     {
         words_are_asked_event_by_event();
         events_are_settled_one_by_one();
@@ -172,7 +175,8 @@ impl<J: Naming> LockedDealer<J> {
         Ok(Done { duties, word })
     }
 
-    /// What comes to the desk of the dealer with this number for a duty, and asks no word.
+    /// What comes to the desk of the dealer with this number for a duty, and asks no word. After an
+    /// error all is as before.
     pub(crate) fn bring(
         &mut self,
         action: (Actor, u64),
@@ -184,6 +188,7 @@ impl<J: Naming> LockedDealer<J> {
         ensures duties { IfOk result (λ done. done.duties.items ≡ []) }
         ensures unasked { IfOk result (λ done. done.word ≡ None) }
         ensures order { OnOk result (self.new.order ≡ with_action self.old.order action) }
+        ensures err { OnErr result (self.new ≡ self.old) }
     {
         words_are_asked_event_by_event();
         events_are_settled_one_by_one();

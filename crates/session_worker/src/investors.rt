@@ -1,5 +1,5 @@
 //! What lies under the lock of an investor's desk.
-ghost use Rattle.std.specs.Prelude.{◌≡◌, [], true, Some, None, is_some, IfOk, OnOk};
+ghost use Rattle.std.specs.Prelude.{◌≡◌, [], true, Some, None, is_some, IfOk, OnErr, OnOk};
 ghost use Rattle.investor_desk.specs.InvestorOutput.{book_at, investor_output, market_for};
 ghost use Rattle.investor_desk.specs.RequestLines.{lines_of};
 ghost use Rattle.session_worker.specs.KeptDays.{InvestorKeeps};
@@ -64,7 +64,7 @@ impl<J: Naming> LockedInvestor<J> {
         self.desk.firm()
     }
 
-    /// A message of the investor comes, from its own session.
+    /// A message of the investor comes, from its own session. After an error all is as before.
     pub(crate) fn receive(
         &mut self,
         action: (Actor, u64),
@@ -78,6 +78,7 @@ impl<J: Naming> LockedInvestor<J> {
             ≡ steps.duties_of_own self.old.desk moment bytes.now) }
         ensures unasked { IfOk result (λ done. done.word ≡ None) }
         ensures order { OnOk result (self.new.order ≡ with_action self.old.order action) }
+        ensures err { OnErr result (self.new ≡ self.old) }
     {
         self.order.reserve(1)?;
         let duties = own_investor(&mut self.desk, moment, bytes)?;
@@ -85,7 +86,8 @@ impl<J: Naming> LockedInvestor<J> {
         Ok(Done::unasked(duties))
     }
 
-    /// What comes to the desk of the investor with this number for a duty.
+    /// What comes to the desk of the investor with this number for a duty. After an error all is as
+    /// before.
     pub(crate) fn bring(
         &mut self,
         action: (Actor, u64),
@@ -97,6 +99,7 @@ impl<J: Naming> LockedInvestor<J> {
         ensures duties { IfOk result (λ done. done.duties.items ≡ []) }
         ensures unasked { IfOk result (λ done. done.word ≡ None) }
         ensures order { OnOk result (self.new.order ≡ with_action self.old.order action) }
+        ensures err { OnErr result (self.new ≡ self.old) }
     {
         self.order.reserve(1)?;
         let duties = bring_to_investor(&mut self.desk, what)?;
