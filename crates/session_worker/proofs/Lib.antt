@@ -7,6 +7,7 @@ pub mod InboxLemmas
 pub mod KeepLemmas
 pub mod LockLemmas
 pub mod RoomLemmas
+pub mod ShiftLemmas
 pub mod SweptLemmas
 pub mod ToldLemmas
 pub mod ViewLemmas
