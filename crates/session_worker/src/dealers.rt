@@ -1,11 +1,14 @@
 //! What lies under the lock of a dealer's desk.
-ghost use Rattle.std.specs.Prelude.{◌≡◌, [], Some, None, All, IfOk, OnErr, OnOk};
+ghost use Rattle.std.specs.Prelude.{◌≡◌, ◌≢◌, [], Some, None, Err, All, IfOk, IsOk, OnErr, OnOk};
 ghost use Rattle.dealer_desk.specs.DealerOutput.{book_at, dealer_output};
 ghost use Rattle.dealer_desk.specs.QuoteLines.{lines_of};
 ghost use Rattle.quote_word.specs.SettleLog.{entry_of, IsLegal};
+ghost use Rattle.session_worker.specs.DayActions.{number_at};
+ghost use Rattle.session_worker.specs.DayChecks.{came_from_dealer};
 ghost use Rattle.session_worker.specs.KeptDays.{DealerKeeps, DealerStands};
 ghost use Rattle.session_worker.specs.Locks.{KeepsDealer, StandsIn, answers_at, with_action};
 ghost use Rattle.session_worker.specs.Watched.{asked_of};
+ghost use Rattle.session_worker.specs.declared.faults.DayFault.TheVariants as fault;
 ghost use Rattle.step_replay.specs.Actions as actions;
 ghost use Rattle.step_replay.specs.Actions.{dealer_of};
 ghost use Rattle.venue_rows.specs.Rows.{dealer_numbered};
@@ -208,11 +211,17 @@ impl<J: Naming> LockedDealer<J> {
     }
 
     /// The day of the dealer at this place among the dealers, of whose session this is left. The
-    /// fault is that the desk is another dealer's, or that its own events are not its inbox.
+    /// fault is that the desk is another dealer's, or else that its own events are not its inbox.
     pub(crate) fn day_at(self, place: usize, session: Session) -> Result<DealerDay, DayFault>
         ensures keeps { IfOk result (λ day. DealerKeeps J.config place day) }
         ensures stands { IfOk result (λ day. DealerStands J.config self.seen.log place day) }
         ensures inbox { IfOk result (λ day. day.inbox ≡ session.inbox.items) }
+        ensures other_desk { self.firm ≢ place → result ≡ Err (fault.Inbox (number_at place)) }
+        ensures other_inbox { self.firm ≡ place
+            → came_from_dealer self.desk.events ≢ session.inbox.items
+            → result ≡ Err (fault.Inbox self.firm) }
+        ensures given { self.firm ≡ place → came_from_dealer self.desk.events ≡ session.inbox.items
+            → IsOk result }
     {
         recorded_dealers_are_sent_their_view();
         if usize::from(self.firm) != place {

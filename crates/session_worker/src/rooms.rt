@@ -1,10 +1,12 @@
 //! What lies under the lock of a room.
-ghost use Rattle.std.specs.Prelude.{◌≡◌, ◌↔◌, true, None, All, IsTrue, IfOk, OnErr, OnOk};
+ghost use Rattle.std.specs.Prelude.{◌≡◌, ◌≢◌, ◌↔◌, true, None, Err, All, IsTrue, IfOk, IsOk};
+ghost use Rattle.std.specs.Prelude.{OnErr, OnOk};
 ghost use Rattle.quote_word.specs.SettleLog.{entry_of};
 ghost use Rattle.request_room.specs.Book.{room_after};
 ghost use Rattle.request_room.specs.declared.events.RoomEvent.TheVariants as event;
 ghost use Rattle.session_worker.specs.Locks.{StandsIn, answers_in, with_action};
 ghost use Rattle.session_worker.specs.Watched.{asked_of};
+ghost use Rattle.session_worker.specs.declared.faults.DayFault.TheVariants as fault;
 ghost use Rattle.venue_rows.specs.Rows.{has_room};
 ghost use Rattle.venue_places.specs.Brought as spec;
 ghost use Rattle.venue_steps.specs.RoomSteps as steps;
@@ -155,8 +157,10 @@ impl<J: Naming> LockedRoom<J> {
     /// The room and the actions in it, as that of the request with this name. The fault is that the
     /// room is another request's.
     pub(crate) fn day_at(self, at: RoomRef) -> Result<DayRoom, DayFault>
-        ensures { IfOk result (λ room. room
+        ensures room { IfOk result (λ room. room
             ≡ record { at = at; day = record { events = self.events; order = self.order } }) }
+        ensures other_room { self.at ≢ at → result ≡ Err (fault.Inbox at.investor) }
+        ensures given { self.at ≡ at → IsOk result }
     {
         if !self.is(at) {
             return Err(DayFault::Inbox(at.investor));
