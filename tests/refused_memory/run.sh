@@ -77,7 +77,7 @@ refuse_each() {
 }
 
 # refuse_in_test TEST: refuses each call of one built test of venue_tests in turn. It has to pass each time: such a test
-# looks at what a refused call left, and makes the call again.
+# looks at what a refused call left, and makes the call again, or whether the call said that it was refused.
 refuse_in_test() {
     tests=$root/crates/venue_tests/out/venue_tests_tests
     if [ ! -x "$tests" ]; then
@@ -153,3 +153,6 @@ for test in frames::a_refused_configuration_is_read_again frames::a_refused_fram
     texts::refused_steps_are_read_again words::refused_memory_is_asked_for_again; do
     refuse_in_test "memory::$test"
 done
+
+# The sessions of a day and its clock have no answer but that they ended, which no clause can hold against what they did.
+refuse_in_test days::actors::whoever_is_refused_memory_says_so

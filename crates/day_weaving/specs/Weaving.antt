@@ -40,6 +40,11 @@ abbrev pub SendAsRecorded : Configuration → RecordedDay → List Step → Type
 SendAsRecorded config day steps = (firm : ℕ) → firm < firms_of config
     → sent_by_steps config steps firm ≡ sent_by_record day firm
 
+-- each firm whose number is below this one is
+abbrev pub SendAsRecordedBelow : ℕ → Configuration → RecordedDay → List Step → Type 0
+SendAsRecordedBelow firm config day steps = (earlier : ℕ) → earlier < firm
+    → sent_by_steps config steps earlier ≡ sent_by_record day earlier
+
 -- a firm is sent something else
 abbrev pub SendsElse : Configuration → RecordedDay → List Step → ℕ → Type 0
 SendsElse config day steps firm =
@@ -89,13 +94,15 @@ pub record AreWoven (config : Configuration) (day : RecordedDay) (steps : List S
   pub are_steps : AllZip (IsStepOf day) order steps
 
 -- Why a day is not woven: a malformed record is malformed; else the list of a cycle is one, and a
--- firm that differs is sent something else in steps of an order that is kept.
+-- firm that differs is sent something else in steps of an order that is kept, as the first firm of
+-- which that is so.
 abbrev pub FaultIsTrue : Configuration → RecordedDay → WeaveFault → Type 0
 FaultIsTrue config day fault.Malformed = IsMalformed config day
 FaultIsTrue config day (fault.Cycle actions) =
     IsWellFormed config day × IsCircle day actions.items
 FaultIsTrue config day (fault.Differs firm) =
     (steps : List Step) × AreWoven config day steps × SendsElse config day steps firm
+    × SendAsRecordedBelow firm config day steps
 FaultIsTrue config day fault.Memory = Unit {0}
 
 -- a fault says that a firm differs, or that memory was refused

@@ -12,6 +12,8 @@ pub(crate) fn sent_elsewise(firms: u16, day: &DayRecord, world: &World) -> Optio
         → spec.sent_in world.now firm ≡ spec.sent_by_record day.now firm) }
     ensures other { IfSome result (λ firm.
         spec.sent_in world.now firm ≡ spec.sent_by_record day.now firm → ⊥) }
+    ensures first { IfSome result (λ firm. (earlier : ℕ) → earlier < firm
+        → spec.sent_in world.now earlier ≡ spec.sent_by_record day.now earlier) }
 {
     for firm in 0..firms {
         if !is_sent_alike(day, world, firm) {

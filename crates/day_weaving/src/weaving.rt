@@ -31,7 +31,8 @@ pub enum WeaveFault {
     /// No order keeps what came before what: of these actions each has one of them directly before
     /// it. An action goes by its actor, and its number among the actions of that actor, from 1.
     Cycle(Vec<(Actor, u64)>),
-    /// The firm with this number was sent other messages than the steps send it.
+    /// The firm with this number was sent other messages than the steps send it. Of several such
+    /// firms it is the first.
     Differs(u16),
     /// Memory was refused.
     Memory,

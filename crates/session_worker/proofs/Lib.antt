@@ -1,3 +1,4 @@
+pub mod ActionLemmas
 pub mod AwardLemmas
 pub mod BroughtLemmas
 pub mod CheckLemmas
@@ -6,6 +7,7 @@ pub mod InboxLemmas
 pub mod KeepLemmas
 pub mod LockLemmas
 pub mod RoomLemmas
+pub mod ShiftLemmas
 pub mod SweptLemmas
 pub mod ToldLemmas
 pub mod ViewLemmas

@@ -1,9 +1,10 @@
 -- What the events of a day say of its actions, however its threads ran: each event at a desk or in
 -- a room is that of an action there, of its kind and at its moment, and events stand in the order
 -- of their actions. An action that came to nothing left no event.
-use Rattle.std.specs.Prelude.{◌≡◌, ℕ, ◌==◌, Bool, true, false, ◌&&◌, List, [], ◌∷◌}
-use Rattle.std.specs.Prelude.{Option, Some, None, is_some, if◌then◌else◌}
-use Rattle.std.specs.List.{list_all}
+use Rattle.std.specs.Prelude.{◌≡◌, ℕ, ◌+◌, ◌==◌, min, Bool, true, false, ◌&&◌, not, List, []}
+use Rattle.std.specs.Prelude.{◌∷◌, length, Option, Some, None, is_some, if◌then◌else◌}
+use Rattle.std.specs.List.{list_all, position}
+use Rattle.std.specs.Option.{option_map, option_or}
 use Rattle.dealer_desk.specs.declared.events.DealerEvent.{DealerEvent}
 use Rattle.dealer_desk.specs.declared.events.DealerEvent.TheVariants as at_dealer
 use Rattle.investor_desk.specs.declared.events.InvestorEvent.{InvestorEvent}
@@ -134,3 +135,15 @@ is_investor_left day investor =
 pub record EventsAreOfActions (day : RecordedDay) : Type 0 where
   pub at_dealers : list_all (is_dealer_left day) day.dealers ≡ true
   pub at_investors : list_all (is_investor_left day) day.investors ≡ true
+
+-- the place among the firms, the dealers before the investors, of the first with an event at its
+-- desk, or in a room of its requests, that is not that of an action there
+abbrev pub first_unleft : RecordedDay → Option ℕ
+first_unleft day =
+    option_or (position (λ (dealer : DealerLists). not (is_dealer_left day dealer)) day.dealers)
+    (option_map (λ place. length day.dealers + place)
+    (position (λ (investor : InvestorLists). not (is_investor_left day investor)) day.investors))
+
+-- the number of the firm at a place among the firms: no number is above 65,535
+abbrev pub number_at : ℕ → ℕ
+number_at place = min place 65535

@@ -1,6 +1,6 @@
 //! The sessions of firms and the clock.
-ghost use Rattle.std.specs.Prelude.{◌≡◌, [], ◌∷◌, ◌++◌, OnOk};
-ghost use Rattle.recorded_days.specs.Kinds.{kind_of};
+ghost use Rattle.std.specs.Prelude.{◌≡◌, [], ◌∷◌, ◌++◌, map, IfOk, OnOk};
+ghost use Rattle.recorded_days.specs.Kinds.{is_expire, is_in, kind_of};
 ghost use Rattle.session_worker.specs.Shifts as spec;
 
 use crate::done::Done;
@@ -29,7 +29,9 @@ struct Shift<'v, J: Naming, R: Wait, G: Gate> {
 
 impl<'v, J: Naming, R: Wait, G: Gate> Shift<'v, J, R, G> {
     /// An actor before its first action.
-    fn new(rt: &'v R, venue: &'v SharedVenue<J>, gate: &'v G, by: Actor) -> Self {
+    fn new(rt: &'v R, venue: &'v SharedVenue<J>, gate: &'v G, by: Actor) -> Self
+        ensures { result.actions.items ≡ [] }
+    {
         Shift {
             rt,
             venue,
@@ -68,8 +70,12 @@ impl<'v, J: Naming, R: Wait, G: Gate> Shift<'v, J, R, G> {
 
     /// A message of the firm comes.
     fn come(&mut self, inbound: &Inbound) -> Result<(), Memory>
-        ensures { OnOk result (spec.IsNoted Kind.In inbound.now.moment self.old.actions.items
-            self.new.actions.items) }
+        ensures noted { OnOk result (spec.IsNoted Kind.In inbound.now.moment
+            self.old.actions.items self.new.actions.items) }
+        ensures messages { OnOk result (spec.moments_of is_in self.new.actions.items
+            ≡ spec.moments_of is_in self.old.actions.items ++ inbound.now.moment ∷ []) }
+        ensures sweeps { OnOk result (spec.moments_of is_expire self.new.actions.items
+            ≡ spec.moments_of is_expire self.old.actions.items) }
     {
         self.gate.at(Point::Before(self.by, Kind::In));
         let acting = self.acting();
@@ -81,8 +87,12 @@ impl<'v, J: Naming, R: Wait, G: Gate> Shift<'v, J, R, G> {
 
     /// The clock sweeps a room.
     fn sweep(&mut self, sweep: Sweep) -> Result<(), Memory>
-        ensures { OnOk result (spec.IsNoted Kind.Expire sweep.moment self.old.actions.items
-            self.new.actions.items) }
+        ensures noted { OnOk result (spec.IsNoted Kind.Expire sweep.moment
+            self.old.actions.items self.new.actions.items) }
+        ensures messages { OnOk result (spec.moments_of is_in self.new.actions.items
+            ≡ spec.moments_of is_in self.old.actions.items) }
+        ensures sweeps { OnOk result (spec.moments_of is_expire self.new.actions.items
+            ≡ spec.moments_of is_expire self.old.actions.items ++ sweep.moment ∷ []) }
     {
         self.gate.at(Point::Before(self.by, Kind::Expire));
         let acting = self.acting();
@@ -95,8 +105,12 @@ impl<'v, J: Naming, R: Wait, G: Gate> Shift<'v, J, R, G> {
 
     /// Does one duty.
     fn turn(&mut self, duty: Duty) -> Result<(), Memory>
-        ensures { OnOk result (spec.IsNoted (kind_of duty) (spec.moment_of duty)
+        ensures noted { OnOk result (spec.IsNoted (kind_of duty) (spec.moment_of duty)
             self.old.actions.items self.new.actions.items) }
+        ensures messages { OnOk result (spec.moments_of is_in self.new.actions.items
+            ≡ spec.moments_of is_in self.old.actions.items) }
+        ensures sweeps { OnOk result (spec.moments_of is_expire self.new.actions.items
+            ≡ spec.moments_of is_expire self.old.actions.items) }
     {
         let kind = Kind::of(&duty);
         let moment = moment_of(&duty);
@@ -109,7 +123,11 @@ impl<'v, J: Naming, R: Wait, G: Gate> Shift<'v, J, R, G> {
 
     /// Does all pending duties, and those that follow from them.
     fn turns(&mut self) -> Result<(), Memory>
-        ensures { OnOk result (self.new.queue.items ≡ []) }
+        ensures none_left { OnOk result (self.new.queue.items ≡ []) }
+        ensures messages { OnOk result (spec.moments_of is_in self.new.actions.items
+            ≡ spec.moments_of is_in self.old.actions.items) }
+        ensures sweeps { OnOk result (spec.moments_of is_expire self.new.actions.items
+            ≡ spec.moments_of is_expire self.old.actions.items) }
     {
         for _ in self.rt.forever() {
             let Some(duty) = self.queue.pop_front() else {
@@ -162,7 +180,11 @@ pub(crate) fn session_actions<J: Naming, R: Wait, G: Gate>(
     firm: u16,
     inbox: &[Inbound],
     gate: &G,
-) -> Result<Vec<Action>, Memory> {
+) -> Result<Vec<Action>, Memory>
+    ensures messages { IfOk result (λ actions. spec.moments_of is_in actions.items
+        ≡ map (λ inbound. inbound.moment) inbox.now) }
+    ensures sweeps { IfOk result (λ actions. spec.moments_of is_expire actions.items ≡ []) }
+{
     let mut shift = Shift::new(rt, venue, gate, Actor::Firm(firm));
     for inbound in inbox {
         shift.come(inbound)?;
@@ -179,7 +201,11 @@ pub(crate) fn clock_actions<J: Naming, R: Wait, G: Gate>(
     venue: &SharedVenue<J>,
     sweeps: &[Sweep],
     gate: &G,
-) -> Result<Vec<Action>, Memory> {
+) -> Result<Vec<Action>, Memory>
+    ensures messages { IfOk result (λ actions. spec.moments_of is_in actions.items ≡ []) }
+    ensures sweeps { IfOk result (λ actions. spec.moments_of is_expire actions.items
+        ≡ map (λ sweep. sweep.moment) sweeps.now) }
+{
     let mut shift = Shift::new(rt, venue, gate, Actor::Clock);
     for sweep in sweeps {
         shift.sweep(*sweep)?;

@@ -1,7 +1,7 @@
 //! Whether each event of a day is that of an action at its desk or in its room.
-ghost use Rattle.std.specs.Prelude.{◌≡◌, true, None};
-ghost use Rattle.std.specs.List.{list_all};
-ghost use Rattle.std.specs.Option.{option_copied};
+ghost use Rattle.std.specs.Prelude.{◌≡◌, not};
+ghost use Rattle.std.specs.List.{list_all, position};
+ghost use Rattle.std.specs.Option.{option_copied, option_map};
 ghost use Rattle.recorded_days.specs.Records.{action_in, actions_of};
 ghost use Rattle.session_worker.specs.DayActions as spec;
 
@@ -38,56 +38,54 @@ pub(crate) fn action_fault(
     investors: &[InvestorDay],
     clock: &[Action],
 ) -> Option<u16>
-    ensures { result ≡ None → spec.EventsAreOfActions (record {
+    ensures { result ≡ option_map spec.number_at (spec.first_unleft (record {
       dealers = dealers.now;
       investors = investors.now;
       clock = clock.now;
-    }) }
+    })) }
 {
     let day = DayActions {
         dealers,
         investors,
         clock,
     };
-    if let Some(dealer) = day.dealer_fault() {
-        return Some(dealer);
+    if let Some(place) = day.dealer_fault() {
+        let number = firm_number(place);
+        return Some(number);
     }
-    day.investor_fault()
+    let place = day.investor_fault()?;
+    let behind = dealers.len().saturating_add(place);
+    let firm = firm_number(behind);
+    Some(firm)
 }
 
 impl<'d> DayActions<'d> {
-    /// The first dealer with an event at its desk that is not that of an action there.
-    fn dealer_fault(&self) -> Option<u16>
-        ensures { result ≡ None
-            → list_all (spec.is_dealer_left self.now) self.now.dealers ≡ true }
+    /// The place of the first dealer with an event at its desk that is not that of an action there.
+    fn dealer_fault(&self) -> Option<usize>
+        ensures { result
+            ≡ position (λ dealer. not (spec.is_dealer_left self.now dealer)) self.now.dealers }
     {
-        let mut firm = 0u16;
-        let mut rest = self.dealers;
-        while let Some((dealer, later)) = rest.split_first() {
-            if !are_left(self, &dealer.order, &dealer.events) {
-                return Some(firm);
-            }
-            firm = firm.saturating_add(1);
-            rest = later;
-        }
-        None
+        self.dealers
+            .iter()
+            .position(|dealer| !self.is_dealer_left(dealer))
     }
 
-    /// The first investor with such an event at its desk, or in a room of its requests.
-    fn investor_fault(&self) -> Option<u16>
-        ensures { result ≡ None
-            → list_all (spec.is_investor_left self.now) self.now.investors ≡ true }
+    /// The place among the investors of the first with such an event at its desk, or in a room of
+    /// its requests.
+    fn investor_fault(&self) -> Option<usize>
+        ensures { result ≡ position (λ investor. not (spec.is_investor_left self.now investor))
+            self.now.investors }
     {
-        let mut firm = firm_number(self.dealers.len());
-        let mut rest = self.investors;
-        while let Some((investor, later)) = rest.split_first() {
-            if !self.is_investor_left(investor) {
-                return Some(firm);
-            }
-            firm = firm.saturating_add(1);
-            rest = later;
-        }
-        None
+        self.investors
+            .iter()
+            .position(|investor| !self.is_investor_left(investor))
+    }
+
+    /// Whether the events at a dealer's desk are those of the actions there.
+    fn is_dealer_left(&self, dealer: &DealerDay) -> bool
+        ensures { result ≡ spec.is_dealer_left self.now dealer.now }
+    {
+        are_left(self, &dealer.order, &dealer.events)
     }
 
     /// Whether the events at an investor's desk, and in the rooms of its requests, are those of the

@@ -1,11 +1,14 @@
 //! What lies under the lock of a dealer's desk.
-ghost use Rattle.std.specs.Prelude.{◌≡◌, [], Some, None, All, IfOk, OnOk};
+ghost use Rattle.std.specs.Prelude.{◌≡◌, ◌≢◌, [], Some, None, Err, All, IfOk, IsOk, OnErr, OnOk};
 ghost use Rattle.dealer_desk.specs.DealerOutput.{book_at, dealer_output};
 ghost use Rattle.dealer_desk.specs.QuoteLines.{lines_of};
 ghost use Rattle.quote_word.specs.SettleLog.{entry_of, IsLegal};
+ghost use Rattle.session_worker.specs.DayActions.{number_at};
+ghost use Rattle.session_worker.specs.DayChecks.{came_from_dealer};
 ghost use Rattle.session_worker.specs.KeptDays.{DealerKeeps, DealerStands};
 ghost use Rattle.session_worker.specs.Locks.{KeepsDealer, StandsIn, answers_at, with_action};
 ghost use Rattle.session_worker.specs.Watched.{asked_of};
+ghost use Rattle.session_worker.specs.declared.faults.DayFault.TheVariants as fault;
 ghost use Rattle.step_replay.specs.Actions as actions;
 ghost use Rattle.step_replay.specs.Actions.{dealer_of};
 ghost use Rattle.venue_rows.specs.Rows.{dealer_numbered};
@@ -96,7 +99,8 @@ impl<J: Naming> LockedDealer<J> {
         self.firm
     }
 
-    /// A message of the dealer comes, from its own session.
+    /// A message of the dealer comes, from its own session. After an error all but the token is as
+    /// before.
     pub(crate) fn receive<G: Gate>(
         &mut self,
         acting: &Acting<'_, G>,
@@ -120,6 +124,7 @@ impl<J: Naming> LockedDealer<J> {
             (steps.own_word self.old.first self.old.desk moment bytes.now))) }
         ensures order { OnOk result
             (self.new.order ≡ with_action self.old.order (acting.now.by, acting.now.number)) }
+        ensures err { OnErr result (self.new ≡ record self.old { seen = self.new.seen }) }
     {
         words_are_asked_event_by_event();
         events_are_settled_one_by_one();
@@ -134,7 +139,7 @@ impl<J: Naming> LockedDealer<J> {
     }
 
     /// The next quote of a cancel of all of the dealer with this number is dropped, of those up to
-    /// `last`.
+    /// `last`. After an error all but the token is as before.
     pub(crate) fn drop_next<G: Gate>(
         &mut self,
         acting: &Acting<'_, G>,
@@ -159,6 +164,7 @@ impl<J: Naming> LockedDealer<J> {
             (steps.drop_word self.old.first self.old.desk last))) }
         ensures order { OnOk result
             (self.new.order ≡ with_action self.old.order (acting.now.by, acting.now.number)) }
+        ensures err { OnErr result (self.new ≡ record self.old { seen = self.new.seen }) }
     {
         words_are_asked_event_by_event();
         events_are_settled_one_by_one();
@@ -172,7 +178,8 @@ impl<J: Naming> LockedDealer<J> {
         Ok(Done { duties, word })
     }
 
-    /// What comes to the desk of the dealer with this number for a duty, and asks no word.
+    /// What comes to the desk of the dealer with this number for a duty, and asks no word. After an
+    /// error all is as before.
     pub(crate) fn bring(
         &mut self,
         action: (Actor, u64),
@@ -184,6 +191,7 @@ impl<J: Naming> LockedDealer<J> {
         ensures duties { IfOk result (λ done. done.duties.items ≡ []) }
         ensures unasked { IfOk result (λ done. done.word ≡ None) }
         ensures order { OnOk result (self.new.order ≡ with_action self.old.order action) }
+        ensures err { OnErr result (self.new ≡ self.old) }
     {
         words_are_asked_event_by_event();
         events_are_settled_one_by_one();
@@ -203,11 +211,17 @@ impl<J: Naming> LockedDealer<J> {
     }
 
     /// The day of the dealer at this place among the dealers, of whose session this is left. The
-    /// fault is that the desk is another dealer's, or that its own events are not its inbox.
+    /// fault is that the desk is another dealer's, or else that its own events are not its inbox.
     pub(crate) fn day_at(self, place: usize, session: Session) -> Result<DealerDay, DayFault>
         ensures keeps { IfOk result (λ day. DealerKeeps J.config place day) }
         ensures stands { IfOk result (λ day. DealerStands J.config self.seen.log place day) }
         ensures inbox { IfOk result (λ day. day.inbox ≡ session.inbox.items) }
+        ensures other_desk { self.firm ≢ place → result ≡ Err (fault.Inbox (number_at place)) }
+        ensures other_inbox { self.firm ≡ place
+            → came_from_dealer self.desk.events ≢ session.inbox.items
+            → result ≡ Err (fault.Inbox self.firm) }
+        ensures given { self.firm ≡ place → came_from_dealer self.desk.events ≡ session.inbox.items
+            → IsOk result }
     {
         recorded_dealers_are_sent_their_view();
         if usize::from(self.firm) != place {

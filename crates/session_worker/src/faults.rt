@@ -1,34 +1,56 @@
 //! Why a day on threads has no record.
-ghost use Rattle.std.specs.Prelude.{◌≡◌};
+ghost use Rattle.std.specs.Prelude.{◌≡◌, Some};
 ghost use Rattle.session_worker.specs.declared.faults.DayFault.TheVariants.{Memory};
 
 use fix_fields::Memory;
 use market_terms::RoomRef;
 use std::alloc::AllocFailed;
+use std::error::Error;
 use std::fmt;
-use thiserror::Error;
 
 /// Why a day on threads has no record: the first of these that is met. What is behind `Memory` is
 /// looked at in this order, once all threads have ended; the looking itself takes memory, too.
-#[derive(Clone, Copy, Error)]
+#[derive(Clone, Copy)]
 pub enum DayFault {
     /// Memory was refused.
-    #[error("out of memory")]
     Memory,
     /// The desk of the firm with this number is another firm's, a room of its requests is another
     /// request's, or its own events are not its inbox. Of several such firms it is the first. Also,
     /// looked at last: an event at its desk, or in a room of its requests, is not that of an action
     /// there.
-    #[error("the desk of firm {0} does not have the messages that came to it, or its actions")]
     Inbox(u16),
     /// The closing notices of the dealer with this number do not agree with how the rooms of its
     /// requests ended.
-    #[error("dealer {0} was not told how its requests ended")]
     Told(u16),
     /// The expire events of this room are not its sweeps in their order.
-    #[error("request {} of firm {} was not swept as the clock was told", .0.n, .0.investor)]
     Sweep(RoomRef),
 }
+
+impl fmt::Display for DayFault {
+    ghost use Rattle.session_worker.specs.FaultTexts.{fault_text};
+
+    ghost output = { λ fault. Some (fault_text fault) };
+
+    fn fmt<W: fmt::Write>(&self, f: &mut fmt::Formatter<W>) -> fmt::Result {
+        match self {
+            DayFault::Memory => write!(f, "out of memory"),
+            DayFault::Inbox(firm) => write!(
+                f,
+                "the desk of firm {firm} does not have the messages that came to it, or its actions"
+            ),
+            DayFault::Told(dealer) => {
+                write!(f, "dealer {dealer} was not told how its requests ended")
+            }
+            DayFault::Sweep(room) => write!(
+                f,
+                "request {} of firm {} was not swept as the clock was told",
+                room.n, room.investor
+            ),
+        }
+    }
+}
+
+impl Error for DayFault {}
 
 impl fmt::Debug for DayFault {
     fn fmt<W: fmt::Write>(&self, f: &mut fmt::Formatter<W>) -> fmt::Result {

@@ -1,9 +1,12 @@
 //! What lies under the lock of an investor's desk.
-ghost use Rattle.std.specs.Prelude.{◌≡◌, [], true, Some, None, is_some, IfOk, OnOk};
+ghost use Rattle.std.specs.Prelude.{◌≡◌, ◌≢◌, [], true, Some, None, is_some, Err, IfOk, IsOk};
+ghost use Rattle.std.specs.Prelude.{OnErr, OnOk};
 ghost use Rattle.investor_desk.specs.InvestorOutput.{book_at, investor_output, market_for};
 ghost use Rattle.investor_desk.specs.RequestLines.{lines_of};
+ghost use Rattle.session_worker.specs.DayChecks.{came_from_investor};
 ghost use Rattle.session_worker.specs.KeptDays.{InvestorKeeps};
 ghost use Rattle.session_worker.specs.Locks.{with_action};
+ghost use Rattle.session_worker.specs.declared.faults.DayFault.TheVariants as fault;
 ghost use Rattle.venue_rows.specs.Rows.{investor_numbered};
 ghost use Rattle.venue_places.specs.Brought as spec;
 ghost use Rattle.venue_places.specs.declared.actors.Actor.TheVariants as actor;
@@ -64,7 +67,7 @@ impl<J: Naming> LockedInvestor<J> {
         self.desk.firm()
     }
 
-    /// A message of the investor comes, from its own session.
+    /// A message of the investor comes, from its own session. After an error all is as before.
     pub(crate) fn receive(
         &mut self,
         action: (Actor, u64),
@@ -78,6 +81,7 @@ impl<J: Naming> LockedInvestor<J> {
             ≡ steps.duties_of_own self.old.desk moment bytes.now) }
         ensures unasked { IfOk result (λ done. done.word ≡ None) }
         ensures order { OnOk result (self.new.order ≡ with_action self.old.order action) }
+        ensures err { OnErr result (self.new ≡ self.old) }
     {
         self.order.reserve(1)?;
         let duties = own_investor(&mut self.desk, moment, bytes)?;
@@ -85,7 +89,8 @@ impl<J: Naming> LockedInvestor<J> {
         Ok(Done::unasked(duties))
     }
 
-    /// What comes to the desk of the investor with this number for a duty.
+    /// What comes to the desk of the investor with this number for a duty. After an error all is as
+    /// before.
     pub(crate) fn bring(
         &mut self,
         action: (Actor, u64),
@@ -97,6 +102,7 @@ impl<J: Naming> LockedInvestor<J> {
         ensures duties { IfOk result (λ done. done.duties.items ≡ []) }
         ensures unasked { IfOk result (λ done. done.word ≡ None) }
         ensures order { OnOk result (self.new.order ≡ with_action self.old.order action) }
+        ensures err { OnErr result (self.new ≡ self.old) }
     {
         self.order.reserve(1)?;
         let duties = bring_to_investor(&mut self.desk, what)?;
@@ -105,8 +111,8 @@ impl<J: Naming> LockedInvestor<J> {
     }
 
     /// The day of the investor with this number among the firms, of whose session this is left,
-    /// still without its rooms. The fault is that the desk is another investor's, or that its own
-    /// events are not its inbox.
+    /// still without its rooms. The fault is that the desk is another investor's, or else that its
+    /// own events are not its inbox.
     pub(crate) fn day_at(
         self,
         alloc: Global,
@@ -115,6 +121,11 @@ impl<J: Naming> LockedInvestor<J> {
     ) -> Result<InvestorDay, DayFault>
         ensures keeps { IfOk result (λ day. InvestorKeeps J.config firm day) }
         ensures inbox { IfOk result (λ day. day.inbox ≡ session.inbox.items) }
+        ensures other_desk { self.desk.market.firm ≢ firm → result ≡ Err (fault.Inbox firm) }
+        ensures other_inbox { came_from_investor self.desk.events ≢ session.inbox.items
+            → result ≡ Err (fault.Inbox firm) }
+        ensures given { self.desk.market.firm ≡ firm
+            → came_from_investor self.desk.events ≡ session.inbox.items → IsOk result }
     {
         if self.desk.firm() != firm {
             return Err(DayFault::Inbox(firm));

@@ -4,6 +4,7 @@ ghost use Rattle.std.specs.Prelude.{IfOk, OnOk};
 ghost use Rattle.std.specs.Vec.Iter.{into_iter_items};
 ghost use mathlib.Core.List.{IsPrefix};
 ghost use Rattle.quote_word.specs.SettleLog.{IsLegal};
+ghost use Rattle.session_worker.specs.DayActions.{number_at};
 ghost use Rattle.session_worker.specs.KeptDays.{DealersKeep, DealersStand, InvestorsKeep};
 ghost use Rattle.session_worker.specs.KeptDays.{RoomsStand, names_by, names_from, names_of};
 ghost use Rattle.session_worker.specs.KeptDays.{rooms_of, rooms_of_venue, without_rooms};
@@ -31,8 +32,10 @@ pub(crate) struct Session {
 }
 
 /// A place among the firms as a firm's number.
-pub(crate) fn firm_number(place: usize) -> u16 {
-    u16::try_from(place).unwrap_or(u16::MAX)
+pub(crate) fn firm_number(place: usize) -> u16
+    ensures { result ≡ number_at place }
+{
+    place.min(usize::from(u16::MAX)) as u16
 }
 
 /// The days of the dealers, and a token that is later than those of all their locks. The fault is

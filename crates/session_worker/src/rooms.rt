@@ -1,10 +1,12 @@
 //! What lies under the lock of a room.
-ghost use Rattle.std.specs.Prelude.{◌≡◌, ◌↔◌, true, None, All, IsTrue, IfOk, OnOk};
+ghost use Rattle.std.specs.Prelude.{◌≡◌, ◌≢◌, ◌↔◌, true, None, Err, All, IsTrue, IfOk, IsOk};
+ghost use Rattle.std.specs.Prelude.{OnErr, OnOk};
 ghost use Rattle.quote_word.specs.SettleLog.{entry_of};
 ghost use Rattle.request_room.specs.Book.{room_after};
 ghost use Rattle.request_room.specs.declared.events.RoomEvent.TheVariants as event;
 ghost use Rattle.session_worker.specs.Locks.{StandsIn, answers_in, with_action};
 ghost use Rattle.session_worker.specs.Watched.{asked_of};
+ghost use Rattle.session_worker.specs.declared.faults.DayFault.TheVariants as fault;
 ghost use Rattle.venue_rows.specs.Rows.{has_room};
 ghost use Rattle.venue_places.specs.Brought as spec;
 ghost use Rattle.venue_steps.specs.RoomSteps as steps;
@@ -78,7 +80,8 @@ impl<J: Naming> LockedRoom<J> {
         self.at.n == at.n
     }
 
-    /// What comes to the room with this name for a duty or a sweep, and asks no word.
+    /// What comes to the room with this name for a duty or a sweep, and asks no word. After an
+    /// error all is as before.
     pub(crate) fn bring(
         &mut self,
         action: (Actor, u64),
@@ -91,6 +94,7 @@ impl<J: Naming> LockedRoom<J> {
             ≡ spec.duties_in_room at self.old.events what) }
         ensures unasked { IfOk result (λ done. done.word ≡ None) }
         ensures order { OnOk result (self.new.order ≡ with_action self.old.order action) }
+        ensures err { OnErr result (self.new ≡ self.old) }
     {
         self.order.reserve(1)?;
         let duties = bring_to_room(&mut self.room, at, what)?;
@@ -98,7 +102,8 @@ impl<J: Naming> LockedRoom<J> {
         Ok(Done::unasked(duties))
     }
 
-    /// The investor hits the quote with this word, in the room with this name.
+    /// The investor hits the quote with this word, in the room with this name. After an error all
+    /// but the token is as before.
     pub(crate) fn hit<G: Gate>(
         &mut self,
         acting: &Acting<'_, G>,
@@ -125,6 +130,7 @@ impl<J: Naming> LockedRoom<J> {
             (steps.hit_word (room_after self.old.events) word moment))) }
         ensures order { OnOk result
             (self.new.order ≡ with_action self.old.order (acting.now.by, acting.now.number)) }
+        ensures err { OnErr result (self.new ≡ record self.old { seen = self.new.seen }) }
     {
         self.order.reserve(1)?;
         let mut words = WatchedWords::new(acting, self.seen.again());
@@ -151,8 +157,10 @@ impl<J: Naming> LockedRoom<J> {
     /// The room and the actions in it, as that of the request with this name. The fault is that the
     /// room is another request's.
     pub(crate) fn day_at(self, at: RoomRef) -> Result<DayRoom, DayFault>
-        ensures { IfOk result (λ room. room
+        ensures room { IfOk result (λ room. room
             ≡ record { at = at; day = record { events = self.events; order = self.order } }) }
+        ensures other_room { self.at ≢ at → result ≡ Err (fault.Inbox at.investor) }
+        ensures given { self.at ≡ at → IsOk result }
     {
         if !self.is(at) {
             return Err(DayFault::Inbox(at.investor));

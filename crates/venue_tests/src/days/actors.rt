@@ -2,11 +2,12 @@
 ghost use Rattle.std.specs.Prelude.{◌≡◌};
 ghost use Rattle.step_replay.specs.Actions as actions;
 
-use super::fixtures::{Arrivals, VENUE, read_day};
+use super::fixtures::{Arrivals, VENUE, arrivals_of, read_day};
 use super::scripts::Script;
 use quote_word::{Board, BoardSeen};
 use recorded_days::{Inbound, Sweep};
 use session_worker::{Naming, SharedVenue, clock, session};
+use std::alloc::Global;
 use std::marker::Brand;
 use std::process::Abort;
 use std::sync::Wait;
@@ -70,7 +71,8 @@ fn words_of(config: &VenueConfig) -> u32
 }
 
 /// Calls the sessions of a venue on a board that was opened for it, the last firm's first, and then
-/// the clock.
+/// the clock; behind one that is refused memory it calls no other. It answers whether none was. The
+/// error is that memory was refused before the first session.
 fn each_works<J: Naming, T: Wait + Abort + AllocGlobal>(
     rt: &T,
     config: VenueConfig,
@@ -79,22 +81,26 @@ fn each_works<J: Naming, T: Wait + Abort + AllocGlobal>(
     mut inboxes: Vec<Vec<Inbound>>,
     sweeps: Vec<Sweep>,
     gate: &Script,
-) -> Result<(), Fail>
+) -> Result<bool, &'static str>
     requires board { board ≡ J.board }
     requires words { board.words ≡ actions.words_of config }
     requires seen { seen.board ≡ J.board }
     requires config { config ≡ J.config }
 {
-    let venue = SharedVenue::<J>::new(rt.alloc(), config, board, seen)?;
+    let Ok(venue) = SharedVenue::<J>::new(rt.alloc(), config, board, seen) else {
+        return Err("memory");
+    };
     for _ in 0..inboxes.len() {
         let inbox = inboxes.pop().ok_or("an inbox")?;
         let Ok(firm) = u16::try_from(inboxes.len()) else {
-            return Err(Fail::from("a number of a firm"));
+            return Err("a number of a firm");
         };
-        session(rt, &venue, firm, inbox, gate)?;
+        if session(rt, &venue, firm, inbox, gate).is_err() {
+            return Ok(false);
+        }
     }
-    clock(rt, &venue, sweeps, gate)?;
-    Ok(())
+    let swept = clock(rt, &venue, sweeps, gate);
+    Ok(swept.is_ok())
 }
 
 /// The same on a board that it opens.
@@ -102,15 +108,34 @@ fn all_work<T: Wait + Abort + AllocGlobal>(
     rt: &T,
     arrivals: Arrivals,
     gate: &Script,
-) -> Result<(), Fail> {
+) -> Result<bool, &'static str> {
     let Arrivals {
         config,
         inboxes,
         sweeps,
     } = arrivals;
-    let (board, seen) = Board::open(rt.alloc(), words_of(&config))?;
-    each_works::<Brand, T>(rt, config, board, seen, inboxes, sweeps, gate)?;
-    Ok(())
+    let Ok((board, seen)) = Board::open(rt.alloc(), words_of(&config)) else {
+        return Err("memory");
+    };
+    let whole = each_works::<Brand, T>(rt, config, board, seen, inboxes, sweeps, gate)?;
+    Ok(whole)
+}
+
+/// The text of the day; where memory was refused, made once more.
+fn input_at_last(alloc: Global) -> Result<String, Fail> {
+    if let Ok(input) = format!(in alloc; "{VENUE}{LINES}") {
+        return Ok(input);
+    }
+    let input = format!(in alloc; "{VENUE}{LINES}")?;
+    Ok(input)
+}
+
+/// What comes in a day of this text; where memory was refused, read once more.
+fn read_at_last(alloc: Global, input: &str) -> Result<Arrivals, &'static str> {
+    if let Ok(arrivals) = arrivals_of(alloc, input) {
+        return Ok(arrivals);
+    }
+    arrivals_of(alloc, input)
 }
 
 #[test]
@@ -118,7 +143,29 @@ fn sessions_and_the_clock_do_all_duties(rt: HostRuntime) -> Result<(), Fail> {
     let gate = Script::new(STANDS);
     let input = format!(in rt.alloc(); "{VENUE}{LINES}")?;
     let arrivals = read_day(&rt, input.as_str())?;
-    all_work(&rt, arrivals, &gate)?;
+    let whole = all_work(&rt, arrivals, &gate)?;
+    assert!(rt; whole, "no memory is refused");
     assert!(rt; gate.is_done(), "each stands where it has to");
+    Ok(())
+}
+
+// Whichever allocation is refused, the session or the clock to which it is refused says so: where
+// each says that it ended, all that they have to do is done.
+#[test]
+fn whoever_is_refused_memory_says_so(rt: HostRuntime) -> Result<(), Fail> {
+    let gate = Script::new(STANDS);
+    let input = input_at_last(rt.alloc())?;
+    let arrivals = read_at_last(rt.alloc(), input.as_str())?;
+    let whole = match all_work(&rt, arrivals, &gate) {
+        Ok(whole) => whole,
+        Err(why) => {
+            assert_eq!(rt; why, "memory");
+            return Ok(());
+        }
+    };
+    if !whole {
+        return Ok(());
+    }
+    assert!(rt; gate.is_done(), "what was left undone is told");
     Ok(())
 }

@@ -4,6 +4,7 @@ use input_lines::{MOST_INPUT, day_parts, read_steps, read_venue};
 use quote_messages::SentMessage;
 use recorded_days::{DayRecord, Inbound, Sweep};
 use session_worker::{DayFault, Gate, Point, run_day};
+use std::alloc::Global;
 use std::process::Abort;
 use std::sync::Wait;
 use std::test::Fail;
@@ -44,37 +45,38 @@ pub(crate) struct Arrivals {
     pub(crate) sweeps: Vec<Sweep>,
 }
 
-/// What comes in a day of this text.
-pub(crate) fn read_day<T: Abort + AllocGlobal>(rt: &T, input: &str) -> Result<Arrivals, Fail> {
-    let alloc = rt.alloc();
+/// What comes in a day of this text; or what the text lacks, or that memory was refused.
+pub(crate) fn arrivals_of(alloc: Global, input: &str) -> Result<Arrivals, &'static str> {
     if input.len() > MOST_INPUT {
-        return Err(Fail::from("a day that is no longer than an input"));
+        return Err("a day that is no longer than an input");
     }
     let Ok(parts) = day_parts(input.as_bytes()) else {
-        return Err(Fail::from("the parts of a day"));
+        return Err("the parts of a day");
     };
     let Ok(config) = read_venue(alloc, parts.config) else {
-        return Err(Fail::from("a configuration"));
+        return Err("a configuration");
     };
     let Ok(steps) = read_steps(alloc, &config, parts.steps) else {
-        return Err(Fail::from("the lines of a day"));
+        return Err("the lines of a day");
     };
     let firms = config.dealers().len() + config.investors().len();
-    let mut inboxes = Vec::with_capacity(alloc, firms)?;
+    let mut inboxes = Vec::with_capacity(alloc, firms).or(Err("memory"))?;
     for _ in 0..firms {
-        inboxes.push(Vec::new(alloc))?;
+        inboxes.push(Vec::new(alloc)).or(Err("memory"))?;
     }
     let mut sweeps = Vec::new(alloc);
     for step in steps {
         match step {
             Step::In(firm, moment, bytes) => {
                 let Some(inbox) = inboxes.get_mut(usize::from(firm)) else {
-                    return Err(Fail::from("a message of a firm of the venue"));
+                    return Err("a message of a firm of the venue");
                 };
-                inbox.push(Inbound { moment, bytes })?;
+                inbox.push(Inbound { moment, bytes }).or(Err("memory"))?;
             }
-            Step::Expire(room, moment) => sweeps.push(Sweep { room, moment })?,
-            Step::Turn(_) => return Err(Fail::from("a day on threads has no turns")),
+            Step::Expire(room, moment) => {
+                sweeps.push(Sweep { room, moment }).or(Err("memory"))?;
+            }
+            Step::Turn(_) => return Err("a day on threads has no turns"),
         }
     }
     Ok(Arrivals {
@@ -82,6 +84,12 @@ pub(crate) fn read_day<T: Abort + AllocGlobal>(rt: &T, input: &str) -> Result<Ar
         inboxes,
         sweeps,
     })
+}
+
+/// What comes in a day of this text.
+pub(crate) fn read_day<T: Abort + AllocGlobal>(rt: &T, input: &str) -> Result<Arrivals, Fail> {
+    let arrivals = arrivals_of(rt.alloc(), input)?;
+    Ok(arrivals)
 }
 
 /// The name of a firm.

@@ -8,6 +8,7 @@ use Rattle.recorded_days.specs.declared.actions.Action.{Action}
 use Rattle.session_worker.specs.DayActions.{EventsAreOfActions}
 use Rattle.session_worker.specs.DayChecks.{first_unswept, first_untold}
 use Rattle.session_worker.specs.KeptDays.{KeepsDay, names_by, rooms_of}
+use Rattle.session_worker.proofs.ActionLemmas.{events_are_left}
 use Rattle.session_worker.proofs.KeepLemmas.{Joined, day_is_kept, investor_inboxes}
 use Rattle.session_worker.proofs.RoomLemmas.{parts_read}
 use Rattle.session_worker.proofs.days.recorded.Goals as goal
@@ -141,7 +142,11 @@ returns g c =
       legal = c.in_ok-investors.ensures.legal;
       of_actions = read_as dealers c.deref.result.now whole c.deref-2.result.now
           c.args.clock.items c.deref-3.result.now dealers_read whole_read clock_read
-          (c.action_fault.ensures none);
+          (events_are_left (record {
+            dealers = c.deref.result.now;
+            investors = c.deref-2.result.now;
+            clock = c.deref-3.result.now;
+          }) (sym c.action_fault.ensures ∙ none));
     } in
     subst (KeepsDay config (map (λ session. session.inbox.items) sessions) sweeps)
     (sym c.new.ensures)

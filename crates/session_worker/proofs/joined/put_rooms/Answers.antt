@@ -16,7 +16,7 @@ loop-room-preserved g c =
     let later = c.both-seen.result.log in
     let ours : c.both-seen.result.board ≡ g.J.Naming.board = search in
     let stands : RoomStands c.seen.result.log room =
-    subst (RoomStands c.seen.result.log) (sym c.in_ok-day.ensures) c.seen.ensures.answers in
+    subst (RoomStands c.seen.result.log) (sym c.in_ok-day.ensures.room) c.seen.ensures.answers in
     let left : length (into_iter_items c.loop-room.room-iterator)
     ≡ suc (length (into_iter_items c.next.new.self)) = ap length c.in-Some.ensures.steps.0 in
     record {
@@ -33,5 +33,5 @@ loop-room-preserved g c =
       counted = omega (arith, left, c.loop-room.invariant.counted);
       names = rw c.in_ok-push.ensures.items
           (names_pushed c.args.all.now.items rooms room c.args.investor c.loop-room.n
-          c.loop-room.invariant.names (ap (λ (own : DayRoom). own.at) c.in_ok-day.ensures));
+          c.loop-room.invariant.names (ap (λ (own : DayRoom). own.at) c.in_ok-day.ensures.room));
     }

@@ -1,8 +1,33 @@
+use Rattle.std.proofs.Common.{refl}
+use Rattle.recorded_days.specs.Kinds.{is_expire, is_in}
+use Rattle.recorded_days.specs.declared.actions.Kind.TheVariants as kind
+use Rattle.session_worker.specs.Shifts.{IsNoted}
+use Rattle.session_worker.proofs.ShiftLemmas.{moment_noted, nothing_noted}
 use Rattle.session_worker.proofs.actors.Shift.sweep.Goals as goal
 
 -- whatever word it asked
-pub returns : goal.returns
-returns g c = record {
+pub returns-clause-noted : goal.returns-clause-noted
+returns-clause-noted g c = record {
   word = c.in_ok-done.done.word;
   one_more = c.in_ok-note.ensures.actions;
 }
+
+pub returns-clause-sweeps : goal.returns-clause-sweeps
+returns-clause-sweeps g c =
+    let noted : IsNoted kind.Expire c.args.sweep.moment c.args.self.now.actions.items
+    c.note.new.self.actions.items = record {
+      word = c.in_ok-done.done.word;
+      one_more = c.in_ok-note.ensures.actions;
+    } in
+    moment_noted is_expire kind.Expire c.args.sweep.moment c.args.self.now.actions.items
+    c.note.new.self.actions.items noted refl
+
+pub returns-clause-messages : goal.returns-clause-messages
+returns-clause-messages g c =
+    let noted : IsNoted kind.Expire c.args.sweep.moment c.args.self.now.actions.items
+    c.note.new.self.actions.items = record {
+      word = c.in_ok-done.done.word;
+      one_more = c.in_ok-note.ensures.actions;
+    } in
+    nothing_noted is_in kind.Expire c.args.sweep.moment c.args.self.now.actions.items
+    c.note.new.self.actions.items noted refl

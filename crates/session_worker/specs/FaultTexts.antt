@@ -1,0 +1,16 @@
+-- The texts of the faults of a day on threads.
+use Rattle.std.specs.Prelude.{ℕ, List, ◌++◌, codes, decimal}
+use Rattle.session_worker.specs.declared.faults.DayFault.{DayFault}
+use Rattle.session_worker.specs.declared.faults.DayFault.TheVariants as fault
+
+-- a fault, as it is printed
+abbrev pub fault_text : DayFault → List ℕ
+fault_text fault.Memory = codes "out of memory"
+fault_text (fault.Inbox firm) =
+    codes "the desk of firm " ++ decimal firm
+    ++ codes " does not have the messages that came to it, or its actions"
+fault_text (fault.Told dealer) =
+    codes "dealer " ++ decimal dealer ++ codes " was not told how its requests ended"
+fault_text (fault.Sweep room) =
+    codes "request " ++ decimal room.n ++ codes " of firm " ++ decimal room.investor
+    ++ codes " was not swept as the clock was told"
