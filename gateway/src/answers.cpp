@@ -22,6 +22,11 @@ void Answers::put(std::uint32_t place, std::optional<Moment> deadline) {
     }
 }
 
+std::uint32_t Answers::last_place() {
+    const std::lock_guard lock(mutex_);
+    return answered_.value_or(0);
+}
+
 bool Answers::wait(std::uint32_t place, const std::stop_token &stop) {
     std::unique_lock lock(mutex_);
     return answers_.wait(lock, stop, [&] { return has_answered(place); });

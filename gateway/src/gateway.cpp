@@ -76,6 +76,9 @@ bool Gateway::is_today() const {
 
 std::optional<std::string> Gateway::run() {
     while (!status_.wait(1s)) {
+        for (const auto &day : days_) {
+            day->look_for_silence();
+        }
         if (!is_today()) {
             status_.ask_to_stop("the day is over");
         }

@@ -14,6 +14,7 @@
 #include "metrics.h"
 #include "moment.h"
 #include "patient_reader.h"
+#include "silence.h"
 #include "status.h"
 #include "sweeper.h"
 #include "venue.h"
@@ -55,6 +56,13 @@ class VenueDay final : private SessionHost, private VenueListener {
     void end();
     // Ends all at once, and what is handed to the engine.
     void close();
+
+    // Looks whether the venue answers; to be called each second behind start().
+    void look_for_silence() {
+        if (log_) {
+            silence_.look(answers_.last_place(), log_->last_place());
+        }
+    }
 
     bool is_today() const { return clock_.is_today(); }
     std::size_t firms() const { return firms_.size(); }
@@ -135,6 +143,7 @@ class VenueDay final : private SessionHost, private VenueListener {
     Ahead ahead_;
     bool is_first_ = true; // of what was read; of the thread that reads the venue
     Answers answers_;
+    Silence silence_;
     std::unique_ptr<Log> log_;
     std::unique_ptr<Venue> venue_;
     std::unique_ptr<Sweeper> sweeper_;

@@ -285,7 +285,7 @@ def more_than_may_wait(stage: Stage) -> None:
 
 
 def venue_that_hangs(stage: Stage) -> None:
-    """A venue that is stopped and goes on: nothing is lost, and the sessions stand."""
+    """A venue that is stopped and goes on: the operator is told of both, nothing is lost, and the sessions stand."""
     stage.open(*stage.firms)
     venues = stage.door.venues()
     for pid in venues:
@@ -293,9 +293,11 @@ def venue_that_hangs(stage: Stage) -> None:
     stage.say(stage.dealer, "Z", [(298, b"4")])
     before = stage.dealer.times_on
     until("the message is in the log", LONG, lambda: stage.entries_of(stage.dealer) == 1)
+    until("it is told", LONG, lambda: b"venue does not answer place=1 " in stage.door.told.read_bytes())
     for pid in venues:
         os.kill(pid, signal.SIGCONT)
     stage.answer(stage.dealer, "297=9", lambda message: message.value(297) == b"9")
+    until("it is told", LONG, lambda: b"venue answers again place=1" in stage.door.told.read_bytes())
     check(stage.dealer.times_on == before, "the session did not stand")
     stage.auction()
     stage.whole()

@@ -1,0 +1,37 @@
+// A venue that has stopped to answer.
+#ifndef GATEWAY_SILENCE_H
+#define GATEWAY_SILENCE_H
+
+#include <chrono>
+#include <cstdint>
+#include <memory>
+#include <string>
+
+#include <spdlog/logger.h>
+
+namespace gateway {
+
+// Tells the operator once where a venue has entries to answer and has answered none for some
+// seconds, and once when it goes on. One thread.
+class Silence {
+  public:
+    // of_venue is what events say of which venue it is.
+    Silence(std::shared_ptr<spdlog::logger> events, std::string of_venue)
+        : events_(std::move(events)), of_venue_(std::move(of_venue)) {}
+
+    // To be called each second, with the last entry that is answered and the last one of the log.
+    void look(std::uint32_t answered, std::uint32_t last);
+
+  private:
+    using Clock = std::chrono::steady_clock;
+
+    std::shared_ptr<spdlog::logger> events_;
+    const std::string of_venue_;
+    std::uint32_t answered_ = 0;
+    Clock::time_point since_ = Clock::now();
+    bool told_ = false;
+};
+
+} // namespace gateway
+
+#endif
