@@ -11,7 +11,7 @@ from typing import BinaryIO
 
 BLOCK = 1 << 17  # bytes: so few that a processor's cache holds what is made of them
 LAST_BYTES = 4096
-LOOK = 0.02  # seconds from one look at a file that grows to the next
+LOOK = 0.005  # seconds from one look at a file that grows to the next
 FEED = b"\n"
 
 
