@@ -211,15 +211,17 @@ def write_day(log: Log, day: Day, path: Path, step: Step) -> None:
     An entry is one line of it, whatever stands in the log: where one has a line feed, which no
     gateway writes, a carriage return stands in its place, and the venue does not take the line.
     """
+    count = lines_before(day)
     with path.open("wb") as file:
         file.write(day.head)
         for lines in log.line_blocks():
+            count += len(lines)
             text = FEED.join([*lines, b""])
             if text.count(FEED) != len(lines):
                 text = b"".join(line.replace(FEED, b"\r") + FEED for line in lines)
             file.write(text)
             step(len(lines))
-    Growing(path).end()
+    Growing(path).end(count)
 
 
 def lines_before(day: Day) -> int:

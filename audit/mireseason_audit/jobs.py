@@ -134,7 +134,7 @@ class LiveJob(FindingsJob):
     def _findings(self, log: Log, step: Step) -> Iterator[Finding]:
         files, arguments = self.audited.files, ["live", "--frames", "--marks"]
         run = self.audited.venue.to_file(arguments, Growing(files.day), files.given)
-        self._check_answers(" ".join(arguments), run.lines_read)
+        self._check_answers(" ".join(arguments), Growing(files.day).lines())
         Growing(files.given).end()
         yield from self._faulty_lines(log, run.faults)
 

@@ -1,15 +1,17 @@
 """Files that are read in blocks, so that none is held."""
 
+import os
 import time
 from collections.abc import Iterable, Iterator
 from dataclasses import dataclass
 from hashlib import sha256
 from itertools import zip_longest
 from pathlib import Path
+from typing import BinaryIO
 
 BLOCK = 1 << 17  # bytes: so few that a processor's cache holds what is made of them
 LAST_BYTES = 4096
-LOOK = 0.02  # seconds from one look at a file that grows to the next
+LOOK = 0.005  # seconds from one look at a file that grows to the next
 FEED = b"\n"
 
 
@@ -30,21 +32,45 @@ class Growing:
         """It is there once all of the file is."""
         return self.path.with_name(self.path.name + ".whole")
 
-    def end(self) -> None:
-        """Says that all of it is there."""
-        self.whole.touch()
+    def end(self, lines: int = 0) -> None:
+        """Says that all of it is there, and how many lines that are, for whom who asks."""
+        part = self.path.with_name(self.path.name + ".part")
+        part.write_text("%d" % lines)
+        part.rename(self.whole)
+
+    def lines(self) -> int:
+        """How many lines there are in the end."""
+        while not self.whole.exists():
+            time.sleep(LOOK)
+        return int(self.whole.read_text())
 
     def blocks(self) -> Iterator[bytes]:
         """All that is written into it, up to its end; it may not be there yet."""
-        self.path.touch()
-        is_whole = False
-        with self.path.open("rb") as file:
-            while not is_whole:
-                is_whole = self.whole.exists()  # before it is read: what is read then is the rest
+        with self._opened() as file:
+            for _ in self._looks():
                 while block := file.read(BLOCK):
                     yield block
-                if not is_whole:
-                    time.sleep(LOOK)
+
+    def pour(self, pipe: int) -> None:
+        """Gives all of that to a pipe; nobody here looks at it."""
+        at = 0
+        with self._opened() as file:
+            for _ in self._looks():
+                while count := os.sendfile(pipe, file.fileno(), at, BLOCK):
+                    at += count
+
+    def _opened(self) -> BinaryIO:
+        self.path.touch()
+        return self.path.open("rb")
+
+    def _looks(self) -> Iterator[None]:
+        """The moments to read what is there; behind the last of them nothing more comes."""
+        is_whole = False
+        while not is_whole:
+            is_whole = self.whole.exists()  # before it is read: what is read then is the rest
+            yield
+            if not is_whole:
+                time.sleep(LOOK)
 
 
 def lines_of(path: Path) -> Iterator[bytes]:

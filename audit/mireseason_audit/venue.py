@@ -70,31 +70,20 @@ class Venue:
 class Feeder(threading.Thread):
     """Gives a program what it reads, while somebody else reads what it prints.
 
-    Where the program takes no more, its status says why; the lines are counted all the same.
+    Where the program takes no more, its status says why.
     """
 
-    def __init__(self, blocks: Iterator[bytes], stream: IO[bytes]) -> None:
+    def __init__(self, file: Growing, stream: IO[bytes]) -> None:
         super().__init__(daemon=True)
-        self._blocks, self._stream = blocks, stream
-        self.lines = 0  # all that there are, once it has ended
+        self._file, self._stream = file, stream
         self.fault: Exception | None = None
 
     def run(self) -> None:
         try:
             with suppress(BrokenPipeError), self._stream:
-                for block in self._counted():
-                    self._stream.write(block)
-                    self._stream.flush()  # it may be long until the next block is there
-            for _ in self._counted():
-                pass
+                self._file.pour(self._stream.fileno())
         except Exception as fault:  # it is raised where the run ends
             self.fault = fault
-
-    def _counted(self) -> Iterator[bytes]:
-        """The blocks that are left."""
-        for block in self._blocks:
-            self.lines += block.count(FEED)
-            yield block
 
 
 @dataclass
@@ -139,13 +128,8 @@ class Run(Closing):
         """Begins to give the program a file that still grows."""
         if isinstance(self.input, Growing) and self._feeder is None:
             assert self._process.stdin is not None
-            self._feeder = Feeder(self.input.blocks(), self._process.stdin)
+            self._feeder = Feeder(self.input, self._process.stdin)
             self._feeder.start()
-
-    @property
-    def lines_read(self) -> int:
-        """How many lines a file that grew had, once the run has ended."""
-        return 0 if self._feeder is None else self._feeder.lines
 
     def lines(self) -> Iterator[bytes]:
         """The lines that it prints, without their line feeds."""

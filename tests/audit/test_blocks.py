@@ -7,16 +7,19 @@ from collections.abc import Iterator
 from dataclasses import dataclass
 from pathlib import Path
 from typing import cast
+from unittest.mock import patch
 
-from common import folder
+from common import DAY, LogCase, folder
 from samples import ACCEPTED, SHOWN, soh
 
+from mireseason_audit import sqlite_log
 from mireseason_audit.faults import Unreadable
 from mireseason_audit.frame import fields_of, framed
 from mireseason_audit.jobs import Files, GivenReader, kept
 from mireseason_audit.log import Log
 from mireseason_audit.plain_wire import PlainSession
 from mireseason_audit.records import Messages
+from mireseason_audit.sqlite_log import SqliteSource
 from mireseason_audit.streams import lines_in
 from mireseason_audit.wire import carried, parts_of
 
@@ -239,6 +242,22 @@ class Kept(unittest.TestCase):
                 ):
                     rows[at] = row
                     self.assertIsNone(self.kept(rows, size)[0], (at, row))
+
+
+class Texts(LogCase):
+    """A column of texts may hold bytes that are none."""
+
+    def test_no_row_is_left_out_or_given_twice(self) -> None:
+        with SqliteSource(DAY).open() as log:
+            rows = list(log.entries())
+        for places in ([1], [300], [20, 21, 299], [0, len(rows) - 1]):
+            for place in places:
+                self.change("UPDATE entry SET firm = CAST(x'41ff' AS TEXT) WHERE place = ?", place)
+                rows[place] = rows[place]._replace(firm="A\\xff")
+            for size in (1, 7, 300, 1000):
+                with patch.object(sqlite_log, "ROWS_AT_A_TIME", size):
+                    with SqliteSource(self.log).open() as log:
+                        self.assertEqual(list(log.entries()), rows, (places, size))
 
 
 if __name__ == "__main__":

@@ -126,19 +126,32 @@ class Feeding(unittest.TestCase):
         with self.file.path.open("ab", buffering=0) as file:
             for part in self.parts:
                 file.write(part)
-        self.file.end()
+        self.file.end(99 * 999)
 
     def test_all_is_read(self) -> None:
-        run = self.fed("cat")
+        self.fed("cat")
         self.assertEqual(self.out.read_bytes(), b"".join(self.parts))
-        self.assertEqual(run.lines_read, 99 * 999)
+        self.assertEqual(self.file.lines(), 99 * 999)
 
     def test_a_program_that_takes_no_more(self) -> None:
-        """All lines are counted, so that it is seen that it has not answered them."""
-        for words in (["head", "-n", "3"], ["true"], ["sh", "-c", "exec <&-; sleep 0.1"]):
-            self.assertEqual(self.fed(*words).lines_read, 99 * 999, words)
+        """The run ends, and how many lines there are is known all the same."""
+        for words, out in (
+            (["head", "-n", "3"], b"0\n" * 3), (["true"], b""),
+            (["sh", "-c", "exec <&-; sleep 0.1"], b""),
+        ):
+            self.fed(*words)
+            self.assertEqual(self.out.read_bytes(), out, words)
+            self.assertEqual(self.file.lines(), 99 * 999, words)
             self.file.path.unlink()
             self.file.whole.unlink()
+
+    def test_lines_are_known_once_all_are_there(self) -> None:
+        with patch.object(streams, "LOOK", 0.001):
+            writer = threading.Thread(target=self.write)
+            writer.start()
+            self.assertEqual(self.file.lines(), 99 * 999)
+            self.assertEqual(self.file.path.read_bytes(), b"".join(self.parts))
+            writer.join()
 
     def test_what_it_prints_in_blocks_and_in_lines(self) -> None:
         self.write()
