@@ -11,7 +11,9 @@ from .log import Log, Source
 from .sql_log import Rows, SqlLog, check_form
 
 FORM = 1  # of the tables, as gateway/schema.sql has it
-ROWS_AT_A_TIME = 128  # so few that a processor's cache holds what is made of them
+# So few rows, and pages of the file, that a processor's cache holds them and what is made of them.
+ROWS_AT_A_TIME = 128
+PAGES = "PRAGMA cache_size = -256"  # kilobytes
 
 
 @dataclass(frozen=True)
@@ -102,6 +104,7 @@ def connected(path: Path) -> sqlite3.Connection:
         try:
             connection.execute("BEGIN")
             connection.execute("SELECT 1 FROM sqlite_master").fetchone()
+            connection.execute(PAGES)
             return connection
         except sqlite3.OperationalError:
             connection.close()
