@@ -3,10 +3,11 @@
 
 usage: pairs.py PROGRAM [--pairs N] [--runs N]
 
-An investor asks its dealer 250 times, and the dealer quotes 16 times on each of these requests, round by round; each firm is
-a thread of `day`, and does the duties of its messages itself. A quote that overtakes its request is refused. So `replay` is
-given the messages in an order in which they came: at each dealer's desk that of the fastest run of `day`, by what the
-dealer was sent in it, and of the pairs each in turn. Both then send the dealers the same, which is looked at.
+An investor asks its dealer 250 times, and the dealer quotes 40 times on each of these requests, round by round; each firm is
+a thread of `day`, and does the duties of its messages itself. A quote that overtakes its request is refused, and so is one
+past the dealer's 4,000th: most pairs reach that. `replay` is given the messages in an order in which they came: at each
+dealer's desk that of the fastest run of `day`, by what the dealer was sent in it, and of the pairs each in turn. Both then
+send the dealers the same, which is looked at.
 
 By the clock, the best of several runs: the whole; the same lines with one of no form behind them, which are read and nothing
 else is done; and `replay` of a dealer to which nothing comes, which prints nothing. What is left of each where reading and
@@ -25,7 +26,7 @@ from collections.abc import Iterator
 from dataclasses import dataclass
 from pathlib import Path
 
-REQUESTS, ROUNDS = 250, 16
+REQUESTS, ROUNDS, ACCEPTED = 250, 40, 4_000
 IDLE = "DLR0"
 NO_FORM = "no form\n"
 LIMIT = 20.0  # seconds, for one run of the program
@@ -41,7 +42,7 @@ class Ran:
 def configuration(pairs: int) -> str:
     text = 'version = 1\ndate = "20250314"\n[[bond]]\nid = "BONDA0000001"\n'
     for number in range(pairs + 1):
-        quotes = REQUESTS * ROUNDS if number else 1
+        quotes = ACCEPTED if number else 1
         text += '[[dealer]]\nname = "DLR%d"\ntraders = ["T1"]\nquotes = %d\nexposure = 1000000000000000\n' % (number, quotes)
     for number in range(1, pairs + 1):
         text += '[[investor]]\nname = "INV%d"\ntraders = ["T1"]\nrequests = %d\nopen = 1024\nquantity = 5000000\n' % (
@@ -136,7 +137,7 @@ def measure(program: Path, pairs: int, runs: int, folder: Path) -> None:
     own, replayed = day.seconds - read.seconds - printing, silent.seconds - replay_read.seconds
     accepted = sum(b"|297=0" in line for line in lines_to_dealers(day.text))
     print("%d pairs, %d messages, %d quotes of %d accepted: `replay` %.3f s (reading %.3f, the day %.3f, printing %.3f),"
-          " of processors %.3f" % (pairs, came.count("\n"), accepted, pairs * REQUESTS * ROUNDS, replay.seconds,
+          " of processors %.3f" % (pairs, came.count("\n"), accepted, pairs * ACCEPTED, replay.seconds,
                                    replay_read.seconds, replayed, printing, replay.processors))
     print("`day` %.3f s (reading %.3f, the sessions %.3f, before and behind them %.3f, printing %.3f), of processors %.3f"
           % (day.seconds, read.seconds, sessions, own - sessions, printing, day.processors))
