@@ -28,7 +28,6 @@ const CHUNK: usize = 16_384;
 const USUAL_LINE: usize = 160;
 
 /// How far a run has come.
-#[derive(Drop)]
 enum Stage {
     /// The lines of the configuration so far, each with its line feed.
     Configuration(Vec<u8>),
@@ -44,29 +43,11 @@ enum Stage {
     Both(KeptDay, KeptDay),
 }
 
-/// A run of `live`: what was read so far.
-struct LiveRun<'a> {
-    alloc: Global,
-    form: LineForm<'a>,
-    /// The number of the line that comes next, or that has begun.
-    number: usize,
-    /// Its bytes so far.
-    line: Vec<u8>,
-    stage: Stage,
-}
-
-/// As a derived one; but a run is proved to be dropped once, and not at each place that ends one.
-impl Drop for LiveRun<'_> {
+/// As a derived one; but what a stage has is dropped by calls, and in one place. A derived drop is
+/// taken apart down to each list wherever a stage ends, which takes minutes to prove.
+impl Drop for Stage {
     fn drop(self) {
-        let LiveRun {
-            alloc: _,
-            form: _,
-            number: _,
-            line,
-            stage,
-        } = self;
-        drop(line);
-        match stage {
+        match self {
             Stage::Configuration(text) => drop(text),
             Stage::Day(day) => drop(day),
             Stage::Kept(day) => drop(day),
@@ -81,6 +62,18 @@ impl Drop for LiveRun<'_> {
             }
         }
     }
+}
+
+/// A run of `live`: what was read so far.
+#[derive(Drop)]
+struct LiveRun<'a> {
+    alloc: Global,
+    form: LineForm<'a>,
+    /// The number of the line that comes next, or that has begun.
+    number: usize,
+    /// Its bytes so far.
+    line: Vec<u8>,
+    stage: Stage,
 }
 
 /// Runs `live`: reads a configuration and a line `%%`, and then answers each line of steps before
@@ -206,12 +199,12 @@ impl<'a> LiveRun<'a> {
     {
         if is_bare(&self.line) {
             let stage = mem::replace(&mut self.stage, Stage::Configuration(Vec::new(self.alloc)));
-            close(self.alloc, stage, out)?;
+            stage.close(self.alloc, out)?;
             return Ok(());
         }
         self.output_line(out, err)?;
         let stage = mem::replace(&mut self.stage, Stage::Configuration(Vec::new(self.alloc)));
-        close(self.alloc, stage, out)?;
+        stage.close(self.alloc, out)?;
         Ok(())
     }
 
@@ -274,27 +267,47 @@ fn make_room(line: &mut Vec<u8>) -> Result<(), Memory>
     Ok(())
 }
 
-/// At the end there is a day, and what is asked for of it is printed.
-fn close<W: Write>(alloc: Global, stage: Stage, out: &mut W) -> Result<(), ProgramFault>
-    ensures ok { OnOk result (stages.Closes stage
-        (record { before = W.contents out.old; after = W.contents out.new })) }
-    ensures err { IfErr result (λ fault. stages.CloseFails stage fault
-        (record { before = W.contents out.old; after = W.contents out.new })) }
-{
-    match stage {
-        Stage::Configuration(_) => Err(ProgramFault::Parts),
-        Stage::Day(_) => Ok(()),
-        Stage::Kept(day) => {
-            let text = day.into_text(alloc)?;
-            print_text(out, text.as_slice())?;
-            Ok(())
+impl Stage {
+    /// At the end there is a day, and what is asked for of it is printed.
+    fn close<W: Write>(self, alloc: Global, out: &mut W) -> Result<(), ProgramFault>
+        ensures ok { OnOk result (stages.Closes self
+            (record { before = W.contents out.old; after = W.contents out.new })) }
+        ensures err { IfErr result (λ fault. stages.CloseFails self fault
+            (record { before = W.contents out.old; after = W.contents out.new })) }
+    {
+        match self {
+            Stage::Configuration(_) => Err(ProgramFault::Parts),
+            Stage::Day(_) => Ok(()),
+            Stage::Kept(day) => {
+                let text = day.into_text(alloc)?;
+                print_text(out, text.as_slice())?;
+                Ok(())
+            }
+            Stage::First(_) => Err(ProgramFault::Parts),
+            Stage::Between(_, _) => Err(ProgramFault::Parts),
+            Stage::Both(one, other) => {
+                let text = compared_text(alloc, one, other)?;
+                print_text(out, text.as_slice())?;
+                Ok(())
+            }
         }
-        Stage::First(_) => Err(ProgramFault::Parts),
-        Stage::Between(_, _) => Err(ProgramFault::Parts),
-        Stage::Both(one, other) => {
-            let text = compared_text(alloc, one, other)?;
-            print_text(out, text.as_slice())?;
-            Ok(())
+    }
+
+    /// The stage behind a line that ends the first of two days, or the configuration of the second.
+    fn turned(self, alloc: Global, form: LineForm<'_>) -> Result<Stage, ProgramFault>
+        ensures ok { IfOk result (stages.Turns (meant_form form.entry) self) }
+        ensures err { IfErr result (stages.TurnFails (meant_form form.entry) self) }
+    {
+        let LineForm::Compared(dealer) = form else {
+            return Ok(self);
+        };
+        match self {
+            Stage::First(day) => Ok(Stage::Between(day, Vec::new(alloc))),
+            Stage::Between(one, text) => {
+                let other = KeptDay::open(alloc, Wanted::Due(Some(dealer)), text.as_slice())?;
+                Ok(Stage::Both(one, other))
+            }
+            other => Ok(other),
         }
     }
 }
@@ -373,26 +386,8 @@ fn turn(alloc: Global, form: LineForm<'_>, stage: &mut Stage) -> Result<(), Prog
     ensures err { IfErr result (stages.TurnFails (meant_form form.entry) stage.old) }
 {
     let before = mem::replace(stage, Stage::Configuration(Vec::new(alloc)));
-    *stage = turned(alloc, form, before)?;
+    *stage = before.turned(alloc, form)?;
     Ok(())
-}
-
-/// The stage behind such a line.
-fn turned(alloc: Global, form: LineForm<'_>, before: Stage) -> Result<Stage, ProgramFault>
-    ensures ok { IfOk result (stages.Turns (meant_form form.entry) before) }
-    ensures err { IfErr result (stages.TurnFails (meant_form form.entry) before) }
-{
-    let LineForm::Compared(dealer) = form else {
-        return Ok(before);
-    };
-    match before {
-        Stage::First(day) => Ok(Stage::Between(day, Vec::new(alloc))),
-        Stage::Between(one, text) => {
-            let other = KeptDay::open(alloc, Wanted::Due(Some(dealer)), text.as_slice())?;
-            Ok(Stage::Both(one, other))
-        }
-        other => Ok(other),
-    }
 }
 
 /// A line before the day: it opens the day, or goes on with the configuration, whose text this is.
