@@ -1,9 +1,11 @@
 //! The limits that contracts name by a constant of the code.
-ghost use Rattle.std.specs.Prelude.{◌≡◌, true, false, replicate};
+ghost use Rattle.std.specs.Prelude.{◌≡◌, true, false, [], ◌∷◌, replicate};
 ghost use Rattle.fix_fields.specs.declared.limits.TheConstants as frames;
+ghost use Rattle.market_terms.specs.Dealers.{are_askable};
 ghost use Rattle.market_terms.specs.Texts.{is_id};
 ghost use Rattle.market_terms.specs.declared.quantities.TheConstants.Quantity as quantity;
 ghost use Rattle.market_terms.specs.declared.rooms.TheConstants.AskedDealers as asked;
+ghost use Rattle.step_replay.specs.declared.steps.TheConstants as steps;
 ghost use Rattle.venue_rows.specs.declared.config.TheConstants.VenueConfig as venue;
 ghost use Rattle.venue_rows.specs.declared.dealer_rows.TheConstants.DealerRow as dealer;
 ghost use Rattle.venue_rows.specs.declared.investor_rows.TheConstants.InvestorRow as investor;
@@ -22,6 +24,11 @@ pub fn limits_are_as_written()
     ensures no_id { is_id (replicate 41 65) ≡ false }
     ensures units { quantity.MOST ≡ 1000000000000 }
     ensures named { asked.MOST ≡ 8 }
+    ensures eight { are_askable (0 ∷ 1 ∷ 2 ∷ 3 ∷ 4 ∷ 5 ∷ 6 ∷ 7 ∷ []) ≡ true }
+    ensures not_nine { are_askable (0 ∷ 1 ∷ 2 ∷ 3 ∷ 4 ∷ 5 ∷ 6 ∷ 7 ∷ 8 ∷ []) ≡ false }
+
+    // How many duties are done behind a step that comes live, at most.
+    ensures turns { steps.MOST_TURNS_BEHIND ≡ 18446744073709551615 }
 
     // A configuration: its versions, its rows, and what a row may say.
     ensures version { venue.LAST_VERSION ≡ 2 }
