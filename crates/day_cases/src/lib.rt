@@ -9,7 +9,8 @@
 //! | `inbox` | [`Inboxes`] | `inbox_of` of `session_worker` |
 //! | `text` | [`Texts`] | the calls of `input_lines` |
 //!
-//! [`run_place`] runs a file of cases at one of them. The calls of each stand at its type. A call that answers nothing has done what it says.
+//! [`run_place`] runs a file of cases at one of them. The calls of each stand at its type. A call
+//! that answers nothing has done what it says.
 #![tactic(auto)]
 
 mod answers;
