@@ -15,7 +15,7 @@ use std::alloc::Global;
 /// | `bytes BYTES` | a piece for each byte, a millisecond apart, the first at midnight |
 /// | `inbox` | answers the messages, each behind its time, and the fault of the stream |
 #[derive(Drop)]
-pub struct Inboxes {
+pub(crate) struct Inboxes {
     pieces: Vec<Inbound>,
 }
 

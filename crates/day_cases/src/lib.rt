@@ -9,7 +9,8 @@
 //! | `inbox` | [`Inboxes`] | `inbox_of` of `session_worker` |
 //! | `text` | [`Texts`] | the calls of `input_lines` |
 //!
-//! The calls of each stand at its type. A call that answers nothing has done what it says.
+//! [`run_place`] runs a file of cases at one of them. The calls of each stand at its type. A call
+//! that answers nothing has done what it says.
 #![tactic(auto)]
 
 mod answers;
@@ -18,6 +19,7 @@ mod desk_events;
 mod empty_days;
 mod events;
 mod inboxes;
+mod places;
 mod records;
 mod replays;
 mod said;
@@ -28,8 +30,4 @@ mod values;
 mod venues;
 mod views;
 
-pub use inboxes::Inboxes;
-pub use records::Records;
-pub use replays::Replays;
-pub use texts::Texts;
-pub use views::Views;
+pub use places::run_place;

@@ -51,7 +51,7 @@ use venue_text::due_lines;
 ///
 /// An ANSWER is `lifted` or `withdrawn`, and of an event `-` where it asked no word.
 #[derive(Drop)]
-pub struct Records {
+pub(crate) struct Records {
     venue: Venue,
     dealers: Vec<DealerDay>,
     investors: Vec<InvestorDay>,

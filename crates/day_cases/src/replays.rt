@@ -37,7 +37,7 @@ use venue_text::{due_lines, messages_text};
 ///
 /// A reader answers `none` where no firm has the number.
 #[derive(Drop)]
-pub struct Replays {
+pub(crate) struct Replays {
     venue: Venue,
     world: Option<World>,
     live: Option<LiveVenue>,

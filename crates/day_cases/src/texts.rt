@@ -37,7 +37,7 @@ use venue_rows::VenueConfig;
 ///
 /// In a TEXT, `\xHH` is a byte, and `\\` a backslash.
 #[derive(Drop)]
-pub struct Texts {
+pub(crate) struct Texts {
     input: Vec<u8>,
 }
 

@@ -16,7 +16,7 @@ use venue_text::{due_lines, messages_text};
 /// | `items` | answers the list as lines |
 /// | `sent` | answers what the dealer is sent for it |
 #[derive(Drop)]
-pub struct Views {
+pub(crate) struct Views {
     text: String,
     due: Option<DueText>,
 }

@@ -27,7 +27,7 @@ const MOST_ASKED: u32 = 16;
 /// | `meet RECEIPT RECEIPT NAME` | both answers; the receipts are gone |
 /// | `pass TOKEN NAME ASK WORD ..`, where ASK is `withdraw` or `lift` | what each word is, asked one behind the other through one pass |
 #[derive(Drop)]
-pub struct BoardPlace {
+pub(crate) struct BoardPlace {
     board: KnownBoard,
 }
 

@@ -32,7 +32,7 @@ use std::alloc::Global;
 
 /// The place `dealer_desk`.
 #[derive(Drop)]
-pub struct DealerPlace {
+pub(crate) struct DealerPlace {
     opened: Option<Opened>,
 }
 

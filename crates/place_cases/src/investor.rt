@@ -28,7 +28,7 @@ use venue::Rows;
 
 /// The place `investor_desk`.
 #[derive(Drop)]
-pub struct InvestorPlace {
+pub(crate) struct InvestorPlace {
     rows: Rows,
     opened: Option<Opened>,
 }

@@ -2,12 +2,12 @@
 //!
 //! | place | what it drives |
 //! |---|---|
-//! | [`DealerPlace`] | the desk of a dealer |
-//! | [`InvestorPlace`] | the desk of an investor |
-//! | [`RoomPlace`] | the room of a request, vacant before the first call |
-//! | [`RowPlace`] | a row of words in a list |
-//! | [`BoardPlace`] | a board of words, with its tokens and receipts under names |
-//! | [`StepPlace`] | each step, over the desks of DLR1, DLR2 and INV1, a room, and a row or a board |
+//! | `dealer_desk` | the desk of a dealer |
+//! | `investor_desk` | the desk of an investor |
+//! | `request_room` | the room of a request, vacant before the first call |
+//! | `plain_words` | a row of words in a list |
+//! | `board` | a board of words, with its tokens and receipts under names |
+//! | `venue_steps` | each step, over the desks of DLR1, DLR2 and INV1, a room, and a row or a board |
 //!
 //! The calls of each stand in the table of its module. A call makes one call of the place, and
 //! answers what the place answers: `yes` or `no` where that is whether it took effect, and a refusal
@@ -38,6 +38,7 @@ mod events;
 mod floor;
 mod investor;
 mod messages;
+mod places;
 mod replies;
 mod room;
 mod row;
@@ -46,9 +47,4 @@ mod steps;
 mod tally;
 mod terms;
 
-pub use board::BoardPlace;
-pub use dealer::DealerPlace;
-pub use investor::InvestorPlace;
-pub use room::RoomPlace;
-pub use row::RowPlace;
-pub use steps::StepPlace;
+pub use places::run_place;

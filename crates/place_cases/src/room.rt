@@ -30,7 +30,7 @@ use std::alloc::Global;
 /// | `events` | the events as calls, a line each |
 /// | `book WORD ..` | each of these words that may be hit in the open room, with the winner and the cover of its award, a line each |
 #[derive(Drop)]
-pub struct RoomPlace {
+pub(crate) struct RoomPlace {
     room: Room,
 }
 

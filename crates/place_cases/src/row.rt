@@ -14,7 +14,7 @@ use std::alloc::Global;
 /// | `withdraw WORD`, `lift WORD` | what the word is from then on |
 /// | `is_withdrawn SETTLED`, `is_lifted SETTLED`, where SETTLED is `withdrawn` or `lifted` | whether a word that is settled so is |
 #[derive(Drop)]
-pub struct RowPlace {
+pub(crate) struct RowPlace {
     row: PlainWords,
 }
 

@@ -38,7 +38,7 @@ use venue_steps::{Duties, do_drop, do_hit, do_show, do_tell, own_dealer, own_inv
 /// | `answer MOMENT N ID QUOTE REPLY`, `close MOMENT N` | the desk of INV1; QUOTE is `pass` where a pass is answered |
 /// | `seen` | how many events each place has, and how many messages each desk has sent |
 #[derive(Drop)]
-pub struct StepPlace {
+pub(crate) struct StepPlace {
     floor: Floor,
     row: Row,
 }

@@ -16,7 +16,7 @@ use venue_rows::{BondId, Name};
 /// - `quote_times N ..`, `request_times N ..`: N such lines.
 /// - `dealer`, `investor`: the blotter. `dealer_len`, `investor_len`: its bytes.
 #[derive(Drop)]
-pub struct BlotterCases {
+pub(crate) struct BlotterCases {
     quotes: Vec<QuoteLine>,
     requests: Vec<RequestLine>,
 }

@@ -23,7 +23,7 @@ use venue_rows::{DealerRow, InvestorRow, Traders, VenueConfig};
 ///   `is_own_copy DEALER`: whether it has that of its own copy.
 /// - `limits`, `faults`: the constants, and the texts of the faults.
 #[derive(Drop)]
-pub struct ConfigCases {
+pub(crate) struct ConfigCases {
     text: String,
     config: Option<VenueConfig>,
     kept: Option<VenueConfig>,

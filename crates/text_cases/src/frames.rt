@@ -18,7 +18,7 @@ use std::fmt::Write;
 /// - `each_byte_changed`: how many frames there are among the bytes with one byte changed to each
 ///   other value.
 #[derive(Drop)]
-pub struct FrameCases {
+pub(crate) struct FrameCases {
     buffer: ByteBuffer,
 }
 

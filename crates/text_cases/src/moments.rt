@@ -13,7 +13,7 @@ use std::str;
 /// - `text DATE NUMBER`, `time NUMBER`: the texts of a moment.
 /// - `earlier NUMBER NUMBER`: whether the first moment is before the second.
 #[derive(Drop)]
-pub struct MomentCases {}
+pub(crate) struct MomentCases {}
 
 impl Place for MomentCases {
     fn new(_alloc: Global) -> Result<Self, CaseFault> {

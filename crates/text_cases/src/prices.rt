@@ -18,7 +18,7 @@ use std::fmt::Write;
 ///   `same_grid STEPS STEPS`: whether they are the same. `on STEPS NUMBER`: whether a price is on
 ///   a grid.
 #[derive(Drop)]
-pub struct PriceCases {}
+pub(crate) struct PriceCases {}
 
 impl Place for PriceCases {
     fn new(_alloc: Global) -> Result<Self, CaseFault> {

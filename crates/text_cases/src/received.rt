@@ -24,7 +24,7 @@ use std::fmt::Write;
 ///   number is expected; `raw_from_dealer EXPECTED`, `raw_from_investor EXPECTED`: of the body
 ///   alone, that is no frame.
 #[derive(Drop)]
-pub struct ReceivedCases {
+pub(crate) struct ReceivedCases {
     body: String,
 }
 

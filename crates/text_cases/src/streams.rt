@@ -22,7 +22,7 @@ use std::fmt::Write;
 /// - `byte_by_byte`: each message and the fault, with the number of bytes that had come before the
 ///   call that answers it; the last call has the empty piece.
 #[derive(Drop)]
-pub struct StreamCases {
+pub(crate) struct StreamCases {
     buffer: ByteBuffer,
     splitter: Splitter,
 }

@@ -21,7 +21,7 @@ use std::fmt::Write;
 /// - `sides`, `closes`, `refusals`: the codes (54, 694) and names.
 /// - `ask INVESTOR BOND SIDE QUANTITY DEADLINE GRID`: the copy of an ask.
 #[derive(Drop)]
-pub struct TermCases {}
+pub(crate) struct TermCases {}
 
 impl Place for TermCases {
     fn new(_alloc: Global) -> Result<Self, CaseFault> {

@@ -21,7 +21,7 @@ use std::fmt::Write;
 /// - `message BYTES`: a message of them, copied, and one of the list that it is kept in.
 ///   `message_times N BYTES`: the length of the copy of a message of these bytes N times.
 #[derive(Drop)]
-pub struct ValueCases {}
+pub(crate) struct ValueCases {}
 
 impl Place for ValueCases {
     fn new(_alloc: Global) -> Result<Self, CaseFault> {

@@ -17,7 +17,7 @@ use std::alloc::Global;
 /// - `is_tag TAG`, `is_value BYTES`, `fits TAG LENGTH LEFT`, `decimal_len NUMBER`: the tests.
 /// - `limits`: the longest frame, and the longest body.
 #[derive(Drop)]
-pub struct WriterCases {
+pub(crate) struct WriterCases {
     writer: Option<FrameWriter>,
 }
 

@@ -24,7 +24,7 @@ use std::alloc::Global;
 ///   `declined REQUEST DEALER`, `hit_answer ID REQUEST NUMBER REFUSAL`, `hit_unknown ID QUOTE`,
 ///   `pass_answer ID REQUEST STATUS`, `expired REQUEST`: to an investor.
 #[derive(Drop)]
-pub struct WrittenCases {
+pub(crate) struct WrittenCases {
     head: Option<Head>,
     last: Option<SentMessage>,
 }
