@@ -43,7 +43,7 @@ say "The gateway is built meanwhile"
 # A session of its own, so that its compilers end with it; where Linux shares processors out by session,
 # it is the session that has to be nice.
 # shellcheck disable=SC2016 # of the inner shell
-setsid nice -n 10 sh -c '{ echo 10 >/proc/self/autogroup; } 2>/dev/null
+setsid nice -n 19 sh -c '{ echo 19 >/proc/self/autogroup; } 2>/dev/null
     cmake -S "$1" -B "$1/out" && exec cmake --build "$1/out" -j "$(nproc)"' \
     build "$root/gateway" >"$work/built" 2>&1 &
 building=$!

@@ -25,7 +25,8 @@ from typing import IO
 ROOT = Path(__file__).resolve().parent.parent
 MEMORY_OF_A_CRATE = 3 << 30  # bytes
 MINUTES_OF_ONE = 200  # for all, on one processor
-BEHIND = 10  # how nice a proof is for which less waits than for another
+MORE = 2  # crates at work beyond the processors, for the time in which one can't fill its own
+BEHIND, NICEST = 5, 19  # how nice a proof is for each one for which more waits, at most
 LOOK, TELL = 1.0, 30.0  # seconds
 
 
@@ -74,9 +75,13 @@ def is_newer(program: Path, names: list[str]) -> bool:
     return all(source.stat().st_mtime < made for source in sources)
 
 
-def jobs_here() -> int:
+def crates_in_memory() -> int:
     memory = os.sysconf("SC_PAGE_SIZE") * os.sysconf("SC_PHYS_PAGES")
-    return max(1, min(len(os.sched_getaffinity(0)), memory // MEMORY_OF_A_CRATE))
+    return max(1, memory // MEMORY_OF_A_CRATE)
+
+
+def jobs_here() -> int:
+    return min(len(os.sched_getaffinity(0)), crates_in_memory())
 
 
 def clock(seconds: float) -> str:
@@ -183,14 +188,15 @@ class Prover:
 
     def begin_ready(self) -> None:
         ready = [name for name in self.waiting if self.proved.issuperset(self.crates[name])]
-        for name in ready[: self.jobs - len(self.running)]:
+        most = min(self.jobs + MORE, crates_in_memory())
+        for name in ready[: most - len(self.running)]:
             self.waiting.remove(name)
             # A crate seldom fills all processors, and two nearly always do: more take half of them
-            # each, but for the one for which most waits.
-            is_first = name == self.left[0]
-            jobs = self.jobs if is_first or len(self.running) < 2 else max(1, self.jobs // 2)
+            # each, but for the two for which most waits.
+            rank = self.left.index(name)
+            jobs = self.jobs if rank < 2 or len(self.running) < 2 else max(1, self.jobs // 2)
             copy = Copy(name, below(self.crates, name), self.place)
-            self.running.append(begin(copy, jobs, 0 if is_first else BEHIND))
+            self.running.append(begin(copy, jobs, min(BEHIND * rank, NICEST)))
 
     def take_ended(self) -> None:
         for proof in [each for each in self.running if each.process.poll() is not None]:
