@@ -276,15 +276,28 @@ impl Stage {
             (record { before = W.contents out.old; after = W.contents out.new })) }
     {
         match self {
-            Stage::Configuration(_) => Err(ProgramFault::Parts),
-            Stage::Day(_) => Ok(()),
+            Stage::Configuration(text) => {
+                drop(text);
+                Err(ProgramFault::Parts)
+            }
+            Stage::Day(day) => {
+                drop(day);
+                Ok(())
+            }
             Stage::Kept(day) => {
                 let text = day.into_text(alloc)?;
                 print_text(out, text.as_slice())?;
                 Ok(())
             }
-            Stage::First(_) => Err(ProgramFault::Parts),
-            Stage::Between(_, _) => Err(ProgramFault::Parts),
+            Stage::First(day) => {
+                drop(day);
+                Err(ProgramFault::Parts)
+            }
+            Stage::Between(day, text) => {
+                drop(day);
+                drop(text);
+                Err(ProgramFault::Parts)
+            }
             Stage::Both(one, other) => {
                 let text = compared_text(alloc, one, other)?;
                 print_text(out, text.as_slice())?;

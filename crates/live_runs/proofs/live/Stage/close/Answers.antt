@@ -8,8 +8,8 @@ use Rattle.live_runs.proofs.live.Stage.close.Goals as goal
 
 pub returns-in-Configuration-clause-err : goal.returns-in-Configuration-clause-err
 returns-in-Configuration-clause-err g c =
-    let was : c.args.self ≡ stage.Configuration c.in-Configuration.field-0 = search rules in
-    last_bare c.args.self c.in-Configuration.field-0 Parts (g.W.Write.contents c.args.out.now) was refl
+    let was : c.args.self ≡ stage.Configuration c.in-Configuration.text = search rules in
+    last_bare c.args.self c.in-Configuration.text Parts (g.W.Write.contents c.args.out.now) was refl
 
 pub returns-in_err-text-in-Kept-clause-err : goal.returns-in_err-text-in-Kept-clause-err
 returns-in_err-text-in-Kept-clause-err g c =
@@ -31,13 +31,13 @@ returns-in_err-print_text-in-Kept-clause-err g c =
 
 pub returns-in-First-clause-err : goal.returns-in-First-clause-err
 returns-in-First-clause-err g c =
-    let was : c.args.self ≡ stage.First c.in-First.field-0 = search rules in
-    last_first c.args.self c.in-First.field-0 Parts (g.W.Write.contents c.args.out.now) was refl
+    let was : c.args.self ≡ stage.First c.in-First.day = search rules in
+    last_first c.args.self c.in-First.day Parts (g.W.Write.contents c.args.out.now) was refl
 
 pub returns-in-Between-clause-err : goal.returns-in-Between-clause-err
 returns-in-Between-clause-err g c =
-    let was : c.args.self ≡ stage.Between c.in-Between.field-0 c.in-Between.field-1 = search rules in
-    last_between c.args.self c.in-Between.field-0 c.in-Between.field-1 Parts (g.W.Write.contents c.args.out.now) was refl
+    let was : c.args.self ≡ stage.Between c.in-Between.day c.in-Between.text = search rules in
+    last_between c.args.self c.in-Between.day c.in-Between.text Parts (g.W.Write.contents c.args.out.now) was refl
 
 pub returns-in_err-text-in-Both-clause-err : goal.returns-in_err-text-in-Both-clause-err
 returns-in_err-text-in-Both-clause-err g c =
@@ -57,8 +57,8 @@ returns-in_err-print_text-in-Both-clause-err g c =
     (last_both_unprinted c.args.self c.in-Both.one c.in-Both.other old new text fault was c.in_err-print_text-in-Both.ensures.err
     c.in_ok-text-in-Both.ensures part)
 
-pub returns-clause-ok : goal.returns-clause-ok
-returns-clause-ok g c =
+pub returns-in_ok-print_text-in-Both-clause-ok : goal.returns-in_ok-print_text-in-Both-clause-ok
+returns-in_ok-print_text-in-Both-clause-ok g c =
     let text = c.in_ok-text-in-Both.text.items in
     let old = g.W.Write.contents c.args.out.now in
     let new = g.W.Write.contents c.print_text-in-Both.new.out in
