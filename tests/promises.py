@@ -16,12 +16,12 @@ from pathlib import Path
 PAGE = "docs/PROMISES.md"
 HEAD = """# Promises
 
-Written by `tests/promises.py`; change nothing here by hand. What every public function of a crate
-requires of its caller and ensures, from the function's own comments and clauses. Each is proved, for
-every input; what a clause is made of stands in the crate's `specs/`. A function's first row has its
-comment, and below it stand its clauses, each under its name where it has one, with the comment that
-it has of its own. A clause `requires` is the caller's. Laws are functions that do nothing. Behind the
-tables stands one caller of the crate, as it is proved.
+Written by `tests/promises.py`; change nothing here by hand. Of each crate, what every public function
+requires of its caller and ensures, in the words of its own comments and clauses. Each clause is
+proved, for every input; the crate's `specs/` has the definitions of which clauses are made. A
+function's first row has its comment, and the rows below have its clauses, each with its name and its
+comment where it has them. What a clause `requires` the caller has to see to. A law is a function that
+does nothing. After the tables stands one caller of the crate, as it is proved.
 """
 
 # A function that calls each crate, from a crate above: where it stands, and its name.
