@@ -34,7 +34,7 @@ spaced texts = join_with_byte 32 texts
 abbrev pub line_of : List (List ℕ) → List ℕ
 line_of columns = spaced columns ++ 10 ∷ []
 
--- the investor buys or sells
+-- the letter of a side: the investor buys (`B`) or sells (`S`)
 abbrev pub side_letter : Side → List ℕ
 side_letter Buy = codes "B"
 side_letter Sell = codes "S"

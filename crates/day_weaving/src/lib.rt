@@ -1,4 +1,4 @@
-//! A recorded day woven: the same day as a list of steps.
+//! Weaves a recorded day: makes of its actions one list of steps.
 //!
 //! ```ignore
 //! let steps = weave(alloc, &config, &record)?; // the day as steps of `step_replay`

@@ -11,10 +11,11 @@ ghost use Rattle.day_weaving.specs.Weaving as weaving;
 ghost use Rattle.day_weaving.specs.declared.weave_plan.Slot.{Slot};
 ghost use Rattle.day_weaving.specs.declared.weaving.WeaveFault.{WeaveFault};
 
-/// A law: an order of a recorded day that is kept names each action of the day exactly once; and
-/// where the orders of the desks and rooms name each action exactly once too, as they do on each
-/// day that is woven, no action stands in it before one that is directly before it. So where of
-/// some actions each has one of them directly before it, no order is kept. It does nothing.
+/// A law: an order that keeps what is directly before what names each action of the day exactly
+/// once. Where the orders of the desks and rooms name each action exactly once too, as they do on
+/// each day that is woven, no action stands in it before one that is directly before it. So where
+/// of some actions each has another of them directly before it, there is no such order. It does
+/// nothing.
 pub fn orders_keep_what_is_before()
     ensures once { (day : RecordedDay) (slots : List Slot) → spec.KeepsOrder day slots
         → (action : ActionRef) → is_some (recorded.action_in day action) ≡ true

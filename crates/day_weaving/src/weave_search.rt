@@ -1,9 +1,9 @@
 //! The search for an order of a recorded day.
 //!
-//! To bring an action into the order, the way is gone back over what it waits for, each action of
-//! the way directly before the one that it was come from, up to one that may come; that one is
-//! placed, and the way is gone on from the one before. Where the way comes back to itself, it is a
-//! circle from there on.
+//! To bring an action into the order, the search goes back from it to one that it waits for (one
+//! that is directly before it and has not come), from there to one that this waits for, and so on,
+//! up to one that waits for nothing: this is placed, and the search goes on from the one that it
+//! came from. Where the way back meets itself, it is a circle from there on.
 ghost use Rattle.std.specs.Prelude.{◌≡◌, ◌<◌, ◌≤◌, ℕ, ◌+◌, length, drop, slice_get, None, Some};
 ghost use Rattle.std.specs.Prelude.{option_and_then, IfOk, OnOk, IfSome, IfNone};
 ghost use Rattle.day_weaving.specs.DayOrder as spec;

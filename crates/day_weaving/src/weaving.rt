@@ -25,8 +25,8 @@ pub enum WeaveFault {
     /// The record is not that of a day of the venue: the orders of its desks and rooms do not name
     /// each of its actions exactly once and nothing else; or the inbox of a firm has not one message
     /// for each that came; or the clock has a message, a firm a sweep or a desk a sweep; or it has a
-    /// firm or a room that the venue does not have, or lacks a firm of the venue. It is told exactly
-    /// where that is so, memory aside.
+    /// firm or a room that the venue does not have, or lacks a firm of the venue. This is the fault
+    /// exactly where that is so, memory aside.
     Malformed,
     /// No order keeps what came before what: of these actions each has one of them directly before
     /// it. An action goes by its actor, and its number among the actions of that actor, from 1.
@@ -54,12 +54,12 @@ impl<T: Drop> From<AllocFailed<T>> for WeaveFault {
     }
 }
 
-/// The steps of a recorded day, in an order in which each action stands behind all that are directly
-/// before it: the earlier ones of its actor, of its desk or its room, and where a word refused it
-/// those that the word was granted. A message is that of its firm's inbox which has the place that
-/// the action has among those of its firm that are messages. What each firm is sent in these steps
-/// is what the record says. It takes time that grows with the number of actions, and with how many
-/// of them one word was granted.
+/// The steps of a recorded day, in an order in which each action stands behind all that are
+/// directly before it: the earlier ones of its actor, of its desk or its room, and, where a word
+/// refused it, those that the word was granted. Of the actions of a firm that are messages the
+/// first is the first message of its inbox, and so on. What each firm is sent in these steps is
+/// what the record says. The time that this takes grows with the number of actions, and with how
+/// many of them one word was granted.
 pub fn weave(alloc: Global, config: &VenueConfig, day: &DayRecord) -> Result<Vec<Step>, WeaveFault>
     ensures woven { IfOk result (λ steps. spec.AreWoven config.now day.now steps.items) }
     ensures sent { IfOk result (λ steps. spec.SendAsRecorded config.now day.now steps.items) }

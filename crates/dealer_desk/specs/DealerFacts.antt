@@ -19,7 +19,8 @@ use Rattle.dealer_desk.specs.declared.standing.QuoteEnd.TheVariants as end
 
 -- What became so at a desk. Quotes and requests stand in it by the dealer's own numbers, from 1.
 pub data DealerFact : Type 0 where
-  Came : ℕ → List ℕ → Bool → DealerFact  -- then these bytes came, and used up a number or not
+  -- at this moment these bytes came, and used up the expected number or not
+  Came : ℕ → List ℕ → Bool → DealerFact
   Shown : Ask → ℕ → DealerFact  -- the dealer was shown a request that asks for this, at this moment
   Quoted : AcceptedQuote → DealerFact  -- a quote was accepted
   Withdrawn : ℕ → Withdrawal → DealerFact  -- this quote's word was asked, and it is withdrawn
@@ -80,7 +81,7 @@ requests_from number (Shown ask moment ∷ later) =
     standing_request number ask later ∷ requests_from (number + 1) later
 requests_from number (fact ∷ later) = requests_from number later
 
--- what the first of some facts says that says something
+-- the first that some facts say, where any of them says something
 abbrev pub first_said : {A : Type 0} → (DealerFact → Option A) → List DealerFact → Option A
 first_said says [] = None
 first_said says (fact ∷ later) = option_or (says fact) (first_said says later)

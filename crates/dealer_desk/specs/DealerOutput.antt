@@ -53,7 +53,7 @@ abbrev pub goes_through : Option ℕ → Option Settled → Bool
 goes_through None settlement = true
 goes_through (Some quote) settlement = is_withdrawn settlement
 
--- the fact that the settlement of a quote's word is
+-- the fact that notes the settlement of a quote's word
 abbrev pub answer_facts : ℕ → Withdrawal → Option Settled → List DealerFact
 answer_facts quote how (Some settled.Withdrawn) = Withdrawn quote how ∷ []
 answer_facts quote how (Some settled.Lifted) = Late quote ∷ []
@@ -82,7 +82,7 @@ verdict_facts (verdict.CancelAccepted id quote request) settlement =
 verdict_facts (verdict.DeclineAccepted request number) settlement = Declined number ∷ []
 verdict_facts other settlement = []
 
--- the request that a closing notice may be sent of: it was shown, and its notice was not sent yet
+-- the request of which a closing notice may be sent: it was shown, and its notice was not sent yet
 abbrev pub untold : Option StandingRequest → Option StandingRequest
 untold None = None
 untold (Some request) = if request.is_told then None else Some request

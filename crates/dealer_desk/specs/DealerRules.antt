@@ -158,8 +158,8 @@ quote_verdict row book moment quote =
 
 -- Cancels.
 
--- the checks of a cancel of one quote that was accepted, line by line; the last line of the rule
--- book's table is the word of the quote
+-- the checks of a cancel of one quote that was accepted, line by line of MARKET.md's table; the
+-- word of the quote, a later line there, is asked where none of these refuses
 abbrev pub cancel_checks : StandingQuote → List (Bool × QuoteRejectReason)
 cancel_checks own =
     (is_withdrawal own.end, Other)
@@ -195,7 +195,7 @@ cancel_verdict book (cancels.Other cancel_type id) =
 
 -- Declines.
 
--- the checks of a decline, line by line
+-- the checks of a decline, line by line of MARKET.md's table
 abbrev pub decline_checks : DealerBook → Option StandingRequest → List (Bool × QuoteRejectReason)
 decline_checks book request =
     (is_none request, Other)

@@ -39,7 +39,7 @@ says_gone number quote fact = false
 
 -- Requests and quotes as they stand by the facts behind them.
 
--- what the first of some facts says that says something
+-- the first that some facts say, where any of them says something
 abbrev pub first_said : {A : Type 0} → (InvestorFact → Option A) → List InvestorFact → Option A
 first_said says [] = None
 first_said says (fact ∷ later) = option_or (says fact) (first_said says later)

@@ -117,8 +117,8 @@ impl Board {
         self.settle(seen, w, Settled::Lifted)
     }
 
-    /// What the word is, where it is settled, and the token that has seen so much. It loads the
-    /// word and settles nothing.
+    /// What the word is, if it is settled, and a token that has seen that. It loads the word and
+    /// settles nothing.
     pub fn look(&self, seen: BoardSeen, w: u32) -> (Option<Settled>, BoardSeen)
         requires ours { seen.board ≡ self.now }
         requires word { w < self.now.words }

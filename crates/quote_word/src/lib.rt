@@ -21,9 +21,9 @@
 //! ```
 //!
 //! The settlements of a board stand in one log, which only grows and has no word twice. The log is
-//! in the proofs alone; a [`BoardSeen`] stands for so much of it as was seen, and has no bytes. A
-//! call takes a token and gives a [`Receipt`], whose token has seen more. Receipts of two threads
-//! meet: where they are of one word, their settlements are one settlement.
+//! in the proofs alone; a [`BoardSeen`] stands for as much of it as was seen, and takes no bytes. A
+//! call takes a token and gives a [`Receipt`], whose token has seen more. Where the receipts of two
+//! threads meet and are of the same word, their settlements are the same.
 //!
 //! ```text
 //! let (board, opening) = Board::open(alloc, 2)?;

@@ -29,7 +29,7 @@ impl<'a> Model for BoardPass<'a> {
 }
 
 impl<'a> BoardPass<'a> {
-    /// The words of a board, of which the caller has seen so much.
+    /// The words of a board, with a token of the caller's.
     pub fn new(board: &'a Board, seen: BoardSeen) -> BoardPass<'a>
         requires { seen.board ≡ board.now }
         ensures { result ≡ seen }

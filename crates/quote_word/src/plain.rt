@@ -7,8 +7,8 @@ use crate::{Settled, Words};
 use std::alloc::{AllocError, Global};
 use std::marker::Model;
 
-/// Words for one thread, in a list. A contract sees the list of their entries, none where a word is
-/// open.
+/// Words for one thread, in a list. A contract sees the list of their entries, `None` where a word
+/// is open.
 #[derive(Drop)]
 pub struct PlainWords {
     entries: Vec<Option<Settled>>,
@@ -26,7 +26,7 @@ impl Model for PlainWords {
 }
 
 impl PlainWords {
-    /// A row of n open words; n may be 0. It fails only for memory.
+    /// A row of n open words; n may be 0. It fails only where memory is refused.
     pub fn new(alloc: Global, n: u32) -> Result<Self, AllocError>
         ensures { IfOk result (λ words. words ≡ replicate n None) }
     {

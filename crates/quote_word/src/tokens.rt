@@ -7,7 +7,8 @@ use crate::{Settled, Settlement};
 use logbook::Seen;
 use std::marker::Model;
 
-/// A token: so much of a board's settle log was seen. It has no bytes, and a copy is as good.
+/// A token: it stands for as much of a board's settle log as was seen. It takes no bytes, and a
+/// copy says the same.
 #[derive(Drop)]
 pub struct BoardSeen {
     pub(crate) seen: Seen<Settlement, u64, Law>,
@@ -27,7 +28,7 @@ impl Model for BoardSeen {
 }
 
 impl BoardSeen {
-    /// A copy, which has seen as much.
+    /// A copy, which has seen the same.
     pub fn again(&self) -> BoardSeen
         ensures same { result ≡ self.now }
         ensures legal { IsLegal result.log }

@@ -19,7 +19,7 @@ pub data RoomFact : Type 0 where
   Noted : ℕ → RoomFact  -- the dealer declined
   Ended : End → ℕ → RoomFact  -- it ended so, at this moment
 
--- what the first fact says that says something
+-- the first that some facts say, where any of them says something
 abbrev pub first_said : {A : Type 0} → (RoomFact → Option A) → List RoomFact → Option A
 first_said says [] = None
 first_said says (fact ∷ later) = option_or (says fact) (first_said says later)

@@ -18,8 +18,8 @@ use std::marker::Model;
 /// The room of one request: where the quotes of its dealers stand until the investor hits one of
 /// them, passes, or the deadline comes.
 ///
-/// That the room is vacant, opening, or hears a dealer, a call's condition, is tested by the steps
-/// of the venue, which know whom they act for; no rule of the room tests it.
+/// Some calls require that the room is vacant or opening, or that it hears a dealer. The steps of
+/// the venue, which know for whom they act, test that; no rule of the room does.
 ///
 /// A contract sees the list of what was tried on the room. What became of it is `room_after` that
 /// list: the facts that stand, and from them whether the room is vacant, opening, open or ended,
