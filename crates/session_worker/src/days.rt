@@ -45,6 +45,9 @@ pub fn run_day<R: Threads + Wait + Sync, G: Gate>(
     ensures no_day { length inboxes.items ≢ length config.dealers + length config.investors
         → result ≡ Err (fault.Inbox
         (min (length inboxes.items) (length config.dealers + length config.investors))) }
+
+    // Else a dealer's notices, or a room's sweeps, are the first fault of a joined day of the venue
+    // with these inboxes, and a firm that is named is one of the venue.
     ensures true_of { length inboxes.items ≡ length config.dealers + length config.investors
         → IfErr result
         (IsFaultOf config (map (λ inbox. inbox.items) inboxes.items) sweeps.items) }
@@ -122,7 +125,8 @@ fn sessions_left(
     Ok(sessions)
 }
 
-/// The record of what lies under the locks, where it agrees with what came.
+/// The record of what lies under the locks, where it agrees with what came. Else the fault is that a
+/// place is another's or has not its inbox, or the first of what was joined.
 fn recorded<J: Naming>(
     venue: SharedVenue<J>,
     seen: BoardSeen,
