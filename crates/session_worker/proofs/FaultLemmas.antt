@@ -67,19 +67,19 @@ module _ (X : Type 0) (why : DayFault) where
   dealer_among firm place count came inbox within other_desk other_inbox given =
       elim (same_or_not firm place) [
         | inl same ↦
-          let is : why ≡ fault.Inbox firm = fault_is (fault.Inbox firm)
-          (other_inbox same (λ own. never_ok (given same own))) in
-          let low : 0 ≤ firm = omega arith in
-          let high : firm < 0 + count = omega (arith, same, within) in
-          let among : IsInboxAmong 0 count (fault.Inbox firm) = (low, high) in
-          subst (IsInboxAmong 0 count) (sym is) among
+            let is : why ≡ fault.Inbox firm = fault_is (fault.Inbox firm)
+            (other_inbox same (λ own. never_ok (given same own))) in
+            let low : 0 ≤ firm = omega arith in
+            let high : firm < 0 + count = omega (arith, same, within) in
+            let among : IsInboxAmong 0 count (fault.Inbox firm) = (low, high) in
+            subst (IsInboxAmong 0 count) (sym is) among
         | inr apart ↦
-          let is : why ≡ fault.Inbox (number_at place) =
-          fault_is (fault.Inbox (number_at place)) (other_desk apart) in
-          let low : 0 ≤ min place 65535 = omega arith in
-          let high : min place 65535 < 0 + count = omega (arith, within) in
-          let among : IsInboxAmong 0 count (fault.Inbox (number_at place)) = (low, high) in
-          subst (IsInboxAmong 0 count) (sym is) among
+            let is : why ≡ fault.Inbox (number_at place) =
+            fault_is (fault.Inbox (number_at place)) (other_desk apart) in
+            let low : 0 ≤ min place 65535 = omega arith in
+            let high : min place 65535 < 0 + count = omega (arith, within) in
+            let among : IsInboxAmong 0 count (fault.Inbox (number_at place)) = (low, high) in
+            subst (IsInboxAmong 0 count) (sym is) among
       ]
 
   -- the same of an investor
@@ -93,9 +93,9 @@ module _ (X : Type 0) (why : DayFault) where
       let among : IsInboxAmong first count (fault.Inbox firm) = (low, high) in
       elim (same_or_not own firm) [
         | inl same ↦ subst (IsInboxAmong first count) (sym (fault_is (fault.Inbox firm)
-          (other_inbox (λ all. never_ok (given same all))))) among
+            (other_inbox (λ all. never_ok (given same all))))) among
         | inr apart ↦ subst (IsInboxAmong first count) (sym (fault_is (fault.Inbox firm)
-          (other_desk apart))) among
+            (other_desk apart))) among
       ]
 
   -- a room is another request's

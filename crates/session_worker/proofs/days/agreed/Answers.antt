@@ -18,16 +18,19 @@ returns-in-Some-3-clause-first c =
     let whole_read : c.deref-2.result.now ≡ whole = search rules in
     let clock_read : c.deref-3.result.now ≡ clock = search rules in
     let read = day_read dealers c.deref.result.now whole c.deref-2.result.now clock
-    c.deref-3.result.now dealers_read whole_read clock_read in
-    (told, swept, record {
-      whole = whole;
-      have_rooms = record {
-        alike = c.in_ok-investors.ensures.days;
-        rooms_are = c.in_ok-investors.ensures.rooms;
-      };
-      firm_is = ap (λ day. option_map number_at (first_unleft day)) (sym read)
-          ∙ sym c.action_fault.ensures ∙ c.in-Some-3.is;
-    })
+    c.deref-3.result.now dealers_read whole_read clock_read in (
+      told,
+      swept,
+      record {
+        whole = whole;
+        have_rooms = record {
+          alike = c.in_ok-investors.ensures.days;
+          rooms_are = c.in_ok-investors.ensures.rooms;
+        };
+        firm_is = ap (λ day. option_map number_at (first_unleft day)) (sym read)
+            ∙ sym c.action_fault.ensures ∙ c.in-Some-3.is;
+      },
+    )
 
 -- nothing disagrees
 pub returns-clause-agrees : goal.returns-clause-agrees
