@@ -7,8 +7,8 @@ use Rattle.session_worker.proofs.FaultLemmas.{day_read}
 use Rattle.session_worker.proofs.days.agreed.Goals as goal
 
 -- the first firm with an event that is not that of an action
-pub returns-in-Some-3-clause-first : goal.returns-in-Some-3-clause-first
-returns-in-Some-3-clause-first c =
+pub returns-in-Some-action_fault-clause-first : goal.returns-in-Some-action_fault-clause-first
+returns-in-Some-action_fault-clause-first c =
     let dealers = c.args.dealers.items in
     let whole = c.in_ok-investors.investors.items in
     let clock = c.args.clock.items in
@@ -28,7 +28,7 @@ returns-in-Some-3-clause-first c =
           rooms_are = c.in_ok-investors.ensures.rooms;
         };
         firm_is = ap (λ day. option_map number_at (first_unleft day)) (sym read)
-            ∙ sym c.action_fault.ensures ∙ c.in-Some-3.is;
+            ∙ sym c.action_fault.ensures ∙ c.in-Some-action_fault.is;
       },
     )
 
