@@ -3,6 +3,7 @@ pub mod AwardLemmas
 pub mod BroughtLemmas
 pub mod CheckLemmas
 pub mod DealerLockLemmas
+pub mod FaultLemmas
 pub mod InboxLemmas
 pub mod KeepLemmas
 pub mod LockLemmas

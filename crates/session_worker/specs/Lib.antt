@@ -1,5 +1,6 @@
 pub mod DayActions
 pub mod DayChecks
+pub mod DayFaults
 pub mod FaultTexts
 pub mod Inbox
 pub mod KeptDays

@@ -1,12 +1,14 @@
 //! A day on threads, from the configuration to the record.
-ghost use Rattle.std.specs.Prelude.{◌≡◌, ◌≢◌, ◌+◌, length, map, min, Err, IfOk};
+ghost use Rattle.std.specs.Prelude.{◌≡◌, ◌≢◌, ◌≤◌, ◌+◌, length, map, min, Err, IfErr, IfOk};
 ghost use Rattle.quote_word.specs.SettleLog.{IsLegal};
-ghost use Rattle.session_worker.specs.KeptDays.{KeepsDay};
+ghost use Rattle.session_worker.specs.DayFaults.{Agrees, IsFaultOf, IsFirstOf};
+ghost use Rattle.session_worker.specs.KeptDays.{KeepsDay, names_of, rooms_of_venue};
 ghost use Rattle.session_worker.specs.declared.faults.DayFault.TheVariants as fault;
 ghost use Rattle.step_replay.specs.Actions as actions;
 
 use crate::day_actions::action_fault;
 use crate::day_checks::told_fault;
+use crate::day_rooms::DayRoom;
 use crate::faults::DayFault;
 use crate::gates::Gate;
 use crate::joined::{Session, dealer_days, investor_days, with_rooms};
@@ -16,7 +18,7 @@ use crate::threads::work;
 use crate::venue::SharedVenue;
 use fix_fields::Memory;
 use quote_word::{Board, BoardSeen};
-use recorded_days::{Action, DayRecord, Inbound, Sweep};
+use recorded_days::{Action, DayRecord, DealerDay, Inbound, InvestorDay, Sweep};
 use std::alloc::Global;
 use std::marker::Brand;
 use std::sync::Wait;
@@ -43,6 +45,12 @@ pub fn run_day<R: Threads + Wait + Sync, G: Gate>(
     ensures no_day { length inboxes.items ≢ length config.dealers + length config.investors
         → result ≡ Err (fault.Inbox
         (min (length inboxes.items) (length config.dealers + length config.investors))) }
+
+    // Else a dealer's notices, or a room's sweeps, are the first fault of a joined day of the venue
+    // with these inboxes, and a firm that is named is one of the venue.
+    ensures true_of { length inboxes.items ≡ length config.dealers + length config.investors
+        → IfErr result
+        (IsFaultOf config (map (λ inbox. inbox.items) inboxes.items) sweeps.items) }
 {
     let firms = config.dealers().len() + config.investors().len();
     if inboxes.len() != firms {
@@ -81,8 +89,10 @@ fn run_named<J: Naming + Send + Sync, R: Threads + Wait + Sync, G: Gate>(
     requires words { board.words ≡ actions.words_of J.config }
     requires inboxes { length inboxes.items
         ≡ length J.config.dealers + length J.config.investors }
-    ensures { IfOk result (λ day.
+    ensures keeps { IfOk result (λ day.
         KeepsDay J.config (map (λ inbox. inbox.items) inboxes.items) sweeps.items day) }
+    ensures true_of { IfErr result
+        (IsFaultOf J.config (map (λ inbox. inbox.items) inboxes.items) sweeps.items) }
 {
     let venue = SharedVenue::<J>::new(alloc, config, board, seen.again())?;
     let done = work(
@@ -115,7 +125,8 @@ fn sessions_left(
     Ok(sessions)
 }
 
-/// The record of what lies under the locks, where it agrees with what came.
+/// The record of what lies under the locks, where it agrees with what came. Else the fault is that a
+/// place is another's or has not its inbox, or the first of what was joined.
 fn recorded<J: Naming>(
     venue: SharedVenue<J>,
     seen: BoardSeen,
@@ -127,8 +138,10 @@ fn recorded<J: Naming>(
     requires legal { IsLegal seen.log }
     requires sessions { length sessions.items
         ≡ length J.config.dealers + length J.config.investors }
-    ensures { IfOk result (λ day. KeepsDay J.config
+    ensures keeps { IfOk result (λ day. KeepsDay J.config
         (map (λ session. session.inbox.items) sessions.items) sweeps.now day) }
+    ensures true_of { IfErr result (IsFaultOf J.config
+        (map (λ session. session.inbox.items) sessions.items) sweeps.now) }
 {
     let SharedVenue {
         alloc,
@@ -145,13 +158,45 @@ fn recorded<J: Naming>(
     let (investors, seen) = investor_days(
         alloc, &board, seen, first, investors, behind, &mut rooms,
     )?;
+    let day = agreed(alloc, &config, dealers, investors, rooms, clock, sweeps)?;
+    Ok(day)
+}
+
+/// The record of a day that was joined, where all agrees: the investors are still without their
+/// rooms, which stand in a list of all rooms. Else the first fault, in the order of [`DayFault`]:
+/// the notices of the dealers, then the sweeps, then the actions.
+fn agreed(
+    alloc: Global,
+    config: &VenueConfig,
+    dealers: Vec<DealerDay>,
+    investors: Vec<InvestorDay>,
+    rooms: Vec<DayRoom>,
+    clock: Vec<Action>,
+    sweeps: &[Sweep],
+) -> Result<DayRecord, DayFault>
+    requires dealers { length dealers.items ≤ VenueConfig.MOST_DEALERS }
+    requires investors { length investors.items ≡ length config.now.investors }
+    requires rooms { names_of rooms.items ≡ rooms_of_venue config.now }
+    ensures agrees { IfOk result (Agrees config.now sweeps.now (record {
+      dealers = dealers.items;
+      investors = investors.items;
+      rooms = rooms.items;
+      clock = clock.items;
+    })) }
+    ensures first { IfErr result (IsFirstOf config.now sweeps.now (record {
+      dealers = dealers.items;
+      investors = investors.items;
+      rooms = rooms.items;
+      clock = clock.items;
+    })) }
+{
     if let Some(dealer) = told_fault(alloc, dealers.as_slice(), rooms.as_slice())? {
         return Err(DayFault::Told(dealer));
     }
     if let Some(room) = sweep_fault(alloc, rooms.as_slice(), sweeps)? {
         return Err(DayFault::Sweep(room));
     }
-    let investors = with_rooms(alloc, &config, investors, rooms)?;
+    let investors = with_rooms(alloc, config, investors, rooms)?;
     if let Some(firm) = action_fault(&dealers, &investors, &clock) {
         return Err(DayFault::Inbox(firm));
     }

@@ -1,10 +1,11 @@
 //! What lies under the locks after the joins, as the record of the day has it.
 ghost use Rattle.std.specs.Prelude.{◌≡◌, ◌<◌, ◌+◌, ◌^◌, [], ◌++◌, drop, length, map, take};
-ghost use Rattle.std.specs.Prelude.{IfOk, OnOk};
+ghost use Rattle.std.specs.Prelude.{IfErr, IfOk, OnOk};
 ghost use Rattle.std.specs.Vec.Iter.{into_iter_items};
 ghost use mathlib.Core.List.{IsPrefix};
 ghost use Rattle.quote_word.specs.SettleLog.{IsLegal};
 ghost use Rattle.session_worker.specs.DayActions.{number_at};
+ghost use Rattle.session_worker.specs.DayFaults.{IsInboxAmong};
 ghost use Rattle.session_worker.specs.KeptDays.{DealersKeep, DealersStand, InvestorsKeep};
 ghost use Rattle.session_worker.specs.KeptDays.{RoomsStand, names_by, names_from, names_of};
 ghost use Rattle.session_worker.specs.KeptDays.{rooms_of, rooms_of_venue, without_rooms};
@@ -57,6 +58,7 @@ pub(crate) fn dealer_days<J: Naming>(
     ensures stand { IfOk result (λ days. DealersStand J.config days.1.log days.0.items) }
     ensures inboxes { IfOk result (λ days. map (λ day. day.inbox) days.0.items
         ≡ map (λ session. session.inbox.items) sessions.items) }
+    ensures among { IfErr result (IsInboxAmong 0 (length places.items)) }
 {
     let mut days = Vec::with_capacity(alloc, places.len())?;
     let mut seen = seen;
@@ -96,6 +98,7 @@ pub(crate) fn investor_days<J: Naming>(
     ensures stand { IfOk result (λ days. RoomsStand days.1.log all.new.items) }
     ensures inboxes { IfOk result (λ days. map (λ day. day.inbox) days.0.items
         ≡ map (λ session. session.inbox.items) sessions.items) }
+    ensures among { IfErr result (IsInboxAmong first (length places.items)) }
 {
     let mut days = Vec::with_capacity(alloc, places.len())?;
     let mut seen = seen;
@@ -129,6 +132,7 @@ fn put_rooms<J: Naming>(
     ensures rooms { OnOk result (names_of all.new.items
         ≡ names_of all.old.items ++ names_from investor 1 (length rooms.items)) }
     ensures stand { IfOk result (λ later. RoomsStand later.log all.new.items) }
+    ensures among { IfErr result (IsInboxAmong investor 1) }
 {
     let mut seen = seen;
     let mut n = 0u32;

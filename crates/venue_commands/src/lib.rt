@@ -18,17 +18,19 @@
 //!   alone prints as it reads), and then the command's text as `venue_text` has it; each fault is
 //!   the first of the input's, by a total function of its bytes; arguments that are no command print
 //!   a help, or nothing. [`these_arguments_are_commands`] and [`arguments_have_these_faults`] say
-//!   which are which.
+//!   which are which. [`inputs_have_these_limits`] says each limit of an input as a number.
 //! - [`run_process`]: the exit status of the process is that of its run, and an argument that is no
 //!   UTF-8 is a wrong one.
 #![tactic(auto)]
 
 mod days;
+mod limits;
 mod process;
 mod program;
 mod texts;
 
 pub use command_arguments::{arguments_have_these_faults, these_arguments_are_commands};
+pub use limits::inputs_have_these_limits;
 pub use live_runs::MOST_LINES;
 pub use process::{ArgumentFault, process_arguments, run_process};
 pub use program::run_program;

@@ -1,12 +1,14 @@
-use Rattle.std.proofs.Common.{◌≡◌, ◌⊎◌, inl, inr, sym, subst, length, arith}
+use Rattle.std.proofs.Common.{◌≡◌, ◌<◌, ◌⊎◌, inl, inr, sym, ap, subst, suc, length, arith}
 use Rattle.std.specs.Iterator.Adapters.{zip_first, zip_second}
 use Rattle.std.specs.Vec.Iter.{into_iter_items, into_iter_len}
 use mathlib.Core.List.{IsPrefix}
 use Rattle.recorded_days.specs.Records.{DealerLists}
+use Rattle.session_worker.specs.DayChecks.{came_from_dealer}
 use Rattle.session_worker.specs.KeptDays.{DealerKeeps, DealersKeep, DealersStand, DealerStands}
+use Rattle.session_worker.proofs.FaultLemmas.{dealer_among, same_fault}
 use Rattle.session_worker.proofs.KeepLemmas.{dealer_later, dealers_grow, dealers_later}
 use Rattle.session_worker.proofs.KeepLemmas.{dealers_stand_more}
-use Rattle.session_worker.proofs.RoomLemmas.{all_moved, both_ended, both_shorter, moved}
+use Rattle.session_worker.proofs.RoomLemmas.{all_moved, both_ended, both_shorter, counted_on, moved}
 use Rattle.session_worker.proofs.joined.dealer_days.Goals as goal
 
 -- one dealer more, at the place of its number
@@ -45,12 +47,35 @@ loop-place-preserved g c =
           (into_iter_items (zip_second c.loop-place.place-iterator))
           (into_iter_items (zip_second c.next.new.self)) c.in-Some.place c.in-Some.session
           c.loop-place.invariant.paired c.in-Some.ensures.steps.0.0 c.in-Some.ensures.steps.1.0;
+      counted = rw c.in_ok-push.ensures.items
+          (counted_on (length c.args.places.items) days day
+          (into_iter_items (zip_first c.loop-place.place-iterator))
+          (into_iter_items (zip_first c.next.new.self)) c.in-Some.place
+          c.loop-place.invariant.counted c.in-Some.ensures.steps.0.0);
       inboxes = rw c.in_ok-push.ensures.items
           (moved (λ (one : DealerLists). one.inbox) (λ session. session.inbox.items) days day
           c.in-Some.session (into_iter_items (zip_second c.next.new.self))
           (into_iter_items (zip_second c.loop-place.place-iterator)) _
           c.loop-place.invariant.inboxes c.in-Some.ensures.steps.1.0 c.in_ok-day.ensures.inbox);
     }
+
+-- the fault is of the dealer at this place
+pub returns-in_err-day-clause-among : goal.returns-in_err-day-clause-among
+returns-in_err-day-clause-among g c =
+    let why = c.in_err-day.field-0.0 in
+    let under = c.into_inner-locked.result in
+    let count = length c.args.places.items in
+    let place : c.len-in-loop-place.result ≡ length c.loop-place.days.items =
+    omega (arith, c.len-in-loop-place.ensures, c.loop-place.days.ok.0) in
+    let left : length (into_iter_items (zip_first c.loop-place.place-iterator))
+    ≡ suc (length (into_iter_items (zip_first c.next.new.self))) =
+    ap length c.in-Some.ensures.steps.0.0 in
+    let within : c.len-in-loop-place.result < count =
+    omega (arith, place, left, c.loop-place.invariant.counted) in
+    same_fault _ c.from_residual-in_err-day.result why c.from_residual-in_err-day.ensures.1
+    (dealer_among DealerLists why under.firm c.len-in-loop-place.result count
+    (came_from_dealer under.desk.events) c.in-Some.session.inbox.items within
+    c.in_err-day.ensures.other_desk c.in_err-day.ensures.other_inbox c.in_err-day.ensures.given)
 
 -- all sessions are behind
 pub returns-clause-inboxes : goal.returns-clause-inboxes

@@ -1,4 +1,4 @@
-use Rattle.std.proofs.Common.{◌≡◌, ◌++◌, length, map}
+use Rattle.std.proofs.Common.{◌≡◌, ◌+◌, ◌++◌, length, map}
 use Rattle.std.specs.Iterator.Adapters.{zip_first, zip_second}
 use Rattle.std.specs.Vec.Iter.{into_iter_items}
 use Rattle.quote_word.specs.SettleLog.{IsLegal}
@@ -16,6 +16,8 @@ invariant-loop-place g l = record {
   stand : DealersStand g.J.Naming.config l.seen.log l.days.items;
   paired : length (into_iter_items (zip_second l.place-iterator))
       ≡ length (into_iter_items (zip_first l.place-iterator));
+  counted : length l.days.items + length (into_iter_items (zip_first l.place-iterator))
+      ≡ length l.fn.places.items;
   inboxes : dealer_inboxes l.days.items
       ++ map (λ session. session.inbox.items) (into_iter_items (zip_second l.place-iterator))
       ≡ map (λ session. session.inbox.items) l.fn.sessions.items;

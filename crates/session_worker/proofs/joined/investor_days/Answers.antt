@@ -1,10 +1,12 @@
-use Rattle.std.proofs.Common.{◌≡◌, ◌∙◌, ◌⊎◌, ◌+◌, inl, inr, sym, ap, subst, length, map, arith}
-use Rattle.std.proofs.Common.{[], ◌∷◌, length-append}
+use Rattle.std.proofs.Common.{◌≡◌, ◌<◌, ◌≤◌, ◌∙◌, ◌⊎◌, ◌+◌, inl, inr, sym, ap, subst, suc, length}
+use Rattle.std.proofs.Common.{map, arith, [], ◌∷◌, length-append}
 use Rattle.std.specs.Iterator.Adapters.{zip_first, zip_second}
 use Rattle.std.specs.Vec.Iter.{into_iter_items, into_iter_len}
 use Rattle.quote_word.specs.SettleLogLaws.{begins_all}
 use Rattle.recorded_days.specs.Records.{InvestorLists}
+use Rattle.session_worker.specs.DayChecks.{came_from_investor}
 use Rattle.session_worker.specs.KeptDays.{InvestorKeeps, InvestorsKeep, names_of}
+use Rattle.session_worker.proofs.FaultLemmas.{investor_among, one_among, same_fault}
 use Rattle.session_worker.proofs.KeepLemmas.{investors_grow}
 use Rattle.session_worker.proofs.RoomLemmas.{all_moved, both_ended, both_shorter, counted_on, moved}
 use Rattle.session_worker.proofs.RoomLemmas.{names_ended, names_moved}
@@ -61,6 +63,43 @@ loop-place-preserved g c =
           (into_iter_items (zip_second before)) _
           c.loop-place.invariant.inboxes c.in-Some.ensures.steps.1.0 c.in_ok-day.ensures.inbox);
     }
+
+-- the fault is of the investor at this place
+pub returns-in_err-day-clause-among : goal.returns-in_err-day-clause-among
+returns-in_err-day-clause-among g c =
+    let why = c.in_err-day.field-0.0 in
+    let under = c.into_inner.result in
+    let count = length c.args.places.items in
+    let firm = c.args.first + c.len-in-loop-place.result in
+    let place : c.len-in-loop-place.result ≡ length c.loop-place.days.items =
+    omega (arith, c.len-in-loop-place.ensures, c.loop-place.days.ok.0) in
+    let left : length (into_iter_items (zip_first c.loop-place.place-iterator))
+    ≡ suc (length (into_iter_items (zip_first c.next.new.self))) =
+    ap length c.in-Some.ensures.steps.0.0 in
+    let low : c.args.first ≤ firm = omega arith in
+    let high : firm < c.args.first + count =
+    omega (arith, place, left, c.loop-place.invariant.counted) in
+    same_fault _ c.from_residual-in_err-day.result why c.from_residual-in_err-day.ensures.1
+    (investor_among InvestorLists why under.desk.market.firm firm c.args.first count
+    (came_from_investor under.desk.events) c.in-Some.session.inbox.items low high
+    c.in_err-day.ensures.other_desk c.in_err-day.ensures.other_inbox c.in_err-day.ensures.given)
+
+-- or of one of its rooms
+pub returns-in_err-seen-clause-among : goal.returns-in_err-seen-clause-among
+returns-in_err-seen-clause-among g c =
+    let why = c.in_err-seen.field-0.0 in
+    let count = length c.args.places.items in
+    let firm = c.args.first + c.len-in-loop-place.result in
+    let place : c.len-in-loop-place.result ≡ length c.loop-place.days.items =
+    omega (arith, c.len-in-loop-place.ensures, c.loop-place.days.ok.0) in
+    let left : length (into_iter_items (zip_first c.loop-place.place-iterator))
+    ≡ suc (length (into_iter_items (zip_first c.next.new.self))) =
+    ap length c.in-Some.ensures.steps.0.0 in
+    let low : c.args.first ≤ firm = omega arith in
+    let high : firm < c.args.first + count =
+    omega (arith, place, left, c.loop-place.invariant.counted) in
+    same_fault _ c.from_residual-in_err-seen.result why c.from_residual-in_err-seen.ensures.1
+    (one_among c.args.first count firm low high why c.in_err-seen.ensures.among)
 
 -- all places are behind
 pub returns-clause-rooms : goal.returns-clause-rooms

@@ -3,6 +3,7 @@ use Rattle.std.specs.Vec.Iter.{into_iter_items}
 use Rattle.quote_word.specs.SettleLogLaws.{begins_all}
 use Rattle.session_worker.specs.DayChecks.{DayRoom}
 use Rattle.session_worker.specs.KeptDays.{RoomStands, RoomsStand}
+use Rattle.session_worker.proofs.FaultLemmas.{room_among, same_fault}
 use Rattle.session_worker.proofs.KeepLemmas.{room_later, rooms_later, rooms_stand_more}
 use Rattle.session_worker.proofs.RoomLemmas.{names_pushed}
 use Rattle.session_worker.proofs.joined.put_rooms.Goals as goal
@@ -35,3 +36,11 @@ loop-room-preserved g c =
           (names_pushed c.args.all.now.items rooms room c.args.investor c.loop-room.n
           c.loop-room.invariant.names (ap (λ (own : DayRoom). own.at) c.in_ok-day.ensures.room));
     }
+
+-- the fault is a room of this investor
+pub returns-in_err-day-clause-among : goal.returns-in_err-day-clause-among
+returns-in_err-day-clause-among g c =
+    let why = c.in_err-day.field-0.0 in
+    same_fault _ c.from_residual.result why c.from_residual.ensures.1
+    (room_among DayRoom why c.into_inner-locked.result.at _ c.args.investor
+    c.in_err-day.ensures.other_room c.in_err-day.ensures.given)

@@ -1,0 +1,275 @@
+-- Which firm a fault names, and of what it is true.
+use Rattle.std.proofs.Common.{◌≡◌, ◌≢◌, ◌⊎◌, inl, inr, refl, ◌∙◌, sym, ap, subst, ℕ, suc, ◌+◌, ◌-◌}
+use Rattle.std.proofs.Common.{◌<◌, ◌≤◌, min, Bool, true, false, cond, not, List, [], ◌∷◌, ◌++◌}
+use Rattle.std.proofs.Common.{length, map, take, drop, position, Option, Some, None, Result, Ok}
+use Rattle.std.proofs.Common.{Err, IfErr, IsErrAnd, IsOk, arith, length-drop}
+use Rattle.std.proofs.lemmas.Bool.{cases_lt, false≢true}
+use Rattle.std.proofs.lemmas.Iterator.Adapters.{position_from-zero}
+use Rattle.std.proofs.lemmas.List.{length-map, length-take-le}
+use Rattle.std.specs.List.{position_from}
+use Rattle.std.specs.Option.{option_map, option_or}
+use Rattle.venue_rows.specs.Rows.{Configuration}
+use Rattle.recorded_days.specs.Records.{DealerLists, InvestorLists, RecordedDay}
+use Rattle.recorded_days.specs.declared.actions.Action.{Action}
+use Rattle.recorded_days.specs.declared.actions.Inbound.{Inbound}
+use Rattle.recorded_days.specs.declared.actions.Sweep.{Sweep}
+use Rattle.session_worker.specs.DayActions.{first_unleft, is_dealer_left, is_investor_left}
+use Rattle.session_worker.specs.DayActions.{number_at}
+use Rattle.session_worker.specs.DayFaults.{IsFaultOf, IsFirstOf, IsFirstUnleft, IsInboxAmong}
+use Rattle.session_worker.specs.DayFaults.{IsJoinedOf, JoinedDay, record_of}
+use Rattle.session_worker.specs.KeptDays.{DealersKeep, InvestorsKeep, names_by, names_of}
+use Rattle.session_worker.specs.KeptDays.{requests_of, without_rooms}
+use Rattle.session_worker.specs.declared.faults.DayFault.{DayFault}
+use Rattle.session_worker.specs.declared.faults.DayFault.TheVariants as fault
+use Rattle.session_worker.proofs.LockLemmas.{some_is_none, some_same}
+use Rattle.session_worker.proofs.RoomLemmas.{parts_read}
+
+-- what is said of the fault behind a `?` is said of the fault that it returns
+pub same_fault : {X : Type 0} (P : DayFault → Type 0) (r : Result X DayFault) (e : DayFault)
+    → IsErrAnd r (λ f. f ≡ e) → P e → IfErr r P
+same_fault P (Ok x) e is p = tt
+same_fault P (Err f) e is p = subst P (sym is) p
+
+-- Faults under the locks.
+
+apart_below : (m n : ℕ) → m < n → m ≡ n → ⊥
+apart_below m n below same = omega (arith, below, same)
+
+apart_above : (m n : ℕ) → n < m → m ≡ n → ⊥
+apart_above m n below same = omega (arith, below, same)
+
+-- two numbers are the same or not
+same_or_not : (m n : ℕ) → (m ≡ n) ⊎ (m ≢ n)
+same_or_not m n = elim (cases_lt m n) [
+  | inl below ↦ inr (apart_below m n below)
+  | inr above ↦ elim (cases_lt n m) [
+    | inl below ↦ inr (apart_above m n below)
+    | inr under ↦ inl (omega (arith, above, under))
+  ]
+]
+
+module _ (X : Type 0) (why : DayFault) where
+  -- what fails is not well
+  never_ok : IsOk {T = X} {E = DayFault} (Err why) → ⊥
+  never_ok ok = false≢true ok
+
+  -- and has one fault
+  fault_is : (other : DayFault) → ◌≡◌ {A = Result X DayFault} (Err why) (Err other) → why ≡ other
+  fault_is other is = cc
+
+  -- the desk at a dealer's place is another's, or has not its inbox
+  pub dealer_among : (firm place count : ℕ) (came inbox : List Inbound) → place < count
+      → (firm ≢ place → ◌≡◌ {A = Result X DayFault} (Err why) (Err (fault.Inbox (number_at place))))
+      → (firm ≡ place → came ≢ inbox
+      → ◌≡◌ {A = Result X DayFault} (Err why) (Err (fault.Inbox firm)))
+      → (firm ≡ place → came ≡ inbox → IsOk {T = X} {E = DayFault} (Err why))
+      → IsInboxAmong 0 count why
+  dealer_among firm place count came inbox within other_desk other_inbox given =
+      elim (same_or_not firm place) [
+        | inl same ↦
+            let is : why ≡ fault.Inbox firm = fault_is (fault.Inbox firm)
+            (other_inbox same (λ own. never_ok (given same own))) in
+            let low : 0 ≤ firm = omega arith in
+            let high : firm < 0 + count = omega (arith, same, within) in
+            let among : IsInboxAmong 0 count (fault.Inbox firm) = (low, high) in
+            subst (IsInboxAmong 0 count) (sym is) among
+        | inr apart ↦
+            let is : why ≡ fault.Inbox (number_at place) =
+            fault_is (fault.Inbox (number_at place)) (other_desk apart) in
+            let low : 0 ≤ min place 65535 = omega arith in
+            let high : min place 65535 < 0 + count = omega (arith, within) in
+            let among : IsInboxAmong 0 count (fault.Inbox (number_at place)) = (low, high) in
+            subst (IsInboxAmong 0 count) (sym is) among
+      ]
+
+  -- the same of an investor
+  pub investor_among : (own firm first count : ℕ) (came inbox : List Inbound) → first ≤ firm
+      → firm < first + count
+      → (own ≢ firm → ◌≡◌ {A = Result X DayFault} (Err why) (Err (fault.Inbox firm)))
+      → (came ≢ inbox → ◌≡◌ {A = Result X DayFault} (Err why) (Err (fault.Inbox firm)))
+      → (own ≡ firm → came ≡ inbox → IsOk {T = X} {E = DayFault} (Err why))
+      → IsInboxAmong first count why
+  investor_among own firm first count came inbox low high other_desk other_inbox given =
+      let among : IsInboxAmong first count (fault.Inbox firm) = (low, high) in
+      elim (same_or_not own firm) [
+        | inl same ↦ subst (IsInboxAmong first count) (sym (fault_is (fault.Inbox firm)
+            (other_inbox (λ all. never_ok (given same all))))) among
+        | inr apart ↦ subst (IsInboxAmong first count) (sym (fault_is (fault.Inbox firm)
+            (other_desk apart))) among
+      ]
+
+  -- a room is another request's
+  pub room_among : {A : Type 0} (own at : A) (investor : ℕ)
+      → (own ≢ at → ◌≡◌ {A = Result X DayFault} (Err why) (Err (fault.Inbox investor)))
+      → (own ≡ at → IsOk {T = X} {E = DayFault} (Err why))
+      → IsInboxAmong investor 1 why
+  room_among own at investor other_room given =
+      let is : why ≡ fault.Inbox investor = fault_is (fault.Inbox investor)
+      (other_room (λ same. never_ok (given same))) in
+      let low : investor ≤ investor = omega arith in
+      let high : investor < investor + 1 = omega arith in
+      let among : IsInboxAmong investor 1 (fault.Inbox investor) = (low, high) in
+      subst (IsInboxAmong investor 1) (sym is) among
+
+-- one firm of some firms
+pub one_among : (first count firm : ℕ) → first ≤ firm → firm < first + count → (why : DayFault)
+    → IsInboxAmong firm 1 why → IsInboxAmong first count why
+one_among first count firm low high (fault.Inbox named) e =
+    let from : firm ≤ named = e.0 in
+    let below : named < firm + 1 = e.1 in
+    let own_low : first ≤ named = omega (arith, low, from) in
+    let own_high : named < first + count = omega (arith, high, from, below) in
+    (own_low, own_high)
+one_among first count firm low high (fault.Told dealer) e = e
+one_among first count firm low high (fault.Sweep room) e = e
+one_among first count firm low high fault.Memory e = tt
+
+-- A fault of the whole day.
+
+-- a firm of the dealers
+pub dealer_is_of : (config : Configuration) (inboxes : List (List Inbound)) (sweeps : List Sweep)
+    (count : ℕ) → count ≡ length config.dealers → (why : DayFault) → IsInboxAmong 0 count why
+    → IsFaultOf config inboxes sweeps why
+dealer_is_of config inboxes sweeps count all (fault.Inbox firm) e =
+    let below : firm < 0 + count = e.1 in omega (arith, all, below)
+dealer_is_of config inboxes sweeps count all (fault.Told dealer) e = absurd e
+dealer_is_of config inboxes sweeps count all (fault.Sweep room) e = absurd e
+dealer_is_of config inboxes sweeps count all fault.Memory e = tt
+
+-- a firm of the investors
+pub investor_is_of : (config : Configuration) (inboxes : List (List Inbound)) (sweeps : List Sweep)
+    (first count : ℕ) → first ≡ length config.dealers → count ≡ length config.investors
+    → (why : DayFault) → IsInboxAmong first count why → IsFaultOf config inboxes sweeps why
+investor_is_of config inboxes sweeps first count from all (fault.Inbox firm) e =
+    let below : firm < first + count = e.1 in omega (arith, from, all, below)
+investor_is_of config inboxes sweeps first count from all (fault.Told dealer) e = absurd e
+investor_is_of config inboxes sweeps first count from all (fault.Sweep room) e = absurd e
+investor_is_of config inboxes sweeps first count from all fault.Memory e = tt
+
+-- the first place of a list that passes a test is one of it
+place_here : (test : Bool) (i found count : ℕ) (rest : Option ℕ)
+    → cond test (Some i) rest ≡ Some found → (rest ≡ Some found → found < i + 1 + count)
+    → found < i + suc count
+place_here true i found count rest e behind =
+    let is : i ≡ found = some_same i found e in omega (arith, is)
+place_here false i found count rest e behind =
+    let below : found < i + 1 + count = behind e in omega (arith, below)
+
+place_below : {A : Type 0} (test : A → Bool) (i : ℕ) (xs : List A) (found : ℕ)
+    → position_from test i xs ≡ Some found → found < i + length xs
+place_below test i [] found e = absurd (some_is_none found (sym e))
+place_below test i (x ∷ xs) found e =
+    place_here (test x) i found (length xs) (position_from test (i + 1) xs) e
+    (λ behind. place_below test (i + 1) xs found behind)
+
+position_below : {A : Type 0} (test : A → Bool) (xs : List A) (found : ℕ)
+    → position test xs ≡ Some found → found < length xs
+position_below test xs found e =
+    let below : found < 0 + length xs =
+    place_below test 0 xs found (sym (position_from-zero test xs) ∙ e) in
+    omega (arith, below)
+
+-- the number of a place in one of two lists
+number_below : (first second : Option ℕ) (dealers investors firm : ℕ)
+    → ((p : ℕ) → first ≡ Some p → p < dealers) → ((p : ℕ) → second ≡ Some p → p < investors)
+    → option_map number_at (option_or first (option_map (λ p. dealers + p) second)) ≡ Some firm
+    → firm < dealers + investors
+number_below (Some p) second dealers investors firm one other e =
+    let is : min p 65535 ≡ firm = some_same (min p 65535) firm e in
+    let below : p < dealers = one p refl in
+    omega (arith, is, below)
+number_below None (Some p) dealers investors firm one other e =
+    let is : min (dealers + p) 65535 ≡ firm = some_same (min (dealers + p) 65535) firm e in
+    let below : p < investors = other p refl in
+    omega (arith, is, below)
+number_below None None dealers investors firm one other e =
+    absurd (some_is_none firm (sym e))
+
+-- the first firm of a day with an event that is not that of an action is one of the day
+unleft_below : (day : RecordedDay) (firm : ℕ)
+    → option_map number_at (first_unleft day) ≡ Some firm
+    → firm < length day.dealers + length day.investors
+unleft_below day firm e =
+    let at_dealer = λ (dealer : DealerLists). not (is_dealer_left day dealer) in
+    let at_investor = λ (investor : InvestorLists). not (is_investor_left day investor) in
+    number_below (position at_dealer day.dealers) (position at_investor day.investors)
+    (length day.dealers) (length day.investors) firm
+    (λ p is. position_below at_dealer day.dealers p is)
+    (λ p is. position_below at_investor day.investors p is) e
+
+-- of a joined day, it is one of the venue
+unleft_is_of : (config : Configuration) (inboxes : List (List Inbound)) (joined : JoinedDay)
+    (firm : ℕ) → IsJoinedOf config inboxes joined → IsFirstUnleft config joined firm
+    → firm < length config.dealers + length config.investors
+unleft_is_of config inboxes joined firm of_day e =
+    let below : firm < length joined.dealers + length e.whole =
+    unleft_below (record_of joined e.whole) firm e.firm_is in
+    let same : length e.whole ≡ length joined.investors =
+    sym (length-map e.whole without_rooms) ∙ ap length e.have_rooms.alike
+    ∙ length-map joined.investors without_rooms in
+    omega (arith, below, same, of_day.dealers_are, of_day.investors_are)
+
+-- the first fault of a joined day of the venue
+pub first_is_of : (config : Configuration) (inboxes : List (List Inbound)) (sweeps : List Sweep)
+    (joined : JoinedDay) → IsJoinedOf config inboxes joined → (why : DayFault)
+    → IsFirstOf config sweeps joined why → IsFaultOf config inboxes sweeps why
+first_is_of config inboxes sweeps joined of_day (fault.Told dealer) e =
+    record { joined = joined; joined_of = of_day; first = e }
+first_is_of config inboxes sweeps joined of_day (fault.Sweep room) e =
+    record { joined = joined; joined_of = of_day; first = e }
+first_is_of config inboxes sweeps joined of_day (fault.Inbox firm) e =
+    unleft_is_of config inboxes joined firm of_day e.2
+first_is_of config inboxes sweeps joined of_day fault.Memory e = tt
+
+-- What was joined.
+
+-- lists that were read are those of the record
+pub day_read : (dealers given : List DealerLists) (whole given_whole : List InvestorLists)
+    (clock given_clock : List Action) → given ≡ dealers → given_whole ≡ whole
+    → given_clock ≡ clock
+    → ◌≡◌ {A = RecordedDay}
+    (record { dealers = given; investors = given_whole; clock = given_clock })
+    (record { dealers = dealers; investors = whole; clock = clock })
+day_read dealers given whole given_whole clock given_clock same same_whole same_clock =
+    ap (λ (own : List DealerLists). let day : RecordedDay =
+    record { dealers = own; investors = given_whole; clock = given_clock } in day) same
+    ∙ ap (λ (own : List InvestorLists). let day : RecordedDay =
+    record { dealers = dealers; investors = own; clock = given_clock } in day) same_whole
+    ∙ ap (λ (own : List Action). let day : RecordedDay =
+    record { dealers = dealers; investors = whole; clock = own } in day) same_clock
+
+-- the days of dealers and investors, each with its session's inbox
+pub joined_is_of : {S : Type 0} (inbox_of : S → List Inbound) (config : Configuration)
+    (first from : ℕ) (sessions front behind : List S) (counts : List ℕ) (joined : JoinedDay)
+    → first ≡ length config.dealers → from ≡ first
+    → length sessions ≡ length config.dealers + length config.investors
+    → front ≡ take from sessions → behind ≡ drop from sessions
+    → map (λ (day : DealerLists). day.inbox) joined.dealers ≡ map inbox_of front
+    → map (λ (day : InvestorLists). day.inbox) joined.investors ≡ map inbox_of behind
+    → names_of joined.rooms ≡ names_by first counts → counts ≡ requests_of config.investors
+    → DealersKeep config joined.dealers → InvestorsKeep config joined.investors
+    → IsJoinedOf config (map inbox_of sessions) joined
+joined_is_of inbox_of config first from sessions front behind counts joined first_is from_is all
+    front_is behind_is dealers investors rooms counted dealers_keep investors_keep =
+    let before : length front ≡ from = ap length front_is
+    ∙ length-take-le from sessions (omega (arith, first_is, from_is, all)) in
+    let left : length behind ≡ length sessions - from = ap length behind_is
+    ∙ length-drop from sessions in
+    let dealer_days : length joined.dealers ≡ length front =
+    sym (length-map joined.dealers (λ (day : DealerLists). day.inbox)) ∙ ap length dealers
+    ∙ length-map front inbox_of in
+    let investor_days : length joined.investors ≡ length behind =
+    sym (length-map joined.investors (λ (day : InvestorLists). day.inbox)) ∙ ap length investors
+    ∙ length-map behind inbox_of in
+    record {
+      dealers_are = omega (arith, dealer_days, before, from_is, first_is);
+      investors_are = omega (arith, investor_days, left, from_is, first_is, all);
+      rooms_are = rooms ∙ ap (λ n. names_by n counts) first_is
+          ∙ ap (names_by (length config.dealers)) counted;
+      inboxes_are = ap (λ own. own ++ map (λ (day : InvestorLists). day.inbox) joined.investors)
+          dealers
+          ∙ ap (λ own. map inbox_of front ++ own) investors
+          ∙ parts_read inbox_of from sessions front behind front_is behind_is;
+      dealers_keep = dealers_keep;
+      investors_keep = investors_keep;
+    }

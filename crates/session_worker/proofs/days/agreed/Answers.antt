@@ -1,0 +1,64 @@
+use Rattle.std.proofs.Common.{rules, ◌≡◌, ◌∙◌, sym, ap, subst, None}
+use Rattle.std.specs.Option.{option_map}
+use Rattle.session_worker.specs.DayActions.{EventsAreOfActions, first_unleft, number_at}
+use Rattle.session_worker.specs.DayChecks.{first_unswept, first_untold}
+use Rattle.session_worker.proofs.ActionLemmas.{events_are_left}
+use Rattle.session_worker.proofs.FaultLemmas.{day_read}
+use Rattle.session_worker.proofs.days.agreed.Goals as goal
+
+-- the first firm with an event that is not that of an action
+pub returns-in-Some-action_fault-clause-first : goal.returns-in-Some-action_fault-clause-first
+returns-in-Some-action_fault-clause-first c =
+    let dealers = c.args.dealers.items in
+    let whole = c.in_ok-investors.investors.items in
+    let clock = c.args.clock.items in
+    let told : first_untold c.args.rooms.items dealers ≡ None = search rules in
+    let swept : first_unswept c.args.sweeps.now c.args.rooms.items ≡ None = search rules in
+    let dealers_read : c.deref.result.now ≡ dealers = search rules in
+    let whole_read : c.deref-2.result.now ≡ whole = search rules in
+    let clock_read : c.deref-3.result.now ≡ clock = search rules in
+    let read = day_read dealers c.deref.result.now whole c.deref-2.result.now clock
+    c.deref-3.result.now dealers_read whole_read clock_read in (
+      told,
+      swept,
+      record {
+        whole = whole;
+        have_rooms = record {
+          alike = c.in_ok-investors.ensures.days;
+          rooms_are = c.in_ok-investors.ensures.rooms;
+        };
+        firm_is = ap (λ day. option_map number_at (first_unleft day)) (sym read)
+            ∙ sym c.action_fault.ensures ∙ c.in-Some-action_fault.is;
+      },
+    )
+
+-- nothing disagrees
+pub returns-clause-agrees : goal.returns-clause-agrees
+returns-clause-agrees c =
+    let dealers = c.args.dealers.items in
+    let whole = c.in_ok-investors.investors.items in
+    let clock = c.args.clock.items in
+    let told : first_untold c.args.rooms.items dealers ≡ None = search rules in
+    let swept : first_unswept c.args.sweeps.now c.args.rooms.items ≡ None = search rules in
+    let none : c.action_fault.result ≡ None = search rules in
+    let dealers_read : c.deref.result.now ≡ dealers = search rules in
+    let whole_read : c.deref-2.result.now ≡ whole = search rules in
+    let clock_read : c.deref-3.result.now ≡ clock = search rules in
+    let read = day_read dealers c.deref.result.now whole c.deref-2.result.now clock
+    c.deref-3.result.now dealers_read whole_read clock_read in
+    record {
+      whole = whole;
+      have_rooms = record {
+        alike = c.in_ok-investors.ensures.days;
+        rooms_are = c.in_ok-investors.ensures.rooms;
+      };
+      day_is = c.new.ensures;
+      told = told;
+      swept = swept;
+      of_actions = subst EventsAreOfActions (read ∙ sym c.new.ensures)
+          (events_are_left (record {
+            dealers = c.deref.result.now;
+            investors = c.deref-2.result.now;
+            clock = c.deref-3.result.now;
+          }) (sym c.action_fault.ensures ∙ none));
+    }

@@ -1,0 +1,109 @@
+-- Why a day on threads has no record: which fault is the first, and of what it is true.
+use Rattle.std.specs.Prelude.{◌≡◌, ℕ, ◌+◌, ◌<◌, ◌≤◌, List, ◌++◌, length, map, Some, None}
+use Rattle.std.specs.Option.{option_map}
+use Rattle.venue_rows.specs.Rows.{Configuration}
+use Rattle.recorded_days.specs.Records.{DealerLists, InvestorLists, RecordedDay}
+use Rattle.recorded_days.specs.declared.actions.Action.{Action}
+use Rattle.recorded_days.specs.declared.actions.Inbound.{Inbound}
+use Rattle.recorded_days.specs.declared.actions.Sweep.{Sweep}
+use Rattle.session_worker.specs.DayActions.{EventsAreOfActions, first_unleft, number_at}
+use Rattle.session_worker.specs.DayChecks.{DayRoom, first_unswept, first_untold}
+use Rattle.session_worker.specs.KeptDays.{DealersKeep, InvestorsKeep, names_of, rooms_of}
+use Rattle.session_worker.specs.KeptDays.{rooms_of_venue, without_rooms}
+use Rattle.session_worker.specs.declared.faults.DayFault.{DayFault}
+use Rattle.session_worker.specs.declared.faults.DayFault.TheVariants as fault
+
+-- What was joined of a day: the dealers, the investors still without their rooms, all rooms in a
+-- list, and what the clock did.
+pub record JoinedDay : Type 0 where
+  pub dealers : List DealerLists
+  pub investors : List InvestorLists
+  pub rooms : List DayRoom
+  pub clock : List Action
+
+-- the investors of a joined day with their rooms, which stand in its list one after the other
+pub record HaveRooms (config : Configuration) (joined : JoinedDay) (whole : List InvestorLists)
+    : Type 0 where
+  pub alike : map without_rooms whole ≡ map without_rooms joined.investors
+  pub rooms_are : rooms_of (length config.dealers) whole ≡ joined.rooms
+
+-- the record of a joined day, with these investors
+abbrev pub record_of : JoinedDay → List InvestorLists → RecordedDay
+record_of joined whole =
+    record { dealers = joined.dealers; investors = whole; clock = joined.clock }
+
+-- A record is that of a joined day on which all agrees: each dealer was told how the rooms that
+-- name it ended, each room was swept as the clock was told, and each event is that of an action.
+pub record Agrees (config : Configuration) (sweeps : List Sweep) (joined : JoinedDay)
+    (day : RecordedDay) : Type 0 where
+  pub whole : List InvestorLists
+  pub have_rooms : HaveRooms config joined whole
+  pub day_is : day ≡ record_of joined whole
+  pub told : first_untold joined.rooms joined.dealers ≡ None
+  pub swept : first_unswept sweeps joined.rooms ≡ None
+  pub of_actions : EventsAreOfActions day
+
+-- the first firm of a joined day with an event, at its desk or in a room of its requests, that is
+-- not that of an action there
+pub record IsFirstUnleft (config : Configuration) (joined : JoinedDay) (firm : ℕ) : Type 0 where
+  pub whole : List InvestorLists
+  pub have_rooms : HaveRooms config joined whole
+  pub firm_is : option_map number_at (first_unleft (record_of joined whole)) ≡ Some firm
+
+-- A fault is the first of a joined day. The dealers' notices come before the sweeps, and the sweeps
+-- before the actions: it is the first dealer that was not told what it is to be told; else the
+-- first room that was not swept as the clock was told; else the first firm with an event that is
+-- not that of an action. Memory may be refused at any point.
+abbrev pub IsFirstOf : Configuration → List Sweep → JoinedDay → DayFault → Type 0
+IsFirstOf config sweeps joined (fault.Told dealer) =
+    first_untold joined.rooms joined.dealers ≡ Some dealer
+IsFirstOf config sweeps joined (fault.Sweep room) =
+    (first_untold joined.rooms joined.dealers ≡ None)
+    × (first_unswept sweeps joined.rooms ≡ Some room)
+IsFirstOf config sweeps joined (fault.Inbox firm) =
+    (first_untold joined.rooms joined.dealers ≡ None)
+    × (first_unswept sweeps joined.rooms ≡ None)
+    × IsFirstUnleft config joined firm
+IsFirstOf config sweeps joined fault.Memory = Unit {0}
+
+-- Under a lock may lie anything that its type lets lie there, so of a fault that was found while
+-- the locks were opened it is known which firms it may name: of so many that are numbered onward
+-- from this number, one whose desk, or a room of its requests, is another's, or whose inbox is not
+-- what came.
+abbrev pub IsInboxAmong : ℕ → ℕ → DayFault → Type 0
+IsInboxAmong first count (fault.Inbox firm) = (first ≤ firm) × (firm < first + count)
+IsInboxAmong first count (fault.Told dealer) = ⊥
+IsInboxAmong first count (fault.Sweep room) = ⊥
+IsInboxAmong first count fault.Memory = Unit {0}
+
+-- What was joined is a day of the venue to which these messages came, an inbox for each firm: it
+-- has the venue's firms and rooms, and what is recorded of each firm follows from the events at its
+-- desk.
+pub record IsJoinedOf (config : Configuration) (inboxes : List (List Inbound)) (joined : JoinedDay)
+    : Type 0 where
+  pub dealers_are : length joined.dealers ≡ length config.dealers
+  pub investors_are : length joined.investors ≡ length config.investors
+  pub rooms_are : names_of joined.rooms ≡ rooms_of_venue config
+  pub inboxes_are : map (λ (day : DealerLists). day.inbox) joined.dealers
+      ++ map (λ (day : InvestorLists). day.inbox) joined.investors ≡ inboxes
+  pub dealers_keep : DealersKeep config joined.dealers
+  pub investors_keep : InvestorsKeep config joined.investors
+
+-- a joined day of the venue to which these messages came has such a fault as its first
+pub record IsOfJoined (config : Configuration) (inboxes : List (List Inbound))
+    (sweeps : List Sweep) (why : DayFault) : Type 0 where
+  pub joined : JoinedDay
+  pub joined_of : IsJoinedOf config inboxes joined
+  pub first : IsFirstOf config sweeps joined why
+
+-- Why there is no record of the day of a venue to which these messages came, and whose clock had
+-- these sweeps to make: a dealer's notices, or a room's sweeps, are the first fault of a joined
+-- day; a firm that is named is one of the venue.
+abbrev pub IsFaultOf : Configuration → List (List Inbound) → List Sweep → DayFault → Type 0
+IsFaultOf config inboxes sweeps (fault.Told dealer) =
+    IsOfJoined config inboxes sweeps (fault.Told dealer)
+IsFaultOf config inboxes sweeps (fault.Sweep room) =
+    IsOfJoined config inboxes sweeps (fault.Sweep room)
+IsFaultOf config inboxes sweeps (fault.Inbox firm) =
+    firm < length config.dealers + length config.investors
+IsFaultOf config inboxes sweeps fault.Memory = Unit {0}
