@@ -23,8 +23,10 @@ esac
 command -v rt >/dev/null || { echo "the command rt is not on the PATH" >&2; exit 2; }
 work=$(mktemp -d)
 building=
+proving=
 end() {
     status=$?
+    [ -z "$proving" ] || { kill "$proving" && wait "$proving"; } 2>/dev/null || true
     [ -z "$building" ] || kill -- "-$building" 2>/dev/null || true
     rm -rf "$work"
     [ "$status" = 0 ] || echo "first-run.sh: not done, status $status: see above" >&2
@@ -54,7 +56,11 @@ if [ -n "$unproved" ]; then
     venue="python3 $root/tests/model/program.py"
 else
     say "The venue, proved"
-    python3 "$root/examples/prove_venue.py"
+    # A shell looks at no signal while it waits for what is not in the background.
+    python3 "$root/examples/prove_venue.py" &
+    proving=$!
+    wait "$proving"
+    proving=
     venue=$root/crates/rfq_venue/out/rfq_venue
 fi
 
