@@ -32,6 +32,10 @@ BEGIN
     THEN
         RETURN;
     END IF;
+    -- One that hangs in the middle of a transaction has the row locked by its look at it. One that waits for a standby
+    -- is not ended: it may go on.
+    PERFORM pg_terminate_backend(pid, 5000) FROM pg_stat_activity
+        WHERE pid = was.backend AND backend_start = was.began AND wait_event = 'ClientRead';
     UPDATE speaker SET term = was.term + 1, gateway = name, backend = pg_backend_pid(), seen = clock_timestamp(),
         began = (SELECT backend_start FROM pg_stat_activity WHERE pid = pg_backend_pid())
         WHERE speaker.term = was.term AND speaker.seen = was.seen;

@@ -55,6 +55,16 @@ int missing_in(const FIX::Header &header) {
     return found == std::end(required) ? 0 : *found;
 }
 
+// Whether a message comes again that was first sent on another day: by a firm that goes on with the
+// numbers of that day's session.
+bool is_of_another_day(const FIX::Header &header) {
+    constexpr std::size_t date = 8; // YYYYMMDD
+    const std::string first_sent = text_in(header, FIX::FIELD::OrigSendingTime);
+    const std::string now = FIX::UtcTimeStampConvertor::convert(FIX::UtcTimeStamp());
+    return text_in(header, FIX::FIELD::PossDupFlag) == "Y" && !first_sent.empty() &&
+           first_sent.compare(0, date, now, 0, date) != 0;
+}
+
 // All that stands in front of the value of the first body field of the venue's messages.
 constexpr std::size_t behind_first_tag = 5; // `1181=`
 
@@ -187,47 +197,6 @@ void FirmSession::end_uncounted() {
     end("a Logout that is not the next message");
 }
 
-// What is ahead of a gap comes again, and is rejected then.
-void FirmSession::reject(const FIX::Header &header, int tag, int reason, const std::string &text) {
-    const int number = number_in(header, FIX::FIELD::MsgSeqNum);
-    const int expected = session_->getExpectedTargetNum();
-    if (number < 1) {
-        // As the engine does where this field alone lacks.
-        end("a message without a number");
-        return;
-    }
-    if (number > expected) {
-        events_.dropped("gap", name_);
-        return;
-    }
-    FIX::Message reject;
-    reject.getHeader().setField(FIX::MsgType(FIX::MsgType_Reject));
-    reject.setField(FIX::RefSeqNum(number));
-    reject.setField(FIX::RefTagID(tag));
-    reject.setField(FIX::RefMsgType(text_in(header, FIX::FIELD::MsgType)));
-    reject.setField(FIX::SessionRejectReason(reason));
-    reject.setField(FIX::Text(text));
-    session_->send(reject);
-    if (number == expected) {
-        pass_over(number);
-    }
-}
-
-// To the engine it is a gap that is filled: it counts it, and goes on with what it keeps behind it.
-void FirmSession::pass_over(int number) {
-    FIX::Message fill;
-    FIX::Header &header = fill.getHeader();
-    header.setField(FIX::BeginString("FIXT.1.1"));
-    header.setField(FIX::MsgType(FIX::MsgType_SequenceReset));
-    header.setField(FIX::SenderCompID(firm_));
-    header.setField(FIX::TargetCompID("VENUE"));
-    header.setField(FIX::MsgSeqNum(number));
-    header.setField(FIX::SendingTime(FIX::UtcTimeStamp(), 3));
-    fill.setField(FIX::GapFillFlag(true));
-    fill.setField(FIX::NewSeqNo(number + 1));
-    next(fill);
-}
-
 // The engine asks for all of a gap: so what is not kept comes again.
 bool FirmSession::is_next_or_kept(int number) {
     const int expected = session_->getExpectedTargetNum();
@@ -257,7 +226,13 @@ void FirmSession::ask_whether_settled() {
 
 void FirmSession::take_application(const FIX::Message &message, const std::string &bytes) {
     const FIX::Header &header = message.getHeader();
-    if (!is_next_or_kept(number_in(header, FIX::FIELD::MsgSeqNum))) {
+    const int number = number_in(header, FIX::FIELD::MsgSeqNum);
+    if (number >= session_->getExpectedTargetNum() && is_of_another_day(header)) {
+        reject(header, FIX::FIELD::OrigSendingTime, FIX::SessionRejectReason_VALUE_IS_INCORRECT,
+               "first sent on another day");
+        return;
+    }
+    if (!is_next_or_kept(number)) {
         return;
     }
     FIX::Message light;

@@ -77,6 +77,8 @@ class FirmSession final : private FIX::Application, private FIX::Log {
     Connection &own_connection();
     void take_application(const FIX::Message &message, const std::string &bytes);
     std::string refusal_of(const FIX::Message &logon);
+    // Whether its firm has logged on on this day, or the venue has sent it something.
+    bool has_begun() const;
     std::string refusal_of_header(const FIX::Header &header);
     void send_logout(const std::string &text);
     std::string refusal_of_sender(const FIX::Message &logon, const Connection &connection);

@@ -89,11 +89,20 @@ void FirmSession::log_out(const std::string &reason) {
 
 void FirmSession::take_logon(const FIX::Message &message) {
     const std::string why = refusal_of(message);
-    if (why.empty()) {
-        next(message);
-    } else {
+    if (!why.empty()) {
         refuse(why);
+        return;
     }
+    FIX::Message logon(message);
+    if (session_->getExpectedSenderNum() != 1) {
+        // The Logouts of Logons that were refused have their numbers: the firm asks for those.
+        logon.removeField(FIX::FIELD::ResetSeqNumFlag);
+    }
+    next(logon);
+}
+
+bool FirmSession::has_begun() const {
+    return session_->getExpectedTargetNum() != 1 || store_.last_carried() != 0;
 }
 
 std::string FirmSession::refusal_of(const FIX::Message &logon) {
@@ -108,8 +117,7 @@ std::string FirmSession::refusal_of(const FIX::Message &logon) {
         return refusal;
     }
     // The engine would reset before it asks anybody.
-    if (text_in(logon, FIX::FIELD::ResetSeqNumFlag) == "Y" &&
-        (session_->getExpectedSenderNum() != 1 || session_->getExpectedTargetNum() != 1)) {
+    if (text_in(logon, FIX::FIELD::ResetSeqNumFlag) == "Y" && has_begun()) {
         return "numbers are not reset within the day";
     }
     const int heartbeat = number_in(logon, FIX::FIELD::HeartBtInt);

@@ -25,9 +25,12 @@ class Schema {
         work.exec("DROP SCHEMA " + name_ + " CASCADE");
     }
 
-    std::unique_ptr<Database> open(const std::string &gateway) const {
-        return open_postgres({text_, name_, gateway});
+    // more is put behind the connection string.
+    std::unique_ptr<Database> open(const std::string &gateway, const std::string &more = "") const {
+        return open_postgres({text_ + more, name_, gateway});
     }
+    const std::string &text() const { return text_; }
+    const std::string &name() const { return name_; }
     void run(const std::string &statement) {
         pqxx::nontransaction work(connection_);
         work.exec("SET search_path TO " + name_ + "; " + statement);
@@ -100,6 +103,23 @@ void tables_refuse(Schema &schema) {
                       "an entry of the term of now");
 }
 
+// It has looked at the row for a commit that does not come: the row is locked, and its connection
+// is open.
+void hangs_in_a_transaction(Schema &schema) {
+    pqxx::connection hanging(schema.text());
+    {
+        pqxx::nontransaction work(hanging);
+        work.exec("SET search_path TO " + schema.name());
+        same<std::size_t>(1, work.exec("SELECT * FROM take_over('hanging')").size(), "a term");
+    }
+    schema.run("UPDATE speaker SET seen = seen - interval '6 seconds'");
+    pqxx::work begun(hanging);
+    begun.exec("SELECT speak(4)");
+    const auto next = schema.open("next", " options='-c statement_timeout=30000'");
+    same(5U, next->take_over().value_or(0), "the term behind a gateway that hangs in a commit");
+    next->writer()->commit(batch_of(3, 5));
+}
+
 } // namespace
 
 } // namespace gateway::tests
@@ -111,5 +131,6 @@ int main(int count, char **words) {
         one_speaks(schema);
         terms_rise(schema);
         tables_refuse(schema);
+        hangs_in_a_transaction(schema);
     });
 }

@@ -123,6 +123,26 @@ def resent_after_a_crash(stage: Stage) -> None:
     stage.whole()
 
 
+def sent_on_another_day(stage: Stage) -> None:
+    """A firm that goes on with yesterday's numbers is asked for those before, and sends yesterday's messages again: each is rejected
+    by the session, and is no message of today."""
+    stage.open(stage.other, stage.investor)
+    with Wire(stage.door.port) as wire:
+        wire.number = 3
+        wire.logon(DEALER.name.encode(), DEALER.password.encode())
+        check(asked_from(wire) == 1, "what is before its number is not asked for")
+        for number in (1, 2):
+            old = [(43, b"Y"), (122, b"20250314-09:00:00.000"), *cancel(b"old")]
+            wire.raw(wire.message(b"Z", b"DLR1", old, number=number))
+            reject = wire.read_until(lambda message: message.value(45) == b"%d" % number)
+            check(reject is not None and (reject.kind, reject.value(1181)) == (b"3", None), "no Reject of the session")
+            check((reject.value(371), reject.value(373)) == (b"122", b"5"), "it is %r" % reject.raw)
+        wire.raw(wire.message(b"Z", b"DLR1", cancel(b"new")))
+        check(answered(wire, b"new").value(297) == b"9", "the next is not answered as ever")
+    check(stage.entries_of(stage.dealer) == 1, "%d entries" % stage.entries_of(stage.dealer))
+    stage.whole()
+
+
 def asked_for_no_gap(stage: Stage) -> None:
     """A ResendRequest of numbers that were never sent, or that end before they begin: the session's Reject, which uses up its number."""
     stage.open(stage.other, stage.investor)
@@ -140,4 +160,5 @@ def asked_for_no_gap(stage: Stage) -> None:
     stage.whole()
 
 
-TRIED = [number_without_end, ahead_of_a_gap, gap_without_end, resent_as_it_was, resent_after_a_crash, asked_for_no_gap]
+TRIED = [number_without_end, ahead_of_a_gap, gap_without_end, resent_as_it_was, resent_after_a_crash, sent_on_another_day,
+         asked_for_no_gap]

@@ -151,6 +151,25 @@ def reset_as_the_first(stage: Stage) -> None:
     stage.ping(stage.other)
 
 
+def reset_behind_a_refusal(stage: Stage) -> None:
+    """The first Logon of the day had a wrong password, whoever sent it: one with 141=Y is still an ordinary Logon, for a stock engine
+    too."""
+    stage.open(stage.other)
+    with Wire(stage.door.port) as wire:
+        wire.logon(DEALER.name.encode(), b"wrong", more=[(141, b"Y")])
+        check(wire.read_kind(b"5") is not None, "no Logout")
+    with Wire(stage.door.port) as wire:
+        wire.logon(INVESTOR.name.encode(), b"wrong")
+        check(wire.read_kind(b"5") is not None, "no Logout")
+        check(wire.closed_within(SLACK), "the connection stays")
+    with Wire(stage.door.port) as wire:
+        wire.logon(INVESTOR.name.encode(), INVESTOR.password.encode(), more=[(141, b"Y")])
+        check(wire.read_kind(b"A") is not None, "it is not logged on")
+    stage.dealer.more = {"ResetOnLogon": "Y"}
+    stage.log_on(stage.dealer)
+    stage.ping(stage.dealer)
+
+
 def heartbeats(stage: Stage) -> None:
     """108 is 1 to 300."""
     stage.open(stage.other)
@@ -325,5 +344,5 @@ def plain_to_tls(stage: Stage) -> None:
 
 
 TRIED = [wrong_password, wrong_password_of_one_away, wrong_words, unknown_firm, words_of_a_stranger, stranger_in_a_firms_name, second_connection,
-         numbers_are_not_reset, reset_as_the_first, heartbeats, late_logon, logon_at_fault, by_tls, tls_begun_anew, certificate_of_another_firm,
+         numbers_are_not_reset, reset_as_the_first, reset_behind_a_refusal, heartbeats, late_logon, logon_at_fault, by_tls, tls_begun_anew, certificate_of_another_firm,
          certificate_of_another_authority, plain_to_tls]
