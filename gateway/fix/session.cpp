@@ -55,16 +55,6 @@ int missing_in(const FIX::Header &header) {
     return found == std::end(required) ? 0 : *found;
 }
 
-// Whether a message comes again that was first sent on another day: by a firm that goes on with the
-// numbers of that day's session.
-bool is_of_another_day(const FIX::Header &header) {
-    constexpr std::size_t date = 8; // YYYYMMDD
-    const std::string first_sent = text_in(header, FIX::FIELD::OrigSendingTime);
-    const std::string now = FIX::UtcTimeStampConvertor::convert(FIX::UtcTimeStamp());
-    return text_in(header, FIX::FIELD::PossDupFlag) == "Y" && !first_sent.empty() &&
-           first_sent.compare(0, date, now, 0, date) != 0;
-}
-
 // All that stands in front of the value of the first body field of the venue's messages.
 constexpr std::size_t behind_first_tag = 5; // `1181=`
 
@@ -78,8 +68,8 @@ void set_body(FIX::Message &message, const std::string &body) {
 
 FirmSession::FirmSession(const SessionStart &start, const EngineSettings &settings,
                          EngineEvents &events)
-    : firm_(start.firm), name_(session_name(start.venue, start.firm)), settings_(settings),
-      host_(*start.host), events_(events), store_(start) {
+    : firm_(start.firm), name_(session_name(start.venue, start.firm)), date_(start.date),
+      settings_(settings), host_(*start.host), events_(events), store_(start) {
     // From midnight to midnight is always.
     const FIX::TimeRange always(FIX::UtcTimeOnly(0, 0, 0), FIX::UtcTimeOnly(0, 0, 0));
     FIX::Application &application = *this;
@@ -197,25 +187,6 @@ void FirmSession::end_uncounted() {
     end("a Logout that is not the next message");
 }
 
-// The engine asks for all of a gap: so what is not kept comes again.
-bool FirmSession::is_next_or_kept(int number) {
-    const int expected = session_->getExpectedTargetNum();
-    if (number <= expected) {
-        return true;
-    }
-    if (ahead_.size() >= settings_.gap_messages) {
-        events_.dropped("gap", name_);
-        if (*ahead_.rbegin() < expected) {
-            // The firm has passed over all that the engine keeps, and keeps until the connection
-            // ends: with no room for a message behind the new gap it would never ask for that.
-            end("too much is kept that was passed over");
-        }
-        return false;
-    }
-    ahead_.insert(number);
-    return true;
-}
-
 void FirmSession::ask_whether_settled() {
     FIX::Message request;
     request.getHeader().setField(FIX::MsgType(FIX::MsgType_TestRequest));
@@ -297,9 +268,14 @@ void FirmSession::onLogout(const FIX::SessionID &) {
 }
 
 void FirmSession::toAdmin(FIX::Message &message, const FIX::SessionID &) {
-    if (text_in(message.getHeader(), FIX::FIELD::MsgType) == "3" &&
-        !message.isSetField(FIX::FIELD::ApplSeqNum)) {
+    const std::string type = text_in(message.getHeader(), FIX::FIELD::MsgType);
+    if (type == "3" && !message.isSetField(FIX::FIELD::ApplSeqNum)) {
         events_.dropped("session reject", name_ + ": " + text_in(message, FIX::FIELD::Text));
+    }
+    if (type == "5" && !session_->isLoggedOn() && may_miss_messages()) {
+        // Here, under the engine's lock: a message of the venue may have come since refuse()
+        // looked.
+        throw FIX::IOException("no Logout where a message may be missed");
     }
 }
 

@@ -222,6 +222,7 @@ std::vector<SessionStart> VenueDay::session_starts() {
         SessionStart start;
         start.firm = name;
         start.venue = config_.venue;
+        start.date = clock_.date();
         start.host = this;
         const auto found = states_.find(name);
         if (found != states_.end()) {

@@ -1,7 +1,9 @@
 """Gaps on either side of a session, and what is sent again."""
 
+import time
+
 from firm import Received
-from stage import DEALER, Stage, check
+from stage import DEALER, Stage, Wrong, check
 from tried_messages import answered, cancel, on_a_wire
 from wait import LONG, until
 from wire import Fields, Wire, now
@@ -143,6 +145,37 @@ def sent_on_another_day(stage: Stage) -> None:
     stage.whole()
 
 
+def broken_within_a_gap(stage: Stage) -> None:
+    """One of the messages that were asked for can't be read when it comes: it is asked for again."""
+    stage.open(stage.other, stage.investor)
+    with Wire(stage.door.port) as wire:
+        wire.number = 4
+        wire.logon(DEALER.name.encode(), DEALER.password.encode())
+        check(asked_from(wire) == 1, "what is before its number is not asked for")
+        again(wire, b"Z", 1, cancel(b"one"))
+        wire.raw(wire.message(b"Z", b"DLR1", cancel(b"two"), number=2)[:-4] + b"999\x01")
+        again(wire, b"Z", 3, cancel(b"three"))
+        check(answered(wire, b"one").value(297) == b"9", "the first is not answered as ever")
+        check(asked_meanwhile(wire) == 2, "another one is asked for")
+        again(wire, b"Z", 2, cancel(b"two"))
+        for name in (b"two", b"three"):
+            check(answered(wire, name).value(297) == b"9", "%r is not answered as ever" % name)
+    numbers = [entry.number for entry in stage.door.ledger().messages_of("DLR1")]
+    check(numbers == [1, 2, 3], "the log has the session's %r" % numbers)
+    stage.whole()
+
+
+def asked_meanwhile(wire: Wire) -> int:
+    """The first number of those that the gateway asks for while heartbeats come."""
+    end = time.monotonic() + LONG
+    while time.monotonic() < end:
+        wire.raw(wire.message(b"0", b"DLR1", []))
+        request = wire.read_kind(b"2", limit=1)
+        if request is not None:
+            return int(request.value(7))
+    raise Wrong("nothing is asked for")
+
+
 def asked_for_no_gap(stage: Stage) -> None:
     """A ResendRequest of numbers that were never sent, or that end before they begin: the session's Reject, which uses up its number."""
     stage.open(stage.other, stage.investor)
@@ -161,4 +194,4 @@ def asked_for_no_gap(stage: Stage) -> None:
 
 
 TRIED = [number_without_end, ahead_of_a_gap, gap_without_end, resent_as_it_was, resent_after_a_crash, sent_on_another_day,
-         asked_for_no_gap]
+         broken_within_a_gap, asked_for_no_gap]
