@@ -34,8 +34,9 @@ BEGIN
     END IF;
     -- One that hangs in the middle of a transaction has the row locked by its look at it. One whose server is at work, or
     -- waits for a standby, is not ended: it may go on.
-    PERFORM pg_terminate_backend(pid, 5000) FROM pg_stat_activity
-        WHERE pid = was.backend AND backend_start = was.began AND xact_start IS NOT NULL AND wait_event = 'ClientRead';
+    PERFORM pg_terminate_backend(pid, 5000) FROM pg_stat_activity AS other
+        WHERE pid = was.backend AND backend_start = was.began AND wait_event = 'ClientRead'
+        AND EXISTS (SELECT FROM pg_locks WHERE pg_locks.pid = other.pid AND relation = 'speaker'::regclass);
     UPDATE speaker SET term = was.term + 1, gateway = name, backend = pg_backend_pid(), seen = clock_timestamp(),
         began = (SELECT backend_start FROM pg_stat_activity WHERE pid = pg_backend_pid())
         WHERE speaker.term = was.term AND speaker.seen = was.seen;
