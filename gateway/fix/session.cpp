@@ -228,6 +228,9 @@ void FirmSession::tick() {
     if (!farewell.empty()) {
         bid_farewell(farewell);
     }
+    if (session_->isLoggedOn() && session_->getExpectedTargetNum() == missing_) {
+        look_at_gap(missing_);
+    }
     session_->next();
 }
 

@@ -34,7 +34,7 @@ bool FirmSession::is_next_or_kept(int number) {
 }
 
 // The engine asks once. Where what was asked for did not come, or was no message, it is asked for
-// again.
+// again. The expected one is missing.
 void FirmSession::look_at_gap(int expected) {
     const Clock::time_point now = Clock::now();
     if (expected != missing_) {

@@ -105,6 +105,10 @@ void FirmSession::take_logon(const FIX::Message &message) {
         logon.removeField(FIX::FIELD::ResetSeqNumFlag);
     }
     next(logon);
+    const int expected = session_->getExpectedTargetNum();
+    if (number_in(logon.getHeader(), FIX::FIELD::MsgSeqNum) > expected) {
+        look_at_gap(expected);
+    }
 }
 
 std::string FirmSession::refusal_of(const FIX::Message &logon) {

@@ -1,9 +1,7 @@
 """Gaps on either side of a session, and what is sent again."""
 
-import time
-
 from firm import Received
-from stage import DEALER, Stage, Wrong, check
+from stage import DEALER, Stage, check
 from tried_messages import answered, cancel, on_a_wire
 from wait import LONG, until
 from wire import Fields, Wire, now
@@ -156,24 +154,13 @@ def broken_within_a_gap(stage: Stage) -> None:
         wire.raw(wire.message(b"Z", b"DLR1", cancel(b"two"), number=2)[:-4] + b"999\x01")
         again(wire, b"Z", 3, cancel(b"three"))
         check(answered(wire, b"one").value(297) == b"9", "the first is not answered as ever")
-        check(asked_meanwhile(wire) == 2, "another one is asked for")
+        check(asked_from(wire) == 2, "another one is asked for")
         again(wire, b"Z", 2, cancel(b"two"))
         for name in (b"two", b"three"):
             check(answered(wire, name).value(297) == b"9", "%r is not answered as ever" % name)
     numbers = [entry.number for entry in stage.door.ledger().messages_of("DLR1")]
     check(numbers == [1, 2, 3], "the log has the session's %r" % numbers)
     stage.whole()
-
-
-def asked_meanwhile(wire: Wire) -> int:
-    """The first number of those that the gateway asks for while heartbeats come."""
-    end = time.monotonic() + LONG
-    while time.monotonic() < end:
-        wire.raw(wire.message(b"0", b"DLR1", []))
-        request = wire.read_kind(b"2", limit=1)
-        if request is not None:
-            return int(request.value(7))
-    raise Wrong("nothing is asked for")
 
 
 def asked_for_no_gap(stage: Stage) -> None:
