@@ -102,6 +102,7 @@ class WritingConnection {
 
     void commit(const Batch &batch) {
         pqxx::work work(*connection_);
+        check_connection();
         add_entries(work, batch.entries);
         add_sent(work, batch.sent);
         add_outgoing(work, batch.outgoing);
@@ -115,8 +116,6 @@ class WritingConnection {
         } else {
             work.exec_prepared("speak", term_);
         }
-        // Behind the begin of the transaction, at which it may have connected again.
-        check_connection();
         commit(work);
     }
 

@@ -178,20 +178,6 @@ void hangs_behind_its_work(Schema &schema) {
     next->writer()->commit(batch_of(4, 7));
 }
 
-// libpqxx connects again by itself: then the term is another gateway's to take. The tables are
-// found on the new connection, too.
-void loses_its_connection(Schema &schema) {
-    const auto lost =
-        schema.open("lost", fmt::format(" options='-c search_path={}'", schema.name()));
-    const std::uint32_t term = term_of(*lost);
-    const auto writer = lost->writer();
-    writer->commit(batch_of(5, term));
-    schema.run("SELECT pg_terminate_backend(backend, 5000) FROM speaker");
-    check(!thrown_by([&] { writer->commit(batch_of(6, term)); }).empty(),
-          "it writes on another connection");
-    same<std::size_t>(0, schema.run("SELECT FROM entry WHERE place = 6"), "entries of it");
-}
-
 } // namespace
 
 } // namespace gateway::tests
@@ -205,6 +191,5 @@ int main(int count, char **words) {
         tables_refuse(schema);
         hangs_in_a_transaction(schema);
         hangs_behind_its_work(schema);
-        loses_its_connection(schema);
     });
 }
