@@ -17,12 +17,12 @@ INSERT INTO speaker VALUES (1, 0, 'nobody', 0, '-infinity', '-infinity');
 
 -- Raises the term for a gateway where the one that spoke has gone: its connection is closed, or it has said nothing for
 -- five seconds. Gives the new term and the connection of the one before, which has to be ended once this is committed:
--- it can commit nothing any more. Gives no row where the other is there.
+-- it can commit nothing any more. Gives no row where the other is there, or may be: then it is to be asked again.
 --
 -- What was committed before in an older term is seen behind this, and is where this is: on two machines, if the server
 -- has synchronous standbys.
 CREATE FUNCTION take_over(name TEXT) RETURNS TABLE (new_term INTEGER, old_backend INTEGER, old_began TIMESTAMPTZ)
-LANGUAGE plpgsql AS $$
+LANGUAGE plpgsql SET lock_timeout TO '1s' AS $$
 DECLARE
     was speaker%ROWTYPE;
 BEGIN
@@ -32,12 +32,20 @@ BEGIN
     THEN
         RETURN;
     END IF;
+    -- One that hangs in the middle of a transaction has the row locked by its look at it. One whose server is at work, or
+    -- waits for a standby, is not ended: it may go on.
+    PERFORM pg_terminate_backend(pid, 5000) FROM pg_stat_activity AS other
+        WHERE pid = was.backend AND backend_start = was.began AND wait_event = 'ClientRead'
+        AND EXISTS (SELECT FROM pg_locks WHERE pg_locks.pid = other.pid AND relation = 'speaker'::regclass);
     UPDATE speaker SET term = was.term + 1, gateway = name, backend = pg_backend_pid(), seen = clock_timestamp(),
         began = (SELECT backend_start FROM pg_stat_activity WHERE pid = pg_backend_pid())
         WHERE speaker.term = was.term AND speaker.seen = was.seen;
     IF FOUND THEN
         RETURN QUERY SELECT was.term + 1, was.backend, was.began;
     END IF;
+EXCEPTION WHEN lock_not_available THEN
+    -- It may hang by the time that it is looked at again.
+    RETURN;
 END $$;
 
 -- The last words of each transaction of the gateway that speaks: the term can't be raised between this and the commit.

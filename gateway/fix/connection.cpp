@@ -168,6 +168,8 @@ void Connection::turn() {
     read();
     write();
     if (session_ != nullptr && Clock::now() - ticked_ >= tick) {
+        // What the firm said while this thread had to wait for the log is no silence of it.
+        read();
         ticked_ = Clock::now();
         session_->tick();
         write();

@@ -26,6 +26,14 @@ using std::chrono::milliseconds;
 // How long sessions have to answer a Logout.
 constexpr auto farewell = std::chrono::seconds(4);
 
+// A peer that has said nothing for so many seconds is asked by TCP whether it is there. So one
+// whose machine or line is gone is found out, and its firm can come on another connection, however
+// long the heartbeat is that it has asked for.
+constexpr int silent_seconds = 10;
+constexpr int between_probes = 5;
+constexpr int probes = 3;
+constexpr int gone_milliseconds = (silent_seconds + probes * between_probes) * 1000;
+
 std::runtime_error fault_of(const std::string &what) {
     return std::runtime_error(what + ": " + std::strerror(errno));
 }
@@ -34,6 +42,21 @@ std::string text_of(const sockaddr_in &address) {
     char text[INET_ADDRSTRLEN] = "";
     ::inet_ntop(AF_INET, &address.sin_addr, text, sizeof text);
     return std::string(text) + ":" + std::to_string(ntohs(address.sin_port));
+}
+
+void set_option(const Descriptor &socket, int level, int option, int value) {
+    if (::setsockopt(socket.number(), level, option, &value, sizeof value) != 0) {
+        throw fault_of("an option of a connection");
+    }
+}
+
+void watch_peer(const Descriptor &socket) {
+    set_option(socket, SOL_SOCKET, SO_KEEPALIVE, 1);
+    set_option(socket, IPPROTO_TCP, TCP_KEEPIDLE, silent_seconds);
+    set_option(socket, IPPROTO_TCP, TCP_KEEPINTVL, between_probes);
+    set_option(socket, IPPROTO_TCP, TCP_KEEPCNT, probes);
+    // The same for bytes that are not acknowledged.
+    set_option(socket, IPPROTO_TCP, TCP_USER_TIMEOUT, gone_milliseconds);
 }
 
 std::string where(const EngineSettings &settings) {
@@ -168,9 +191,9 @@ class Engine::Parts {
             events_.refused("too many connections", peer);
             return;
         }
-        const int yes = 1;
-        ::setsockopt(socket.number(), IPPROTO_TCP, TCP_NODELAY, &yes, sizeof yes);
         try {
+            set_option(socket, IPPROTO_TCP, TCP_NODELAY, 1);
+            watch_peer(socket);
             connections_.push_back(std::make_unique<Connection>(std::move(socket), peer, tls_.get(),
                                                                 sessions_, settings_, events_));
         } catch (const std::exception &fault) {

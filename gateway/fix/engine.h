@@ -72,6 +72,7 @@ class SessionHost {
 struct SessionStart {
     std::string firm;
     std::string venue; // that its Logon names as TargetSubID (57); empty where it need not
+    std::string date;  // YYYYMMDD: a message that was first sent on another is none of this session
     SessionHost *host = nullptr; // outlives the engine
     std::uint32_t sender = 1;    // the next number to the firm
     std::uint32_t target = 1;    // the next number that is expected of it

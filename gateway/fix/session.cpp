@@ -68,8 +68,8 @@ void set_body(FIX::Message &message, const std::string &body) {
 
 FirmSession::FirmSession(const SessionStart &start, const EngineSettings &settings,
                          EngineEvents &events)
-    : firm_(start.firm), name_(session_name(start.venue, start.firm)), settings_(settings),
-      host_(*start.host), events_(events), store_(start) {
+    : firm_(start.firm), name_(session_name(start.venue, start.firm)), date_(start.date),
+      settings_(settings), host_(*start.host), events_(events), store_(start) {
     // From midnight to midnight is always.
     const FIX::TimeRange always(FIX::UtcTimeOnly(0, 0, 0), FIX::UtcTimeOnly(0, 0, 0));
     FIX::Application &application = *this;
@@ -187,66 +187,6 @@ void FirmSession::end_uncounted() {
     end("a Logout that is not the next message");
 }
 
-// What is ahead of a gap comes again, and is rejected then.
-void FirmSession::reject(const FIX::Header &header, int tag, int reason, const std::string &text) {
-    const int number = number_in(header, FIX::FIELD::MsgSeqNum);
-    const int expected = session_->getExpectedTargetNum();
-    if (number < 1) {
-        // As the engine does where this field alone lacks.
-        end("a message without a number");
-        return;
-    }
-    if (number > expected) {
-        events_.dropped("gap", name_);
-        return;
-    }
-    FIX::Message reject;
-    reject.getHeader().setField(FIX::MsgType(FIX::MsgType_Reject));
-    reject.setField(FIX::RefSeqNum(number));
-    reject.setField(FIX::RefTagID(tag));
-    reject.setField(FIX::RefMsgType(text_in(header, FIX::FIELD::MsgType)));
-    reject.setField(FIX::SessionRejectReason(reason));
-    reject.setField(FIX::Text(text));
-    session_->send(reject);
-    if (number == expected) {
-        pass_over(number);
-    }
-}
-
-// To the engine it is a gap that is filled: it counts it, and goes on with what it keeps behind it.
-void FirmSession::pass_over(int number) {
-    FIX::Message fill;
-    FIX::Header &header = fill.getHeader();
-    header.setField(FIX::BeginString("FIXT.1.1"));
-    header.setField(FIX::MsgType(FIX::MsgType_SequenceReset));
-    header.setField(FIX::SenderCompID(firm_));
-    header.setField(FIX::TargetCompID("VENUE"));
-    header.setField(FIX::MsgSeqNum(number));
-    header.setField(FIX::SendingTime(FIX::UtcTimeStamp(), 3));
-    fill.setField(FIX::GapFillFlag(true));
-    fill.setField(FIX::NewSeqNo(number + 1));
-    next(fill);
-}
-
-// The engine asks for all of a gap: so what is not kept comes again.
-bool FirmSession::is_next_or_kept(int number) {
-    const int expected = session_->getExpectedTargetNum();
-    if (number <= expected) {
-        return true;
-    }
-    if (ahead_.size() >= settings_.gap_messages) {
-        events_.dropped("gap", name_);
-        if (*ahead_.rbegin() < expected) {
-            // The firm has passed over all that the engine keeps, and keeps until the connection
-            // ends: with no room for a message behind the new gap it would never ask for that.
-            end("too much is kept that was passed over");
-        }
-        return false;
-    }
-    ahead_.insert(number);
-    return true;
-}
-
 void FirmSession::ask_whether_settled() {
     FIX::Message request;
     request.getHeader().setField(FIX::MsgType(FIX::MsgType_TestRequest));
@@ -257,7 +197,13 @@ void FirmSession::ask_whether_settled() {
 
 void FirmSession::take_application(const FIX::Message &message, const std::string &bytes) {
     const FIX::Header &header = message.getHeader();
-    if (!is_next_or_kept(number_in(header, FIX::FIELD::MsgSeqNum))) {
+    const int number = number_in(header, FIX::FIELD::MsgSeqNum);
+    if (number >= session_->getExpectedTargetNum() && is_of_another_day(header)) {
+        reject(header, FIX::FIELD::OrigSendingTime, FIX::SessionRejectReason_VALUE_IS_INCORRECT,
+               "first sent on another day");
+        return;
+    }
+    if (!is_next_or_kept(number)) {
         return;
     }
     FIX::Message light;
@@ -281,6 +227,9 @@ void FirmSession::tick() {
     }
     if (!farewell.empty()) {
         bid_farewell(farewell);
+    }
+    if (session_->isLoggedOn() && session_->getExpectedTargetNum() == missing_) {
+        look_at_gap(missing_);
     }
     session_->next();
 }
@@ -322,9 +271,14 @@ void FirmSession::onLogout(const FIX::SessionID &) {
 }
 
 void FirmSession::toAdmin(FIX::Message &message, const FIX::SessionID &) {
-    if (text_in(message.getHeader(), FIX::FIELD::MsgType) == "3" &&
-        !message.isSetField(FIX::FIELD::ApplSeqNum)) {
+    const std::string type = text_in(message.getHeader(), FIX::FIELD::MsgType);
+    if (type == "3" && !message.isSetField(FIX::FIELD::ApplSeqNum)) {
         events_.dropped("session reject", name_ + ": " + text_in(message, FIX::FIELD::Text));
+    }
+    if (type == "5" && !session_->isLoggedOn() && may_miss_messages()) {
+        // Here, under the engine's lock: a message of the venue may have come since refuse()
+        // looked.
+        throw FIX::IOException("no Logout where a message may be missed");
     }
 }
 

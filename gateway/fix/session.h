@@ -72,6 +72,8 @@ class FirmSession final : private FIX::Application, private FIX::Log {
     void pass_over(int number);
     // Whether the next one is expected, or the engine may keep this one until then.
     bool is_next_or_kept(int number);
+    void look_at_gap(int expected);
+    bool is_of_another_day(const FIX::Header &header) const;
     void take_resend_request(const FIX::Message &request, Connection &connection);
     bool resend(FIX::Message request, int last_sent, Connection &connection);
     Connection &own_connection();
@@ -81,6 +83,8 @@ class FirmSession final : private FIX::Application, private FIX::Log {
     void send_logout(const std::string &text);
     std::string refusal_of_sender(const FIX::Message &logon, const Connection &connection);
     void refuse(const std::string &why);
+    bool may_be_told();
+    bool may_miss_messages() const { return store_.last_carried() > had_; }
     void bid_farewell(const std::string &reason);
     bool is_settling() const { return std::chrono::steady_clock::now() < settled_at_.load(); }
     void settle();
@@ -131,6 +135,7 @@ class FirmSession final : private FIX::Application, private FIX::Log {
 
     std::string firm_;
     std::string name_; // for events: with the venue, where there are several
+    const std::string date_;
     const EngineSettings &settings_;
     SessionHost &host_;
     EngineEvents &events_;
@@ -147,6 +152,10 @@ class FirmSession final : private FIX::Application, private FIX::Log {
     bool is_admitted_ = false;  // its Logon is taken next
     std::string refusal_;       // why that one is refused, if its sender is
     bool has_received_ = false; // what the host was not told the end of
+    int missing_ = 0;           // the number that was expected when one ahead of it came last
+    std::chrono::steady_clock::time_point missing_since_; // or was asked for again
+    std::chrono::steady_clock::time_point told_since_;    // the begin of a minute
+    int told_ = 0; // why they are refused, of the Logons of that minute
 
     std::mutex at_work_; // over what the connection's thread does here, and deliver_at_once()
 

@@ -18,6 +18,10 @@ constexpr auto old_connection = std::chrono::seconds(2);
 // The longest time between two heartbeats that a firm may ask for.
 constexpr int longest_heartbeat = 300;
 
+// So many Logons in a firm's name are told in a minute why they are refused. Whoever connects may
+// send one, and each Logout is a row of the log and a number of the session.
+constexpr int told_in_a_minute = 10;
+
 // Whether a message says that it was sent about now.
 bool is_of_now(const FIX::Header &header, int seconds) {
     try {
@@ -58,6 +62,7 @@ bool FirmSession::attach(Connection &connection) {
         return false;
     }
     has_logged_on_ = false;
+    missing_ = 0;
     remember("");
     session_->logon();
     session_->setResponder(&connection);
@@ -89,10 +94,20 @@ void FirmSession::log_out(const std::string &reason) {
 
 void FirmSession::take_logon(const FIX::Message &message) {
     const std::string why = refusal_of(message);
-    if (why.empty()) {
-        next(message);
-    } else {
+    if (!why.empty()) {
         refuse(why);
+        return;
+    }
+    FIX::Message logon(message);
+    if (session_->getExpectedSenderNum() != 1) {
+        // What it was sent before it came, and the Logouts of Logons that were refused, have their
+        // numbers: the firm asks for those.
+        logon.removeField(FIX::FIELD::ResetSeqNumFlag);
+    }
+    next(logon);
+    const int expected = session_->getExpectedTargetNum();
+    if (number_in(logon.getHeader(), FIX::FIELD::MsgSeqNum) > expected) {
+        look_at_gap(expected);
     }
 }
 
@@ -107,9 +122,9 @@ std::string FirmSession::refusal_of(const FIX::Message &logon) {
     if (!refusal.empty()) {
         return refusal;
     }
-    // The engine would reset before it asks anybody.
+    // The engine would reset before it asks anybody. A firm's first Logon leaves nothing behind.
     if (text_in(logon, FIX::FIELD::ResetSeqNumFlag) == "Y" &&
-        (session_->getExpectedSenderNum() != 1 || session_->getExpectedTargetNum() != 1)) {
+        session_->getExpectedTargetNum() != 1) {
         return "numbers are not reset within the day";
     }
     const int heartbeat = number_in(logon, FIX::FIELD::HeartBtInt);
@@ -147,10 +162,19 @@ std::string FirmSession::refusal_of_sender(const FIX::Message &logon,
 // asks for that one. So where it may miss one of the venue it is not told why.
 void FirmSession::refuse(const std::string &why) {
     events_.refused("logon", name_ + ": " + why);
-    if (store_.last_carried() <= had_) {
+    if (!may_miss_messages() && may_be_told()) {
         send_logout(why);
     }
     end(why);
+}
+
+bool FirmSession::may_be_told() {
+    const Clock::time_point now = Clock::now();
+    if (now - told_since_ >= std::chrono::minutes(1)) {
+        told_since_ = now;
+        told_ = 0;
+    }
+    return ++told_ <= told_in_a_minute;
 }
 
 // The same holds until it has said that it misses nothing.

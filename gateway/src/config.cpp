@@ -162,8 +162,8 @@ class ConfigReader {
         config_ = Config{};
         config_.venue = venue_name;
         for (const auto &[key, node] : table_) {
-            if (std::find(sections.begin(), sections.end(), key.str()) == sections.end()) {
-                fail(path_, fmt::format("there is no part [{}]", key.str()));
+            if (std::ranges::find(sections, key.str()) == sections.end() || !node.is_table()) {
+                fail(path_, fmt::format("{} is no part of it", key.str()));
             }
         }
         read_venue();

@@ -70,17 +70,11 @@ void Gateway::ask_to_stop(const std::string &why) {
     status_.ask_to_stop(why);
 }
 
-bool Gateway::is_today() const {
-    return std::ranges::all_of(days_, [](const auto &day) { return day->is_today(); });
-}
-
 std::optional<std::string> Gateway::run() {
     while (!status_.wait(1s)) {
         for (const auto &day : days_) {
             day->look_for_silence();
-        }
-        if (!is_today()) {
-            status_.ask_to_stop("the day is over");
+            day->look_at_clock();
         }
     }
     if (const auto failure = status_.failure()) {

@@ -40,7 +40,6 @@ class Gateway final {
 
   private:
     void follow();
-    bool is_today() const;
 
     const std::vector<Config> configs_;
     std::shared_ptr<spdlog::logger> events_;

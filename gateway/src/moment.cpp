@@ -1,5 +1,6 @@
 #include "moment.h"
 
+#include <algorithm>
 #include <ctime>
 
 #include <fmt/format.h>
@@ -8,19 +9,23 @@ namespace gateway {
 
 namespace {
 
-struct DateAndMoment {
-    std::string date;
-    Moment moment;
-};
+using std::chrono::milliseconds;
 
-DateAndMoment read_clock() {
-    using namespace std::chrono;
-    const auto now = floor<milliseconds>(system_clock::now());
-    const auto day = floor<days>(now);
-    const year_month_day date{day};
-    return {fmt::format("{:04}{:02}{:02}", static_cast<int>(date.year()),
-                        static_cast<unsigned>(date.month()), static_cast<unsigned>(date.day())),
-            Moment{static_cast<int>((now - day).count())}};
+// By how much more or less than was measured a clock may have gone on until it was set.
+constexpr auto most_drift = std::chrono::minutes(1);
+
+// Goes on while the machine sleeps, too.
+milliseconds measured_now() {
+    timespec now{};
+    ::clock_gettime(CLOCK_BOOTTIME, &now);
+    return std::chrono::seconds(now.tv_sec) +
+           std::chrono::duration_cast<milliseconds>(std::chrono::nanoseconds(now.tv_nsec));
+}
+
+std::string date_of(std::chrono::sys_days day) {
+    const std::chrono::year_month_day date(day);
+    return fmt::format("{:04}{:02}{:02}", static_cast<int>(date.year()),
+                       static_cast<unsigned>(date.month()), static_cast<unsigned>(date.day()));
 }
 
 std::optional<int> two_digits(std::string_view text) {
@@ -58,30 +63,52 @@ std::optional<Moment> moment_of(std::string_view text) {
                   (last - '0')};
 }
 
-DayClock::DayClock(std::string date) : date_(std::move(date)) {}
+DayClock::DayClock(std::string date) : date_(std::move(date)) {
+    day();
+}
+
+DayClock::Reading DayClock::read() {
+    const auto now = std::chrono::floor<milliseconds>(std::chrono::system_clock::now());
+    const auto day = std::chrono::floor<std::chrono::days>(now);
+    return {date_of(day), now.time_since_epoch(), measured_now(),
+            Moment{static_cast<int>((now - day).count())}};
+}
+
+DayClock::Day DayClock::day_of(const Reading &now) {
+    if (now.date == date_) {
+        last_ = now;
+        return Day::goes_on;
+    }
+    const bool came = !last_ || std::chrono::abs((now.time - last_->time) -
+                                                 (now.measured - last_->measured)) <= most_drift;
+    return came && now.date > date_ ? Day::over : Day::set;
+}
+
+DayClock::Day DayClock::day() {
+    const std::lock_guard lock(mutex_);
+    return day_of(read());
+}
 
 Moment DayClock::now() {
-    const DateAndMoment read = read_clock();
-    // Of another day there is no moment here: a later one stands at the end of this day.
-    int moment = read.moment.milliseconds;
-    if (read.date != date_) {
-        moment = read.date > date_ ? Moment::last : 0;
+    const std::lock_guard lock(mutex_);
+    const Reading now = read();
+    switch (day_of(now)) {
+    case Day::goes_on:
+        latest_ = std::max(latest_, now.moment);
+        break;
+    case Day::over:
+        // There is no moment of another day: it stands at the end of this one.
+        latest_ = Moment{Moment::last};
+        break;
+    case Day::set:
+        break;
     }
-    int latest = latest_.load();
-    while (moment > latest && !latest_.compare_exchange_weak(latest, moment)) {
-    }
-    return Moment{std::max(moment, latest)};
+    return latest_;
 }
 
 void DayClock::not_before(Moment moment) {
-    int latest = latest_.load();
-    while (moment.milliseconds > latest &&
-           !latest_.compare_exchange_weak(latest, moment.milliseconds)) {
-    }
-}
-
-bool DayClock::is_today() const {
-    return read_clock().date == date_;
+    const std::lock_guard lock(mutex_);
+    latest_ = std::max(latest_, moment);
 }
 
 std::chrono::milliseconds DayClock::until(Moment moment) {
@@ -89,7 +116,7 @@ std::chrono::milliseconds DayClock::until(Moment moment) {
 }
 
 std::string today() {
-    return read_clock().date;
+    return date_of(std::chrono::floor<std::chrono::days>(std::chrono::system_clock::now()));
 }
 
 } // namespace gateway

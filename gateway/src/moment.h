@@ -2,9 +2,9 @@
 #ifndef GATEWAY_MOMENT_H
 #define GATEWAY_MOMENT_H
 
-#include <atomic>
 #include <chrono>
 #include <compare>
+#include <mutex>
 #include <optional>
 #include <string>
 #include <string_view>
@@ -27,19 +27,22 @@ std::string text_of(Moment moment);
 std::optional<Moment> moment_of(std::string_view text);
 
 // The UTC clock of one day. It never goes back: behind a clock that was set back it stands until
-// the old moment is passed. Any thread may ask.
+// the old moment is passed. Where the machine's clock is set to another day it stands too, so that
+// nothing is told that is due at the end of this one. Any thread may ask.
 class DayClock {
   public:
     // date is YYYYMMDD.
     explicit DayClock(std::string date);
+
+    // over: the clock has come to the next day; set: it was set to another one.
+    enum class Day { goes_on, over, set };
 
     Moment now();
 
     // No moment before this one is given from now on.
     void not_before(Moment moment);
 
-    // Whether it is the clock's date now.
-    bool is_today() const;
+    Day day();
 
     // How long until the moment comes; nothing where it has come.
     std::chrono::milliseconds until(Moment moment);
@@ -47,8 +50,21 @@ class DayClock {
     const std::string &date() const { return date_; }
 
   private:
-    std::string date_;
-    std::atomic<int> latest_ = 0;
+    // What the machine's clock says, and one that only measures.
+    struct Reading {
+        std::string date;
+        std::chrono::milliseconds time; // since 1970
+        std::chrono::milliseconds measured;
+        Moment moment;
+    };
+    static Reading read();
+    // The lock is held.
+    Day day_of(const Reading &now);
+
+    const std::string date_;
+    std::mutex mutex_;
+    std::optional<Reading> last_; // of this day
+    Moment latest_;
 };
 
 // The date of now in UTC, YYYYMMDD.

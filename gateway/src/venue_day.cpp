@@ -25,8 +25,8 @@ constexpr std::uint32_t chunk = 1024;
 constexpr auto sign_of_life = 500ms;
 
 // Throws where it is none of today.
-std::unique_ptr<Database> open_database(const Config &config, const DayClock &clock) {
-    if (!clock.is_today()) {
+std::unique_ptr<Database> open_database(const Config &config, DayClock &clock) {
+    if (clock.day() != DayClock::Day::goes_on) {
         throw std::runtime_error(fmt::format(
             "the venue's configuration is of {}, and today is {} in UTC", clock.date(), today()));
     }
@@ -73,9 +73,7 @@ void VenueDay::follow(const std::function<bool()> &may) {
     }
     begin_venue(follower.term());
     const auto read = [this](LogReader &log) {
-        if (!is_today()) {
-            status_.ask_to_stop("the day is over");
-        }
+        look_at_clock();
         read_on(log);
         ahead_.settle(log);
         tell_if_ready();
@@ -106,6 +104,19 @@ void VenueDay::begin_venue(std::optional<std::uint32_t> term) {
     venue_->start();
     if (!term) {
         events_->info("follows{} entries={}", of_venue(), last_.place);
+    }
+}
+
+void VenueDay::look_at_clock() {
+    switch (clock_.day()) {
+    case DayClock::Day::goes_on:
+        break;
+    case DayClock::Day::over:
+        status_.ask_to_stop("the day is over");
+        break;
+    case DayClock::Day::set:
+        status_.fail(fmt::format("the clock was set from {} to {}", clock_.date(), today()));
+        break;
     }
 }
 
@@ -211,6 +222,7 @@ std::vector<SessionStart> VenueDay::session_starts() {
         SessionStart start;
         start.firm = name;
         start.venue = config_.venue;
+        start.date = clock_.date();
         start.host = this;
         const auto found = states_.find(name);
         if (found != states_.end()) {

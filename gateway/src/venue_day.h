@@ -64,7 +64,8 @@ class VenueDay final : private SessionHost, private VenueListener {
         }
     }
 
-    bool is_today() const { return clock_.is_today(); }
+    // Ends the gateway where the day does not go on; to be called each second.
+    void look_at_clock();
     std::size_t firms() const { return firms_.size(); }
 
   private:

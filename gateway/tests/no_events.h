@@ -8,7 +8,7 @@
 
 namespace gateway::tests {
 
-class NoEvents final : public EngineEvents {
+class NoEvents : public EngineEvents {
   public:
     void connection_opened(const std::string &) override {}
     void connection_closed(const std::string &, const std::string &) override {}

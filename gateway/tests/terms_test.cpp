@@ -4,7 +4,11 @@
 #include "check.h"
 #include "database.h"
 
+#include <chrono>
+#include <future>
 #include <iostream>
+#include <memory>
+#include <optional>
 
 #include <fmt/format.h>
 #include <pqxx/pqxx>
@@ -13,6 +17,8 @@
 namespace gateway::tests {
 
 namespace {
+
+using namespace std::chrono_literals;
 
 // The schema of a test, and what is done to it behind the gateways' backs.
 class Schema {
@@ -25,12 +31,16 @@ class Schema {
         work.exec("DROP SCHEMA " + name_ + " CASCADE");
     }
 
-    std::unique_ptr<Database> open(const std::string &gateway) const {
-        return open_postgres({text_, name_, gateway});
+    // more is put behind the connection string.
+    std::unique_ptr<Database> open(const std::string &gateway, const std::string &more = "") const {
+        return open_postgres({text_ + more, name_, gateway});
     }
-    void run(const std::string &statement) {
+    const std::string &text() const { return text_; }
+    const std::string &name() const { return name_; }
+    // How many rows it gives.
+    std::size_t run(const std::string &statement) {
         pqxx::nontransaction work(connection_);
-        work.exec("SET search_path TO " + name_ + "; " + statement);
+        return work.exec("SET search_path TO " + name_ + "; " + statement).size();
     }
 
   private:
@@ -100,6 +110,74 @@ void tables_refuse(Schema &schema) {
                       "an entry of the term of now");
 }
 
+// A gateway that has looked at the row for a commit that does not come: the row is locked, and its
+// connection is open.
+class Hanging {
+  public:
+    Hanging(Schema &schema, unsigned term)
+        : connection_(schema.text() + " options='-c statement_timeout=60000'") {
+        schema.run(silent);
+        {
+            pqxx::nontransaction work(connection_);
+            work.exec("SET search_path TO " + schema.name());
+            const pqxx::result rows = work.exec("SELECT new_term FROM take_over('hanging')");
+            same<std::size_t>(1, rows.size(), "a term");
+            same(term, rows[0][0].as<unsigned>(), "the term of one that hangs");
+        }
+        schema.run(silent);
+        begun_ = std::make_unique<pqxx::work>(connection_);
+        begun_->exec(fmt::format("SELECT speak({})", term));
+    }
+
+    void run(const std::string &statement) { begun_->exec(statement); }
+
+  private:
+    // Whoever speaks has said nothing for too long.
+    static constexpr const char *silent = "UPDATE speaker SET seen = seen - interval '6 seconds'";
+
+    pqxx::connection connection_;
+    std::unique_ptr<pqxx::work> begun_;
+};
+
+// One that takes over, and waits for nothing without end.
+std::unique_ptr<Database> next_of(const Schema &schema) {
+    return schema.open("next", " options='-c statement_timeout=30000'");
+}
+
+std::uint32_t term_of(Database &next) {
+    const auto latest = std::chrono::steady_clock::now() + 60s;
+    std::optional<std::uint32_t> term;
+    while (!term) {
+        check(std::chrono::steady_clock::now() < latest, "it does not take over");
+        term = next.take_over();
+    }
+    return *term;
+}
+
+void hangs_in_a_transaction(Schema &schema) {
+    const Hanging hanging(schema, 4);
+    const auto next = next_of(schema);
+    same(5U, term_of(*next), "the term behind a gateway that hangs in a commit");
+    next->writer()->commit(batch_of(3, 5));
+}
+
+// Its server is at work when it is looked at, and it hangs behind that.
+void hangs_behind_its_work(Schema &schema) {
+    const std::string work = "SELECT pg_advisory_lock(7)";
+    schema.run(work);
+    Hanging hanging(schema, 6);
+    auto done = std::async(std::launch::async, [&] { hanging.run(work); });
+    while (schema.run("SELECT FROM pg_locks WHERE locktype = 'advisory' AND NOT granted") == 0) {
+        check(done.wait_for(10ms) != std::future_status::ready, "it is not at work");
+    }
+    const auto next = next_of(schema);
+    check(!next->take_over(), "a gateway takes over from one whose server is at work");
+    schema.run("SELECT pg_advisory_unlock(7)");
+    done.get();
+    same(7U, term_of(*next), "the term behind a gateway that hangs behind its work");
+    next->writer()->commit(batch_of(4, 7));
+}
+
 } // namespace
 
 } // namespace gateway::tests
@@ -111,5 +189,7 @@ int main(int count, char **words) {
         one_speaks(schema);
         terms_rise(schema);
         tables_refuse(schema);
+        hangs_in_a_transaction(schema);
+        hangs_behind_its_work(schema);
     });
 }

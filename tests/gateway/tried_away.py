@@ -1,8 +1,13 @@
 """Firms that are away, whose quotes are cancelled for them, and deadlines that pass."""
 
+import ctypes
+import socket
 import struct
 import time
+from collections.abc import Callable
+from datetime import datetime, timedelta, timezone
 
+from door import today
 from held import milliseconds
 from market import moment_in
 from stage import DEALER, Stage, check
@@ -11,6 +16,8 @@ from wire import Wire
 
 SOON = 25  # seconds: less than the gateway waits at most for a firm that fills a gap
 AS_AUCTIONS = 30  # or for so many times what an auction takes, on a machine that is slower than that
+
+SO_ATTACH_FILTER = 26  # of Linux
 
 DEADLINE = 110  # seconds: a clock that is set forward by these is still one whose 52 is taken
 
@@ -102,15 +109,49 @@ def deadline_while_away(stage: Stage) -> None:
     stage.whole()
 
 
-def clock_set_forward(stage: Stage) -> None:
-    """The machine's clock is set forward over a deadline: the request's end is told soon, and not by the time that was left."""
+def clock_of(stage: Stage) -> Callable[[int], None]:
+    """What sets the clock of the gateway, which is not started yet, by so many seconds against that of its firms."""
     step = stage.folder / "step"
     step.write_bytes(struct.pack("=q", 0))
     stage.door.environment = {"LD_PRELOAD": str(stage.tools.shim), "CLOCK_STEP": str(step)}
+
+    def set_clock(seconds: int) -> None:
+        with step.open("r+b") as file:
+            file.write(struct.pack("=q", seconds))
+
+    return set_clock
+
+
+def clock_set_to_another_day(stage: Stage) -> None:
+    """The machine's clock is set to tomorrow, and to yesterday: the gateway ends with a fault, so that it is started again, and nothing
+    of the day is over. Once the clock is right the day goes on."""
+    set_clock = clock_of(stage)
+    stage.open(*stage.firms)
+    stage.ask(600)
+    for days in (1, -1):
+        set_clock(days * 24 * 60 * 60)
+        status = stage.door.wait_end()
+        check(status == 1, "the gateway ended with status %d: %s" % (status, stage.door.last_words()))
+        other = (datetime.now(timezone.utc) + timedelta(days=days)).strftime("%Y%m%d")
+        check("the clock was set from %s to %s" % (today(), other) in stage.door.last_words(), "it says %s" % stage.door.last_words())
+        stage.refused("today")
+        for firm in stage.firms:
+            until("%s is logged off" % firm.name, LONG, lambda: not firm.logged_on())
+        set_clock(0)
+        stage.door.start()
+        for firm in stage.firms:
+            firm.wait_on()
+    check(not any(entry.is_clock for entry in stage.door.ledger().entries), "a deadline of the day has passed")
+    stage.auction()
+    stage.whole()
+
+
+def clock_set_forward(stage: Stage) -> None:
+    """The machine's clock is set forward over a deadline: the request's end is told soon, and not by the time that was left."""
+    set_clock = clock_of(stage)
     stage.open(*stage.firms)
     stage.ask(DEADLINE)
-    with step.open("r+b") as file:
-        file.write(struct.pack("=q", DEADLINE + 2))
+    set_clock(DEADLINE + 2)
     stage.answer(stage.investor, "that a request expired", lambda message: message.value(297) == b"7", limit=DEADLINE - 20)
     stage.whole()
 
@@ -148,5 +189,30 @@ def one_that_says_nothing(stage: Stage) -> None:
     stage.ping(stage.dealer)
 
 
+def one_whose_line_is_cut(stage: Stage) -> None:
+    """A firm's machine is gone without a word: it can come on another connection long before its heartbeat is missed twice."""
+    stage.open(stage.other)
+    with Wire(stage.door.port) as gone:
+        gone.logon(DEALER.name.encode(), DEALER.password.encode(), heartbeat=b"300")
+        check(gone.read_kind(b"1") is not None, "no TestRequest behind the Logon")
+        number = gone.number
+        cut(gone)
+        until("it can come again", LONG, lambda: logs_on(stage, number))
+
+
+def cut(wire: Wire) -> None:
+    """From now on this machine drops what comes for the connection, so that it acknowledges nothing."""
+    drop_all = ctypes.create_string_buffer(struct.pack("=HBBI", 0x06, 0, 0, 0))  # BPF_RET | BPF_K: no byte of it is kept
+    wire.socket.setsockopt(socket.SOL_SOCKET, SO_ATTACH_FILTER, struct.pack("@HP", 1, ctypes.addressof(drop_all)))
+
+
+def logs_on(stage: Stage, number: int) -> bool:
+    """Whether the dealer is logged on, on a connection of its own."""
+    with Wire(stage.door.port) as wire:
+        wire.number = number
+        wire.logon(DEALER.name.encode(), DEALER.password.encode())
+        return wire.read_kind(b"A") is not None
+
+
 TRIED = [reject_for_one_away, one_that_was_away, sent_while_away, gaps_on_both_sides, deadline_passes, deadline_while_away,
-         clock_set_forward, cancelled_for_one_gone, one_that_says_nothing]
+         clock_set_to_another_day, clock_set_forward, cancelled_for_one_gone, one_that_says_nothing, one_whose_line_is_cut]

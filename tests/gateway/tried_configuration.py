@@ -11,13 +11,16 @@ ROOT = Path(__file__).resolve().parent.parent.parent
 
 
 def configuration_at_fault(stage: Stage) -> None:
-    """A key that is none, and a level of events that is none: the gateway ends, and names it."""
+    """A key that is none, a level of events that is none, and a part that is none: the gateway ends, and names it."""
     stage.door.write()
     file = stage.folder / "gateway.toml"
     text = file.read_text()
     for events, word in (('level = "loud"', "level"), ('levels = "info"', "levels")):
         file.write_text(text + "[events]\n" + events + "\n")
         stage.refused(word)
+    for events in ('events = "error"\n' + text, text + '[[events]]\nlevel = "error"\n'):
+        file.write_text(events)
+        stage.refused("events")
 
 
 def beyond_the_loopback(stage: Stage) -> None:

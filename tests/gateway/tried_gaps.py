@@ -123,6 +123,46 @@ def resent_after_a_crash(stage: Stage) -> None:
     stage.whole()
 
 
+def sent_on_another_day(stage: Stage) -> None:
+    """A firm that goes on with yesterday's numbers is asked for those before, and sends yesterday's messages again: each is rejected
+    by the session, and is no message of today."""
+    stage.open(stage.other, stage.investor)
+    with Wire(stage.door.port) as wire:
+        wire.number = 3
+        wire.logon(DEALER.name.encode(), DEALER.password.encode())
+        check(asked_from(wire) == 1, "what is before its number is not asked for")
+        for number in (1, 2):
+            old = [(43, b"Y"), (122, b"20250314-09:00:00.000"), *cancel(b"old")]
+            wire.raw(wire.message(b"Z", b"DLR1", old, number=number))
+            reject = wire.read_until(lambda message: message.value(45) == b"%d" % number)
+            check(reject is not None and (reject.kind, reject.value(1181)) == (b"3", None), "no Reject of the session")
+            check((reject.value(371), reject.value(373)) == (b"122", b"5"), "it is %r" % reject.raw)
+        wire.raw(wire.message(b"Z", b"DLR1", cancel(b"new")))
+        check(answered(wire, b"new").value(297) == b"9", "the next is not answered as ever")
+    check(stage.entries_of(stage.dealer) == 1, "%d entries" % stage.entries_of(stage.dealer))
+    stage.whole()
+
+
+def broken_within_a_gap(stage: Stage) -> None:
+    """One of the messages that were asked for can't be read when it comes: it is asked for again."""
+    stage.open(stage.other, stage.investor)
+    with Wire(stage.door.port) as wire:
+        wire.number = 4
+        wire.logon(DEALER.name.encode(), DEALER.password.encode())
+        check(asked_from(wire) == 1, "what is before its number is not asked for")
+        again(wire, b"Z", 1, cancel(b"one"))
+        wire.raw(wire.message(b"Z", b"DLR1", cancel(b"two"), number=2)[:-4] + b"999\x01")
+        again(wire, b"Z", 3, cancel(b"three"))
+        check(answered(wire, b"one").value(297) == b"9", "the first is not answered as ever")
+        check(asked_from(wire) == 2, "another one is asked for")
+        again(wire, b"Z", 2, cancel(b"two"))
+        for name in (b"two", b"three"):
+            check(answered(wire, name).value(297) == b"9", "%r is not answered as ever" % name)
+    numbers = [entry.number for entry in stage.door.ledger().messages_of("DLR1")]
+    check(numbers == [1, 2, 3], "the log has the session's %r" % numbers)
+    stage.whole()
+
+
 def asked_for_no_gap(stage: Stage) -> None:
     """A ResendRequest of numbers that were never sent, or that end before they begin: the session's Reject, which uses up its number."""
     stage.open(stage.other, stage.investor)
@@ -140,4 +180,5 @@ def asked_for_no_gap(stage: Stage) -> None:
     stage.whole()
 
 
-TRIED = [number_without_end, ahead_of_a_gap, gap_without_end, resent_as_it_was, resent_after_a_crash, asked_for_no_gap]
+TRIED = [number_without_end, ahead_of_a_gap, gap_without_end, resent_as_it_was, resent_after_a_crash, sent_on_another_day,
+         broken_within_a_gap, asked_for_no_gap]

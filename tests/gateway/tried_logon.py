@@ -58,6 +58,22 @@ def grown(before: dict[str, float], after: dict[str, float]) -> list[str]:
     return [name for name in names if after[name] > before.get(name, 0)]
 
 
+def refused_without_end(stage: Stage) -> None:
+    """Wrong passwords one behind the other: some are told of in a minute, and the others closed, so that no stranger fills the log."""
+    stage.open(stage.other)
+    told = 0
+    while told == stage.counters().get(REFUSED, 0):
+        check(told < 200, "all are told of")
+        with Wire(stage.door.port) as wire:
+            wire.logon(DEALER.name.encode(), b"wrong")
+            told += wire.read_kind(b"5") is not None
+            check(wire.closed_within(SLACK), "the connection stays")
+    check(told > 0, "none is told of")
+    stage.ping(stage.other)
+    stage.log_on(stage.dealer)
+    stage.ping(stage.dealer)
+
+
 def wrong_words(stage: Stage) -> None:
     """A wrong user, no password, an empty one, and one with any bytes."""
     stage.open(stage.other)
@@ -149,6 +165,42 @@ def reset_as_the_first(stage: Stage) -> None:
         wire.logon(DEALER.name.encode(), DEALER.password.encode(), more=[(141, b"Y")])
         check(wire.read_kind(b"A") is not None, "it is not logged on")
     stage.ping(stage.other)
+
+
+def reset_behind_messages(stage: Stage) -> None:
+    """A dealer was sent a request before it came: its first Logon may have 141=Y all the same, and a stock engine has the request. Within
+    the day it is refused as ever."""
+    stage.open(stage.other, stage.investor)
+    stage.ask_of([stage.dealer, stage.other])
+    stage.answer(stage.other, "a request", lambda message: message.kind == b"R")
+    until("the dealer's is in the log", LONG, lambda: len(stage.door.ledger().sent.get(DEALER.name, [])) == 1)
+    stage.dealer.more = {"ResetOnLogon": "Y"}
+    stage.log_on(stage.dealer)
+    stage.answer(stage.dealer, "a request", lambda message: message.kind == b"R")
+    stage.ping(stage.dealer)
+    stage.log_off(stage.dealer)
+    before = stage.counters().get(REFUSED, 0)
+    stage.dealer.start()
+    until("it is refused", LONG, lambda: stage.counters().get(REFUSED, 0) > before)
+
+
+def reset_behind_a_refusal(stage: Stage) -> None:
+    """The first Logon of the day had a wrong password, whoever sent it: one with 141=Y is still an ordinary Logon, for a stock engine
+    too."""
+    stage.open(stage.other)
+    with Wire(stage.door.port) as wire:
+        wire.logon(DEALER.name.encode(), b"wrong", more=[(141, b"Y")])
+        check(wire.read_kind(b"5") is not None, "no Logout")
+    with Wire(stage.door.port) as wire:
+        wire.logon(INVESTOR.name.encode(), b"wrong")
+        check(wire.read_kind(b"5") is not None, "no Logout")
+        check(wire.closed_within(SLACK), "the connection stays")
+    with Wire(stage.door.port) as wire:
+        wire.logon(INVESTOR.name.encode(), INVESTOR.password.encode(), more=[(141, b"Y")])
+        check(wire.read_kind(b"A") is not None, "it is not logged on")
+    stage.dealer.more = {"ResetOnLogon": "Y"}
+    stage.log_on(stage.dealer)
+    stage.ping(stage.dealer)
 
 
 def heartbeats(stage: Stage) -> None:
@@ -324,6 +376,7 @@ def plain_to_tls(stage: Stage) -> None:
     check(INVESTOR.name == stage.investor.name and stage.investor.is_on, "another session was disturbed")
 
 
-TRIED = [wrong_password, wrong_password_of_one_away, wrong_words, unknown_firm, words_of_a_stranger, stranger_in_a_firms_name, second_connection,
-         numbers_are_not_reset, reset_as_the_first, heartbeats, late_logon, logon_at_fault, by_tls, tls_begun_anew, certificate_of_another_firm,
+TRIED = [wrong_password, wrong_password_of_one_away, refused_without_end, wrong_words, unknown_firm, words_of_a_stranger,
+         stranger_in_a_firms_name, second_connection, numbers_are_not_reset, reset_as_the_first, reset_behind_messages,
+         reset_behind_a_refusal, heartbeats, late_logon, logon_at_fault, by_tls, tls_begun_anew, certificate_of_another_firm,
          certificate_of_another_authority, plain_to_tls]
