@@ -24,7 +24,7 @@ from typing import IO
 
 ROOT = Path(__file__).resolve().parent.parent
 MEMORY_OF_A_CRATE = 3 << 30  # bytes
-MINUTES_OF_ONE = 200  # for all, on one processor
+MINUTES_OF_ONE = 180  # for all, on one processor
 MORE = 2  # crates at work beyond the processors, for the time in which one can't fill its own
 BEHIND, NICEST = 5, 19  # how nice a proof is for each one for which more waits, at most
 LOOK, TELL = 1.0, 30.0  # seconds
