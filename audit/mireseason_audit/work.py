@@ -12,6 +12,7 @@ from dataclasses import dataclass, field
 from multiprocessing.connection import Connection, wait
 from multiprocessing.process import BaseProcess
 from multiprocessing.sharedctypes import Synchronized
+from types import FrameType
 from typing import Generic, TypeVar
 
 from .faults import Unreadable
@@ -23,6 +24,7 @@ Job = Callable[[Step], Result]  # what a process does; it tells the step how man
 LOOK = 0.2  # seconds from one look at the counter to the next
 STEP = 1000  # rows of a job that are counted at one time
 SIGNALS = (signal.SIGTERM, signal.SIGHUP, signal.SIGINT)  # that end a command
+SOON = 0.01  # seconds
 YOUNG = 50_000  # objects: a job makes rows by the thousand, and few that refer to one another
 
 
@@ -159,13 +161,26 @@ def run_jobs(
     return [workers.results[index] for index in range(len(plan.jobs))]
 
 
+def end_job(_number: int, frame: FrameType | None) -> None:
+    """Ends the process of a job, and first what it has begun. What is raised in a destructor is
+    lost, but for a complaint on standard error: so not there, but soon.
+    """
+    while frame is not None:
+        if frame.f_code.co_name == "__del__":
+            signal.setitimer(signal.ITIMER_REAL, SOON)
+            return
+        frame = frame.f_back
+    sys.exit(1)
+
+
 def do_job(
     job: Job[Result], answers: Connection, counter: "Synchronized[int]", waiting: int
 ) -> None:
     """In the process of the job. Where it has to end, it ends the program that it runs; and it has
     to where the process that waits for it is gone, however that ended.
     """
-    signal.signal(signal.SIGTERM, lambda number, frame: sys.exit(1))
+    for number in (signal.SIGTERM, signal.SIGALRM):
+        signal.signal(number, end_job)
     for number in (signal.SIGINT, signal.SIGHUP):  # of a terminal: who waits for it ends it
         signal.signal(number, signal.SIG_IGN)
     signal.pthread_sigmask(signal.SIG_UNBLOCK, SIGNALS)

@@ -2,6 +2,8 @@
 
 import io
 import os
+import select
+import signal
 import threading
 import unittest
 from contextlib import closing
@@ -16,6 +18,15 @@ from mireseason_audit.faults import Unreadable
 from mireseason_audit.progress import Progress, Step
 from mireseason_audit.venue import Run, Venue
 from mireseason_audit.work import Job, Plan, Workers, plan_of, run_jobs
+
+
+class Dies:
+    """Is sent the signal that ends its process while it is destroyed."""
+
+    def __del__(self) -> None:
+        os.kill(os.getpid(), signal.SIGTERM)
+        for _ in range(1000):  # so that the signal is met here
+            pass
 
 
 class Streams(unittest.TestCase):
@@ -247,6 +258,25 @@ class Bars(unittest.TestCase):
             run_jobs(failing, 2, progress)
         self.assertIn("in fails\n", "".join(caught.exception.__notes__))
         self.assertRaisesRegex(Unreadable, "status 3", run_jobs, ending, 1, progress)
+
+    def test_a_job_that_is_ended_in_a_destructor(self) -> None:
+        """It ends all the same, and without a word."""
+        with folder() as name:
+            told = Path(name) / "told"
+
+            def job(step: object) -> int:
+                with told.open("wb") as stream:
+                    os.dup2(stream.fileno(), 2)
+                dies = Dies()
+                del dies
+                select.select([os.pipe()[0]], [], [], 10)
+                return 0
+
+            plan = plan_of([job])
+            self.assertRaisesRegex(
+                Unreadable, "status 1", run_jobs, plan, 1, Progress(io.StringIO())
+            )
+            self.assertEqual(told.read_text(), "")
 
     def test_jobs_that_wait_for_others(self) -> None:
         """Each of a chain of jobs reads what the one before it wrote, whatever stands in front."""
