@@ -3,15 +3,17 @@
 
 Two days of one story (investor_days.py) are drawn. Where by the second implementation one list was
 due to INV1 in both, `PROGRAM replay INV1` has to print the same bytes for both: those of the view of
-that list.
+that list. `PROGRAM compare --investor INV1` has to say where the lists and the messages differ.
 
 usage: investors.py PROGRAM PAIRS [FIRST_SEED [PROCESSES]]
 """
 
+import itertools
 import multiprocessing
 import random
 import subprocess
 import sys
+from collections.abc import Sequence
 from typing import NamedTuple
 
 sys.dont_write_bytecode = True
@@ -40,6 +42,21 @@ def printed(program: str, day: Day) -> bytes:
     return run.stdout
 
 
+def told(program: str, one: Day, other: Day) -> bytes:
+    """What the program says of the two days, for INV1."""
+    words = [program, "compare", "--investor", "INV1"]
+    both = one.text() + "%%\n" + other.text()
+    return subprocess.run(words, input=both.encode(), capture_output=True, timeout=120).stdout
+
+
+def difference(same: bytes, differ: bytes, one: Sequence[object], other: Sequence[object]) -> bytes:
+    """The line on two lists: they are one, or differ first at a position, from 1."""
+    for place, (mine, theirs) in enumerate(itertools.zip_longest(one, other), 1):
+        if mine != theirs:
+            return b"%s at %d\n" % (differ, place)
+    return same + b"\n"
+
+
 def viewed(day: Day) -> bytes:
     """The view of INV1's list, as the program prints it."""
     desk = investor_alone(seen_by(day.configuration, day.one), day.venue.due[day.one])
@@ -62,6 +79,12 @@ def compared(work: tuple[str, int]) -> Compared:
         fault = "one list, and other messages"
     elif outs != [viewed(day) for day in days]:
         fault = "other messages than the view of the list"
+    else:
+        due = difference(b"due equal", b"due differs", *lists)
+        lines = [out.splitlines() for out in outs]
+        sent = difference(b"messages equal", b"messages differ", *lines)
+        if told(program, one, other) != b"row equal\n" + due + sent:
+            fault = "another comparison"
     size = sum(len(day.text()) for day in days)
     return Compared(seed, lists[0] == lists[1], outs[0].count(b"\n"), size, fault)
 

@@ -6,11 +6,15 @@ from dataclasses import dataclass
 from typing import BinaryIO
 
 from configuration import Configuration
+from desk import Desk
 from inputs import Fault, Part, configuration_of, numbered_lines, parts_of_input, read_head
 from live import audited
+from investor_lines import investor_text, is_investor_text, read_investor_text
 from lines import (LineFault, StepReader, dealer_blotter, due_text, investor_blotter, message_line, numbered,
                    read_due_text)
-from replay import Venue, alone
+from replay import Venue, alone, investor_alone, seen_by
+
+DEALER, INVESTOR = "dealer", "investor"
 
 
 @dataclass(frozen=True)
@@ -21,11 +25,16 @@ class Streams:
     errors: BinaryIO
 
 
-def firm_of(configuration: Configuration, word: bytes, dealer: bool = False) -> int:
+def firm_of(configuration: Configuration, word: bytes, role: str | None = None) -> int:
+    """The number of the firm that a word names, which has this role where one is asked."""
     firm = configuration.firm(word)
-    if firm is None or (dealer and not configuration.is_dealer(firm)):
+    if firm is None or (role is not None and configuration.is_dealer(firm) != (role == DEALER)):
         raise Fault("firm: " + word.decode())
     return firm
+
+
+def role_by(investor: bool) -> str:
+    return INVESTOR if investor else DEALER
 
 
 # ---------------------------------------------------------------- days
@@ -60,33 +69,33 @@ def replayed(configuration: Configuration, part: Part) -> Venue:
     return venue
 
 
-def a_day(streams: Streams, live: bool, word: bytes | None = None, dealer: bool = False) -> tuple[Venue, int | None]:
+def a_day(streams: Streams, live: bool, word: bytes | None = None, role: str | None = None) -> tuple[Venue, int | None]:
     """The venue after the steps of the input, and the number of the firm that the word names."""
     if live:
         lines = numbered_lines(streams.input)
         configuration = read_head(lines)
-        firm = None if word is None else firm_of(configuration, word, dealer)
+        firm = None if word is None else firm_of(configuration, word, role)
         return audited(configuration, lines, streams.errors), firm
     first, second = parts_of_input(streams.input, 2)
     configuration = configured(first)
-    firm = None if word is None else firm_of(configuration, word, dealer)
+    firm = None if word is None else firm_of(configuration, word, role)
     return replayed(configuration, second), firm
 
 
-def two_days(streams: Streams, live: bool, word: bytes) -> Iterator[tuple[Venue, int]]:
-    """Two days, and the dealer's number in each."""
+def two_days(streams: Streams, live: bool, word: bytes, role: str) -> Iterator[tuple[Venue, int]]:
+    """Two days, and the firm's number in each."""
     if live:
         lines = numbered_lines(streams.input)
         for last in (False, True):
             configuration = read_head(lines)
-            dealer = firm_of(configuration, word, dealer=True)
-            yield audited(configuration, lines, streams.errors, last), dealer
+            firm = firm_of(configuration, word, role)
+            yield audited(configuration, lines, streams.errors, last), firm
         return
     parts = parts_of_input(streams.input, 4)
     for first, second in (parts[:2], parts[2:]):
         configuration = configured(first)
-        dealer = firm_of(configuration, word, dealer=True)
-        yield replayed(configuration, second), dealer
+        firm = firm_of(configuration, word, role)
+        yield replayed(configuration, second), firm
 
 
 # ---------------------------------------------------------------- commands: each answers lines
@@ -95,10 +104,17 @@ def two_days(streams: Streams, live: bool, word: bytes) -> Iterator[tuple[Venue,
 def do_alone(streams: Streams, frames: bool) -> Iterable[bytes]:
     (part,) = parts_of_input(streams.input, 1)
     try:
-        date, row, due = read_due_text(part.lines, part.first)
+        desk = desk_alone(part)
     except LineFault as fault:
         raise Fault("line %d: %s" % (fault.args[1], fault.args[0])) from None
-    return [message_line(row.name, fields, frames) for fields in alone(date, row, due).sent]
+    return [message_line(desk.row.name, fields, frames) for fields in desk.sent]
+
+
+def desk_alone(part: Part) -> Desk:
+    """The desk of the dealer or of the investor whose due text this is."""
+    if is_investor_text(part.lines):
+        return investor_alone(*read_investor_text(part.lines, part.first))
+    return alone(*read_due_text(part.lines, part.first))
 
 
 def do_replay(streams: Streams, frames: bool, live: bool, word: bytes | None = None) -> Iterable[bytes]:
@@ -107,10 +123,12 @@ def do_replay(streams: Streams, frames: bool, live: bool, word: bytes | None = N
     return [message_line(desk.row.name, fields, frames) for desk in desks for fields in desk.sent]
 
 
-def do_due(streams: Streams, live: bool, word: bytes) -> Iterable[bytes]:
-    venue, dealer = a_day(streams, live, word, dealer=True)
+def do_due(streams: Streams, live: bool, investor: bool, word: bytes) -> Iterable[bytes]:
+    venue, firm = a_day(streams, live, word, role_by(investor))
     configuration = venue.configuration
-    return due_text(configuration.date, configuration.firms[dealer], venue.due[dealer])
+    if investor:
+        return investor_text(seen_by(configuration, firm), venue.due[firm])
+    return due_text(configuration.date, configuration.firms[firm], venue.due[firm])
 
 
 def do_dues(streams: Streams, live: bool) -> Iterable[bytes]:
@@ -126,11 +144,12 @@ def do_blotter(streams: Streams, live: bool, word: bytes) -> Iterable[bytes]:
     return (dealer_blotter if dealer else investor_blotter)(venue.desks[firm])
 
 
-def do_compare(streams: Streams, live: bool, word: bytes) -> Iterable[bytes]:
+def do_compare(streams: Streams, live: bool, investor: bool, word: bytes) -> Iterable[bytes]:
     days = []
-    for venue, dealer in two_days(streams, live, word):
-        row = venue.configuration.date, venue.configuration.firms[dealer]
-        days.append((row, venue.due[dealer], venue.desks[dealer].frames()))
+    for venue, firm in two_days(streams, live, word, role_by(investor)):
+        configuration = venue.configuration
+        row = seen_by(configuration, firm) if investor else (configuration.date, configuration.firms[firm])
+        days.append((row, venue.due[firm], venue.desks[firm].frames()))
     (row_a, due_a, sent_a), (row_b, due_b, sent_b) = days
     yield b"row equal" if row_a == row_b else b"row differs"
     yield difference(b"due equal", b"due differs", due_a, due_b)

@@ -21,7 +21,10 @@ sys.dont_write_bytecode = True
 import faults
 import program as model
 from days import Day, Draw
+from investor_lines import investor_text
+from investor_lists import MadeUpInvestor
 from lines import due_text
+from replay import seen_by
 
 
 # ---------------------------------------------------------------- the inputs of a seed
@@ -30,7 +33,7 @@ from lines import due_text
 def inputs(seed):
     """Pairs of arguments and standard input."""
     draw = Draw(seed)
-    kinds = [a_day] * 10 + [two_days] * 2 + [due_list] * 3 + [made_up] * 4 + [spoilt] * 3 + [configurations] * 2 + [streams] * 2 + [rarely]
+    kinds = [a_day] * 10 + [two_days] * 2 + [due_list] * 3 + [investor_list] * 2 + [made_up] * 4 + [spoilt] * 3 + [configurations] * 2 + [streams] * 2 + [rarely]
     return draw.choice(kinds)(draw)
 
 
@@ -49,16 +52,26 @@ def head(day):
 
 def firm_word(draw, day, dealer=False):
     """A firm of the day, for the most part."""
-    rows = day.configuration.dealers if dealer else day.configuration.firms
+    return word_among(draw, day.configuration.dealers if dealer else day.configuration.firms)
+
+
+def investor_words(draw, day):
+    """The words that name an investor of the day, for the most part."""
+    words = ["--investor", word_among(draw, day.configuration.investors)]
+    return words if draw.chance(0.8) else words[::-1]
+
+
+def word_among(draw, rows):
     if not rows or draw.chance(0.02):
-        return draw.of("NOBODY", "CLOCK", "INV1", "DLR99")
+        return draw.of("NOBODY", "CLOCK", "INV1", "DLR1", "DLR99")
     return draw.choice(rows).name.decode()
 
 
 def commands(draw, day):
     """Some commands that read a day."""
     all_of_them = [["replay"], ["replay", firm_word(draw, day)], ["replay", "--frames"], ["dues"],
-                   ["due", firm_word(draw, day, True)], ["blotter", firm_word(draw, day)]]
+                   ["due", firm_word(draw, day, True)], ["blotter", firm_word(draw, day)],
+                   ["due", *investor_words(draw, day)]]
     return draw.sample(all_of_them, draw.of(2, 3, 5))
 
 
@@ -80,7 +93,8 @@ def live_words(draw):
 def audits(draw, day):
     """Commands that read a day of `live`."""
     found = [["replay", "--live"], ["replay", firm_word(draw, day), "--live"], ["replay", "--live", "--frames"],
-             ["dues", "--live"], ["due", firm_word(draw, day, True), "--live"], ["blotter", "--live", firm_word(draw, day)]]
+             ["dues", "--live"], ["due", firm_word(draw, day, True), "--live"], ["blotter", "--live", firm_word(draw, day)],
+             ["due", "--live", *investor_words(draw, day)]]
     return draw.sample(found, draw.of(1, 2, 3))
 
 
@@ -112,7 +126,7 @@ def two_days(draw):
     if draw.chance(0.3):
         other = re.sub(rb"exposure = [0-9]+", b"exposure = %d" % draw.of(5, 2_000_000), other, count=draw.of(0, 1))
     data = ended(draw, joined(head(day), first, other, second))
-    words = ["compare", firm_word(draw, day, True)]
+    words = ["compare", firm_word(draw, day, True)] if draw.chance(0.7) else ["compare", *investor_words(draw, day)]
     if draw.chance(0.4):
         return [(words + ["--live"], data if draw.chance(0.1) else without_turns(draw, data))]
     return [(words, data)]
@@ -130,8 +144,19 @@ def due_list(draw):
     return draw.sample(found, draw.of(1, 2))
 
 
+def investor_list(draw):
+    """The same of an investor."""
+    day = Day(draw)
+    if not day.configuration.investors:
+        return []
+    investor = draw.choice(day.investors())
+    data = b"\n".join(investor_text(seen_by(day.configuration, investor), day.venue.due[investor]))
+    found = [(["alone"], data + b"\n"), (["alone", "--frames"], data), ([], ended(draw, faults.spoilt_input(draw, data)))]
+    return draw.sample(found, draw.of(1, 2))
+
+
 def made_up(draw):
-    data = faults.MadeUp(draw).text()
+    data = faults.MadeUp(draw).text() if draw.chance(0.6) else MadeUpInvestor(draw).text()
     found = [(draw.of(["alone"], [], ["alone", "--frames"]), ended(draw, data))]
     if draw.chance(0.5):
         found.append((["alone"], ended(draw, faults.spoilt_input(draw, data))))

@@ -270,4 +270,6 @@ WRONG_ARGUMENTS = [["--frames"], ["x"], [""], ["alone", "x"], ["due"], ["dues", 
                    ["alone", "--woven"], ["replay", "--woven"], ["Replay"], ["alone", "--Frames"], ["replay", "-f"], ["live", "x"], ["--", "alone"],
                    ["replay", b"\xff"], [b"\xff"], ["due", b"\xff"], ["alone", "--frames=1"], ["--frames", "alone"],
                    ["live", "--live"], ["replay", "--marks"], ["live", "--marks", "--marks"], ["replay", "--live", "--live"], ["alone", "--live"],
-                   ["--live", "replay"], ["due", "--live"], ["dues", "--live", "--live"], ["compare", "--live"], ["live", "--marks", "x"], ["day", "--live"], ["live", "--mark"]]
+                   ["--live", "replay"], ["due", "--live"], ["dues", "--live", "--live"], ["compare", "--live"], ["live", "--marks", "x"], ["day", "--live"], ["live", "--mark"],
+                   ["due", "--investor"], ["compare", "--investor"], ["due", "--investor", "--investor", "INV1"], ["dues", "--investor"],
+                   ["replay", "--investor", "INV1"], ["due", "--investor", "INV1", "DLR1"], ["due", "--investor=INV1"], ["blotter", "--investor", "INV1"]]

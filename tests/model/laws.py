@@ -4,8 +4,8 @@
 usage: laws.py DAYS [PROGRAM]
 
 For every day of `live` and every firm: `replay --live FIRM` prints what `live` printed of that firm;
-`due --live FIRM` and then `alone` print it too; `dues --live` prints the former of each dealer; each
-`clock` line is its `expire` lines; what `due` writes is read back as the same list; and behind each line
+`due --live FIRM` (with `--investor` of an investor) and then `alone` print it too; `dues --live` prints
+the former of each dealer; each `clock` line is its `expire` lines; what `due` writes is read back as the same list; and behind each line
 there is one mark.
 """
 
@@ -18,7 +18,9 @@ sys.dont_write_bytecode = True
 
 from compare import head, joined, model_answer
 from days import Day, Draw
+from investor_lines import investor_text, read_investor_text
 from lines import due_text, read_due_text
+from replay import seen_by
 
 Answer = tuple[int, bytes, bytes]
 Ask = Callable[[list[str], bytes], Answer]
@@ -69,11 +71,12 @@ def broken(day: Day, ask: Ask) -> Iterator[str]:
             yield "replay --live %s" % name
         if ask(["replay", "--live", name, "--frames"], unswept)[1] != wanted:
             yield "clock is its expire lines to %s" % name
-        if row in day.configuration.dealers:
-            due = ask(["due", "--live", name], data)
+        is_dealer = row in day.configuration.dealers
+        due = ask(["due", "--live", name] if is_dealer else ["due", "--live", "--investor", name], data)
+        if is_dealer:
             texts.append(due[1])
-            if due[::2] != (0, told) or ask(["alone", "--frames"], due[1]) != (0, wanted, b""):
-                yield "due --live %s, and then alone" % name
+        if due[::2] != (0, told) or ask(["alone", "--frames"], due[1]) != (0, wanted, b""):
+            yield "due --live %s, and then alone" % name
     if ask(["dues", "--live"], data) != (0, b"".join(texts), told):
         yield "dues --live is that of each dealer"
 
@@ -84,6 +87,10 @@ def unread(day: Day) -> Iterator[str]:
         due = day.venue.due[firm]
         if read_due_text(list(due_text(day.configuration.date, row, due)), 1) != (day.configuration.date, row, due):
             yield "the due text of %s" % row.name.decode()
+    for firm in day.investors():
+        due, seen = day.venue.due[firm], seen_by(day.configuration, firm)
+        if read_investor_text(list(investor_text(seen, due)), 1) != (seen, due):
+            yield "the due text of %s" % day.configuration.firms[firm].name.decode()
 
 
 def main() -> None:

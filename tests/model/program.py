@@ -1,8 +1,9 @@
 #!/usr/bin/env python3
 """A second implementation of the venue's program, written from its rules alone.
 
-usage: program.py [alone [--frames]] | replay [FIRM] [--frames] [--live] | due DEALER [--live] | dues [--live]
-                  | compare DEALER [--live] | blotter FIRM [--live] | live [--frames] [--marks]
+usage: program.py [alone [--frames]] | replay [FIRM] [--frames] [--live] | due DEALER [--live]
+                  | due --investor INVESTOR [--live] | dues [--live] | compare DEALER [--live]
+                  | compare --investor INVESTOR [--live] | blotter FIRM [--live] | live [--frames] [--marks]
 """
 
 import os
@@ -33,9 +34,9 @@ class Command:
 COMMANDS = {
     "alone": Command(do_alone, ("--frames",), 0, 0),
     "replay": Command(do_replay, ("--frames", "--live"), 0, 1),
-    "due": Command(do_due, ("--live",), 1, 1),
+    "due": Command(do_due, ("--live", "--investor"), 1, 1),
     "dues": Command(do_dues, ("--live",), 0, 0),
-    "compare": Command(do_compare, ("--live",), 1, 1),
+    "compare": Command(do_compare, ("--live", "--investor"), 1, 1),
     "blotter": Command(do_blotter, ("--live",), 1, 1),
     "live": Command(None, ("--frames", "--marks"), 0, 0),
 }

@@ -163,6 +163,19 @@ def seen_by(configuration, investor):
     return configuration.date, configuration.firms[investor], configuration.bonds, dealers
 
 
+def fits(desk, kind, item):
+    """Whether an item is about a request that was accepted; an answer, to a response that could be its own."""
+    n = item[0]
+    if not 1 <= n <= len(desk.requests):
+        return False
+    if kind != "answered":
+        return True
+    (_name, k), reply = item[1:3]
+    if k is None:
+        return reply in ("Passed", "NotOpen")
+    return 1 <= k <= len(desk.shown) and desk.shown[k - 1].request.n == n and reply != "Passed"
+
+
 def investor_alone(seen, due):
     """The desk of an investor that sees this and to which this is due; nothing else of the venue is known."""
     date, row, bonds, names = seen
@@ -171,6 +184,8 @@ def investor_alone(seen, due):
     for kind, *item in due:
         if kind == "own":
             desk.take(*item)
+        elif not fits(desk, kind, item):
+            continue
         elif kind == "quoted":
             n, dealer, ticks, until, moment = item
             desk.quote_came(n, dealer, len(desk.shown) + 1, ticks, until, moment)

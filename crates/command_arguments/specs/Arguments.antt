@@ -14,7 +14,10 @@ use Rattle.clap.specs.declared.builder.action.ArgAction.TheVariants.{SetTrue}
 use Rattle.clap.specs.declared.error.kind.ErrorKind.{ErrorKind}
 use Rattle.clap.specs.declared.error.kind.ErrorKind.TheVariants as kind
 use Rattle.venue_text.specs.KeptDays as kept_days
-use Rattle.venue_text.specs.KeptDays.{Wanted, dues, messages}
+use Rattle.venue_text.specs.KeptDays.{dues, messages}
+use Rattle.investor_texts.specs.SoughtDays as sought_days
+use Rattle.investor_texts.specs.SoughtDays.{Sought, Whom, of_firms, of_investor, the_dealer}
+use Rattle.investor_texts.specs.SoughtDays.{the_investor}
 use Rattle.venue_text.specs.declared.live_form.LiveForm.{LiveForm}
 use Rattle.command_arguments.specs.declared.command.Flags.{Flags}
 use Rattle.command_arguments.specs.declared.command.Response.{Response}
@@ -31,7 +34,7 @@ pub data Command : Type 0 where
   -- all firms' messages of a day, or those of the firm with this name
   replay : Option Text → Bool → Command
   -- the messages, the due text or the blotter of a day that comes line by line, as `live` takes it
-  kept : Wanted → Command
+  kept : Sought → Command
   -- all firms' messages of a day on threads, and with the second flag the number of the steps into
   -- which it is woven
   day : Bool → Bool → Command
@@ -39,10 +42,14 @@ pub data Command : Type 0 where
   live : LiveForm → Command
   -- the due text of each dealer, or of the dealer with this name
   due : Option Text → Command
+  -- the due text of the investor with this name
+  investor_due : Text → Command
   -- what differs for the dealer with this name between two days
   compare : Text → Command
-  -- the same of two days that come line by line, as `live` takes them
-  compared : Text → Command
+  -- the same for the investor with this name
+  investor_compare : Text → Command
+  -- what differs for a firm between two days that come line by line, as `live` takes them
+  compared : Whom → Command
   -- the blotter of the firm with this name
   blotter : Text → Command
 
@@ -92,6 +99,7 @@ given flags = record {
   woven = is_among (codes "--woven") flags;
   marks = is_among (codes "--marks") flags;
   live = is_among (codes "--live") flags;
+  investor = is_among (codes "--investor") flags;
 }
 
 -- How many arguments a command takes.
@@ -131,19 +139,39 @@ marks_flag = codes "marks"
 abbrev pub live_flag : Text
 live_flag = codes "live"
 
+abbrev pub investor_flag : Text
+investor_flag = codes "investor"
+
 -- a replay, a due text, a comparison and a blotter, by the flags
 abbrev pub replay_by : Option Text → Flags → Command
 replay_by argument flags =
-    if flags.live then kept (messages argument flags.frames) else replay argument flags.frames
+    if flags.live then kept (of_firms (messages argument flags.frames))
+    else replay argument flags.frames
 
 abbrev pub due_by : Option Text → Flags → Command
-due_by dealer flags = if flags.live then kept (dues dealer) else due dealer
+due_by dealer flags = if flags.live then kept (of_firms (dues dealer)) else due dealer
+
+abbrev pub investor_due_by : Text → Flags → Command
+investor_due_by name flags = if flags.live then kept (of_investor name) else investor_due name
+
+abbrev pub due_of_one : Text → Flags → Command
+due_of_one name flags =
+    if flags.investor then investor_due_by name flags else due_by (Some name) flags
+
+abbrev pub dealer_compare_by : Text → Flags → Command
+dealer_compare_by name flags = if flags.live then compared (the_dealer name) else compare name
+
+abbrev pub investor_compare_by : Text → Flags → Command
+investor_compare_by name flags =
+    if flags.live then compared (the_investor name) else investor_compare name
 
 abbrev pub compare_by : Text → Flags → Command
-compare_by dealer flags = if flags.live then compared dealer else compare dealer
+compare_by name flags =
+    if flags.investor then investor_compare_by name flags else dealer_compare_by name flags
 
 abbrev pub blotter_by : Text → Flags → Command
-blotter_by firm flags = if flags.live then kept (kept_days.blotter firm) else blotter firm
+blotter_by firm flags =
+    if flags.live then kept (of_firms (kept_days.blotter firm)) else blotter firm
 
 -- the form that the flags ask for
 abbrev pub form_by : Flags → LiveForm
@@ -158,10 +186,10 @@ commands =
     ∷ line (codes "replay") (frames_flag ∷ live_flag ∷ []) one_or_none replay_by
     ∷ line (codes "day") (frames_flag ∷ woven_flag ∷ []) no_word
     (λ argument flags. day flags.frames flags.woven)
-    ∷ line (codes "due") (live_flag ∷ []) one_word
-    (λ argument flags. due_by (Some (unwrap_or argument [])) flags)
+    ∷ line (codes "due") (live_flag ∷ investor_flag ∷ []) one_word
+    (λ argument flags. due_of_one (unwrap_or argument []) flags)
     ∷ line (codes "dues") (live_flag ∷ []) no_word (λ argument flags. due_by None flags)
-    ∷ line (codes "compare") (live_flag ∷ []) one_word
+    ∷ line (codes "compare") (live_flag ∷ investor_flag ∷ []) one_word
     (λ argument flags. compare_by (unwrap_or argument []) flags)
     ∷ line (codes "blotter") (live_flag ∷ []) one_word
     (λ argument flags. blotter_by (unwrap_or argument []) flags)
@@ -193,7 +221,7 @@ named_command name firm flags =
     else (if bytes_eq name (codes "replay") then replay_by firm flags
     else (if bytes_eq name (codes "day") then day flags.frames flags.woven
     else (if bytes_eq name (codes "live") then live (form_by flags)
-    else (if bytes_eq name (codes "due") then due_by (Some (unwrap_or firm [])) flags
+    else (if bytes_eq name (codes "due") then due_of_one (unwrap_or firm []) flags
     else (if bytes_eq name (codes "dues") then due_by None flags
     else (if bytes_eq name (codes "compare") then compare_by (unwrap_or firm []) flags
     else blotter_by (unwrap_or firm []) flags))))))
@@ -202,12 +230,14 @@ named_command name firm flags =
 abbrev pub meant : VenueCommand → Command
 meant (rust.Alone frames) = alone frames
 meant (rust.Replay firm frames) = replay (option_map (λ argument. argument.now) firm) frames
-meant (rust.Kept wanted) = kept (kept_days.meant wanted)
+meant (rust.Kept sought) = kept (sought_days.meant sought)
 meant (rust.Day frames woven) = day frames woven
 meant (rust.Live form) = live form
 meant (rust.Due dealer) = due (option_map (λ argument. argument.now) dealer)
+meant (rust.InvestorDue investor) = investor_due investor.now
 meant (rust.Compare dealer) = compare dealer.now
-meant (rust.Compared dealer) = compared dealer.now
+meant (rust.InvestorCompare investor) = investor_compare investor.now
+meant (rust.Compared whom) = compared (sought_days.whom_meant whom)
 meant (rust.Blotter firm) = blotter firm.now
 
 -- The same as clap reads it.

@@ -9,6 +9,7 @@ use crate::table::{ArgumentLine, COMMANDS, CommandLine, FlagLine};
 use clap::error::ErrorKind;
 use clap::{Arg, ArgAction, Command, Error};
 use fix_fields::Memory;
+use investor_texts::{Sought, Whom};
 use std::alloc::Global;
 use std::convert::AsStr;
 use venue_text::{LiveForm, Wanted};
@@ -30,7 +31,7 @@ pub enum VenueCommand<'a> {
     },
     /// The messages, the due text or the blotter of a day that comes line by line, as `live` takes
     /// it.
-    Kept(Wanted<'a>),
+    Kept(Sought<'a>),
     /// All firms' messages of a day on threads.
     Day {
         /// Each message is printed as its whole frame.
@@ -48,16 +49,23 @@ pub enum VenueCommand<'a> {
         /// That of the dealer with this name alone.
         dealer: Option<&'a str>,
     },
+    /// The due text of an investor.
+    InvestorDue {
+        /// Its name.
+        investor: &'a str,
+    },
     /// What differs for a dealer between two days.
     Compare {
         /// Its name.
         dealer: &'a str,
     },
-    /// The same of two days that come line by line, as `live` takes them.
-    Compared {
+    /// The same for an investor.
+    InvestorCompare {
         /// Its name.
-        dealer: &'a str,
+        investor: &'a str,
     },
+    /// What differs for a firm between two days that come line by line, as `live` takes them.
+    Compared(Whom<'a>),
     /// The blotter of a firm.
     Blotter {
         /// Its name.
@@ -87,6 +95,8 @@ pub(crate) struct Flags {
     pub(crate) marks: bool,
     /// `--live`: the day is taken as `live` takes it.
     pub(crate) live: bool,
+    /// `--investor`: the argument names an investor.
+    pub(crate) investor: bool,
 }
 
 /// The command that arguments ask for, or what is wrong with arguments that are not those of one.
@@ -108,11 +118,13 @@ pub fn read_command<'a, S: AsStr>(
     let woven = words.get_flag("woven");
     let marks = words.get_flag("marks");
     let live = words.get_flag("live");
+    let investor = words.get_flag("investor");
     let flags = Flags {
         frames,
         woven,
         marks,
         live,
+        investor,
     };
     let command = command_named(name, words.get_str("firm"), flags);
     Ok(command)
@@ -144,7 +156,7 @@ fn command_named<'a>(name: &str, firm: Option<&'a str>, flags: Flags) -> VenueCo
     }
     let argument = firm.unwrap_or("");
     if name == "due" {
-        return due_by(Some(argument), flags);
+        return due_of_one(argument, flags);
     }
     if name == "dues" {
         return due_by(None, flags);
@@ -155,25 +167,51 @@ fn command_named<'a>(name: &str, firm: Option<&'a str>, flags: Flags) -> VenueCo
     blotter_by(argument, flags)
 }
 
+/// The due text of the firm with this name, a dealer or an investor, by the flags that are given.
+fn due_of_one<'a>(firm: &'a str, flags: Flags) -> VenueCommand<'a>
+    ensures { spec.meant result ≡ spec.due_of_one firm.now flags }
+{
+    if !flags.investor {
+        return due_by(Some(firm), flags);
+    }
+    if flags.live {
+        return VenueCommand::Kept(Sought::Investor(firm.as_bytes()));
+    }
+    VenueCommand::InvestorDue { investor: firm }
+}
+
 /// A due text, by the flags that are given.
 fn due_by<'a>(dealer: Option<&'a str>, flags: Flags) -> VenueCommand<'a>
     ensures { spec.meant result ≡ spec.due_by
         (option_map (λ argument. argument.now) dealer.entry) flags }
 {
     if flags.live {
-        return VenueCommand::Kept(Wanted::Due(argument_bytes(dealer)));
+        return VenueCommand::Kept(Sought::Firms(Wanted::Due(argument_bytes(dealer))));
     }
     VenueCommand::Due { dealer }
 }
 
 /// A comparison, by the flags that are given.
-fn compare_by<'a>(dealer: &'a str, flags: Flags) -> VenueCommand<'a>
-    ensures { spec.meant result ≡ spec.compare_by dealer.now flags }
+fn compare_by<'a>(firm: &'a str, flags: Flags) -> VenueCommand<'a>
+    ensures { spec.meant result ≡ spec.compare_by firm.now flags }
+{
+    if flags.investor {
+        return investor_compare_by(firm, flags);
+    }
+    if flags.live {
+        return VenueCommand::Compared(Whom::Dealer(firm.as_bytes()));
+    }
+    VenueCommand::Compare { dealer: firm }
+}
+
+/// The same for an investor.
+fn investor_compare_by<'a>(investor: &'a str, flags: Flags) -> VenueCommand<'a>
+    ensures { spec.meant result ≡ spec.investor_compare_by investor.now flags }
 {
     if flags.live {
-        return VenueCommand::Compared { dealer };
+        return VenueCommand::Compared(Whom::Investor(investor.as_bytes()));
     }
-    VenueCommand::Compare { dealer }
+    VenueCommand::InvestorCompare { investor }
 }
 
 /// A blotter, by the flags that are given.
@@ -181,7 +219,7 @@ fn blotter_by<'a>(firm: &'a str, flags: Flags) -> VenueCommand<'a>
     ensures { spec.meant result ≡ spec.blotter_by firm.now flags }
 {
     if flags.live {
-        return VenueCommand::Kept(Wanted::Blotter(firm.as_bytes()));
+        return VenueCommand::Kept(Sought::Firms(Wanted::Blotter(firm.as_bytes())));
     }
     VenueCommand::Blotter { firm }
 }
@@ -192,7 +230,8 @@ fn replay_by<'a>(firm: Option<&'a str>, flags: Flags) -> VenueCommand<'a>
         (option_map (λ argument. argument.now) firm.entry) flags }
 {
     if flags.live {
-        return VenueCommand::Kept(Wanted::Messages(argument_bytes(firm), flags.frames));
+        let wanted = Wanted::Messages(argument_bytes(firm), flags.frames);
+        return VenueCommand::Kept(Sought::Firms(wanted));
     }
     VenueCommand::Replay {
         firm,
@@ -361,6 +400,12 @@ pub fn arguments_have_these_faults()
         ≡ ErrorKind.UnknownArgument ∷ [] }
     ensures one_argument_less { spec.arguments_fault (codes "due" ∷ [])
         ≡ ErrorKind.MissingRequiredArgument ∷ [] }
+    ensures investor_and_live { spec.arguments_fault
+        (codes "due" ∷ codes "--investor" ∷ codes "INV1" ∷ codes "--live" ∷ []) ≡ [] }
+    ensures investor_of_nothing { spec.arguments_fault
+        (codes "due" ∷ codes "--investor" ∷ []) ≡ ErrorKind.MissingRequiredArgument ∷ [] }
+    ensures investor_replay { spec.arguments_fault (codes "replay" ∷ codes "--investor" ∷ [])
+        ≡ ErrorKind.UnknownArgument ∷ [] }
     ensures dues_of_one { spec.arguments_fault (codes "dues" ∷ codes "x" ∷ [])
         ≡ ErrorKind.UnknownArgument ∷ [] }
     ensures no_command { spec.arguments_fault (codes "days" ∷ [])

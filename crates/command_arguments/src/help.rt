@@ -5,7 +5,7 @@ pub(crate) const VERSION: &str = "0.1.0";
 pub(crate) const ABOUT: &str = "A blind multi-dealer RFQ venue for bonds";
 
 pub(crate) const ALONE: &str =
-    "Prints the messages that one dealer is sent, from its due text on standard input";
+    "Prints the messages that one firm is sent, from its due text on standard input";
 
 pub(crate) const REPLAY: &str =
     "Prints the messages of all firms, or of FIRM, on a day of the venue";
@@ -36,6 +36,8 @@ pub(crate) const MARKS: &str =
 pub(crate) const LINE_BY_LINE: &str =
     "Takes the day as `live` does: each step with its turns, and no line `turn`";
 
+pub(crate) const INVESTOR: &str = "The name is that of an investor, and not of a dealer";
+
 pub(crate) const FIRM: &str = "The name of a dealer or of an investor of the configuration";
 
 pub(crate) const DEALER: &str = "The name of a dealer of the configuration";
@@ -63,7 +65,8 @@ and then, in the order in which it happens,
   closed N KIND TIME                                the dealer is told how its request N ended:
                                                     1 hit, 3 expired, 4 cover, 5 done away, 6 passed
   drop LAST TIME                                    a turn of the cancel of all quotes (298=4) of TIME
-One space divides the parts of a line. Empty lines and lines that begin with # are skipped.
+One space divides the parts of a line. Empty lines and lines that begin with # are skipped. That of
+an investor has other lines: `due --investor` prints it.
 
   NAME, INVESTOR  1 to 8 capital letters and digits, the first a letter; not VENUE or CLOCK
   TRADER          in the dealer's line 1 to 16 names, none twice

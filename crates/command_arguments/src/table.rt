@@ -1,7 +1,7 @@
 //! The table of the commands, as clap is told of them.
 use crate::help::{
-    ALONE, BLOTTER, COMPARE, DAY, DAYS, DEALER, DUE, DUE_TEXT, DUES, FIRM, FRAMES, LINE_BY_LINE,
-    LIVE, LIVE_DAY, MARKS, REPLAY, THREADED, THREADS, WOVEN,
+    ALONE, BLOTTER, COMPARE, DAY, DAYS, DEALER, DUE, DUE_TEXT, DUES, FIRM, FRAMES, INVESTOR,
+    LINE_BY_LINE, LIVE, LIVE_DAY, MARKS, REPLAY, THREADED, THREADS, WOVEN,
 };
 
 /// A command: its arguments, and the texts of its help.
@@ -56,6 +56,11 @@ const WITH_MARKS: FlagLine = FlagLine {
     help: MARKS,
 };
 
+const OF_INVESTOR: FlagLine = FlagLine {
+    name: "investor",
+    help: INVESTOR,
+};
+
 const OF_DEALER: ArgumentLine = ArgumentLine {
     shown: "DEALER",
     required: true,
@@ -101,7 +106,7 @@ pub(crate) const COMMANDS: [CommandLine; 8] = [
         name: "due",
         about: DUE,
         input: DAY,
-        flags: &[WITH_LIVE],
+        flags: &[WITH_LIVE, OF_INVESTOR],
         argument: Some(OF_DEALER),
     },
     CommandLine {
@@ -115,7 +120,7 @@ pub(crate) const COMMANDS: [CommandLine; 8] = [
         name: "compare",
         about: COMPARE,
         input: DAYS,
-        flags: &[WITH_LIVE],
+        flags: &[WITH_LIVE, OF_INVESTOR],
         argument: Some(OF_DEALER),
     },
     CommandLine {

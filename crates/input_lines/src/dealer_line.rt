@@ -12,7 +12,7 @@ use quote_messages::{read_long_number, read_number};
 use venue_rows::{DealerRow, Name, Traders};
 
 /// The date that a date line gives.
-pub(crate) fn read_date(line: &[u8]) -> Option<Date>
+pub fn read_date(line: &[u8]) -> Option<Date>
     ensures { result ≡ spec.date_of line.now }
 {
     let (keyword, digits) = cut_part(line);
@@ -70,7 +70,7 @@ fn read_exposure(text: &[u8]) -> Option<u64>
 }
 
 /// The traders of a firm: 1 to 16 names, none twice, divided by one space each.
-fn read_traders(text: &[u8]) -> Option<Traders>
+pub fn read_traders(text: &[u8]) -> Option<Traders>
     ensures value { result ≡ spec.traders_of text.now }
     ensures some { IfSome result (λ traders. 1 ≤ length traders) }
 {

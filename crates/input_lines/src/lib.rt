@@ -28,9 +28,10 @@
 //! - [`read_line`] reads one line of steps, behind what was [`Heard`] of the lines before it;
 //!   [`count_line`] and [`push_steps`], both of them [`push_spelled`], put what it spells behind
 //!   those.
-//! - [`SayLine`] and [`read_received`] read what a firm sends as lines of steps and of due text
-//!   share it, [`NumberedLines`], [`Parts`], [`read_time`] and [`read_side`] what is in a line;
-//!   [`push_barred`] writes a message with a bar for each SOH, as such a line has it.
+//! - [`SayLine`], [`read_received`] and [`read_hexed`] read what a firm sends as lines of steps and
+//!   of due text share it, [`NumberedLines`], [`Parts`], [`read_date`], [`read_traders`],
+//!   [`read_time`] and [`read_side`] what is in a line; [`push_barred`] writes a message with a bar
+//!   for each SOH, as such a line has it.
 //! - [`fault_line`] is the whole line of every fault.
 //!
 //! No call has a condition but those that say so; each returns, and only memory can be refused.
@@ -56,14 +57,15 @@ mod step_text;
 mod venue_parts;
 
 pub use bars::push_barred;
+pub use dealer_line::{read_date, read_traders};
 pub use due_text::{DueText, read_due_text};
 pub use faults::{ProgramFault, UnkeptDay, UnwovenDay, fault_line};
 pub use fields::{Field, read_fields};
 pub use firm_streams::Heard;
-pub use frame_lines::read_received;
+pub use frame_lines::{read_hexed, read_received};
 pub use line_steps::{Spelled, count_line, push_spelled, push_steps};
 pub use lines::{MOST_INPUT, NumberedLines, Parts, has_divider, is_skipped, one_past};
-pub use parts::{cut_part, read_side, read_time, same_text};
+pub use parts::{cut_part, has_part_behind, read_side, read_time, same_text};
 pub use say_frames::LONGEST_BODY;
 pub use say_lines::SayLine;
 pub use step_lines::{MOST_TURNS, read_line};

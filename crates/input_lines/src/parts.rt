@@ -50,7 +50,7 @@ pub fn cut_part(text: &[u8]) -> (&[u8], &[u8])
 }
 
 /// Whether a further part stands behind the first part of a line.
-pub(crate) fn has_part_behind(text: &[u8]) -> bool
+pub fn has_part_behind(text: &[u8]) -> bool
     ensures { result ≡ spec.has_part_behind text.now }
 {
     text.iter().any(|c| *c == b' ')

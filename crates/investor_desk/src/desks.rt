@@ -1,8 +1,10 @@
 //! The desk of one investor.
-ghost use Rattle.std.specs.Prelude.{◌≡◌, ◌++◌, true, is_some, Some, IfOk, OnOk, OnErr};
+ghost use Rattle.std.specs.Prelude.{◌≡◌, ◌≤◌, ◌++◌, true, is_some, length, Some, IfOk, OnOk};
+ghost use Rattle.std.specs.Prelude.{OnErr, option_and_then};
 ghost use Rattle.std.specs.Option.{option_map, option_to_list};
 ghost use Rattle.venue_rows.specs.Rows.{investor_numbered};
-ghost use Rattle.investor_desk.specs.InvestorFacts.{knows};
+ghost use Rattle.investor_desk.specs.InvestorFacts.{knows, offer_with_word, offers_shown};
+ghost use Rattle.investor_desk.specs.InvestorFacts.{open_request};
 ghost use Rattle.investor_desk.specs.InvestorOutput as spec;
 ghost use Rattle.investor_desk.specs.InvestorOutput.{investor_output, market_for, no_events};
 ghost use Rattle.investor_desk.specs.InvestorOutput.{book_at, verdict_at, with_event, verdict_duty};
@@ -26,7 +28,7 @@ use market_terms::{Duty, Offer, Reply, RequestLine, ResponseRef};
 use quote_messages::{Message, SentMessage};
 use std::alloc::Global;
 use std::marker::Model;
-use venue_rows::{InvestorRow, Name, VenueConfig};
+use venue_rows::{BondRow, InvestorRow, Name, VenueConfig};
 
 /// The desk of one investor: the events that came to it, and the messages that the investor was
 /// sent.
@@ -71,6 +73,34 @@ impl InvestorDesk {
             sent: Vec::new(alloc),
             index: InvestorIndex::new(alloc),
         })
+    }
+
+    /// The same of an investor that sees these bonds and the dealers with these names, and of which
+    /// nothing else of the venue is known. Its number as a firm, which no message bears, is 0.
+    pub fn of_seen(
+        alloc: Global,
+        date: Date,
+        row: InvestorRow,
+        bonds: Vec<BondRow>,
+        dealers: Vec<Name>,
+    ) -> Self
+        requires { length dealers.items ≤ VenueConfig.MOST_DEALERS }
+        ensures { result ≡ no_events (record {
+          date = date;
+          bonds = bonds.items;
+          dealers = dealers.items;
+          firm = 0;
+          row = row;
+        }) }
+    {
+        let market = Market::seen(date, row, bonds, dealers);
+        InvestorDesk {
+            alloc,
+            market,
+            events: Vec::new(alloc),
+            sent: Vec::new(alloc),
+            index: InvestorIndex::new(alloc),
+        }
     }
 
     /// What its memory comes from.
@@ -248,6 +278,24 @@ impl InvestorDesk {
             Some(shown) => shown.request == n,
             None => false,
         }
+    }
+
+    /// How many quotes the investor was shown.
+    pub fn quotes_shown(&self) -> u64
+        ensures { result ≡ offers_shown (book_at self.now) }
+    {
+        self.index.offers_shown()
+    }
+
+    /// The number of the earliest shown of the quotes with this word that stand on the request with
+    /// this number, where the request is open and there is such a quote.
+    pub fn quote_with_word(&self, n: u32, word: u32) -> Option<u64>
+        ensures { result ≡ option_map (λ shown. shown.number) (option_and_then
+            (λ own. offer_with_word own word) (open_request (book_at self.now) n)) }
+    {
+        let row = self.index.open_request(n)?;
+        let number = row.number_with_word(word)?;
+        Some(number)
     }
 
     /// The messages that the investor was sent, the first one first.

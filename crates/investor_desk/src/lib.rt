@@ -24,8 +24,8 @@
 //!   day, and a request that is opened names 1 to 8 dealers of the venue, none of them twice.
 //! - No more requests are accepted in a day than the row allows, and no more of them are open.
 //!
-//! No call but [`InvestorDesk::new`] has a condition: a call about a request that was not accepted
-//! adds its event and changes nothing else.
+//! No call but [`InvestorDesk::new`] and [`InvestorDesk::of_seen`] has a condition: a call about a
+//! request that was not accepted adds its event and changes nothing else.
 #![tactic(auto)]
 
 mod answers;

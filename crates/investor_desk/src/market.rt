@@ -1,5 +1,5 @@
 //! What a desk looks at of the configuration of its venue.
-ghost use Rattle.std.specs.Prelude.{◌≡◌, map, position, IfOk};
+ghost use Rattle.std.specs.Prelude.{◌≡◌, ◌≤◌, length, map, position, IfOk};
 ghost use Rattle.venue_rows.specs.Texts.{same_text};
 ghost use Rattle.venue_rows.specs.declared.dealer_rows.DealerRow.{DealerRow};
 ghost use Rattle.investor_desk.specs.InvestorRules as spec;
@@ -58,6 +58,32 @@ impl Market {
             firm,
             row: row.copy(),
         })
+    }
+
+    /// The market of an investor that sees these bonds and the dealers with these names. Its number
+    /// as a firm is 0.
+    pub(crate) fn seen(
+        date: Date,
+        row: InvestorRow,
+        bonds: Vec<BondRow>,
+        dealers: Vec<Name>,
+    ) -> Self
+        requires { length dealers.items ≤ VenueConfig.MOST_DEALERS }
+        ensures { result ≡ record {
+          date = date;
+          bonds = bonds.items;
+          dealers = dealers.items;
+          firm = 0;
+          row = row;
+        } }
+    {
+        Market {
+            date,
+            bonds,
+            dealers,
+            firm: 0,
+            row,
+        }
     }
 
     /// The bond with this identifier (SecurityID 48).

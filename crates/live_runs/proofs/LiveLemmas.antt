@@ -18,9 +18,13 @@ use Rattle.venue_config.specs.declared.faults.ConfigFault.{ConfigFault}
 use Rattle.venue_config.specs.declared.faults.ConfigFault.TheVariants.{Toml}
 use Rattle.input_lines.specs.Faults.{told_line}
 use Rattle.input_lines.specs.Lines.{lines_of}
-use Rattle.venue_text.specs.KeptComparison.{IsKeptComparison}
+use Rattle.investor_texts.specs.SoughtDays as sought_days
+use Rattle.investor_texts.specs.SoughtDays.{AskedFor, KeepsMore, OpensSought, Sought, Whom, asked_in}
+use Rattle.investor_texts.specs.SoughtDays.{asked_venue, of_firms, of_investor, sought_of, sought_text}
+use Rattle.investor_texts.specs.SoughtDays.{IsComparison, firms}
+use Rattle.investor_texts.specs.DueCommand.{where_investor}
 use Rattle.venue_text.specs.KeptDays as kept_days
-use Rattle.venue_text.specs.KeptDays.{KeepsMore, OpensKept, Wanted, asked_in, asked_venue, dues, kept_text, messages}
+use Rattle.venue_text.specs.KeptDays.{Wanted, dues, messages}
 use Rattle.venue_text.specs.LiveAnswers.{Gives, Goes, Opens}
 use Rattle.venue_text.specs.LiveInput.{are_divided, configuration_in, taken_in, text_in}
 use Rattle.venue_text.specs.LiveLines.{Taken, nothing_taken}
@@ -32,7 +36,8 @@ use Rattle.input_lines.specs.declared.faults.ProgramFault.TheVariants.{Input, Co
 use Rattle.input_lines.specs.declared.faults.ProgramFault.TheVariants.{Stream, UnknownFirm, UnknownRoom, Weave, Write}
 use Rattle.venue_text.specs.declared.kept_days.Asked.{Asked}
 use Rattle.venue_text.specs.declared.kept_days.Asked.TheVariants as asked_for
-use Rattle.venue_text.specs.declared.kept_days.KeptDay.{KeptDay}
+use Rattle.investor_texts.specs.declared.sought_days.SoughtDay.{SoughtDay}
+use Rattle.investor_texts.specs.declared.sought_days.SoughtDay.TheVariants as sought_day
 use Rattle.input_lines.specs.declared.lines.TheConstants.{MOST_INPUT}
 use Rattle.venue_text.specs.declared.live_form.LiveForm.{LiveForm}
 use Rattle.venue_text.specs.declared.live_lines.LiveDay.{LiveDay}
@@ -228,19 +233,29 @@ day_out_of_memory form lines line day out told old new more fault is goes kept =
       );
     })
 
+-- a day that stands names whom the venue has
+asked_of : (sought : Sought) (config : Configuration) (taken : Taken) (day : SoughtDay)
+    → sought_days.Keeps sought config taken day → fault_if (asked_in sought (values_of config)) ≡ None
+asked_of (of_firms wanted) config taken (sought_day.Firms kept) keeps =
+    ap (λ (r : Result Asked ProgramFault). fault_if (r >>= (λ a. Ok (firms a)))) keeps.asked_is
+asked_of (of_firms wanted) config taken (sought_day.Investor kept) keeps = absurd keeps
+asked_of (of_investor name) config taken (sought_day.Firms kept) keeps = absurd keeps
+asked_of (of_investor name) config taken (sought_day.Investor kept) keeps =
+    ap (λ (r : Result ℕ ProgramFault). fault_if (r >>= (λ n. Ok (sought_days.investor n)))) keeps.named
+
 -- A line of steps that is taken, of a day of which something is printed at its end.
 
-module _ (number : ℕ) (line : List ℕ) (fault : Option ProgramFault) (before after : KeptDay)
+module _ (number : ℕ) (line : List ℕ) (fault : Option ProgramFault) (before after : SoughtDay)
     (keeps : KeepsAnywhere number line before after fault) where
   pub kept_taken : (out : Option (List ℕ)) (err err' : Option (List ℕ))
       → GainsFaults (option_to_list fault) (record { before = err; after = err' })
       → KeptTakes number line before after (record { before = out; after = out }) (record { before = err; after = err' })
-  kept_taken out err err' tells wanted lines start at had =
+  kept_taken out err err' tells sought lines start at had =
       let config = had.config in
       let divided = had.answers.divided in
       let same = taken_any config lines line divided in
-      let more = subst (λ (n : ℕ). KeepsMore wanted config (taken_in config lines) n line after fault) at
-      (keeps config wanted (taken_in config lines) had.keeps) in
+      let more = subst (λ (n : ℕ). KeepsMore sought config (taken_in config lines) n line after fault) at
+      (keeps config sought (taken_in config lines) had.keeps) in
       let faults : (taken_in config (lines ++ line ∷ [])).faults ≡ (taken_in config lines).faults ++ option_to_list fault =
       ap (λ (t : Taken). t.faults) same ∙ more.told in
       record {
@@ -253,30 +268,30 @@ module _ (number : ℕ) (line : List ℕ) (fault : Option ProgramFault) (before 
           told = subst (λ (f : List ProgramFault). GainsFaults f (record { before = start.err; after = err' })) (sym faults)
               (faults_more (taken_in config lines).faults (option_to_list fault) start.err err err' had.answers.told tells);
         };
-        keeps = subst (λ (t : Taken). kept_days.Keeps wanted config t after) (sym same) more.keeps;
+        keeps = subst (λ (t : Taken). sought_days.Keeps sought config t after) (sym same) more.keeps;
       }
 
 -- By the form.
 
 pub answers_nothing : (form : LineForm) (lines : List (List ℕ)) (out err : Written) → AnswersNothing lines out err → HasAnswered form lines out err
 answers_nothing (answered form) lines out err nothing = inl nothing
-answers_nothing (kept_for wanted) lines out err nothing = inl nothing
-answers_nothing (compared_for dealer) lines out err nothing = inl nothing
+answers_nothing (kept_for sought) lines out err nothing = inl nothing
+answers_nothing (compared_for whom) lines out err nothing = inl nothing
 
 no_day : (form : LineForm) (lines : List (List ℕ)) (out err : Written) → AnswersNothing lines out err → HasNoDay form lines out err
 no_day (answered form) lines out err nothing = (nothing.left, nothing.untold)
-no_day (kept_for wanted) lines out err nothing = (nothing.left, nothing.untold)
-no_day (compared_for dealer) lines out err nothing = inl nothing
+no_day (kept_for sought) lines out err nothing = (nothing.left, nothing.untold)
+no_day (compared_for whom) lines out err nothing = inl nothing
 
 first_text : (form : LineForm) (lines : List (List ℕ)) → IsConfigurationIn form lines (configuration_in lines)
 first_text (answered form) lines = refl
-first_text (kept_for wanted) lines = refl
-first_text (compared_for dealer) lines = inl refl
+first_text (kept_for sought) lines = refl
+first_text (compared_for whom) lines = inl refl
 
 not_whole : (form : LineForm) (lines : List (List ℕ)) → are_divided lines ≡ false → are_whole form lines ≡ false
 not_whole (answered form) lines undivided = undivided
-not_whole (kept_for wanted) lines undivided = undivided
-not_whole (compared_for dealer) lines undivided = undivided_alone lines undivided
+not_whole (kept_for sought) lines undivided = undivided
+not_whole (compared_for whom) lines undivided = undivided_alone lines undivided
 
 -- Two days.
 
@@ -285,9 +300,9 @@ keeps_of None new gained = tt
 keeps_of (Some xs) None gained = absurd gained
 keeps_of (Some xs) (Some ys) gained = gained ∙ append-nil xs
 
-one_taken : (dealer : List ℕ) (lines : List (List ℕ)) (day : KeptDay) (out err : Written) → (goes : FirstGoes dealer lines day out err)
-    → TakesOne dealer goes.goes.config lines out err
-one_taken dealer lines day out err first = record {
+one_taken : (whom : Whom) (lines : List (List ℕ)) (day : SoughtDay) (out err : Written) → (goes : FirstGoes whom lines day out err)
+    → TakesOne whom goes.goes.config lines out err
+one_taken whom lines day out err first = record {
   alone = first_alone lines first.alone;
   spelled = first.goes.answers.spelled;
   asked = first.goes.answers.asked;
@@ -295,8 +310,8 @@ one_taken dealer lines day out err first = record {
   told = subst (λ (t : Taken). GainsFaults t.faults err) (sym (first_taken_alone first.goes.config lines first.alone)) first.goes.answers.told;
 }
 
-module _ (dealer : List ℕ) (lines first : List (List ℕ)) (divider : List ℕ) (behind : List (List ℕ)) (two : AreTwo lines first divider behind)
-    (day : KeptDay) (out err : Written) (goes : FirstGoes dealer first day out err) where
+module _ (whom : Whom) (lines first : List (List ℕ)) (divider : List ℕ) (behind : List (List ℕ)) (two : AreTwo lines first divider behind)
+    (day : SoughtDay) (out err : Written) (goes : FirstGoes whom first day out err) where
   abbrev whole_lines_are : List (List ℕ)
   whole_lines_are = first ++ divider ∷ behind
 
@@ -326,7 +341,7 @@ module _ (dealer : List ℕ) (lines first : List (List ℕ)) (divider : List ℕ
   first_told : GainsFaults (first_taken goes.goes.config lines).faults err
   first_told = subst (λ (t : Taken). GainsFaults t.faults err) (sym (first_brought goes.goes.config)) goes.goes.answers.told
 
-  between_taken : are_divided behind ≡ false → TakesOne dealer goes.goes.config lines out err
+  between_taken : are_divided behind ≡ false → TakesOne whom goes.goes.config lines out err
   between_taken undivided = record {
     alone = four_are ∙ undivided;
     spelled = first_spelled;
@@ -335,52 +350,52 @@ module _ (dealer : List ℕ) (lines first : List (List ℕ)) (divider : List ℕ
     told = first_told;
   }
 
-awaiting_taken : (dealer : List ℕ) (lines : List (List ℕ)) (day : KeptDay) (text : List ℕ) (out err : Written)
-    → (awaits : AwaitsSecond dealer lines day text out err) → TakesOne dealer awaits.goes.goes.config lines out err
-awaiting_taken dealer lines day text out err awaits =
-    between_taken dealer lines awaits.first awaits.divider awaits.behind awaits.two day out err awaits.goes awaits.undivided
+awaiting_taken : (whom : Whom) (lines : List (List ℕ)) (day : SoughtDay) (text : List ℕ) (out err : Written)
+    → (awaits : AwaitsSecond whom lines day text out err) → TakesOne whom awaits.goes.goes.config lines out err
+awaiting_taken whom lines day text out err awaits =
+    between_taken whom lines awaits.first awaits.divider awaits.behind awaits.two day out err awaits.goes awaits.undivided
 
-both_taken : (dealer : List ℕ) (lines : List (List ℕ)) (one other : KeptDay) (out err : Written) → (both : BothGo dealer lines one other out err)
-    → TakesBoth dealer both.goes.goes.config both.second.config lines err
-both_taken dealer lines one other out err both =
+both_taken : (whom : Whom) (lines : List (List ℕ)) (one other : SoughtDay) (out err : Written) → (both : BothGo whom lines one other out err)
+    → TakesBoth whom both.goes.goes.config both.second.config lines err
+both_taken whom lines one other out err both =
     let mid : Written = record { before = err.before; after = both.mid } in
     let second = both.second in
     record {
-      both = four_are dealer lines both.first both.divider both.behind both.two one out mid both.goes ∙ second.divided;
-      spelled = first_spelled dealer lines both.first both.divider both.behind both.two one out mid both.goes;
+      both = four_are whom lines both.first both.divider both.behind both.two one out mid both.goes ∙ second.divided;
+      spelled = first_spelled whom lines both.first both.divider both.behind both.two one out mid both.goes;
       asked = both.goes.goes.answers.asked;
-      other_spelled = ap venue_of (second_text dealer lines both.first both.divider both.behind both.two one out mid both.goes) ∙ second.spelled;
-      other_asked = ap (λ (r : Result Asked ProgramFault). fault_if r) second.keeps.asked_is;
+      other_spelled = ap venue_of (second_text whom lines both.first both.divider both.behind both.two one out mid both.goes) ∙ second.spelled;
+      other_asked = asked_of (sought_of whom) second.config (taken_at second.config (length both.first + 2) both.behind) other second.keeps;
       told = faults_more _ _ err.before both.mid err.after
-          (first_told dealer lines both.first both.divider both.behind both.two one out mid both.goes)
+          (first_told whom lines both.first both.divider both.behind both.two one out mid both.goes)
           (subst (λ (t : Taken). GainsFaults t.faults (record { before = both.mid; after = err.after }))
-          (sym (second_brought dealer lines both.first both.divider both.behind both.two one out mid both.goes second.config)) second.told);
+          (sym (second_brought whom lines both.first both.divider both.behind both.two one out mid both.goes second.config)) second.told);
     }
 
-both_untouched : (dealer : List ℕ) (lines : List (List ℕ)) (one other : KeptDay) (out err : Written) → BothGo dealer lines one other out err
+both_untouched : (whom : Whom) (lines : List (List ℕ)) (one other : SoughtDay) (out err : Written) → BothGo whom lines one other out err
     → IsUntouched out
-both_untouched dealer lines one other out err both = keeps_of out.before out.after both.goes.goes.answers.printed
+both_untouched whom lines one other out err both = keeps_of out.before out.after both.goes.goes.answers.printed
 
 -- what two days have taken was answered
-both_answered : (dealer : List ℕ) (lines : List (List ℕ)) (one other : KeptDay) (out err : Written) → BothGo dealer lines one other out err
-    → HasAnswered (compared_for dealer) lines out err
-both_answered dealer lines one other out err both =
-    inr (inr (both_untouched dealer lines one other out err both, (both.goes.goes.config, both.second.config, both_taken dealer lines one other out err both)))
+both_answered : (whom : Whom) (lines : List (List ℕ)) (one other : SoughtDay) (out err : Written) → BothGo whom lines one other out err
+    → HasAnswered (compared_for whom) lines out err
+both_answered whom lines one other out err both =
+    inr (inr (both_untouched whom lines one other out err both, (both.goes.goes.config, both.second.config, both_taken whom lines one other out err both)))
 
 -- a line more of the first
-first_more : (dealer : List ℕ) (number : ℕ) (line : List ℕ) (before after : KeptDay) (out err : Written) → is_divider line ≡ false
+first_more : (whom : Whom) (number : ℕ) (line : List ℕ) (before after : SoughtDay) (out err : Written) → is_divider line ≡ false
     → KeptTakes number line before after out err → (lines : List (List ℕ)) (start : Start) → number ≡ length lines + 1
-    → FirstGoes dealer lines before (out_old start out) (err_old start err)
-    → FirstGoes dealer (lines ++ line ∷ []) after (out_new start out) (err_new start err)
-first_more dealer number line before after out err other takes lines start at had = record {
-  goes = takes (dues (Some dealer)) lines start at had.goes;
+    → FirstGoes whom lines before (out_old start out) (err_old start err)
+    → FirstGoes whom (lines ++ line ∷ []) after (out_new start out) (err_new start err)
+first_more whom number line before after out err other takes lines start at had = record {
+  goes = takes (sought_of whom) lines start at had.goes;
   alone = alone_still lines line had.goes.answers.divided had.alone other;
 }
 
 -- its end
-first_ends : (dealer : List ℕ) (lines : List (List ℕ)) (line text : List ℕ) (day : KeptDay) (out err : Written) → is_divider line ≡ true
-    → text ≡ [] → FirstGoes dealer lines day out err → AwaitsSecond dealer (lines ++ line ∷ []) day text out err
-first_ends dealer lines line text day out err here empty had = record {
+first_ends : (whom : Whom) (lines : List (List ℕ)) (line text : List ℕ) (day : SoughtDay) (out err : Written) → is_divider line ≡ true
+    → text ≡ [] → FirstGoes whom lines day out err → AwaitsSecond whom (lines ++ line ∷ []) day text out err
+first_ends whom lines line text day out err here empty had = record {
   first = lines;
   divider = line;
   behind = [];
@@ -398,9 +413,9 @@ two_more lines first divider behind line two = record {
 }
 
 -- a line of the second configuration
-awaiting_more : (dealer : List ℕ) (lines : List (List ℕ)) (line text after : List ℕ) (day : KeptDay) (out err : Written) → is_divider line ≡ false
-    → after ≡ text ++ line ++ 10 ∷ [] → AwaitsSecond dealer lines day text out err → AwaitsSecond dealer (lines ++ line ∷ []) day after out err
-awaiting_more dealer lines line text after day out err other is had = record {
+awaiting_more : (whom : Whom) (lines : List (List ℕ)) (line text after : List ℕ) (day : SoughtDay) (out err : Written) → is_divider line ≡ false
+    → after ≡ text ++ line ++ 10 ∷ [] → AwaitsSecond whom lines day text out err → AwaitsSecond whom (lines ++ line ∷ []) day after out err
+awaiting_more whom lines line text after day out err other is had = record {
   first = had.first;
   divider = had.divider;
   behind = had.behind ++ line ∷ [];
@@ -411,9 +426,9 @@ awaiting_more dealer lines line text after day out err other is had = record {
 }
 
 -- its end
-second_opens : (dealer : List ℕ) (lines : List (List ℕ)) (line text : List ℕ) (one other : KeptDay) (out err : Written) → is_divider line ≡ true
-    → OpensKept (dues (Some dealer)) text other → AwaitsSecond dealer lines one text out err → BothGo dealer (lines ++ line ∷ []) one other out err
-second_opens dealer lines line text one other out err here opens had =
+second_opens : (whom : Whom) (lines : List (List ℕ)) (line text : List ℕ) (one other : SoughtDay) (out err : Written) → is_divider line ≡ true
+    → OpensSought (sought_of whom) text other → AwaitsSecond whom lines one text out err → BothGo whom (lines ++ line ∷ []) one other out err
+second_opens whom lines line text one other out err here opens had =
     let nothing = nothing_at opens.config (length had.first + 2) had.behind line had.undivided here in
     record {
       first = had.first;
@@ -426,25 +441,25 @@ second_opens dealer lines line text one other out err here opens had =
         config = opens.config;
         divided = now_divided had.behind line had.undivided here;
         spelled = ap venue_of (configuration_is had.behind line had.undivided here ∙ sym had.text_is) ∙ opens.spelled;
-        keeps = subst (λ (t : Taken). kept_days.Keeps (dues (Some dealer)) opens.config t other) (sym nothing) opens.keeps;
+        keeps = subst (λ (t : Taken). sought_days.Keeps (sought_of whom) opens.config t other) (sym nothing) opens.keeps;
         told = subst (λ (t : Taken). GainsFaults t.faults (record { before = err.after; after = err.after })) (sym nothing) (keeps_same err.after);
       };
     }
 
 -- a line more of the second
-both_more : (dealer : List ℕ) (number : ℕ) (line : List ℕ) (fault : Option ProgramFault) (one before after : KeptDay)
+both_more : (whom : Whom) (number : ℕ) (line : List ℕ) (fault : Option ProgramFault) (one before after : SoughtDay)
     → KeepsAnywhere number line before after fault → (o e e' : Option (List ℕ))
     → GainsFaults (option_to_list fault) (record { before = e; after = e' }) → (lines : List (List ℕ)) (start : Start) → number ≡ length lines + 1
-    → BothGo dealer lines one before (record { before = start.out; after = o }) (record { before = start.err; after = e })
-    → BothGo dealer (lines ++ line ∷ []) one after (record { before = start.out; after = o }) (record { before = start.err; after = e' })
-both_more dealer number line fault one before after keeps o e e' tells lines start at had =
+    → BothGo whom lines one before (record { before = start.out; after = o }) (record { before = start.err; after = e })
+    → BothGo whom (lines ++ line ∷ []) one after (record { before = start.out; after = o }) (record { before = start.err; after = e' })
+both_more whom number line fault one before after keeps o e e' tells lines start at had =
     let second = had.second in
     let k = length had.first + 2 in
     let count = ap (λ (l : List (List ℕ)). length l) had.two.split ∙ length-append had.first (had.divider ∷ had.behind) in
     let place : number ≡ k + length had.behind = omega (arith, at, count) in
     let same = taken_any_at second.config k had.behind line second.divided in
-    let more = subst (λ (n : ℕ). KeepsMore (dues (Some dealer)) second.config (taken_at second.config k had.behind) n line after fault) place
-    (keeps second.config (dues (Some dealer)) (taken_at second.config k had.behind) second.keeps) in
+    let more = subst (λ (n : ℕ). KeepsMore (sought_of whom) second.config (taken_at second.config k had.behind) n line after fault) place
+    (keeps second.config (sought_of whom) (taken_at second.config k had.behind) second.keeps) in
     let faults : (taken_at second.config k (had.behind ++ line ∷ [])).faults
     ≡ (taken_at second.config k had.behind).faults ++ option_to_list fault =
     ap (λ (t : Taken). t.faults) same ∙ more.told in
@@ -459,7 +474,7 @@ both_more dealer number line fault one before after keeps o e e' tells lines sta
         config = second.config;
         divided = (parts_stay is_divider had.behind (line ∷ []) second.divided).any;
         spelled = ap venue_of (configuration_stays had.behind (line ∷ []) second.divided) ∙ second.spelled;
-        keeps = subst (λ (t : Taken). kept_days.Keeps (dues (Some dealer)) second.config t after) (sym same) more.keeps;
+        keeps = subst (λ (t : Taken). sought_days.Keeps (sought_of whom) second.config t after) (sym same) more.keeps;
         told = subst (λ (f : List ProgramFault). GainsFaults f (record { before = had.mid; after = e' })) (sym faults)
             (faults_more (taken_at second.config k had.behind).faults (option_to_list fault) had.mid e e' second.told tells);
       };
@@ -505,41 +520,41 @@ module _ (lines : List (List ℕ)) (line text : List ℕ) (out err : Written) (h
         goes = subst (λ (t : Taken). Goes form config t day) (sym (nothing_taken_here config)) opens.goes;
       }
 
-  pub config_keeps : (wanted : Wanted) (day : KeptDay) → OpensKept wanted text day → KeptGoes wanted (lines ++ line ∷ []) day out err
-  config_keeps wanted day opens =
+  pub config_keeps : (sought : Sought) (day : SoughtDay) → OpensSought sought text day → KeptGoes sought (lines ++ line ∷ []) day out err
+  config_keeps sought day opens =
       let config = opens.config in
       record {
         config = config;
         answers = record {
           divided = now_divided lines line had.nothing.undivided here;
           spelled = spelled_here config opens.spelled;
-          asked = ap (λ (r : Result Asked ProgramFault). fault_if r) opens.keeps.asked_is;
+          asked = asked_of sought config _ day opens.keeps;
           printed = gains_nothing out.before out.after had.nothing.left;
           told = untold_here config;
         };
-        keeps = subst (λ (t : Taken). kept_days.Keeps wanted config t day) (sym (nothing_taken_here config)) opens.keeps;
+        keeps = subst (λ (t : Taken). sought_days.Keeps sought config t day) (sym (nothing_taken_here config)) opens.keeps;
       }
 
   pub stage_opened : (form : LineForm) (next : Stage) → OpensStage form text next → StageIs form (lines ++ line ∷ []) next out err
   stage_opened (answered form) (stage.Day day) opens = config_opens form day opens
-  stage_opened (kept_for wanted) (stage.Kept day) opens = config_keeps wanted day opens
-  stage_opened (compared_for dealer) (stage.First day) opens =
-      record { goes = config_keeps (dues (Some dealer)) day opens; alone = none_behind lines line had.nothing.undivided here }
+  stage_opened (kept_for sought) (stage.Kept day) opens = config_keeps sought day opens
+  stage_opened (compared_for whom) (stage.First day) opens =
+      record { goes = config_keeps (sought_of whom) day opens; alone = none_behind lines line had.nothing.undivided here }
   stage_opened (answered form) (stage.Configuration t) opens = absurd opens
   stage_opened (answered form) (stage.Kept day) opens = absurd opens
   stage_opened (answered form) (stage.First day) opens = absurd opens
   stage_opened (answered form) (stage.Between day t) opens = absurd opens
   stage_opened (answered form) (stage.Both one other) opens = absurd opens
-  stage_opened (kept_for wanted) (stage.Configuration t) opens = absurd opens
-  stage_opened (kept_for wanted) (stage.Day day) opens = absurd opens
-  stage_opened (kept_for wanted) (stage.First day) opens = absurd opens
-  stage_opened (kept_for wanted) (stage.Between day t) opens = absurd opens
-  stage_opened (kept_for wanted) (stage.Both one other) opens = absurd opens
-  stage_opened (compared_for dealer) (stage.Configuration t) opens = absurd opens
-  stage_opened (compared_for dealer) (stage.Day day) opens = absurd opens
-  stage_opened (compared_for dealer) (stage.Kept day) opens = absurd opens
-  stage_opened (compared_for dealer) (stage.Between day t) opens = absurd opens
-  stage_opened (compared_for dealer) (stage.Both one other) opens = absurd opens
+  stage_opened (kept_for sought) (stage.Configuration t) opens = absurd opens
+  stage_opened (kept_for sought) (stage.Day day) opens = absurd opens
+  stage_opened (kept_for sought) (stage.First day) opens = absurd opens
+  stage_opened (kept_for sought) (stage.Between day t) opens = absurd opens
+  stage_opened (kept_for sought) (stage.Both one other) opens = absurd opens
+  stage_opened (compared_for whom) (stage.Configuration t) opens = absurd opens
+  stage_opened (compared_for whom) (stage.Day day) opens = absurd opens
+  stage_opened (compared_for whom) (stage.Kept day) opens = absurd opens
+  stage_opened (compared_for whom) (stage.Between day t) opens = absurd opens
+  stage_opened (compared_for whom) (stage.Both one other) opens = absurd opens
 
 -- a fault of what a configuration spells is one of its own
 config_fault : (text : List ℕ) (fault : ProgramFault) → venue_of text ≡ Err fault → (f : ConfigFault) × (fault ≡ Config f)
@@ -552,59 +567,90 @@ config_fault text fault is = by_text (is_utf8 text) (config_of text) is
     by_text false read e = (Toml, cc)
 
 -- a fault of a name is that no firm has it
-only_firm : {A : Type 0} (found : Option ℕ) (next : ℕ → A) (fault : ProgramFault) → fault_if (asked found >>= (λ n. Ok (next n))) ≡ Some fault → fault ≡ Firm
+only_firm : (found : Option ℕ) (next : ℕ → Asked) (fault : ProgramFault)
+    → fault_if ((asked found >>= (λ n. Ok (next n))) >>= (λ only. Ok (firms only))) ≡ Some fault → fault ≡ Firm
 only_firm None next fault e = cc
 only_firm (Some n) next fault e = cc
 
 only_dealer : (found : Option ℕ) (fault : ProgramFault)
-    → fault_if ((asked found >>= (λ n. Ok (Some n))) >>= (λ only. Ok (asked_for.Due only))) ≡ Some fault → fault ≡ Firm
+    → fault_if (((asked found >>= (λ n. Ok (Some n))) >>= (λ only. Ok (asked_for.Due only))) >>= (λ only. Ok (firms only))) ≡ Some fault → fault ≡ Firm
 only_dealer None fault e = cc
 only_dealer (Some n) fault e = cc
 
-firm_alone : (form : LineForm) (config : ConfigValues) (fault : ProgramFault) → name_fault form config ≡ Some fault → fault ≡ Firm
-firm_alone (answered form) config fault e = cc
-firm_alone (kept_for (messages None frames)) config fault e = cc
-firm_alone (kept_for (messages (Some name) frames)) config fault e = go (firm_named config name) e
+only_investor : (found : Option ℕ) (fault : ProgramFault)
+    → fault_if (asked found >>= (λ n. Ok (sought_days.investor n))) ≡ Some fault → fault ≡ Firm
+only_investor None fault e = cc
+only_investor (Some n) fault e = cc
+
+firms_alone : (wanted : Wanted) (config : ConfigValues) (fault : ProgramFault)
+    → fault_if (asked_in (of_firms wanted) config) ≡ Some fault → fault ≡ Firm
+firms_alone (messages None frames) config fault e = cc
+firms_alone (messages (Some name) frames) config fault e = go (firm_named config name) e
   where
-    go : (found : Option ℕ) → fault_if ((asked found >>= (λ n. Ok (Some n))) >>= (λ only. Ok (asked_for.Messages only frames))) ≡ Some fault → fault ≡ Firm
+    go : (found : Option ℕ)
+        → fault_if (((asked found >>= (λ n. Ok (Some n))) >>= (λ only. Ok (asked_for.Messages only frames))) >>= (λ only. Ok (firms only))) ≡ Some fault
+        → fault ≡ Firm
     go None e = cc
     go (Some n) e = cc
-firm_alone (compared_for name) config fault e = only_dealer (dealer_named config name) fault e
-firm_alone (kept_for (dues None)) config fault e = cc
-firm_alone (kept_for (dues (Some name))) config fault e = only_dealer (dealer_named config name) fault e
-firm_alone (kept_for (kept_days.blotter name)) config fault e = only_firm (firm_named config name) (λ n. asked_for.Blotter n) fault e
+firms_alone (dues None) config fault e = cc
+firms_alone (dues (Some name)) config fault e = only_dealer (dealer_named config name) fault e
+firms_alone (kept_days.blotter name) config fault e = only_firm (firm_named config name) (λ n. asked_for.Blotter n) fault e
+
+sought_alone : (sought : Sought) (config : ConfigValues) (fault : ProgramFault)
+    → fault_if (asked_in sought config) ≡ Some fault → fault ≡ Firm
+sought_alone (of_firms wanted) config fault e = firms_alone wanted config fault e
+sought_alone (of_investor name) config fault e =
+    only_investor (where_investor config (firm_named config name)) fault e
+
+firm_alone : (form : LineForm) (config : ConfigValues) (fault : ProgramFault) → name_fault form config ≡ Some fault → fault ≡ Firm
+firm_alone (answered form) config fault e = cc
+firm_alone (kept_for sought) config fault e = sought_alone sought config fault e
+firm_alone (compared_for whom) config fault e = sought_alone (sought_of whom) config fault e
 
 -- why a configuration opens no day
-pub opens_none : (wanted : Wanted) (text : List ℕ) (fault : ProgramFault) → asked_venue wanted text ≡ Err fault → OpensNone (kept_for wanted) text fault
-opens_none wanted text fault is = go (venue_of text) refl is
+pub opens_none : (sought : Sought) (text : List ℕ) (fault : ProgramFault) → asked_venue sought text ≡ Err fault → OpensNone (kept_for sought) text fault
+opens_none sought text fault is = go (venue_of text) refl is
   where
-    go : (read : Result ConfigValues ProgramFault) → venue_of text ≡ read → (read >>= asked_in wanted) ≡ Err fault → OpensNone (kept_for wanted) text fault
-    go (Ok config) spelled e = inr (config, spelled, ap (λ (r : Result Asked ProgramFault). fault_if r) e)
+    go : (read : Result ConfigValues ProgramFault) → venue_of text ≡ read → (read >>= asked_in sought) ≡ Err fault → OpensNone (kept_for sought) text fault
+    go (Ok config) spelled e = inr (config, spelled, ap (λ (r : Result AskedFor ProgramFault). fault_if r) e)
     go (Err f) spelled e = let same : f ≡ fault = cc in inl (spelled ∙ ap (λ (x : ProgramFault). Err x) same)
+
+-- memory was refused, or it was not, and something else is known of the fault
+memory_or : (P : ProgramFault → Type 0) (f : ProgramFault) → (f ≢ Memory → P f) → (f ≡ Memory) ⊎ P f
+memory_or P Memory other = inl refl
+memory_or P NotRead other = inr (other (λ e. cc))
+memory_or P Input other = inr (other (λ e. cc))
+memory_or P Parts other = inr (other (λ e. cc))
+memory_or P (Config f) other = inr (other (λ e. cc))
+memory_or P Firm other = inr (other (λ e. cc))
+memory_or P (Form k) other = inr (other (λ e. cc))
+memory_or P (UnknownFirm k) other = inr (other (λ e. cc))
+memory_or P (UnknownRoom k) other = inr (other (λ e. cc))
+memory_or P (Stream k) other = inr (other (λ e. cc))
+memory_or P (Day what) other = inr (other (λ e. cc))
+memory_or P (Weave why) other = inr (other (λ e. cc))
+memory_or P Write other = inr (other (λ e. cc))
 
 -- a line that ends no configuration, by why it opens no day
 pub bad_by : (form : LineForm) (line text : List ℕ) (fault : ProgramFault) → is_divider line ≡ true
     → (fault ≢ Memory → OpensNone form text fault) → IsBad form line text fault
-bad_by form line text fault here why = go fault why
+bad_by form line text fault here why = by (memory_or (OpensNone form text) fault why)
   where
-    by : (f : ProgramFault) → OpensNone form text f → IsBad form line text f
-    by f (inl is) = OfConfig here is
-    by f (inr is) = OfFirm here is.0 is.1 is.2
+    by : (fault ≡ Memory) ⊎ OpensNone form text fault → IsBad form line text fault
+    by (inl is) = OfMemory is
+    by (inr (inl is)) = OfConfig here is
+    by (inr (inr is)) = OfFirm here is.0 is.1 is.2
 
-    go : (f : ProgramFault) → (f ≢ Memory → OpensNone form text f) → IsBad form line text f
-    go Memory none = OfMemory refl
-    go NotRead none = by NotRead (none (λ e. cc))
-    go Input none = by Input (none (λ e. cc))
-    go Parts none = by Parts (none (λ e. cc))
-    go (Config f) none = by (Config f) (none (λ e. cc))
-    go Firm none = by Firm (none (λ e. cc))
-    go (Form k) none = by (Form k) (none (λ e. cc))
-    go (UnknownFirm k) none = by (UnknownFirm k) (none (λ e. cc))
-    go (UnknownRoom k) none = by (UnknownRoom k) (none (λ e. cc))
-    go (Stream k) none = by (Stream k) (none (λ e. cc))
-    go (Day what) none = by (Day what) (none (λ e. cc))
-    go (Weave why) none = by (Weave why) (none (λ e. cc))
-    go Write none = by Write (none (λ e. cc))
+-- the configuration of the second of two days opens none
+pub turn_refused : (form : LineForm) (whom : Whom) (before : Stage) (day : SoughtDay) (t : Vec ℕ Global) (text : List ℕ) (fault : ProgramFault)
+    → form ≡ compared_for whom → before ≡ stage.Between day t → text ≡ t.items → (fault ≢ Memory → asked_venue (sought_of whom) text ≡ Err fault)
+    → TurnFails form before fault
+turn_refused form whom before day t text fault is was same found =
+    subst (λ (f : LineForm). TurnFails f before fault) (sym is)
+    (subst (λ (s : Stage). TurnFails (compared_for whom) s fault) (sym was)
+    (memory_or (OpensNone (compared_for whom) t.items) fault
+    (λ other. opens_none (sought_of whom) t.items fault
+    (subst (λ (x : List ℕ). asked_venue (sought_of whom) x ≡ Err fault) same (found other)))))
 
 module _ (form : LineForm) (lines : List (List ℕ)) (line text : List ℕ) (out err : Written) (had : AwaitsDay lines text out err)
     (more : List (List ℕ)) where
@@ -710,60 +756,60 @@ answered_by : (form : LineForm) (lines : List (List ℕ)) (s : Stage) (out err :
 answered_by form lines (stage.Configuration t) out err is = answers_nothing form lines out err is.nothing
 answered_by (answered form) lines (stage.Day d) out err is = inr (is.config, is.answers)
 answered_by (answered form) lines (stage.Kept d) out err is = absurd is
-answered_by (kept_for wanted) lines (stage.Day d) out err is = absurd is
-answered_by (kept_for wanted) lines (stage.Kept d) out err is = inr (is.config, is.answers)
-answered_by (compared_for dealer) lines (stage.Day d) out err is = absurd is
-answered_by (compared_for dealer) lines (stage.First d) out err is = inr (inl (is.goes.config, one_taken dealer lines d out err is))
-answered_by (compared_for dealer) lines (stage.Kept d) out err is = absurd is
+answered_by (kept_for sought) lines (stage.Day d) out err is = absurd is
+answered_by (kept_for sought) lines (stage.Kept d) out err is = inr (is.config, is.answers)
+answered_by (compared_for whom) lines (stage.Day d) out err is = absurd is
+answered_by (compared_for whom) lines (stage.First d) out err is = inr (inl (is.goes.config, one_taken whom lines d out err is))
+answered_by (compared_for whom) lines (stage.Kept d) out err is = absurd is
 answered_by (answered form) lines (stage.First d) out err is = absurd is
-answered_by (kept_for wanted) lines (stage.First d) out err is = absurd is
-answered_by (compared_for dealer) lines (stage.Between d t) out err is =
-    inr (inl (is.goes.goes.config, awaiting_taken dealer lines d t.items out err is))
-answered_by (compared_for dealer) lines (stage.Both d d') out err is = both_answered dealer lines d d' out err is
+answered_by (kept_for sought) lines (stage.First d) out err is = absurd is
+answered_by (compared_for whom) lines (stage.Between d t) out err is =
+    inr (inl (is.goes.goes.config, awaiting_taken whom lines d t.items out err is))
+answered_by (compared_for whom) lines (stage.Both d d') out err is = both_answered whom lines d d' out err is
 answered_by (answered form) lines (stage.Between d t) out err is = absurd is
 answered_by (answered form) lines (stage.Both d d') out err is = absurd is
-answered_by (kept_for wanted) lines (stage.Between d t) out err is = absurd is
-answered_by (kept_for wanted) lines (stage.Both d d') out err is = absurd is
+answered_by (kept_for sought) lines (stage.Between d t) out err is = absurd is
+answered_by (kept_for sought) lines (stage.Both d d') out err is = absurd is
 
 day_goes : (form : LineForm) (number : ℕ) (line : List ℕ) (d d' : LiveDay) (out err : Written) → DayTakes number line d d' out err
     → StageTakes form number line (stage.Day d) (stage.Day d') out err
 day_goes (answered form) number line d d' out err takes lines start at had = takes form lines start at had
-day_goes (kept_for wanted) number line d d' out err takes lines start at had = absurd had
-day_goes (compared_for dealer) number line d d' out err takes lines start at had = absurd had
+day_goes (kept_for sought) number line d d' out err takes lines start at had = absurd had
+day_goes (compared_for whom) number line d d' out err takes lines start at had = absurd had
 
 day_fails : (form : LineForm) (number : ℕ) (line : List ℕ) (d : LiveDay) (fault : ProgramFault) (out err : Written) → DayFails number line d fault out err
     → StageFails form number line (stage.Day d) fault out err
 day_fails (answered form) number line d fault out err fails lines start at had more = fails form lines start at had more
-day_fails (kept_for wanted) number line d fault out err fails lines start at had more = absurd had
-day_fails (compared_for dealer) number line d fault out err fails lines start at had more = absurd had
+day_fails (kept_for sought) number line d fault out err fails lines start at had more = absurd had
+day_fails (compared_for whom) number line d fault out err fails lines start at had more = absurd had
 
-kept_goes : (form : LineForm) (number : ℕ) (line : List ℕ) (d d' : KeptDay) (out err : Written) → KeptTakes number line d d' out err
+kept_goes : (form : LineForm) (number : ℕ) (line : List ℕ) (d d' : SoughtDay) (out err : Written) → KeptTakes number line d d' out err
     → StageTakes form number line (stage.Kept d) (stage.Kept d') out err
 kept_goes (answered form) number line d d' out err takes lines start at had = absurd had
-kept_goes (kept_for wanted) number line d d' out err takes lines start at had = takes wanted lines start at had
-kept_goes (compared_for dealer) number line d d' out err takes lines start at had = absurd had
+kept_goes (kept_for sought) number line d d' out err takes lines start at had = takes sought lines start at had
+kept_goes (compared_for whom) number line d d' out err takes lines start at had = absurd had
 
-first_goes : (form : LineForm) (number : ℕ) (line : List ℕ) (d d' : KeptDay) (out err : Written) → is_divider line ≡ false
+first_goes : (form : LineForm) (number : ℕ) (line : List ℕ) (d d' : SoughtDay) (out err : Written) → is_divider line ≡ false
     → KeptTakes number line d d' out err → StageTakes form number line (stage.First d) (stage.First d') out err
 first_goes (answered form) number line d d' out err other takes lines start at had = absurd had
-first_goes (kept_for wanted) number line d d' out err other takes lines start at had = absurd had
-first_goes (compared_for dealer) number line d d' out err other takes lines start at had =
-    first_more dealer number line d d' out err other takes lines start at had
+first_goes (kept_for sought) number line d d' out err other takes lines start at had = absurd had
+first_goes (compared_for whom) number line d d' out err other takes lines start at had =
+    first_more whom number line d d' out err other takes lines start at had
 
-between_goes : (form : LineForm) (number : ℕ) (line : List ℕ) (d : KeptDay) (t u : Vec ℕ Global) (o e : Option (List ℕ)) → is_divider line ≡ false
+between_goes : (form : LineForm) (number : ℕ) (line : List ℕ) (d : SoughtDay) (t u : Vec ℕ Global) (o e : Option (List ℕ)) → is_divider line ≡ false
     → u.items ≡ t.items ++ line ++ 10 ∷ [] → StageTakes form number line (stage.Between d t) (stage.Between d u) (still o) (still e)
 between_goes (answered form) number line d t u o e other is lines start at had = absurd had
-between_goes (kept_for wanted) number line d t u o e other is lines start at had = absurd had
-between_goes (compared_for dealer) number line d t u o e other is lines start at had =
-    awaiting_more dealer lines line t.items u.items d (out_new start (still o)) (err_new start (still e)) other is had
+between_goes (kept_for sought) number line d t u o e other is lines start at had = absurd had
+between_goes (compared_for whom) number line d t u o e other is lines start at had =
+    awaiting_more whom lines line t.items u.items d (out_new start (still o)) (err_new start (still e)) other is had
 
-both_go : (form : LineForm) (number : ℕ) (line : List ℕ) (fault : Option ProgramFault) (one d d' : KeptDay) (o e e' : Option (List ℕ))
+both_go : (form : LineForm) (number : ℕ) (line : List ℕ) (fault : Option ProgramFault) (one d d' : SoughtDay) (o e e' : Option (List ℕ))
     → KeepsAnywhere number line d d' fault → GainsFaults (option_to_list fault) (record { before = e; after = e' })
     → StageTakes form number line (stage.Both one d) (stage.Both one d') (still o) (record { before = e; after = e' })
 both_go (answered form) number line fault one d d' o e e' keeps tells lines start at had = absurd had
-both_go (kept_for wanted) number line fault one d d' o e e' keeps tells lines start at had = absurd had
-both_go (compared_for dealer) number line fault one d d' o e e' keeps tells lines start at had =
-    both_more dealer number line fault one d d' keeps o e e' tells lines start at had
+both_go (kept_for sought) number line fault one d d' o e e' keeps tells lines start at had = absurd had
+both_go (compared_for whom) number line fault one d d' o e e' keeps tells lines start at had =
+    both_more whom number line fault one d d' keeps o e e' tells lines start at had
 
 -- memory was refused, or a line of the second configuration is too long
 refused_behind : (form : LineForm) (number : ℕ) (line : List ℕ) (before : Stage) (fault : ProgramFault) (o e : Option (List ℕ)) → fault ≡ Memory
@@ -790,7 +836,7 @@ module _ (form : LineForm) (number : ℕ) (line : List ℕ) (before : Stage) whe
   stage_fails d fault out err was fails =
       subst (λ (s : Stage). StageFails form number line s fault out err) (sym was) (day_fails form number line d fault out err fails)
 
-  pub stage_keeps : (after : Stage) (d d' : KeptDay) (out err err' : Option (List ℕ)) → before ≡ stage.Kept d
+  pub stage_keeps : (after : Stage) (d d' : SoughtDay) (out err err' : Option (List ℕ)) → before ≡ stage.Kept d
       → after ≡ stage.Kept d' → KeepsStep number line d d' (record { before = err; after = err' })
       → StageTakes form number line before after (still out) (record { before = err; after = err' })
   stage_keeps after d d' out err err' was is step =
@@ -799,7 +845,7 @@ module _ (form : LineForm) (number : ℕ) (line : List ℕ) (before : Stage) whe
       subst (λ (s : Stage). StageTakes form number line s after (still out) (record { before = err; after = err' })) (sym was)
       (subst (λ (s : Stage). StageTakes form number line (stage.Kept d) s (still out) (record { before = err; after = err' })) (sym is) took)
 
-  pub stage_of_first : (after : Stage) (d d' : KeptDay) (out err err' : Option (List ℕ)) → before ≡ stage.First d
+  pub stage_of_first : (after : Stage) (d d' : SoughtDay) (out err err' : Option (List ℕ)) → before ≡ stage.First d
       → is_turn before line ≡ false → after ≡ stage.First d' → KeepsStep number line d d' (record { before = err; after = err' })
       → StageTakes form number line before after (still out) (record { before = err; after = err' })
   stage_of_first after d d' out err err' was other is step =
@@ -809,7 +855,7 @@ module _ (form : LineForm) (number : ℕ) (line : List ℕ) (before : Stage) whe
       subst (λ (s : Stage). StageTakes form number line s after (still out) (record { before = err; after = err' })) (sym was)
       (subst (λ (s : Stage). StageTakes form number line (stage.First d) s (still out) (record { before = err; after = err' })) (sym is) took)
 
-  pub stage_between : (after : Stage) (d : KeptDay) (t u : Vec ℕ Global) (o e : Option (List ℕ)) → before ≡ stage.Between d t
+  pub stage_between : (after : Stage) (d : SoughtDay) (t u : Vec ℕ Global) (o e : Option (List ℕ)) → before ≡ stage.Between d t
       → is_turn before line ≡ false → after ≡ stage.Between d u → u.items ≡ t.items ++ line ++ 10 ∷ []
       → StageTakes form number line before after (still o) (still e)
   stage_between after d t u o e was other is text_is =
@@ -818,7 +864,7 @@ module _ (form : LineForm) (number : ℕ) (line : List ℕ) (before : Stage) whe
       (subst (λ (s : Stage). StageTakes form number line (stage.Between d t) s (still o) (still e)) (sym is)
       (between_goes form number line d t u o e stays text_is))
 
-  pub stage_of_both : (after : Stage) (one d d' : KeptDay) (out err err' : Option (List ℕ)) → before ≡ stage.Both one d
+  pub stage_of_both : (after : Stage) (one d d' : SoughtDay) (out err err' : Option (List ℕ)) → before ≡ stage.Both one d
       → after ≡ stage.Both one d' → KeepsStep number line d d' (record { before = err; after = err' })
       → StageTakes form number line before after (still out) (record { before = err; after = err' })
   stage_of_both after one d d' out err err' was is step =
@@ -842,24 +888,24 @@ turns : (form : LineForm) (number : ℕ) (line : List ℕ) (before after : Stage
     → Turns form before after → StageTakes form number line before after (still o) (still e)
 turns (answered form) number line (stage.First d) after o e here is lines start at had = absurd had
 turns (answered form) number line (stage.Between d t) after o e here is lines start at had = absurd had
-turns (kept_for wanted) number line (stage.First d) after o e here is lines start at had = absurd had
-turns (kept_for wanted) number line (stage.Between d t) after o e here is lines start at had = absurd had
-turns (compared_for dealer) number line (stage.First d) (stage.Between d' t) o e here is lines start at had =
-    subst (λ (x : KeptDay). AwaitsSecond dealer (lines ++ line ∷ []) x t.items (out_new start (still o)) (err_new start (still e))) (sym is.0)
-    (first_ends dealer lines line t.items d (out_new start (still o)) (err_new start (still e)) here is.1 had)
-turns (compared_for dealer) number line (stage.Between d t) (stage.Both d' other) o e here is lines start at had =
-    subst (λ (x : KeptDay). BothGo dealer (lines ++ line ∷ []) x other (out_new start (still o)) (err_new start (still e))) (sym is.0)
-    (second_opens dealer lines line t.items d other (out_new start (still o)) (err_new start (still e)) here is.1 had)
-turns (compared_for dealer) number line (stage.First d) (stage.Configuration t) o e here is lines start at had = absurd is
-turns (compared_for dealer) number line (stage.First d) (stage.Day day) o e here is lines start at had = absurd is
-turns (compared_for dealer) number line (stage.First d) (stage.Kept day) o e here is lines start at had = absurd is
-turns (compared_for dealer) number line (stage.First d) (stage.First day) o e here is lines start at had = absurd is
-turns (compared_for dealer) number line (stage.First d) (stage.Both one other) o e here is lines start at had = absurd is
-turns (compared_for dealer) number line (stage.Between d t) (stage.Configuration u) o e here is lines start at had = absurd is
-turns (compared_for dealer) number line (stage.Between d t) (stage.Day day) o e here is lines start at had = absurd is
-turns (compared_for dealer) number line (stage.Between d t) (stage.Kept day) o e here is lines start at had = absurd is
-turns (compared_for dealer) number line (stage.Between d t) (stage.First day) o e here is lines start at had = absurd is
-turns (compared_for dealer) number line (stage.Between d t) (stage.Between day u) o e here is lines start at had = absurd is
+turns (kept_for sought) number line (stage.First d) after o e here is lines start at had = absurd had
+turns (kept_for sought) number line (stage.Between d t) after o e here is lines start at had = absurd had
+turns (compared_for whom) number line (stage.First d) (stage.Between d' t) o e here is lines start at had =
+    subst (λ (x : SoughtDay). AwaitsSecond whom (lines ++ line ∷ []) x t.items (out_new start (still o)) (err_new start (still e))) (sym is.0)
+    (first_ends whom lines line t.items d (out_new start (still o)) (err_new start (still e)) here is.1 had)
+turns (compared_for whom) number line (stage.Between d t) (stage.Both d' other) o e here is lines start at had =
+    subst (λ (x : SoughtDay). BothGo whom (lines ++ line ∷ []) x other (out_new start (still o)) (err_new start (still e))) (sym is.0)
+    (second_opens whom lines line t.items d other (out_new start (still o)) (err_new start (still e)) here is.1 had)
+turns (compared_for whom) number line (stage.First d) (stage.Configuration t) o e here is lines start at had = absurd is
+turns (compared_for whom) number line (stage.First d) (stage.Day day) o e here is lines start at had = absurd is
+turns (compared_for whom) number line (stage.First d) (stage.Kept day) o e here is lines start at had = absurd is
+turns (compared_for whom) number line (stage.First d) (stage.First day) o e here is lines start at had = absurd is
+turns (compared_for whom) number line (stage.First d) (stage.Both one other) o e here is lines start at had = absurd is
+turns (compared_for whom) number line (stage.Between d t) (stage.Configuration u) o e here is lines start at had = absurd is
+turns (compared_for whom) number line (stage.Between d t) (stage.Day day) o e here is lines start at had = absurd is
+turns (compared_for whom) number line (stage.Between d t) (stage.Kept day) o e here is lines start at had = absurd is
+turns (compared_for whom) number line (stage.Between d t) (stage.First day) o e here is lines start at had = absurd is
+turns (compared_for whom) number line (stage.Between d t) (stage.Between day u) o e here is lines start at had = absurd is
 turns form number line (stage.Configuration t) after o e here is lines start at had = absurd (false≢true here)
 turns form number line (stage.Day d) after o e here is lines start at had = absurd (false≢true here)
 turns form number line (stage.Kept d) after o e here is lines start at had = absurd (false≢true here)
@@ -870,10 +916,10 @@ pub stage_turns : (form : LineForm) (number : ℕ) (line : List ℕ) (before aft
 stage_turns = turns
 
 -- why it opens no second day
-module _ (dealer : List ℕ) (lines : List (List ℕ)) (line text : List ℕ) (day : KeptDay) (out err : Written)
-    (had : AwaitsSecond dealer lines day text out err) (more : List (List ℕ)) where
+module _ (whom : Whom) (lines : List (List ℕ)) (line text : List ℕ) (day : SoughtDay) (out err : Written)
+    (had : AwaitsSecond whom lines day text out err) (more : List (List ℕ)) where
   abbrev Second : ProgramFault → Type 0
-  Second fault = EndsDay (compared_for dealer) fault ((lines ++ line ∷ []) ++ more) out err
+  Second fault = EndsDay (compared_for whom) fault ((lines ++ line ∷ []) ++ more) out err
 
   all_two : AreTwo ((lines ++ line ∷ []) ++ more) had.first had.divider (had.behind ++ line ∷ more)
   all_two = record {
@@ -883,10 +929,10 @@ module _ (dealer : List ℕ) (lines : List (List ℕ)) (line text : List ℕ) (d
   }
 
   second_text_is : second_configuration ((lines ++ line ∷ []) ++ more) ≡ configuration_in (had.behind ++ line ∷ more)
-  second_text_is = second_text dealer ((lines ++ line ∷ []) ++ more) had.first had.divider (had.behind ++ line ∷ more) all_two day out err had.goes
+  second_text_is = second_text whom ((lines ++ line ∷ []) ++ more) had.first had.divider (had.behind ++ line ∷ more) all_two day out err had.goes
 
-  so_far : HasAnswered (compared_for dealer) lines out err
-  so_far = inr (inl (had.goes.goes.config, awaiting_taken dealer lines day text out err had))
+  so_far : HasAnswered (compared_for whom) lines out err
+  so_far = inr (inl (had.goes.goes.config, awaiting_taken whom lines day text out err had))
 
   second_whole : is_divider line ≡ true → second_configuration ((lines ++ line ∷ []) ++ more) ≡ text
   second_whole here =
@@ -915,9 +961,9 @@ module _ (dealer : List ℕ) (lines : List (List ℕ)) (line text : List ℕ) (d
       })
 
   second_nameless : (fault : ProgramFault) (config : ConfigValues) → is_divider line ≡ true → venue_of text ≡ Ok config
-      → name_fault (compared_for dealer) config ≡ Some fault → Second fault
+      → name_fault (compared_for whom) config ≡ Some fault → Second fault
   second_nameless fault config here spelled is =
-      let of = firm_alone (compared_for dealer) config fault is in
+      let of = firm_alone (compared_for whom) config fault is in
       subst Second (sym of) (record {
         is_fault = (text, inr (sym (second_whole here)), (config, spelled, is ∙ ap (λ (f : ProgramFault). Some f) of));
         lines = lines;
@@ -947,16 +993,16 @@ turn_fails : (form : LineForm) (number : ℕ) (line : List ℕ) (before : Stage)
     → is_turn before line ≡ true → TurnFails form before fault → StageFails form number line before fault (still o) (still e)
 turn_fails (answered form) number line (stage.First d) fault o e here is lines start at had more = absurd had
 turn_fails (answered form) number line (stage.Between d t) fault o e here is lines start at had more = absurd had
-turn_fails (kept_for wanted) number line (stage.First d) fault o e here is lines start at had more = absurd had
-turn_fails (kept_for wanted) number line (stage.Between d t) fault o e here is lines start at had more = absurd had
-turn_fails (compared_for dealer) number line (stage.First d) fault o e here is lines start at had more = absurd is
-turn_fails (compared_for dealer) number line (stage.Between d t) fault o e here (inl is) lines start at had more =
-    subst (λ (f : ProgramFault). EndsDay (compared_for dealer) f ((lines ++ line ∷ []) ++ more) (out_new start (still o)) (err_new start (still e))) (sym is)
-    (second_memory dealer lines line t.items d (out_new start (still o)) (err_new start (still e)) had more)
-turn_fails (compared_for dealer) number line (stage.Between d t) fault o e here (inr (inl is)) lines start at had more =
-    second_lawless dealer lines line t.items d (out_new start (still o)) (err_new start (still e)) had more fault here is
-turn_fails (compared_for dealer) number line (stage.Between d t) fault o e here (inr (inr is)) lines start at had more =
-    second_nameless dealer lines line t.items d (out_new start (still o)) (err_new start (still e)) had more fault is.0 here is.1 is.2
+turn_fails (kept_for sought) number line (stage.First d) fault o e here is lines start at had more = absurd had
+turn_fails (kept_for sought) number line (stage.Between d t) fault o e here is lines start at had more = absurd had
+turn_fails (compared_for whom) number line (stage.First d) fault o e here is lines start at had more = absurd is
+turn_fails (compared_for whom) number line (stage.Between d t) fault o e here (inl is) lines start at had more =
+    subst (λ (f : ProgramFault). EndsDay (compared_for whom) f ((lines ++ line ∷ []) ++ more) (out_new start (still o)) (err_new start (still e))) (sym is)
+    (second_memory whom lines line t.items d (out_new start (still o)) (err_new start (still e)) had more)
+turn_fails (compared_for whom) number line (stage.Between d t) fault o e here (inr (inl is)) lines start at had more =
+    second_lawless whom lines line t.items d (out_new start (still o)) (err_new start (still e)) had more fault here is
+turn_fails (compared_for whom) number line (stage.Between d t) fault o e here (inr (inr is)) lines start at had more =
+    second_nameless whom lines line t.items d (out_new start (still o)) (err_new start (still e)) had more fault is.0 here is.1 is.2
 turn_fails form number line (stage.Configuration t) fault o e here is lines start at had more = absurd (false≢true here)
 turn_fails form number line (stage.Day d) fault o e here is lines start at had more = absurd (false≢true here)
 turn_fails form number line (stage.Kept d) fault o e here is lines start at had more = absurd (false≢true here)
@@ -966,19 +1012,19 @@ pub stage_turn_fails : (form : LineForm) (number : ℕ) (line : List ℕ) (befor
     → is_turn before line ≡ true → TurnFails form before fault → StageFails form number line before fault (still o) (still e)
 stage_turn_fails = turn_fails
 
-long_between : (form : LineForm) (number : ℕ) (line : List ℕ) (d : KeptDay) (t : Vec ℕ Global) (fault : ProgramFault) (o e : Option (List ℕ))
+long_between : (form : LineForm) (number : ℕ) (line : List ℕ) (d : SoughtDay) (t : Vec ℕ Global) (fault : ProgramFault) (o e : Option (List ℕ))
     → is_divider line ≡ false → (fault ≡ Memory) ⊎ ((fault ≡ Input) × MOST_INPUT < length (t.items ++ line ++ 10 ∷ []))
     → StageFails form number line (stage.Between d t) fault (still o) (still e)
 long_between (answered form) number line d t fault o e other is lines start at had more = absurd had
-long_between (kept_for wanted) number line d t fault o e other is lines start at had more = absurd had
-long_between (compared_for dealer) number line d t fault o e other (inl is) lines start at had more =
-    subst (λ (f : ProgramFault). EndsDay (compared_for dealer) f ((lines ++ line ∷ []) ++ more) (out_new start (still o)) (err_new start (still e))) (sym is)
-    (second_memory dealer lines line t.items d (out_new start (still o)) (err_new start (still e)) had more)
-long_between (compared_for dealer) number line d t fault o e other (inr is) lines start at had more =
-    subst (λ (f : ProgramFault). EndsDay (compared_for dealer) f ((lines ++ line ∷ []) ++ more) (out_new start (still o)) (err_new start (still e))) (sym is.0)
-    (second_long dealer lines line t.items d (out_new start (still o)) (err_new start (still e)) had more other is.1)
+long_between (kept_for sought) number line d t fault o e other is lines start at had more = absurd had
+long_between (compared_for whom) number line d t fault o e other (inl is) lines start at had more =
+    subst (λ (f : ProgramFault). EndsDay (compared_for whom) f ((lines ++ line ∷ []) ++ more) (out_new start (still o)) (err_new start (still e))) (sym is)
+    (second_memory whom lines line t.items d (out_new start (still o)) (err_new start (still e)) had more)
+long_between (compared_for whom) number line d t fault o e other (inr is) lines start at had more =
+    subst (λ (f : ProgramFault). EndsDay (compared_for whom) f ((lines ++ line ∷ []) ++ more) (out_new start (still o)) (err_new start (still e))) (sym is.0)
+    (second_long whom lines line t.items d (out_new start (still o)) (err_new start (still e)) had more other is.1)
 
-pub stage_long_between : (form : LineForm) (number : ℕ) (line : List ℕ) (before : Stage) (d : KeptDay) (t : Vec ℕ Global) (fault : ProgramFault)
+pub stage_long_between : (form : LineForm) (number : ℕ) (line : List ℕ) (before : Stage) (d : SoughtDay) (t : Vec ℕ Global) (fault : ProgramFault)
     (o e : Option (List ℕ)) → before ≡ stage.Between d t → is_turn before line ≡ false
     → (fault ≡ Memory) ⊎ ((fault ≡ Input) × MOST_INPUT < length (t.items ++ line ++ 10 ∷ []))
     → StageFails form number line before fault (still o) (still e)
@@ -1215,20 +1261,20 @@ closes_bare t fault o none form lines start err is =
 -- each line was answered
 pub closes_answered : (day : LiveDay) (o : Option (List ℕ)) → Closes (stage.Day day) (still o)
 closes_answered day o (answered form) lines start err is = (is.config, is.answers)
-closes_answered day o (kept_for wanted) lines start err is = absurd is
-closes_answered day o (compared_for dealer) lines start err is = absurd is
+closes_answered day o (kept_for sought) lines start err is = absurd is
+closes_answered day o (compared_for whom) lines start err is = absurd is
 
 -- what is asked for is what the lines have brought
-abbrev pub TextAnywhere : KeptDay → List ℕ → Type 0
-TextAnywhere day text = (config : Configuration) (wanted : Wanted) (taken : Taken) → kept_days.Keeps wanted config taken day
-    → text ≡ kept_text wanted config taken.steps
+abbrev pub TextAnywhere : SoughtDay → List ℕ → Type 0
+TextAnywhere day text = (config : Configuration) (sought : Sought) (taken : Taken) → sought_days.Keeps sought config taken day
+    → text ≡ sought_text sought config taken.steps
 
-module _ (day : KeptDay) (o o' : Option (List ℕ)) where
+module _ (day : SoughtDay) (o o' : Option (List ℕ)) where
   pub closes_kept : (text : List ℕ) → TextAnywhere day text → Appends o o' text → Closes (stage.Kept day) (record { before = o; after = o' })
   closes_kept text texts gained (answered form) lines start err is = absurd is
-  closes_kept text texts gained (compared_for dealer) lines start err is = absurd is
-  closes_kept text texts gained (kept_for wanted) lines start err is =
-      let text_is = texts is.config wanted (taken_in is.config lines) is.keeps in (
+  closes_kept text texts gained (compared_for whom) lines start err is = absurd is
+  closes_kept text texts gained (kept_for sought) lines start err is =
+      let text_is = texts is.config sought (taken_in is.config lines) is.keeps in (
         is.config,
         record {
           divided = is.answers.divided;
@@ -1242,10 +1288,10 @@ module _ (day : KeptDay) (o o' : Option (List ℕ)) where
   pub closes_unprinted : (text : List ℕ) (fault : ProgramFault) → fault ≡ Write → TextAnywhere day text
       → GainsPart text (record { before = o; after = o' }) → CloseFails (stage.Kept day) fault (record { before = o; after = o' })
   closes_unprinted text fault write texts part (answered form) lines start err is = absurd is
-  closes_unprinted text fault write texts part (compared_for dealer) lines start err is = absurd is
-  closes_unprinted text fault write texts part (kept_for wanted) lines start err is =
-      let text_is = texts is.config wanted (taken_in is.config lines) is.keeps in
-      subst (λ (f : ProgramFault). EndsDay (kept_for wanted) f lines (record { before = start; after = o' }) err) (sym write)
+  closes_unprinted text fault write texts part (compared_for whom) lines start err is = absurd is
+  closes_unprinted text fault write texts part (kept_for sought) lines start err is =
+      let text_is = texts is.config sought (taken_in is.config lines) is.keeps in
+      subst (λ (f : ProgramFault). EndsDay (kept_for sought) f lines (record { before = start; after = o' }) err) (sym write)
       (record {
         is_fault = tt;
         lines = lines;
@@ -1277,65 +1323,65 @@ closes_in_memory last fault o none form lines start err is =
     })
 
 -- there is no second day
-in_one_day : (dealer : List ℕ) (fault : ProgramFault) (lines : List (List ℕ)) (config : Configuration) (out err : Written) → fault ≡ Parts
-    → TakesOne dealer config lines out err → EndsDay (compared_for dealer) fault lines out err
-in_one_day dealer fault lines config out err none takes =
-    subst (λ (f : ProgramFault). EndsDay (compared_for dealer) f lines out err) (sym none)
+in_one_day : (whom : Whom) (fault : ProgramFault) (lines : List (List ℕ)) (config : Configuration) (out err : Written) → fault ≡ Parts
+    → TakesOne whom config lines out err → EndsDay (compared_for whom) fault lines out err
+in_one_day whom fault lines config out err none takes =
+    subst (λ (f : ProgramFault). EndsDay (compared_for whom) f lines out err) (sym none)
     (record { is_fault = takes.alone; lines = lines; rest = []; split = sym (append-nil lines); left = inr (inl (config, takes)) })
 
-pub closes_first : (day : KeptDay) (fault : ProgramFault) (o : Option (List ℕ)) → fault ≡ Parts → CloseFails (stage.First day) fault (still o)
+pub closes_first : (day : SoughtDay) (fault : ProgramFault) (o : Option (List ℕ)) → fault ≡ Parts → CloseFails (stage.First day) fault (still o)
 closes_first day fault o none (answered form) lines start err is = absurd is
-closes_first day fault o none (kept_for wanted) lines start err is = absurd is
-closes_first day fault o none (compared_for dealer) lines start err is =
-    in_one_day dealer fault lines is.goes.config _ err none (one_taken dealer lines day _ err is)
+closes_first day fault o none (kept_for sought) lines start err is = absurd is
+closes_first day fault o none (compared_for whom) lines start err is =
+    in_one_day whom fault lines is.goes.config _ err none (one_taken whom lines day _ err is)
 
-pub closes_between : (day : KeptDay) (t : Vec ℕ Global) (fault : ProgramFault) (o : Option (List ℕ)) → fault ≡ Parts
+pub closes_between : (day : SoughtDay) (t : Vec ℕ Global) (fault : ProgramFault) (o : Option (List ℕ)) → fault ≡ Parts
     → CloseFails (stage.Between day t) fault (still o)
 closes_between day t fault o none (answered form) lines start err is = absurd is
-closes_between day t fault o none (kept_for wanted) lines start err is = absurd is
-closes_between day t fault o none (compared_for dealer) lines start err is =
-    in_one_day dealer fault lines is.goes.goes.config _ err none (awaiting_taken dealer lines day t.items _ err is)
+closes_between day t fault o none (kept_for sought) lines start err is = absurd is
+closes_between day t fault o none (compared_for whom) lines start err is =
+    in_one_day whom fault lines is.goes.goes.config _ err none (awaiting_taken whom lines day t.items _ err is)
 
 -- what differs between the two days
-abbrev pub ComparesAnywhere : KeptDay → KeptDay → List ℕ → Type 0
-ComparesAnywhere one other text = (name : List ℕ) (config other_config : Configuration) (taken other_taken : Taken)
-    → kept_days.Keeps (dues (Some name)) config taken one → kept_days.Keeps (dues (Some name)) other_config other_taken other
-    → IsKeptComparison name config taken.steps other_config other_taken.steps text
+abbrev pub ComparesAnywhere : SoughtDay → SoughtDay → List ℕ → Type 0
+ComparesAnywhere one other text = (whom : Whom) (config other_config : Configuration) (taken other_taken : Taken)
+    → sought_days.Keeps (sought_of whom) config taken one → sought_days.Keeps (sought_of whom) other_config other_taken other
+    → IsComparison whom config taken.steps other_config other_taken.steps text
 
-has_compared : (dealer : List ℕ) (lines : List (List ℕ)) (one other : KeptDay) (text : List ℕ) (out err : Written) → ComparesAnywhere one other text
-    → BothGo dealer lines one other out err → HasCompared dealer lines text err
-has_compared dealer lines one other text out err compares both =
+has_compared : (whom : Whom) (lines : List (List ℕ)) (one other : SoughtDay) (text : List ℕ) (out err : Written) → ComparesAnywhere one other text
+    → BothGo whom lines one other out err → HasCompared whom lines text err
+has_compared whom lines one other text out err compares both =
     let mid : Written = record { before = err.before; after = both.mid } in
     let config = both.goes.goes.config in
     let other_config = both.second.config in
-    let first = first_brought dealer lines both.first both.divider both.behind both.two one out mid both.goes config in
-    let second = second_brought dealer lines both.first both.divider both.behind both.two one out mid both.goes other_config in
+    let first = first_brought whom lines both.first both.divider both.behind both.two one out mid both.goes config in
+    let second = second_brought whom lines both.first both.divider both.behind both.two one out mid both.goes other_config in
     record {
       one = config;
       other = other_config;
-      takes = both_taken dealer lines one other out err both;
-      compared = subst (λ (t : Taken). IsKeptComparison dealer config t.steps other_config (second_taken other_config lines).steps text) (sym first)
-          (subst (λ (t : Taken). IsKeptComparison dealer config (taken_in config both.first).steps other_config t.steps text) (sym second)
-          (compares dealer config other_config (taken_in config both.first) (taken_at other_config (length both.first + 2) both.behind)
+      takes = both_taken whom lines one other out err both;
+      compared = subst (λ (t : Taken). IsComparison whom config t.steps other_config (second_taken other_config lines).steps text) (sym first)
+          (subst (λ (t : Taken). IsComparison whom config (taken_in config both.first).steps other_config t.steps text) (sym second)
+          (compares whom config other_config (taken_in config both.first) (taken_at other_config (length both.first + 2) both.behind)
           both.goes.goes.keeps both.second.keeps));
     }
 
-module _ (one other : KeptDay) (o o' : Option (List ℕ)) (text : List ℕ) (compares : ComparesAnywhere one other text) where
+module _ (one other : SoughtDay) (o o' : Option (List ℕ)) (text : List ℕ) (compares : ComparesAnywhere one other text) where
   pub closes_both : Appends o o' text → Closes (stage.Both one other) (record { before = o; after = o' })
   closes_both gained (answered form) lines start err is = absurd is
-  closes_both gained (kept_for wanted) lines start err is = absurd is
-  closes_both gained (compared_for dealer) lines start err is = (
+  closes_both gained (kept_for sought) lines start err is = absurd is
+  closes_both gained (compared_for whom) lines start err is = (
     text,
-    has_compared dealer lines one other text (record { before = start; after = o }) err compares is,
+    has_compared whom lines one other text (record { before = start; after = o }) err compares is,
     appends_both start o o' [] text is.goes.goes.answers.printed gained,
   )
 
   pub closes_both_unprinted : (fault : ProgramFault) → fault ≡ Write → GainsPart text (record { before = o; after = o' })
       → CloseFails (stage.Both one other) fault (record { before = o; after = o' })
   closes_both_unprinted fault write part (answered form) lines start err is = absurd is
-  closes_both_unprinted fault write part (kept_for wanted) lines start err is = absurd is
-  closes_both_unprinted fault write part (compared_for dealer) lines start err is =
-      subst (λ (f : ProgramFault). EndsDay (compared_for dealer) f lines (record { before = start; after = o' }) err) (sym write)
+  closes_both_unprinted fault write part (kept_for sought) lines start err is = absurd is
+  closes_both_unprinted fault write part (compared_for whom) lines start err is =
+      subst (λ (f : ProgramFault). EndsDay (compared_for whom) f lines (record { before = start; after = o' }) err) (sym write)
       (record {
         is_fault = tt;
         lines = lines;
@@ -1343,7 +1389,7 @@ module _ (one other : KeptDay) (o o' : Option (List ℕ)) (text : List ℕ) (com
         split = sym (append-nil lines);
         left = (
           text,
-          has_compared dealer lines one other text (record { before = start; after = o }) err compares is,
+          has_compared whom lines one other text (record { before = start; after = o }) err compares is,
           more_part start o o' [] text is.goes.goes.answers.printed part,
         );
       })
@@ -1358,31 +1404,31 @@ module _ (last : Stage) where
   pub last_answered : (day : LiveDay) (o : Option (List ℕ)) → last ≡ stage.Day day → Closes last (still o)
   last_answered day o was = subst (λ (s : Stage). Closes s (still o)) (sym was) (closes_answered day o)
 
-  pub last_kept : (day : KeptDay) (o o' : Option (List ℕ)) (text : List ℕ) → last ≡ stage.Kept day → TextAnywhere day text
+  pub last_kept : (day : SoughtDay) (o o' : Option (List ℕ)) (text : List ℕ) → last ≡ stage.Kept day → TextAnywhere day text
       → Appends o o' text → Closes last (record { before = o; after = o' })
   last_kept day o o' text was texts gained =
       subst (λ (s : Stage). Closes s (record { before = o; after = o' })) (sym was) (closes_kept day o o' text texts gained)
 
-  pub last_unprinted : (day : KeptDay) (o o' : Option (List ℕ)) (text : List ℕ) (fault : ProgramFault) → last ≡ stage.Kept day
+  pub last_unprinted : (day : SoughtDay) (o o' : Option (List ℕ)) (text : List ℕ) (fault : ProgramFault) → last ≡ stage.Kept day
       → fault ≡ Write → TextAnywhere day text → GainsPart text (record { before = o; after = o' })
       → CloseFails last fault (record { before = o; after = o' })
   last_unprinted day o o' text fault was write texts part =
       subst (λ (s : Stage). CloseFails s fault (record { before = o; after = o' })) (sym was) (closes_unprinted day o o' text fault write texts part)
 
-  pub last_first : (day : KeptDay) (fault : ProgramFault) (o : Option (List ℕ)) → last ≡ stage.First day → fault ≡ Parts
+  pub last_first : (day : SoughtDay) (fault : ProgramFault) (o : Option (List ℕ)) → last ≡ stage.First day → fault ≡ Parts
       → CloseFails last fault (still o)
   last_first day fault o was none = subst (λ (s : Stage). CloseFails s fault (still o)) (sym was) (closes_first day fault o none)
 
-  pub last_between : (day : KeptDay) (t : Vec ℕ Global) (fault : ProgramFault) (o : Option (List ℕ)) → last ≡ stage.Between day t → fault ≡ Parts
+  pub last_between : (day : SoughtDay) (t : Vec ℕ Global) (fault : ProgramFault) (o : Option (List ℕ)) → last ≡ stage.Between day t → fault ≡ Parts
       → CloseFails last fault (still o)
   last_between day t fault o was none = subst (λ (s : Stage). CloseFails s fault (still o)) (sym was) (closes_between day t fault o none)
 
-  pub last_both : (one other : KeptDay) (o o' : Option (List ℕ)) (text : List ℕ) → last ≡ stage.Both one other → ComparesAnywhere one other text
+  pub last_both : (one other : SoughtDay) (o o' : Option (List ℕ)) (text : List ℕ) → last ≡ stage.Both one other → ComparesAnywhere one other text
       → Appends o o' text → Closes last (record { before = o; after = o' })
   last_both one other o o' text was compares gained =
       subst (λ (s : Stage). Closes s (record { before = o; after = o' })) (sym was) (closes_both one other o o' text compares gained)
 
-  pub last_both_unprinted : (one other : KeptDay) (o o' : Option (List ℕ)) (text : List ℕ) (fault : ProgramFault) → last ≡ stage.Both one other
+  pub last_both_unprinted : (one other : SoughtDay) (o o' : Option (List ℕ)) (text : List ℕ) (fault : ProgramFault) → last ≡ stage.Both one other
       → fault ≡ Write → ComparesAnywhere one other text → GainsPart text (record { before = o; after = o' })
       → CloseFails last fault (record { before = o; after = o' })
   last_both_unprinted one other o o' text fault was write compares part =

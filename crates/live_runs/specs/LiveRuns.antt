@@ -6,8 +6,7 @@ use Rattle.std.specs.List.{count_by, list_any}
 use Rattle.std.specs.Option.{IfSome}
 use Rattle.venue_rows.specs.Rows.{ConfigValues, Configuration, values_of}
 use Rattle.input_lines.specs.Faults.{told_line}
-use Rattle.venue_text.specs.KeptComparison.{IsKeptComparison}
-use Rattle.venue_text.specs.KeptDays.{asked_in, dues, kept_text}
+use Rattle.investor_texts.specs.SoughtDays.{IsComparison, Whom, asked_in, sought_of, sought_text}
 use Rattle.input_lines.specs.Lines.{lines_of}
 use Rattle.venue_text.specs.LiveInput.{are_divided, as_part, configuration_in, taken_in, taken_of}
 use Rattle.venue_text.specs.LiveInput.{text_in}
@@ -25,13 +24,13 @@ use Rattle.live_runs.specs.declared.live.TheConstants.{MOST_LINES}
 -- What is printed for lines as they come, and all that is printed behind the last of them.
 abbrev pub text_so_far : LineForm → Configuration → List (List ℕ) → List ℕ
 text_so_far (answered form) config lines = text_in form config lines
-text_so_far (kept_for wanted) config lines = []
-text_so_far (compared_for dealer) config lines = []
+text_so_far (kept_for sought) config lines = []
+text_so_far (compared_for whom) config lines = []
 
 abbrev pub whole_text : LineForm → Configuration → List (List ℕ) → List ℕ
 whole_text (answered form) config lines = text_in form config lines
-whole_text (kept_for wanted) config lines = kept_text wanted config (taken_in config lines).steps
-whole_text (compared_for dealer) config lines = []
+whole_text (kept_for sought) config lines = sought_text sought config (taken_in config lines).steps
+whole_text (compared_for whom) config lines = []
 
 -- the fault of the name in what is asked for
 abbrev pub fault_if : {A : Type 0} → Result A ProgramFault → Option ProgramFault
@@ -40,8 +39,8 @@ fault_if (Err fault) = Some fault
 
 abbrev pub name_fault : LineForm → ConfigValues → Option ProgramFault
 name_fault (answered form) config = None
-name_fault (kept_for wanted) config = fault_if (asked_in wanted config)
-name_fault (compared_for dealer) config = fault_if (asked_in (dues (Some dealer)) config)
+name_fault (kept_for sought) config = fault_if (asked_in sought config)
+name_fault (compared_for whom) config = fault_if (asked_in (sought_of whom) config)
 
 -- the lines of faults, one behind the other; of each a part from its front where it was refused
 abbrev pub GainsFaults : List ProgramFault → Written → Type 0
@@ -100,44 +99,44 @@ abbrev pub second_taken : Configuration → List (List ℕ) → Taken
 second_taken config lines = taken_of (values_of config) (spoken_in (part_behind (second_day lines)))
 
 -- the first day goes on, or the configuration of the second one: its faults so far were told
-pub record TakesOne (dealer : List ℕ) (config : Configuration) (lines : List (List ℕ))
+pub record TakesOne (whom : Whom) (config : Configuration) (lines : List (List ℕ))
     (out err : Written) : Type 0 where
   pub alone : are_four lines ≡ false
   pub spelled : venue_of (configuration_in lines) ≡ Ok (values_of config)
-  pub asked : name_fault (compared_for dealer) (values_of config) ≡ None
+  pub asked : name_fault (compared_for whom) (values_of config) ≡ None
   pub left : IsUntouched out
   pub told : GainsFaults (first_taken config lines).faults err
 
 -- both have begun, and the faults of both were told
-pub record TakesBoth (dealer : List ℕ) (one other : Configuration) (lines : List (List ℕ))
+pub record TakesBoth (whom : Whom) (one other : Configuration) (lines : List (List ℕ))
     (err : Written) : Type 0 where
   pub both : are_four lines ≡ true
   pub spelled : venue_of (configuration_in lines) ≡ Ok (values_of one)
-  pub asked : name_fault (compared_for dealer) (values_of one) ≡ None
+  pub asked : name_fault (compared_for whom) (values_of one) ≡ None
   pub other_spelled : venue_of (second_configuration lines) ≡ Ok (values_of other)
-  pub other_asked : name_fault (compared_for dealer) (values_of other) ≡ None
+  pub other_asked : name_fault (compared_for whom) (values_of other) ≡ None
   pub told : GainsFaults ((first_taken one lines).faults ++ (second_taken other lines).faults) err
 
 -- and what differs is this text
-pub record HasCompared (dealer : List ℕ) (lines : List (List ℕ)) (text : List ℕ) (err : Written)
+pub record HasCompared (whom : Whom) (lines : List (List ℕ)) (text : List ℕ) (err : Written)
     : Type 0 where
   pub one : Configuration
   pub other : Configuration
-  pub takes : TakesBoth dealer one other lines err
-  pub compared : IsKeptComparison dealer one (first_taken one lines).steps
+  pub takes : TakesBoth whom one other lines err
+  pub compared : IsComparison whom one (first_taken one lines).steps
       other (second_taken other lines).steps text
 
 -- these lines of two days were taken, and nothing was printed
-abbrev pub HasTakenDays : List ℕ → List (List ℕ) → Written → Written → Type 0
-HasTakenDays dealer lines out err =
-    ((config : Configuration) × TakesOne dealer config lines out err)
+abbrev pub HasTakenDays : Whom → List (List ℕ) → Written → Written → Type 0
+HasTakenDays whom lines out err =
+    ((config : Configuration) × TakesOne whom config lines out err)
     ⊎ (IsUntouched out × ((one : Configuration) × (other : Configuration)
-    × TakesBoth dealer one other lines err))
+    × TakesBoth whom one other lines err))
 
 -- these lines were answered, and nothing else
 abbrev pub HasAnswered : LineForm → List (List ℕ) → Written → Written → Type 0
-HasAnswered (compared_for dealer) lines out err =
-    AnswersNothing lines out err ⊎ HasTakenDays dealer lines out err
+HasAnswered (compared_for whom) lines out err =
+    AnswersNothing lines out err ⊎ HasTakenDays whom lines out err
 HasAnswered form lines out err =
     AnswersNothing lines out err
     ⊎ ((config : Configuration)
@@ -145,13 +144,13 @@ HasAnswered form lines out err =
 
 -- a part of what was to be printed behind these lines was, from its front
 abbrev pub IsCutOff : LineForm → List (List ℕ) → Written → Written → Type 0
-IsCutOff (compared_for dealer) lines out err =
-    (text : List ℕ) × HasCompared dealer lines text err × GainsPart text out
+IsCutOff (compared_for whom) lines out err =
+    (text : List ℕ) × HasCompared whom lines text err × GainsPart text out
 IsCutOff form lines out err = (config : Configuration) × AnswersPart form config lines out err
 
 -- no day of these lines has begun, or the second one has not
 abbrev pub HasNoDay : LineForm → List (List ℕ) → Written → Written → Type 0
-HasNoDay (compared_for dealer) lines out err = HasAnswered (compared_for dealer) lines out err
+HasNoDay (compared_for whom) lines out err = HasAnswered (compared_for whom) lines out err
 HasNoDay form lines out err = IsUntouched out × IsUntouched err
 
 -- what was printed where a fault ends the day behind these lines
@@ -164,11 +163,11 @@ Leaves form fault lines out err = HasAnswered form lines out err
 
 -- whether lines have all parts, and the text of a configuration among them
 abbrev pub are_whole : LineForm → List (List ℕ) → Bool
-are_whole (compared_for dealer) lines = are_four lines
+are_whole (compared_for whom) lines = are_four lines
 are_whole form lines = are_divided lines
 
 abbrev pub IsConfigurationIn : LineForm → List (List ℕ) → List ℕ → Type 0
-IsConfigurationIn (compared_for dealer) lines text =
+IsConfigurationIn (compared_for whom) lines text =
     (text ≡ configuration_in lines) ⊎ (text ≡ second_configuration lines)
 IsConfigurationIn form lines text = text ≡ configuration_in lines
 
@@ -232,8 +231,8 @@ pub record EndsInLiveFault (form : LineForm) (argument input : List ℕ) (stream
 
 -- all lines of the input were answered
 abbrev pub EndsInAnswers : LineForm → List (List ℕ) → Written → Written → Type 0
-EndsInAnswers (compared_for dealer) all out err =
-    (text : List ℕ) × HasCompared dealer all text err × Gains text out
+EndsInAnswers (compared_for whom) all out err =
+    (text : List ℕ) × HasCompared whom all text err × Gains text out
 EndsInAnswers form all out err =
     (config : Configuration) × TakesDay form config all (whole_text form config all) out err
 

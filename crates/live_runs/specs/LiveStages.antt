@@ -4,7 +4,7 @@ use Rattle.std.specs.Prelude.{length, Option, Some, None, Ok, Err}
 use Rattle.std.specs.List.{count_by, list_any}
 use Rattle.std.specs.Option.{option_to_list}
 use Rattle.venue_rows.specs.Rows.{ConfigValues, Configuration, values_of}
-use Rattle.venue_text.specs.KeptDays.{Keeps, KeepsMore, OpensKept, Wanted, dues}
+use Rattle.investor_texts.specs.SoughtDays.{Keeps, KeepsMore, OpensSought, Sought, Whom, sought_of}
 use Rattle.input_lines.specs.Lines.{lines_of}
 use Rattle.venue_text.specs.LiveAnswers.{Goes, Opens}
 use Rattle.venue_text.specs.LiveInput.{are_divided, configuration_in, taken_in, taken_of, text_in}
@@ -13,7 +13,7 @@ use Rattle.input_lines.specs.VenueParts.{is_divided, is_divider, part_behind, sp
 use Rattle.input_lines.specs.VenueParts.{venue_of}
 use Rattle.input_lines.specs.declared.faults.ProgramFault.{ProgramFault}
 use Rattle.input_lines.specs.declared.faults.ProgramFault.TheVariants as program
-use Rattle.venue_text.specs.declared.kept_days.KeptDay.{KeptDay}
+use Rattle.investor_texts.specs.declared.sought_days.SoughtDay.{SoughtDay}
 use Rattle.input_lines.specs.declared.lines.TheConstants.{MOST_INPUT}
 use Rattle.venue_text.specs.declared.live_form.LiveForm.{LiveForm}
 use Rattle.venue_text.specs.declared.live_lines.LiveDay.{LiveDay}
@@ -38,18 +38,18 @@ pub record DayGoes (form : LiveForm) (lines : List (List ℕ)) (day : LiveDay)
   pub goes : Goes form config (taken_in config lines) day
 
 -- the same, and what is asked for is printed at the end
-pub record KeptGoes (wanted : Wanted) (lines : List (List ℕ)) (day : KeptDay)
+pub record KeptGoes (sought : Sought) (lines : List (List ℕ)) (day : SoughtDay)
     (out err : Written) : Type 0 where
   pub config : Configuration
-  pub answers : TakesDay (kept_for wanted) config lines [] out err
-  pub keeps : Keeps wanted config (taken_in config lines) day
+  pub answers : TakesDay (kept_for sought) config lines [] out err
+  pub keeps : Keeps sought config (taken_in config lines) day
 
 -- The stages of two days.
 
 -- the first of them goes on
-pub record FirstGoes (dealer : List ℕ) (lines : List (List ℕ)) (day : KeptDay)
+pub record FirstGoes (whom : Whom) (lines : List (List ℕ)) (day : SoughtDay)
     (out err : Written) : Type 0 where
-  pub goes : KeptGoes (dues (Some dealer)) lines day out err
+  pub goes : KeptGoes (sought_of whom) lines day out err
   pub alone : is_divided (behind_one lines) ≡ false
 
 -- lines of which one divides the two days
@@ -59,13 +59,13 @@ pub record AreTwo (lines first : List (List ℕ)) (divider : List ℕ) (behind :
   pub divides : is_divider divider ≡ true
 
 -- the configuration of the second goes on, whose text this is
-pub record AwaitsSecond (dealer : List ℕ) (lines : List (List ℕ)) (day : KeptDay)
+pub record AwaitsSecond (whom : Whom) (lines : List (List ℕ)) (day : SoughtDay)
     (text : List ℕ) (out err : Written) : Type 0 where
   pub first : List (List ℕ)
   pub divider : List ℕ
   pub behind : List (List ℕ)
   pub two : AreTwo lines first divider behind
-  pub goes : FirstGoes dealer first day out err
+  pub goes : FirstGoes whom first day out err
   pub undivided : are_divided behind ≡ false
   pub text_is : text ≡ text_of_lines behind
 
@@ -75,34 +75,34 @@ taken_at config k lines =
     taken_of (values_of config) (spoken_in (part_behind (record { first = k; lines = lines })))
 
 -- the second goes on
-pub record SecondGoes (dealer : List ℕ) (k : ℕ) (lines : List (List ℕ)) (day : KeptDay)
+pub record SecondGoes (whom : Whom) (k : ℕ) (lines : List (List ℕ)) (day : SoughtDay)
     (err : Written) : Type 0 where
   pub config : Configuration
   pub divided : are_divided lines ≡ true
   pub spelled : venue_of (configuration_in lines) ≡ Ok (values_of config)
-  pub keeps : Keeps (dues (Some dealer)) config (taken_at config k lines) day
+  pub keeps : Keeps (sought_of whom) config (taken_at config k lines) day
   pub told : GainsFaults (taken_at config k lines).faults err
 
-pub record BothGo (dealer : List ℕ) (lines : List (List ℕ)) (one other : KeptDay)
+pub record BothGo (whom : Whom) (lines : List (List ℕ)) (one other : SoughtDay)
     (out err : Written) : Type 0 where
   pub first : List (List ℕ)
   pub divider : List ℕ
   pub behind : List (List ℕ)
   pub two : AreTwo lines first divider behind
   pub mid : Option (List ℕ)
-  pub goes : FirstGoes dealer first one out (record { before = err.before; after = mid })
-  pub second : SecondGoes dealer (length first + 2) behind other
+  pub goes : FirstGoes whom first one out (record { before = err.before; after = mid })
+  pub second : SecondGoes whom (length first + 2) behind other
       (record { before = mid; after = err.after })
 
 abbrev pub StageIs : LineForm → List (List ℕ) → Stage → Written → Written → Type 0
 StageIs form lines (stage.Configuration text) out err = AwaitsDay lines text.items out err
 StageIs (answered form) lines (stage.Day day) out err = DayGoes form lines day out err
-StageIs (kept_for wanted) lines (stage.Kept day) out err = KeptGoes wanted lines day out err
-StageIs (compared_for dealer) lines (stage.First day) out err = FirstGoes dealer lines day out err
-StageIs (compared_for dealer) lines (stage.Between day text) out err =
-    AwaitsSecond dealer lines day text.items out err
-StageIs (compared_for dealer) lines (stage.Both one other) out err =
-    BothGo dealer lines one other out err
+StageIs (kept_for sought) lines (stage.Kept day) out err = KeptGoes sought lines day out err
+StageIs (compared_for whom) lines (stage.First day) out err = FirstGoes whom lines day out err
+StageIs (compared_for whom) lines (stage.Between day text) out err =
+    AwaitsSecond whom lines day text.items out err
+StageIs (compared_for whom) lines (stage.Both one other) out err =
+    BothGo whom lines one other out err
 StageIs form lines _ out err = ⊥
 
 -- a run has answered these lines
@@ -159,24 +159,24 @@ DayFails number line before fault out err = (form : LiveForm) (lines : List (Lis
     (out_new start out) (err_new start err)
 
 -- what a line brings to a day that is kept, wherever it stood
-abbrev pub KeepsAnywhere : ℕ → List ℕ → KeptDay → KeptDay → Option ProgramFault → Type 0
-KeepsAnywhere number line before after fault = (config : Configuration) (wanted : Wanted)
-    (taken : Taken) → Keeps wanted config taken before
-    → KeepsMore wanted config taken number line after fault
+abbrev pub KeepsAnywhere : ℕ → List ℕ → SoughtDay → SoughtDay → Option ProgramFault → Type 0
+KeepsAnywhere number line before after fault = (config : Configuration) (sought : Sought)
+    (taken : Taken) → Keeps sought config taken before
+    → KeepsMore sought config taken number line after fault
 
 -- it is taken, and its fault told, if it has one
-pub record KeepsStep (number : ℕ) (line : List ℕ) (before after : KeptDay) (err : Written)
+pub record KeepsStep (number : ℕ) (line : List ℕ) (before after : SoughtDay) (err : Written)
     : Type 0 where
   pub fault : Option ProgramFault
   pub keeps : KeepsAnywhere number line before after fault
   pub told : GainsFaults (option_to_list fault) err
 
 -- The same where the messages are kept: nothing is printed.
-abbrev pub KeptTakes : ℕ → List ℕ → KeptDay → KeptDay → Written → Written → Type 0
-KeptTakes number line before after out err = (wanted : Wanted) (lines : List (List ℕ))
+abbrev pub KeptTakes : ℕ → List ℕ → SoughtDay → SoughtDay → Written → Written → Type 0
+KeptTakes number line before after out err = (sought : Sought) (lines : List (List ℕ))
     (start : Start) → number ≡ length lines + 1
-    → KeptGoes wanted lines before (out_old start out) (err_old start err)
-    → KeptGoes wanted (lines ++ line ∷ []) after (out_new start out) (err_new start err)
+    → KeptGoes sought lines before (out_old start out) (err_old start err)
+    → KeptGoes sought (lines ++ line ∷ []) after (out_new start out) (err_new start err)
 
 -- The same at each stage.
 abbrev pub StageTakes : LineForm → ℕ → List ℕ → Stage → Stage → Written → Written → Type 0
@@ -232,8 +232,8 @@ EndFails before fault out err = (form : LineForm) (read : List ℕ) (start : Sta
 -- A line before the day: the configuration goes on, or its text is whole and opens the day.
 abbrev pub OpensStage : LineForm → List ℕ → Stage → Type 0
 OpensStage (answered form) text (stage.Day day) = Opens form text day
-OpensStage (kept_for wanted) text (stage.Kept day) = OpensKept wanted text day
-OpensStage (compared_for dealer) text (stage.First day) = OpensKept (dues (Some dealer)) text day
+OpensStage (kept_for sought) text (stage.Kept day) = OpensSought sought text day
+OpensStage (compared_for whom) text (stage.First day) = OpensSought (sought_of whom) text day
 OpensStage form text _ = ⊥
 
 -- why a configuration opens none: its own fault, or that of a name
@@ -274,19 +274,19 @@ is_turn (stage.Between day text) line = is_divider line
 is_turn _ line = false
 
 abbrev pub Turns : LineForm → Stage → Stage → Type 0
-Turns (compared_for dealer) (stage.First day) (stage.Between same text) =
+Turns (compared_for whom) (stage.First day) (stage.Between same text) =
     (same ≡ day) × (text.items ≡ [])
-Turns (compared_for dealer) (stage.Between day text) (stage.Both same other) =
-    (same ≡ day) × OpensKept (dues (Some dealer)) text.items other
-Turns (compared_for dealer) (stage.First day) _ = ⊥
-Turns (compared_for dealer) (stage.Between day text) _ = ⊥
+Turns (compared_for whom) (stage.Between day text) (stage.Both same other) =
+    (same ≡ day) × OpensSought (sought_of whom) text.items other
+Turns (compared_for whom) (stage.First day) _ = ⊥
+Turns (compared_for whom) (stage.Between day text) _ = ⊥
 Turns form before after = Unit {0}
 
 -- why it opens no second day
 abbrev pub TurnFails : LineForm → Stage → ProgramFault → Type 0
-TurnFails (compared_for dealer) (stage.First day) fault = ⊥
-TurnFails (compared_for dealer) (stage.Between day text) fault =
-    (fault ≡ program.Memory) ⊎ OpensNone (compared_for dealer) text.items fault
+TurnFails (compared_for whom) (stage.First day) fault = ⊥
+TurnFails (compared_for whom) (stage.Between day text) fault =
+    (fault ≡ program.Memory) ⊎ OpensNone (compared_for whom) text.items fault
 TurnFails form before fault = Unit {0}
 
 -- A run that has read nothing, whatever the streams held.

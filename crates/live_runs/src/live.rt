@@ -13,10 +13,11 @@ use crate::line_forms::LineForm;
 use crate::output::{print_text, report};
 use fix_fields::Memory;
 use input_lines::{MOST_INPUT, ProgramFault, same_text};
+use investor_texts::SoughtDay;
 use std::alloc::Global;
 use std::io::{Read, Write};
 use std::mem;
-use venue_text::{KeptDay, LiveDay, Wanted, compared_text};
+use venue_text::LiveDay;
 
 /// How many lines a day that goes on may have.
 pub const MOST_LINES: usize = 1_000_000_000_000_000;
@@ -34,13 +35,13 @@ enum Stage {
     /// The day goes on, and each line is answered.
     Day(LiveDay),
     /// The day goes on, and its messages are kept.
-    Kept(KeptDay),
+    Kept(SoughtDay),
     /// The first of two days goes on.
-    First(KeptDay),
+    First(SoughtDay),
     /// The first of two days has ended, and these are the lines of the second's configuration.
-    Between(KeptDay, Vec<u8>),
+    Between(SoughtDay, Vec<u8>),
     /// The second of two days goes on.
-    Both(KeptDay, KeptDay),
+    Both(SoughtDay, SoughtDay),
 }
 
 /// As a derived one; but what a stage has is dropped by calls, and in one place. A derived drop is
@@ -299,7 +300,7 @@ impl Stage {
                 Err(ProgramFault::Parts)
             }
             Stage::Both(one, other) => {
-                let text = compared_text(alloc, one, other)?;
+                let text = one.compared_text(alloc, other)?;
                 print_text(out, text.as_slice())?;
                 Ok(())
             }
@@ -311,13 +312,13 @@ impl Stage {
         ensures ok { IfOk result (stages.Turns (meant_form form.entry) self) }
         ensures err { IfErr result (stages.TurnFails (meant_form form.entry) self) }
     {
-        let LineForm::Compared(dealer) = form else {
+        let LineForm::Compared(whom) = form else {
             return Ok(self);
         };
         match self {
             Stage::First(day) => Ok(Stage::Between(day, Vec::new(alloc))),
             Stage::Between(one, text) => {
-                let other = KeptDay::open(alloc, Wanted::Due(Some(dealer)), text.as_slice())?;
+                let other = SoughtDay::open_for(alloc, whom, text.as_slice())?;
                 Ok(Stage::Both(one, other))
             }
             other => Ok(other),
@@ -433,12 +434,12 @@ fn open_stage(alloc: Global, form: LineForm<'_>, text: &[u8]) -> Result<Stage, P
             let day = LiveDay::open(alloc, form, text)?;
             Ok(Stage::Day(day))
         }
-        LineForm::Kept(wanted) => {
-            let day = KeptDay::open(alloc, wanted, text)?;
+        LineForm::Kept(sought) => {
+            let day = SoughtDay::open(alloc, sought, text)?;
             Ok(Stage::Kept(day))
         }
-        LineForm::Compared(dealer) => {
-            let day = KeptDay::open(alloc, Wanted::Due(Some(dealer)), text)?;
+        LineForm::Compared(whom) => {
+            let day = SoughtDay::open_for(alloc, whom, text)?;
             Ok(Stage::First(day))
         }
     }
@@ -485,7 +486,7 @@ fn answer_step<W: Write, E: Write>(
 fn keep_step<E: Write>(
     alloc: Global,
     number: usize,
-    day: &mut KeptDay,
+    day: &mut SoughtDay,
     line: &[u8],
     err: &mut E,
 ) -> Result<(), ProgramFault>

@@ -26,6 +26,7 @@ mod RoomOrder
 mod RoomPlaceLemmas
 mod RowLemmas
 mod StartLemmas
+mod SteppedLemmas
 mod SweepLemmas
 mod SweptLemmas
 mod TurnLemmas

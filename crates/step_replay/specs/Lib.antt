@@ -28,6 +28,7 @@ pub mod SeenLemmas
 pub mod Standing
 pub mod StepFaults
 pub mod StepLemmas
+pub mod SteppedStanding
 pub mod TrailLemmas
 pub mod VenueFacts
 pub mod VenueRooms

@@ -48,6 +48,9 @@
 //!   room, one behind the other, at the cost of those that end. At the end of the day it is the
 //!   [`World`] of these steps ([`LiveVenue::into_world`]).
 //!
+//! - [`SteppedVenue`]: a venue that goes step by step, each turn a step of its own. It stands as the
+//!   audit trail of the steps so far, and tells the duty that an actor's next turn does.
+//!
 //! What follows from the definition stands as laws:
 //!
 //! - [`dealers_are_sent_their_view`]: what a dealer was sent is the dealer view of what was due to
@@ -85,6 +88,7 @@ mod queues;
 mod replay;
 mod room_actions;
 mod sent_to;
+mod stepped;
 mod steps;
 mod sweep_laws;
 mod world;
@@ -98,6 +102,7 @@ pub use laws::{
 };
 pub use live::LiveVenue;
 pub use sent_to::SentTo;
+pub use stepped::SteppedVenue;
 pub use steps::{MOST_TURNS_BEHIND, Step};
 pub use sweep_laws::sweeps_of_rooms_that_are_not_due_do_nothing;
 pub use venue_places::Actor;

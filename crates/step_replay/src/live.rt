@@ -264,7 +264,7 @@ fn desk_of(replay: &Replay, step: &Step) -> Option<u16>
 }
 
 /// The duty that an actor's next turn does.
-fn next_duty(replay: &Replay, by: Actor) -> Option<&Duty>
+pub(crate) fn next_duty(replay: &Replay, by: Actor) -> Option<&Duty>
     ensures { option_copied result ≡ spec.next_duty replay.now by }
 {
     let index = replay.index_of(by)?;

@@ -4,7 +4,7 @@ use Rattle.std.proofs.Common.{◌≡◌, ◌≢◌, ℕ, ◌-◌, ◌<◌, ◌�
 use Rattle.std.proofs.Common.{true, nat_lt, inl, inr, Result, Ok, Err, ◌⊎◌}
 use Rattle.std.proofs.lemmas.List.{append-nil, length-append}
 use Rattle.input_lines.specs.declared.lines.TheConstants.{MOST_INPUT}
-use Rattle.command_arguments.specs.Arguments.{Command, alone, blotter, compare, compared, day, due, kept, live, replay}
+use Rattle.command_arguments.specs.Arguments.{Command, alone, blotter, compare, compared, day, due, investor_compare, investor_due, kept, live, replay}
 use Rattle.live_runs.specs.Written.{Gains, GainsPart, IsReadOf, Written}
 use Rattle.venue_commands.specs.Runs.{FaultLeaves, HasPrinted, HasPrintedPart, IsFaultOf, IsTextOf}
 use Rattle.input_lines.specs.declared.faults.ProgramFault.{ProgramFault}
@@ -28,10 +28,12 @@ long_fault (day with_frames woven) input fault long (inl is) = let same : Err In
 long_fault (day with_frames woven) input fault long (inr (inl unkept)) = let lawful = unkept.lawful in absurd (false≢true (rw long at lawful))
 long_fault (day with_frames woven) input fault long (inr (inr unwoven)) = let same = unwoven.recorded.spelled in cc (rw long at same)
 long_fault (live form) input fault long is = absurd is
-long_fault (kept wanted) input fault long is = absurd is
-long_fault (compared dealer) input fault long is = absurd is
+long_fault (kept sought) input fault long is = absurd is
+long_fault (compared whom) input fault long is = absurd is
 long_fault (due dealer) input fault long is = let same : Err Input ≡ Err fault = rw long at is in cc
+long_fault (investor_due name) input fault long is = let same : Err Input ≡ Err fault = rw long at is in cc
 long_fault (compare dealer) input fault long is = let same : Err Input ≡ Err fault = rw long at is in cc
+long_fault (investor_compare name) input fault long is = let same : Err Input ≡ Err fault = rw long at is in cc
 long_fault (blotter firm) input fault long is = let same : Err Input ≡ Err fault = rw long at is in cc
 
 too_long : (command : Command) (input bytes : List ℕ) (fault : ProgramFault) → nat_lt MOST_INPUT (length input) ≡ true → IsFaultOf command bytes fault
@@ -40,10 +42,12 @@ too_long (alone with_frames) input bytes fault long is = rw long refl
 too_long (replay firm with_frames) input bytes fault long is = rw long refl
 too_long (day with_frames woven) input bytes fault long is = inl (rw long refl)
 too_long (live form) input bytes fault long is = absurd is
-too_long (kept wanted) input bytes fault long is = absurd is
-too_long (compared dealer) input bytes fault long is = absurd is
+too_long (kept sought) input bytes fault long is = absurd is
+too_long (compared whom) input bytes fault long is = absurd is
 too_long (due dealer) input bytes fault long is = rw long refl
+too_long (investor_due name) input bytes fault long is = rw long refl
 too_long (compare dealer) input bytes fault long is = rw long refl
+too_long (investor_compare name) input bytes fault long is = rw long refl
 too_long (blotter firm) input bytes fault long is = rw long refl
 
 -- and it has no text
@@ -52,10 +56,12 @@ no_text (alone with_frames) input text long is = let fits = is.fits in grind (ar
 no_text (replay firm with_frames) input text long is = let same = is.spelled in cc (rw long at same)
 no_text (day with_frames woven) input text long is = let same = is.recorded.spelled in cc (rw long at same)
 no_text (live form) input text long is = absurd is
-no_text (kept wanted) input text long is = absurd is
-no_text (compared dealer) input text long is = absurd is
+no_text (kept sought) input text long is = absurd is
+no_text (compared whom) input text long is = absurd is
 no_text (due dealer) input text long is = let same = is.spelled in cc (rw long at same)
+no_text (investor_due name) input text long is = let same = is.spelled in cc (rw long at same)
 no_text (compare dealer) input text long is = let same = is.spelled in cc (rw long at same)
+no_text (investor_compare name) input text long is = let same = is.spelled in cc (rw long at same)
 no_text (blotter firm) input text long is = let same = is.spelled in cc (rw long at same)
 
 -- what was read is all, or too long, as all is then

@@ -4,7 +4,12 @@ use Rattle.std.specs.Prelude.{Option, Some, None, Result, Ok, Err, unwrap_or}
 use Rattle.std.specs.Option.{IfSome}
 use Rattle.clap.specs.Kinds.{Kinds}
 use Rattle.clap.specs.Walk.{Text}
-use Rattle.venue_text.specs.AloneText.{IsPrinted, first_fault}
+use Rattle.investor_texts.specs.AloneCommand.{IsPrinted, first_fault}
+use Rattle.investor_texts.specs.CompareCommand as investors_compare
+use Rattle.investor_texts.specs.DueCommand as investors_due
+use Rattle.investor_texts.specs.DueCommand.{investor_by}
+use Rattle.investor_texts.specs.SoughtDays.{Sought, Whom, of_firms, of_investor, the_dealer}
+use Rattle.investor_texts.specs.SoughtDays.{the_investor}
 use Rattle.venue_text.specs.AskedDays.{dealer_by, dealers_by, firm_by, firms_by, one_day, two_days}
 use Rattle.venue_text.specs.BlotterCommand.{IsBlotter}
 use Rattle.venue_text.specs.CompareText.{IsCompared}
@@ -18,6 +23,7 @@ use Rattle.input_lines.specs.declared.faults.ProgramFault.TheVariants.{Read, Mem
 use Rattle.live_runs.specs.LineForms.{LineForm, answered, compared_for, kept_for}
 use Rattle.command_arguments.specs.Arguments.{Command, alone, arguments_fault, blotter}
 use Rattle.command_arguments.specs.Arguments.{command_of, compare, compared, day, due, kept, live}
+use Rattle.command_arguments.specs.Arguments.{investor_compare, investor_due}
 use Rattle.command_arguments.specs.Arguments.{may_be_help, may_be_mistake, replay}
 use Rattle.live_runs.specs.LiveRuns.{EndsInLive}
 use Rattle.venue_commands.specs.ThreadedDays.{IsDay, IsDayFault}
@@ -31,10 +37,12 @@ line_form (alone with_frames) = None
 line_form (replay firm with_frames) = None
 line_form (day with_frames woven) = None
 line_form (live form) = Some (answered form)
-line_form (kept wanted) = Some (kept_for wanted)
+line_form (kept sought) = Some (kept_for sought)
 line_form (due dealer) = None
+line_form (investor_due name) = None
 line_form (compare dealer) = None
-line_form (compared dealer) = Some (compared_for dealer)
+line_form (investor_compare name) = None
+line_form (compared whom) = Some (compared_for whom)
 line_form (blotter firm) = None
 
 -- What a command prints for an input.
@@ -43,10 +51,12 @@ IsTextOf (alone with_frames) input text = IsPrinted with_frames input text
 IsTextOf (replay firm with_frames) input text = IsReplayed firm with_frames input text
 IsTextOf (day with_frames woven) input text = IsDay with_frames woven input text
 IsTextOf (live form) input text = ⊥  -- it is taken line by line
-IsTextOf (kept wanted) input text = ⊥  -- the same
+IsTextOf (kept sought) input text = ⊥  -- the same
 IsTextOf (due dealer) input text = IsDueText dealer input text
+IsTextOf (investor_due name) input text = investors_due.IsDueText name input text
 IsTextOf (compare dealer) input text = IsCompared dealer input text
-IsTextOf (compared dealer) input text = ⊥  -- line by line, too
+IsTextOf (investor_compare name) input text = investors_compare.IsCompared name input text
+IsTextOf (compared whom) input text = ⊥  -- line by line, too
 IsTextOf (blotter firm) input text = IsBlotter firm input text
 
 -- the first fault of an input, for a command
@@ -55,10 +65,12 @@ IsFaultOf (alone with_frames) input fault = first_fault input ≡ Some fault
 IsFaultOf (replay firm with_frames) input fault = one_day (firms_by firm) input ≡ Err fault
 IsFaultOf (day with_frames woven) input fault = IsDayFault woven input fault
 IsFaultOf (live form) input fault = ⊥  -- it tells line by line
-IsFaultOf (kept wanted) input fault = ⊥  -- the same
+IsFaultOf (kept sought) input fault = ⊥  -- the same
 IsFaultOf (due dealer) input fault = one_day (dealers_by dealer) input ≡ Err fault
-IsFaultOf (compared dealer) input fault = ⊥  -- line by line, too
+IsFaultOf (investor_due name) input fault = one_day (investor_by name) input ≡ Err fault
+IsFaultOf (compared whom) input fault = ⊥  -- line by line, too
 IsFaultOf (compare dealer) input fault = two_days (dealer_by dealer) input ≡ Err fault
+IsFaultOf (investor_compare name) input fault = two_days (investor_by name) input ≡ Err fault
 IsFaultOf (blotter firm) input fault = one_day (firm_by firm) input ≡ Err fault
 
 -- the argument in what is asked for at the end of a day
@@ -67,6 +79,15 @@ word_in (messages name frames) = unwrap_or name []
 word_in (dues dealer) = unwrap_or dealer []
 word_in (kept_days.blotter firm) = firm
 
+abbrev pub word_sought : Sought → List ℕ
+word_sought (of_firms wanted) = word_in wanted
+word_sought (of_investor name) = name
+
+-- the name of the firm for which two days are compared
+abbrev pub word_of_whom : Whom → List ℕ
+word_of_whom (the_dealer name) = name
+word_of_whom (the_investor name) = name
+
 -- the argument of a command that names a firm; it is told where no firm has that name
 abbrev pub word_of : Command → List ℕ
 word_of (alone with_frames) = []
@@ -74,11 +95,13 @@ word_of (replay None with_frames) = []
 word_of (replay (Some firm) with_frames) = firm
 word_of (day with_frames woven) = []
 word_of (live form) = []
-word_of (kept wanted) = word_in wanted
+word_of (kept sought) = word_sought sought
 word_of (due None) = []
 word_of (due (Some dealer)) = dealer
+word_of (investor_due name) = name
 word_of (compare dealer) = dealer
-word_of (compared dealer) = dealer
+word_of (investor_compare name) = name
+word_of (compared whom) = word_of_whom whom
 word_of (blotter firm) = firm
 
 -- what a command prints for an input was written, and nothing else

@@ -4,19 +4,19 @@ ghost use Rattle.live_runs.specs.LineForms.{meant_form};
 ghost use Rattle.venue_commands.specs.Runs.{line_form};
 ghost use Rattle.command_arguments.specs.Arguments.{meant};
 ghost use Rattle.venue_commands.specs.Runs as spec;
+ghost use Rattle.investor_texts.specs.SoughtDays as sought_days;
 ghost use Rattle.venue_text.specs.KeptDays as kept;
 
 use crate::days::day_text;
 use command_arguments::{VenueCommand, argument_bytes};
 use input_lines::ProgramFault;
+use investor_texts::{Sought, Whom, alone_command_text, investor_compare_text, investor_due_text};
 use live_runs::LineForm;
 use std::alloc::Global;
 use std::marker::Sync;
 use std::sync::Wait;
 use std::thread::Threads;
-use venue_text::{
-    Wanted, alone_text, blotter_command_text, compare_text, due_command_text, replay_text,
-};
+use venue_text::{Wanted, blotter_command_text, compare_text, due_command_text, replay_text};
 
 /// What a command prints for an input, or the input's first fault; memory may be refused at any
 /// point.
@@ -33,7 +33,7 @@ pub(crate) fn command_text<H: Threads + Wait + Sync>(
     ensures unwritten { IfErr result (λ fault. fault ≢ ProgramFault.Write) }
 {
     match command {
-        VenueCommand::Alone { frames } => alone_text(alloc, *frames, input),
+        VenueCommand::Alone { frames } => alone_command_text(alloc, *frames, input),
         VenueCommand::Replay { firm, frames } => {
             let only = argument_bytes(*firm);
             replay_text(alloc, only, *frames, input)
@@ -41,12 +41,18 @@ pub(crate) fn command_text<H: Threads + Wait + Sync>(
         VenueCommand::Day { frames, woven } => day_text(rt, alloc, *frames, *woven, input),
         VenueCommand::Live { .. } => unreachable!(),
         VenueCommand::Kept(_) => unreachable!(),
-        VenueCommand::Compared { .. } => unreachable!(),
+        VenueCommand::Compared(_) => unreachable!(),
         VenueCommand::Due { dealer } => {
             let only = argument_bytes(*dealer);
             due_command_text(alloc, only, input)
         }
+        VenueCommand::InvestorDue { investor } => {
+            investor_due_text(alloc, investor.as_bytes(), input)
+        }
         VenueCommand::Compare { dealer } => compare_text(alloc, dealer.as_bytes(), input),
+        VenueCommand::InvestorCompare { investor } => {
+            investor_compare_text(alloc, investor.as_bytes(), input)
+        }
         VenueCommand::Blotter { firm } => blotter_command_text(alloc, firm.as_bytes(), input),
     }
 }
@@ -57,13 +63,15 @@ pub(crate) fn line_form<'a>(command: &VenueCommand<'a>) -> Option<LineForm<'a>>
 {
     match command {
         VenueCommand::Live { form } => Some(LineForm::Answered(*form)),
-        VenueCommand::Kept(wanted) => Some(LineForm::Kept(*wanted)),
-        VenueCommand::Compared { dealer } => Some(LineForm::Compared(dealer.as_bytes())),
+        VenueCommand::Kept(sought) => Some(LineForm::Kept(*sought)),
+        VenueCommand::Compared(whom) => Some(LineForm::Compared(*whom)),
         VenueCommand::Alone { .. } => None,
         VenueCommand::Replay { .. } => None,
         VenueCommand::Day { .. } => None,
         VenueCommand::Due { .. } => None,
+        VenueCommand::InvestorDue { .. } => None,
         VenueCommand::Compare { .. } => None,
+        VenueCommand::InvestorCompare { .. } => None,
         VenueCommand::Blotter { .. } => None,
     }
 }
@@ -79,6 +87,26 @@ fn wanted_argument<'a>(wanted: Wanted<'a>) -> &'a [u8]
     }
 }
 
+/// The same of an investor, too.
+fn sought_argument<'a>(sought: Sought<'a>) -> &'a [u8]
+    ensures { result.now ≡ spec.word_sought (sought_days.meant sought.entry) }
+{
+    match sought {
+        Sought::Firms(wanted) => wanted_argument(wanted),
+        Sought::Investor(name) => name,
+    }
+}
+
+/// The name of the firm for which two days are compared.
+fn whose_argument<'a>(whom: Whom<'a>) -> &'a [u8]
+    ensures { result.now ≡ spec.word_of_whom (sought_days.whom_meant whom.entry) }
+{
+    match whom {
+        Whom::Dealer(name) => name,
+        Whom::Investor(name) => name,
+    }
+}
+
 /// The argument of a command that names a firm.
 pub(crate) fn command_argument<'a>(command: &VenueCommand<'a>) -> &'a [u8]
     ensures { result.now ≡ spec.word_of (meant command.now) }
@@ -88,10 +116,12 @@ pub(crate) fn command_argument<'a>(command: &VenueCommand<'a>) -> &'a [u8]
         VenueCommand::Replay { firm, .. } => firm.unwrap_or("").as_bytes(),
         VenueCommand::Day { .. } => b"",
         VenueCommand::Live { .. } => b"",
-        VenueCommand::Kept(wanted) => wanted_argument(*wanted),
+        VenueCommand::Kept(sought) => sought_argument(*sought),
         VenueCommand::Due { dealer } => dealer.unwrap_or("").as_bytes(),
+        VenueCommand::InvestorDue { investor } => investor.as_bytes(),
         VenueCommand::Compare { dealer } => dealer.as_bytes(),
-        VenueCommand::Compared { dealer } => dealer.as_bytes(),
+        VenueCommand::InvestorCompare { investor } => investor.as_bytes(),
+        VenueCommand::Compared(whom) => whose_argument(*whom),
         VenueCommand::Blotter { firm } => firm.as_bytes(),
     }
 }

@@ -104,7 +104,7 @@ fn messages_differ(
 }
 
 /// What a firm was sent: nothing where no firm has this number.
-pub(crate) fn sent_in(world: &World, firm: u16) -> &[SentMessage]
+pub fn sent_in(world: &World, firm: u16) -> &[SentMessage]
     ensures { result.now ≡ spec.sent_on (slice_get world.now firm) }
 {
     let Some(messages) = world.sent(firm) else {
@@ -141,7 +141,7 @@ fn is_same_due_at(one: &[Due], other: &[Due], place: usize) -> bool
 }
 
 /// The first position, from 1, at which two lists of messages differ.
-pub(crate) fn message_difference(one: &[SentMessage], other: &[SentMessage]) -> Option<usize>
+pub fn message_difference(one: &[SentMessage], other: &[SentMessage]) -> Option<usize>
     ensures { spec.IsFirstDifference one.now other.now result }
 {
     let longest = one.len().max(other.len());
@@ -175,7 +175,7 @@ fn is_same_message(one: &SentMessage, other: &SentMessage) -> bool
 }
 
 /// The three lines.
-pub(crate) fn three_lines(
+pub fn three_lines(
     alloc: Global,
     is_same_row: bool,
     due: Option<usize>,

@@ -117,7 +117,7 @@ pub(crate) fn push_due_text(
 }
 
 /// `date YYYYMMDD`.
-fn push_date_line(text: &mut Vec<u8>, date: &Date) -> Result<(), Memory>
+pub fn push_date_line(text: &mut Vec<u8>, date: &Date) -> Result<(), Memory>
     ensures { OnOk result (text.new.items ≡ text.old.items ++ spec.date_line date.now) }
 {
     text.extend_from_slice(b"date")?;
@@ -148,7 +148,7 @@ fn push_limits(text: &mut Vec<u8>, row: &DealerRow) -> Result<(), Memory>
 }
 
 /// The names of traders, each behind a space.
-fn push_traders(text: &mut Vec<u8>, traders: &Traders) -> Result<(), Memory>
+pub fn push_traders(text: &mut Vec<u8>, traders: &Traders) -> Result<(), Memory>
     ensures { OnOk result (text.new.items ≡ text.old.items ++ cuts.parts_behind traders.now) }
 {
     for place in 0..traders.len() {

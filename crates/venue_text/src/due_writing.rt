@@ -49,7 +49,7 @@ fn push_due(text: &mut Vec<u8>, due: &Due) -> Result<(), Memory>
 
 /// `own TIME FRAME`, or `hex TIME HEX` where FRAME could not be read back.
 #[tactic(auto, unfolding(crate::specs::WrittenDues::own_line))]
-fn push_own(text: &mut Vec<u8>, moment: Moment, message: &[u8]) -> Result<(), Memory>
+pub fn push_own(text: &mut Vec<u8>, moment: Moment, message: &[u8]) -> Result<(), Memory>
     ensures { OnOk result (text.new.items ≡ text.old.items ++ spec.own_line moment message.now) }
 {
     if has_unsayable(message) {

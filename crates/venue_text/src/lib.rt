@@ -42,9 +42,9 @@ mod same_dues;
 
 pub use alone_command::alone_text;
 pub use blotter_command::blotter_command_text;
-pub use compare_command::compare_text;
-pub use due_command::due_command_text;
-pub use due_writing::due_lines;
+pub use compare_command::{compare_text, message_difference, sent_in, three_lines};
+pub use due_command::{due_command_text, push_date_line, push_traders};
+pub use due_writing::{due_lines, push_own};
 pub use inboxes::{ArrivingDay, read_arriving_day};
 pub use kept_comparison::compared_text;
 pub use kept_days::{KeptDay, Wanted};
@@ -53,7 +53,7 @@ pub use live_laws::{
     a_firm_is_printed_what_live_prints_of_it, lines_bring_the_same_however_they_come,
     without_marks_a_day_is_its_messages,
 };
-pub use live_lines::{LineOutput, LineSent, LiveDay};
+pub use live_lines::{LineOutput, LineSent, LiveDay, read_live_line};
 pub use message_lines::messages_text;
 pub use read_back::what_was_due_is_read_back;
 pub use record_lines::{record_text, woven_line};

@@ -156,7 +156,7 @@ fn refused(alloc: Global, fault: ProgramFault) -> Result<LineSent, Memory>
 }
 
 /// What a line spells. Turns are none of a day that goes on: they follow of themselves.
-fn read_live_line(
+pub fn read_live_line(
     alloc: Global,
     config: &VenueConfig,
     heard: &mut Heard,

@@ -23,6 +23,9 @@ returns c = record {
   marks_of_replay = refl;
   one_argument_more = refl;
   one_argument_less = refl;
+  investor_and_live = refl;
+  investor_of_nothing = refl;
+  investor_replay = refl;
   dues_of_one = refl;
   no_command = refl;
 }

@@ -1,0 +1,4 @@
+mod ComesLemmas
+mod FollowLemmas
+mod PlacedLemmas
+mod ViewLemmas

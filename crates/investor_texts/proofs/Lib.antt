@@ -1,0 +1,10 @@
+mod AloneLemmas
+mod AskedLemmas
+mod CompareLemmas
+mod DayLemmas
+mod FaultLemmas
+mod LineLemmas
+mod NumberLemmas
+mod ReadLemmas
+mod RowLemmas
+mod SoughtLemmas

@@ -1,0 +1,14 @@
+use Rattle.investor_texts.proofs.DayLemmas.{run_followed, runs_seen}
+use Rattle.investor_texts.proofs.compare_command.days_compared.Goals as goal
+
+pub returns : goal.returns
+returns c first second one_is other_is =
+    let one = c.args.one.now in
+    let other = c.args.other.now in
+    c.in_ok-text.ensures first second
+    (run_followed one.venue one.investor _ one.steps.items c.in_ok-first.first first one_is
+    c.as_slice.ensures.value c.in_ok-first.ensures)
+    (run_followed other.venue other.investor _ other.steps.items c.in_ok-second.second second
+    other_is c.as_slice-2.ensures.value c.in_ok-second.ensures)
+    (runs_seen one.venue other.venue one.investor other.investor one.steps.items
+    other.steps.items c.in_ok-seen.seen first second one_is other_is c.in_ok-seen.ensures)

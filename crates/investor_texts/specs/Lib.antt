@@ -1,0 +1,9 @@
+pub mod AloneCommand
+pub mod CompareCommand
+pub mod DueCommand
+pub mod InvestorLines
+pub mod InvestorText
+pub mod LineDays
+pub mod ReadLines
+pub mod SoughtDays
+pub mod WrittenText

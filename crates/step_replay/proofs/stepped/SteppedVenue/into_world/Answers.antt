@@ -1,0 +1,8 @@
+use Rattle.step_replay.specs.AuditTrail.{audit_trail}
+use Rattle.step_replay.proofs.WorldLemmas.{days_stand}
+use Rattle.step_replay.proofs.stepped.SteppedVenue.into_world.Goals as goal
+
+pub returns : goal.returns
+returns c config steps at =
+    days_stand config (audit_trail config steps).facts c.args.self.replay.floor
+    at.stands.floor_stands
