@@ -5,6 +5,8 @@ mod DayLemmas
 mod FaultLemmas
 mod LineLemmas
 mod NumberLemmas
+mod ReadBackItems
+mod ReadBackLists
 mod ReadLemmas
 mod RowLemmas
 mod SoughtLemmas

@@ -4,6 +4,7 @@ pub mod DueCommand
 pub mod InvestorLines
 pub mod InvestorText
 pub mod LineDays
+pub mod ReadBack
 pub mod ReadLines
 pub mod SoughtDays
 pub mod WrittenText

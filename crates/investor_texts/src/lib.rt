@@ -12,7 +12,8 @@
 //! # What is promised
 //!
 //! - [`read_investor_text`] is `investor_text_of`, and [`investor_text`] writes the lines of their
-//!   definitions, byte by byte.
+//!   definitions, byte by byte. [`what_was_due_to_an_investor_is_read_back`]: a list that is written
+//!   so is read as that list.
 //! - [`alone_command_text`]: the text is that of the investor view of what the input spells, or of
 //!   the dealer view of a dealer's; each fault is the first of the input, by a total function of
 //!   its bytes.
@@ -30,6 +31,7 @@ mod due_command;
 mod investor_lines;
 mod item_lines;
 mod line_days;
+mod read_back;
 mod sought_days;
 mod text_reading;
 mod text_writing;
@@ -38,6 +40,7 @@ pub use alone_command::alone_command_text;
 pub use compare_command::investor_compare_text;
 pub use due_command::investor_due_text;
 pub use line_days::{InvestorDay, investors_compared_text};
+pub use read_back::what_was_due_to_an_investor_is_read_back;
 pub use sought_days::{Sought, SoughtDay, Whom};
 pub use text_reading::{InvestorText, is_investors, read_investor_text};
 pub use text_writing::investor_text;

@@ -163,7 +163,7 @@ bar_back c sayable =
       | inr other ↦ rw (other, parts.1, parts.0) (refl, refl)
     ]
 
-barred_in_line : (message : List ℕ) → list_any is_unsayable message ≡ false
+pub barred_in_line : (message : List ℕ) → list_any is_unsayable message ≡ false
     → list_all is_in_line (map with_bar message) ≡ true
 barred_in_line [] sayable = refl
 barred_in_line (c ∷ message) sayable =
@@ -171,7 +171,7 @@ barred_in_line (c ∷ message) sayable =
     all_more is_in_line (with_bar c) (map with_bar message) (bar_back c parts.0).0
     (barred_in_line message parts.1)
 
-barred_back : (message : List ℕ) → list_any is_unsayable message ≡ false
+pub barred_back : (message : List ℕ) → list_any is_unsayable message ≡ false
     → map soh_for_bar (map with_bar message) ≡ message
 barred_back [] sayable = refl
 barred_back (c ∷ message) sayable =
@@ -180,12 +180,12 @@ barred_back (c ∷ message) sayable =
     let later = barred_back message parts.1 in
     cc
 
-barred_some : (message : List ℕ) → not (length message == 0) ≡ true
+pub barred_some : (message : List ℕ) → not (length message == 0) ≡ true
     → (length (map with_bar message) == 0) ≡ false
 barred_some [] some = cc
 barred_some (c ∷ message) some = grind (arith, nat_tests)
 
-received_by : (date text frame : List ℕ) (moment : ℕ)
+pub received_by : (date text frame : List ℕ) (moment : ℕ)
     → time_of date (first_part text) ≡ Some moment → behind_part text ≡ frame
     → (length frame == 0) ≡ false → received_of date text ≡ Some (moment, map soh_for_bar frame)
 unfolding received_of
@@ -228,7 +228,7 @@ digit_of test (c ∷ table) all none zero = (and_parts (test c) (list_all test t
 digit_of test (c ∷ table) all none (suc k) =
     digit_of test table (and_parts (test c) (list_all test table) all).1 none k
 
-hex_in_line : (message : List ℕ) → list_all is_in_line (encode_lower message) ≡ true
+pub hex_in_line : (message : List ℕ) → list_all is_in_line (encode_lower message) ≡ true
 unfolding encode_with
 hex_in_line [] = refl
 hex_in_line (b ∷ message) =
@@ -239,13 +239,13 @@ hex_in_line (b ∷ message) =
     (all_more is_in_line low (encode_lower message)
     (digit_of is_in_line lower_digits refl refl (b % 16)) (hex_in_line message))
 
-hex_some : (message : List ℕ) → not (length message == 0) ≡ true
+pub hex_some : (message : List ℕ) → not (length message == 0) ≡ true
     → (length (encode_lower message) == 0) ≡ false
 unfolding encode_with
 hex_some [] some = cc
 hex_some (c ∷ message) some = grind (arith, nat_tests)
 
-hexed_by : (date text digits message : List ℕ) (moment : ℕ)
+pub hexed_by : (date text digits message : List ℕ) (moment : ℕ)
     → time_of date (first_part text) ≡ Some moment → behind_part text ≡ digits
     → decode_of digits ≡ Ok message → (length digits == 0) ≡ false
     → hexed_of date text ≡ Some (moment, message)
