@@ -43,7 +43,7 @@ use Rattle.venue_text.specs.declared.live_form.LiveForm.{LiveForm}
 use Rattle.venue_text.specs.declared.live_lines.LiveDay.{LiveDay}
 use Rattle.live_runs.specs.LineForms.{LineForm, answered, compared_for, kept_for, meant_form}
 use Rattle.live_runs.specs.LiveRuns.{EndsWith, EndsDay, EndsInAnswers, EndsInLive, GainsFaults, HasAnswered}
-use Rattle.live_runs.specs.LiveRuns.{AnswersNothing, HasCompared, HasNoDay, IsConfigurationIn, TakesBoth, TakesOne, are_four, are_whole}
+use Rattle.live_runs.specs.LiveRuns.{AnswersNothing, HasCompared, HasNoDay, IsConfigurationIn, IsLiveFault, TakesBoth, TakesOne, are_four, are_whole}
 use Rattle.live_runs.specs.LiveRuns.{ended_lines, fault_if, first_taken, name_fault, second_configuration, second_taken}
 use Rattle.live_runs.specs.LiveStages.{AreTwo, AwaitsDay, AwaitsSecond, BothGo, DayGoes, FirstGoes, IsBad, IsCut, KeptGoes, StageIs, StandsAt, Start}
 use Rattle.live_runs.specs.LiveStages.{KeepsAnywhere, KeepsStep, TurnFails, Turns, is_turn, taken_at}
@@ -197,6 +197,7 @@ module _ (form : LiveForm) (lines : List (List ℕ)) (number : ℕ) (line output
         lines = lines ++ line ∷ [];
         rest = more;
         split = refl;
+        reached = tt;
         left = (
           had.config,
           record {
@@ -221,6 +222,7 @@ day_out_of_memory form lines line day out told old new more fault is goes kept =
       lines = lines;
       rest = line ∷ more;
       split = append_assoc lines (line ∷ []) more;
+      reached = tt;
       left = inr (
         goes.config,
         record {
@@ -652,78 +654,102 @@ turn_refused form whom before day t text fault is was same found =
     (λ other. opens_none (sought_of whom) t.items fault
     (subst (λ (x : List ℕ). asked_venue (sought_of whom) x ≡ Err fault) same (found other)))))
 
-module _ (form : LineForm) (lines : List (List ℕ)) (line text : List ℕ) (out err : Written) (had : AwaitsDay lines text out err)
-    (more : List (List ℕ)) where
-  abbrev Fails : ProgramFault → Type 0
-  Fails fault = EndsDay form fault ((lines ++ line ∷ []) ++ more) out err
+-- What is so of the lines up to this one, whatever comes after them, is so of these alone.
+up_to_here : (P : List (List ℕ) → Type 0) (lines : List (List ℕ)) (line : List ℕ)
+    → ((more : List (List ℕ)) → P ((lines ++ line ∷ []) ++ more)) → P (lines ++ line ∷ [])
+up_to_here P lines line always = subst P (append-nil (lines ++ line ∷ [])) (always [])
 
-  whole_configuration : is_divider line ≡ true → configuration_in ((lines ++ line ∷ []) ++ more) ≡ text
-  whole_configuration here =
+module _ (form : LineForm) (lines : List (List ℕ)) (line text : List ℕ) (out err : Written) (had : AwaitsDay lines text out err) where
+  abbrev Fails : ProgramFault → List (List ℕ) → Type 0
+  Fails fault more = EndsDay form fault ((lines ++ line ∷ []) ++ more) out err
+
+  whole_configuration : is_divider line ≡ true → (more : List (List ℕ))
+      → configuration_in ((lines ++ line ∷ []) ++ more) ≡ text
+  whole_configuration here more =
       let undivided = had.nothing.undivided in
       configuration_stays (lines ++ line ∷ []) more (now_divided lines line undivided here)
       ∙ configuration_is lines line undivided here ∙ sym had.text_is
 
-  config_lawless : (fault : ProgramFault) → is_divider line ≡ true → venue_of text ≡ Err fault → Fails fault
-  config_lawless fault here is =
+  lawless : (f : ConfigFault) → is_divider line ≡ true → venue_of text ≡ Err (Config f) → (more : List (List ℕ))
+      → IsLiveFault form (Config f) ((lines ++ line ∷ []) ++ more)
+  lawless f here is more = (
+    configuration_in ((lines ++ line ∷ []) ++ more),
+    first_text form ((lines ++ line ∷ []) ++ more),
+    ap venue_of (whole_configuration here more) ∙ is,
+  )
+
+  nameless : (config : ConfigValues) → is_divider line ≡ true → venue_of text ≡ Ok config
+      → name_fault form config ≡ Some Firm → (more : List (List ℕ)) → IsLiveFault form Firm ((lines ++ line ∷ []) ++ more)
+  nameless config here spelled is more = (
+    configuration_in ((lines ++ line ∷ []) ++ more),
+    first_text form ((lines ++ line ∷ []) ++ more),
+    (config, ap venue_of (whole_configuration here more) ∙ spelled, is),
+  )
+
+  too_long : is_divider line ≡ false → MOST_INPUT < length (text ++ line ++ 10 ∷ []) → (more : List (List ℕ))
+      → IsLiveFault form Input ((lines ++ line ∷ []) ++ more)
+  too_long other long more =
+      let grown = configuration_grows (lines ++ line ∷ []) more (still_undivided lines line had.nothing.undivided other) in
+      let same = ap length (ap (λ (t : List ℕ). t ++ line ++ 10 ∷ []) had.text_is ∙ sym (text_grows lines line)) in
+      inr (inl (
+        configuration_in ((lines ++ line ∷ []) ++ more),
+        first_text form ((lines ++ line ∷ []) ++ more),
+        omega (arith, grown, same, long),
+      ))
+
+  config_lawless : (fault : ProgramFault) → is_divider line ≡ true → venue_of text ≡ Err fault → (more : List (List ℕ))
+      → Fails fault more
+  config_lawless fault here is more =
       let of = config_fault text fault is in
-      subst Fails (sym of.1) (record {
-        is_fault = (
-          configuration_in ((lines ++ line ∷ []) ++ more),
-          first_text form ((lines ++ line ∷ []) ++ more),
-          ap venue_of (whole_configuration here) ∙ is ∙ ap (λ (f : ProgramFault). Err f) of.1,
-        );
+      let so = lawless of.0 here (is ∙ ap (λ (f : ProgramFault). Err f) of.1) in
+      subst (λ (f : ProgramFault). Fails f more) (sym of.1) (record {
+        is_fault = so more;
         lines = lines;
         rest = line ∷ more;
         split = append_assoc lines (line ∷ []) more;
+        reached = up_to_here (IsLiveFault form (Config of.0)) lines line so;
         left = no_day form lines out err had.nothing;
       })
 
   config_nameless : (fault : ProgramFault) (config : ConfigValues) → is_divider line ≡ true → venue_of text ≡ Ok config
-      → name_fault form config ≡ Some fault → Fails fault
-  config_nameless fault config here spelled is =
+      → name_fault form config ≡ Some fault → (more : List (List ℕ)) → Fails fault more
+  config_nameless fault config here spelled is more =
       let of = firm_alone form config fault is in
-      subst Fails (sym of) (record {
-        is_fault = (
-          configuration_in ((lines ++ line ∷ []) ++ more),
-          first_text form ((lines ++ line ∷ []) ++ more),
-          (config, ap venue_of (whole_configuration here) ∙ spelled, is ∙ ap (λ (f : ProgramFault). Some f) of),
-        );
+      let so = nameless config here spelled (is ∙ ap (λ (f : ProgramFault). Some f) of) in
+      subst (λ (f : ProgramFault). Fails f more) (sym of) (record {
+        is_fault = so more;
         lines = lines;
         rest = line ∷ more;
         split = append_assoc lines (line ∷ []) more;
+        reached = up_to_here (IsLiveFault form Firm) lines line so;
         left = no_day form lines out err had.nothing;
       })
 
-  config_long : is_divider line ≡ false → MOST_INPUT < length (text ++ line ++ 10 ∷ []) → Fails Input
-  config_long other long =
-      let grown = configuration_grows (lines ++ line ∷ []) more (still_undivided lines line had.nothing.undivided other) in
-      let same = ap length (ap (λ (t : List ℕ). t ++ line ++ 10 ∷ []) had.text_is ∙ sym (text_grows lines line)) in
-      record {
-        is_fault = inr (inl (
-          configuration_in ((lines ++ line ∷ []) ++ more),
-          first_text form ((lines ++ line ∷ []) ++ more),
-          omega (arith, grown, same, long),
-        ));
-        lines = lines;
-        rest = line ∷ more;
-        split = append_assoc lines (line ∷ []) more;
-        left = answers_nothing form lines out err had.nothing;
-      }
+  config_long : is_divider line ≡ false → MOST_INPUT < length (text ++ line ++ 10 ∷ []) → (more : List (List ℕ)) → Fails Input more
+  config_long other long more = record {
+    is_fault = too_long other long more;
+    lines = lines;
+    rest = line ∷ more;
+    split = append_assoc lines (line ∷ []) more;
+    reached = up_to_here (IsLiveFault form Input) lines line (too_long other long);
+    left = answers_nothing form lines out err had.nothing;
+  }
 
-  config_memory : Fails Memory
-  config_memory = record {
+  config_memory : (more : List (List ℕ)) → Fails Memory more
+  config_memory more = record {
     is_fault = tt;
     lines = lines;
     rest = line ∷ more;
     split = append_assoc lines (line ∷ []) more;
+    reached = tt;
     left = answers_nothing form lines out err had.nothing;
   }
 
-  pub config_bad : (fault : ProgramFault) → IsBad form line text fault → Fails fault
-  config_bad fault (OfMemory is) = subst Fails (sym is) config_memory
-  config_bad fault (OfConfig here is) = config_lawless fault here is
-  config_bad fault (OfFirm here config spelled is) = config_nameless fault config here spelled is
-  config_bad fault (OfLength is other long) = subst Fails (sym is) (config_long other long)
+  pub config_bad : (more : List (List ℕ)) (fault : ProgramFault) → IsBad form line text fault → Fails fault more
+  config_bad more fault (OfMemory is) = subst (λ (f : ProgramFault). Fails f more) (sym is) (config_memory more)
+  config_bad more fault (OfConfig here is) = config_lawless fault here is more
+  config_bad more fault (OfFirm here config spelled is) = config_nameless fault config here spelled is more
+  config_bad more fault (OfLength is other long) = subst (λ (f : ProgramFault). Fails f more) (sym is) (config_long other long more)
 
 -- A line at a stage.
 
@@ -821,6 +847,7 @@ refused_behind form number line before fault o e is lines start at had more =
       lines = lines;
       rest = line ∷ more;
       split = append_assoc lines (line ∷ []) more;
+      reached = tt;
       left = answered_by form lines before (out_new start (still o)) (err_new start (still e)) had;
     })
 
@@ -917,77 +944,101 @@ stage_turns = turns
 
 -- why it opens no second day
 module _ (whom : Whom) (lines : List (List ℕ)) (line text : List ℕ) (day : SoughtDay) (out err : Written)
-    (had : AwaitsSecond whom lines day text out err) (more : List (List ℕ)) where
-  abbrev Second : ProgramFault → Type 0
-  Second fault = EndsDay (compared_for whom) fault ((lines ++ line ∷ []) ++ more) out err
+    (had : AwaitsSecond whom lines day text out err) where
+  abbrev Second : ProgramFault → List (List ℕ) → Type 0
+  Second fault more = EndsDay (compared_for whom) fault ((lines ++ line ∷ []) ++ more) out err
 
-  all_two : AreTwo ((lines ++ line ∷ []) ++ more) had.first had.divider (had.behind ++ line ∷ more)
-  all_two = record {
+  all_two : (more : List (List ℕ))
+      → AreTwo ((lines ++ line ∷ []) ++ more) had.first had.divider (had.behind ++ line ∷ more)
+  all_two more = record {
     split = append_assoc lines (line ∷ []) more ∙ ap (λ (l : List (List ℕ)). l ++ line ∷ more) had.two.split
         ∙ append_assoc had.first (had.divider ∷ had.behind) (line ∷ more);
     divides = had.two.divides;
   }
 
-  second_text_is : second_configuration ((lines ++ line ∷ []) ++ more) ≡ configuration_in (had.behind ++ line ∷ more)
-  second_text_is = second_text whom ((lines ++ line ∷ []) ++ more) had.first had.divider (had.behind ++ line ∷ more) all_two day out err had.goes
+  second_text_is : (more : List (List ℕ))
+      → second_configuration ((lines ++ line ∷ []) ++ more) ≡ configuration_in (had.behind ++ line ∷ more)
+  second_text_is more = second_text whom ((lines ++ line ∷ []) ++ more) had.first had.divider (had.behind ++ line ∷ more)
+      (all_two more) day out err had.goes
 
   so_far : HasAnswered (compared_for whom) lines out err
   so_far = inr (inl (had.goes.goes.config, awaiting_taken whom lines day text out err had))
 
-  second_whole : is_divider line ≡ true → second_configuration ((lines ++ line ∷ []) ++ more) ≡ text
-  second_whole here =
-      second_text_is ∙ ap configuration_in (sym (append_assoc had.behind (line ∷ []) more))
+  second_whole : is_divider line ≡ true → (more : List (List ℕ)) → second_configuration ((lines ++ line ∷ []) ++ more) ≡ text
+  second_whole here more =
+      second_text_is more ∙ ap configuration_in (sym (append_assoc had.behind (line ∷ []) more))
       ∙ configuration_stays (had.behind ++ line ∷ []) more (now_divided had.behind line had.undivided here)
       ∙ configuration_is had.behind line had.undivided here ∙ sym had.text_is
 
-  second_memory : Second Memory
-  second_memory = record {
+  second_so : (f : ConfigFault) → is_divider line ≡ true → venue_of text ≡ Err (Config f) → (more : List (List ℕ))
+      → IsLiveFault (compared_for whom) (Config f) ((lines ++ line ∷ []) ++ more)
+  second_so f here is more = (text, inr (sym (second_whole here more)), is)
+
+  second_named : (config : ConfigValues) → is_divider line ≡ true → venue_of text ≡ Ok config
+      → name_fault (compared_for whom) config ≡ Some Firm → (more : List (List ℕ))
+      → IsLiveFault (compared_for whom) Firm ((lines ++ line ∷ []) ++ more)
+  second_named config here spelled is more = (text, inr (sym (second_whole here more)), (config, spelled, is))
+
+  second_past : is_divider line ≡ false → MOST_INPUT < length (text ++ line ++ 10 ∷ []) → (more : List (List ℕ))
+      → IsLiveFault (compared_for whom) Input ((lines ++ line ∷ []) ++ more)
+  second_past other long more =
+      let grown = configuration_grows (had.behind ++ line ∷ []) more (still_undivided had.behind line had.undivided other) in
+      let same = ap length (ap (λ (t : List ℕ). t ++ line ++ 10 ∷ []) had.text_is ∙ sym (text_grows had.behind line)) in
+      let whole = ap length (second_text_is more ∙ ap configuration_in (sym (append_assoc had.behind (line ∷ []) more))) in
+      inr (inl (
+        second_configuration ((lines ++ line ∷ []) ++ more),
+        inr refl,
+        omega (arith, grown, same, whole, long),
+      ))
+
+  second_memory : (more : List (List ℕ)) → Second Memory more
+  second_memory more = record {
     is_fault = tt;
     lines = lines;
     rest = line ∷ more;
     split = append_assoc lines (line ∷ []) more;
+    reached = tt;
     left = so_far;
   }
 
-  second_lawless : (fault : ProgramFault) → is_divider line ≡ true → venue_of text ≡ Err fault → Second fault
-  second_lawless fault here is =
+  second_lawless : (more : List (List ℕ)) (fault : ProgramFault) → is_divider line ≡ true → venue_of text ≡ Err fault
+      → Second fault more
+  second_lawless more fault here is =
       let of = config_fault text fault is in
-      subst Second (sym of.1) (record {
-        is_fault = (text, inr (sym (second_whole here)), is ∙ ap (λ (f : ProgramFault). Err f) of.1);
+      let so = second_so of.0 here (is ∙ ap (λ (f : ProgramFault). Err f) of.1) in
+      subst (λ (f : ProgramFault). Second f more) (sym of.1) (record {
+        is_fault = so more;
         lines = lines;
         rest = line ∷ more;
         split = append_assoc lines (line ∷ []) more;
+        reached = up_to_here (IsLiveFault (compared_for whom) (Config of.0)) lines line so;
         left = so_far;
       })
 
-  second_nameless : (fault : ProgramFault) (config : ConfigValues) → is_divider line ≡ true → venue_of text ≡ Ok config
-      → name_fault (compared_for whom) config ≡ Some fault → Second fault
-  second_nameless fault config here spelled is =
+  second_nameless : (more : List (List ℕ)) (fault : ProgramFault) (config : ConfigValues) → is_divider line ≡ true
+      → venue_of text ≡ Ok config → name_fault (compared_for whom) config ≡ Some fault → Second fault more
+  second_nameless more fault config here spelled is =
       let of = firm_alone (compared_for whom) config fault is in
-      subst Second (sym of) (record {
-        is_fault = (text, inr (sym (second_whole here)), (config, spelled, is ∙ ap (λ (f : ProgramFault). Some f) of));
+      let so = second_named config here spelled (is ∙ ap (λ (f : ProgramFault). Some f) of) in
+      subst (λ (f : ProgramFault). Second f more) (sym of) (record {
+        is_fault = so more;
         lines = lines;
         rest = line ∷ more;
         split = append_assoc lines (line ∷ []) more;
+        reached = up_to_here (IsLiveFault (compared_for whom) Firm) lines line so;
         left = so_far;
       })
 
-  second_long : is_divider line ≡ false → MOST_INPUT < length (text ++ line ++ 10 ∷ []) → Second Input
-  second_long other long =
-      let grown = configuration_grows (had.behind ++ line ∷ []) more (still_undivided had.behind line had.undivided other) in
-      let same = ap length (ap (λ (t : List ℕ). t ++ line ++ 10 ∷ []) had.text_is ∙ sym (text_grows had.behind line)) in
-      let whole = ap length (second_text_is ∙ ap configuration_in (sym (append_assoc had.behind (line ∷ []) more))) in
-      record {
-        is_fault = inr (inl (
-          second_configuration ((lines ++ line ∷ []) ++ more),
-          inr refl,
-          omega (arith, grown, same, whole, long),
-        ));
-        lines = lines;
-        rest = line ∷ more;
-        split = append_assoc lines (line ∷ []) more;
-        left = so_far;
-      }
+  second_long : (more : List (List ℕ)) → is_divider line ≡ false → MOST_INPUT < length (text ++ line ++ 10 ∷ [])
+      → Second Input more
+  second_long more other long = record {
+    is_fault = second_past other long more;
+    lines = lines;
+    rest = line ∷ more;
+    split = append_assoc lines (line ∷ []) more;
+    reached = up_to_here (IsLiveFault (compared_for whom) Input) lines line (second_past other long);
+    left = so_far;
+  }
 
 turn_fails : (form : LineForm) (number : ℕ) (line : List ℕ) (before : Stage) (fault : ProgramFault) (o e : Option (List ℕ))
     → is_turn before line ≡ true → TurnFails form before fault → StageFails form number line before fault (still o) (still e)
@@ -1064,6 +1115,7 @@ line_past before o e past form lines start come more =
       lines = lines;
       rest = line ∷ more;
       split = append_assoc lines (line ∷ []) more;
+      reached = inr (inr (omega (arith, second, at, past)));
       left = answered_by form lines before.stage (out_old start (still o)) (err_old start (still e)) come.stage_is;
     }
 
@@ -1136,6 +1188,7 @@ put_fails before c fault o e goes (inl is) form read start stands tail =
       lines = stands.lines;
       rest = lines_of ((before.line.items ++ c ∷ []) ++ tail);
       split = (cut_more read stands.lines before.line.items c goes stands.cut).closed tail;
+      reached = tt;
       left = answered_by form stands.lines before.stage _ _ stands.come.stage_is;
     })
 put_fails before c fault o e goes (inr is) form read start stands tail =
@@ -1143,13 +1196,17 @@ put_fails before c fault o e goes (inr is) form read start stands tail =
     let closed = ap lines_of (append_assoc read (c ∷ []) tail) ∙ stands.cut.closed (c ∷ tail) in
     let on = line_goes_on begun c tail stands.cut.goes_on goes in
     let whole = closed ∙ ap (λ (l : List (List ℕ)). stands.lines ++ l) on.is in
+    let long = on.long in
+    let full = is.1 in
+    let past : MOST_INPUT < length on.line = omega (arith, long, full) in
     subst (λ (f : ProgramFault). EndsDay form f (lines_of ((read ++ c ∷ []) ++ tail)) (out_new start (still o)) (err_new start (still e))) (sym is.0)
     (record {
-      is_fault = inl (ap (list_any (λ l. nat_lt MOST_INPUT (length l))) whole
-          ∙ long_line stands.lines on.line on.behind (let long = on.long in let full = is.1 in omega (arith, long, full)));
+      is_fault = inl (ap (list_any (λ l. nat_lt MOST_INPUT (length l))) whole ∙ long_line stands.lines on.line on.behind past);
       lines = stands.lines;
       rest = lines_of (begun ++ c ∷ tail);
       split = closed;
+      reached = inl (ap (λ (l : List (List ℕ)). list_any (λ x. nat_lt MOST_INPUT (length x)) (stands.lines ++ take 1 l)) on.is
+          ∙ long_line stands.lines on.line [] past);
       left = answered_by form stands.lines before.stage _ _ stands.come.stage_is;
     })
 
@@ -1255,6 +1312,7 @@ closes_bare t fault o none form lines start err is =
       lines = lines;
       rest = [];
       split = sym (append-nil lines);
+      reached = refl;
       left = no_day form lines (record { before = start; after = o }) err is.nothing;
     })
 
@@ -1297,6 +1355,7 @@ module _ (day : SoughtDay) (o o' : Option (List ℕ)) where
         lines = lines;
         rest = [];
         split = sym (append-nil lines);
+        reached = tt;
         left = (
           is.config,
           record {
@@ -1319,6 +1378,7 @@ closes_in_memory last fault o none form lines start err is =
       lines = lines;
       rest = [];
       split = sym (append-nil lines);
+      reached = tt;
       left = answered_by form lines last (record { before = start; after = o }) err is;
     })
 
@@ -1327,7 +1387,7 @@ in_one_day : (whom : Whom) (fault : ProgramFault) (lines : List (List ℕ)) (con
     → TakesOne whom config lines out err → EndsDay (compared_for whom) fault lines out err
 in_one_day whom fault lines config out err none takes =
     subst (λ (f : ProgramFault). EndsDay (compared_for whom) f lines out err) (sym none)
-    (record { is_fault = takes.alone; lines = lines; rest = []; split = sym (append-nil lines); left = inr (inl (config, takes)) })
+    (record { is_fault = takes.alone; lines = lines; rest = []; split = sym (append-nil lines); reached = refl; left = inr (inl (config, takes)) })
 
 pub closes_first : (day : SoughtDay) (fault : ProgramFault) (o : Option (List ℕ)) → fault ≡ Parts → CloseFails (stage.First day) fault (still o)
 closes_first day fault o none (answered form) lines start err is = absurd is
@@ -1387,6 +1447,7 @@ module _ (one other : SoughtDay) (o o' : Option (List ℕ)) (text : List ℕ) (c
         lines = lines;
         rest = [];
         split = sym (append-nil lines);
+        reached = tt;
         left = (
           text,
           has_compared whom lines one other text (record { before = start; after = o }) err compares is,

@@ -191,13 +191,22 @@ IsLiveFault form Firm lines =
     × ((config : ConfigValues) × (venue_of text ≡ Ok config) × (name_fault form config ≡ Some Firm))
 IsLiveFault form fault lines = ⊥
 
--- A fault ends the day behind whole lines, which were answered.
+-- Where a fault ends the day no line before it is left out: with the next line the fault is there,
+-- and `parts` is told at the end alone. Memory may be refused, and a writer refuse, anywhere.
+abbrev pub Reaches : LineForm → ProgramFault → List (List ℕ) → List (List ℕ) → Type 0
+Reaches form Memory lines rest = Unit {0}
+Reaches form Write lines rest = Unit {0}
+Reaches form Parts lines rest = rest ≡ []
+Reaches form fault lines rest = IsLiveFault form fault (lines ++ take 1 rest)
+
+-- A fault ends the day after whole lines, which were answered, all up to the fault.
 pub record EndsDay (form : LineForm) (fault : ProgramFault) (all : List (List ℕ))
     (out err : Written) : Type 0 where
   pub is_fault : IsLiveFault form fault all
   pub lines : List (List ℕ)
   pub rest : List (List ℕ)
   pub split : all ≡ lines ++ rest
+  pub reached : Reaches form fault lines rest
   pub left : Leaves form fault lines out err
 
 -- the lines of bytes that have their line feed: as many as there are line feeds
