@@ -6,7 +6,7 @@ use Rattle.venue_rows.specs.declared.investor_rows.InvestorRow.{InvestorRow}
 use Rattle.recorded_days.specs.Records.{InvestorLists}
 use Rattle.session_worker.specs.DayActions.{EventsAreOfActions}
 use Rattle.session_worker.specs.DayFaults.{IsFirstOf, IsJoinedOf, JoinedDay}
-use Rattle.session_worker.specs.KeptDays.{KeepsDay, requests_of, rooms_of}
+use Rattle.session_worker.specs.KeptDays.{KeepsDay, rooms_of}
 use Rattle.session_worker.proofs.FaultLemmas.{dealer_is_of, first_is_of, investor_is_of}
 use Rattle.session_worker.proofs.FaultLemmas.{joined_is_of, same_fault}
 use Rattle.session_worker.proofs.KeepLemmas.{Joined, day_is_kept}
