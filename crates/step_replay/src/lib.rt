@@ -106,4 +106,4 @@ pub use stepped::SteppedVenue;
 pub use steps::{MOST_TURNS_BEHIND, Step};
 pub use sweep_laws::sweeps_of_rooms_that_are_not_due_do_nothing;
 pub use venue_places::Actor;
-pub use world::{World, due, run};
+pub use world::{World, due, run, run_once};

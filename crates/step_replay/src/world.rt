@@ -83,6 +83,24 @@ pub fn run(alloc: Global, config: &VenueConfig, steps: &[Step]) -> Result<World,
     Ok(World { floor })
 }
 
+/// The same of steps that nobody needs afterwards. The memory of each is given back once it is
+/// done, so that a long day takes less.
+pub fn run_once(alloc: Global, config: &VenueConfig, steps: Vec<Step>) -> Result<World, ReplayFault>
+    ensures known { IfSome (spec.first_fault config.now steps.items)
+        (λ fault. result ≡ Err fault) }
+    ensures ok { IfOk result (λ world. world
+        ≡ firm_days config.now (venue.audit_trail config.now steps.items).facts) }
+    ensures err { IfErr result (λ fault. spec.IsFirstOrMemory fault
+        (spec.first_fault config.now steps.items)) }
+{
+    if let Some(fault) = first_fault(config, steps.as_slice()) {
+        return Err(fault);
+    }
+    let floor = replayed_once(alloc, config, steps)?;
+    let world = World { floor };
+    Ok(world)
+}
+
 /// What was due to the dealer with this number on a day of the venue. A number that no dealer has
 /// is the fault before all others, at the place 0.
 pub fn due(
@@ -121,6 +139,20 @@ fn replayed(alloc: Global, config: &VenueConfig, steps: &[Step]) -> Result<Floor
     let mut replay = Replay::new(alloc, config)?;
     for step in steps {
         replay.step(step)?;
+    }
+    let Replay { floor, .. } = replay;
+    Ok(floor)
+}
+
+/// The same of a day whose steps go, each once it is done.
+fn replayed_once(alloc: Global, config: &VenueConfig, day: Vec<Step>) -> Result<Floor, Memory>
+    requires { spec.first_fault config.now day.items ≡ None }
+    ensures { IfOk result (λ floor.
+        Stands config.now (venue.audit_trail config.now day.items).facts floor) }
+{
+    let mut replay = Replay::new(alloc, config)?;
+    for step in day {
+        replay.step(&step)?;
     }
     let Replay { floor, .. } = replay;
     Ok(floor)

@@ -135,7 +135,7 @@ fn print_command<H: Threads + Wait + Sync, R: Read, W: Write>(
         (record { before = W.contents out.old; after = W.contents out.new })) }
 {
     let bytes = read_input(alloc, input)?;
-    let text = match command_text(rt, alloc, command, bytes.as_slice()) {
+    let text = match command_text(rt, alloc, command, bytes) {
         Ok(text) => text,
         Err(fault) => return Err(fault),
     };

@@ -24,36 +24,42 @@ pub(crate) fn command_text<H: Threads + Wait + Sync>(
     rt: &H,
     alloc: Global,
     command: &VenueCommand<'_>,
-    input: &[u8],
+    input: Vec<u8>,
 ) -> Result<Vec<u8>, ProgramFault>
     requires { line_form (meant command.now) ≡ None }
-    ensures ok { IfOk result (λ text. spec.IsTextOf (meant command.now) input.now text.items) }
+    ensures ok { IfOk result (λ text. spec.IsTextOf (meant command.now) input.items text.items) }
     ensures err { IfErr result (λ fault. fault ≢ ProgramFault.Memory
-        → spec.IsFaultOf (meant command.now) input.now fault) }
+        → spec.IsFaultOf (meant command.now) input.items fault) }
     ensures unwritten { IfErr result (λ fault. fault ≢ ProgramFault.Write) }
 {
     match command {
-        VenueCommand::Alone { frames } => alone_command_text(alloc, *frames, input),
+        VenueCommand::Alone { frames } => alone_command_text(alloc, *frames, input.as_slice()),
         VenueCommand::Replay { firm, frames } => {
             let only = argument_bytes(*firm);
             replay_text(alloc, only, *frames, input)
         }
-        VenueCommand::Day { frames, woven } => day_text(rt, alloc, *frames, *woven, input),
+        VenueCommand::Day { frames, woven } => {
+            day_text(rt, alloc, *frames, *woven, input.as_slice())
+        }
         VenueCommand::Live { .. } => unreachable!(),
         VenueCommand::Kept(_) => unreachable!(),
         VenueCommand::Compared(_) => unreachable!(),
         VenueCommand::Due { dealer } => {
             let only = argument_bytes(*dealer);
-            due_command_text(alloc, only, input)
+            due_command_text(alloc, only, input.as_slice())
         }
         VenueCommand::InvestorDue { investor } => {
-            investor_due_text(alloc, investor.as_bytes(), input)
+            investor_due_text(alloc, investor.as_bytes(), input.as_slice())
         }
-        VenueCommand::Compare { dealer } => compare_text(alloc, dealer.as_bytes(), input),
+        VenueCommand::Compare { dealer } => {
+            compare_text(alloc, dealer.as_bytes(), input.as_slice())
+        }
         VenueCommand::InvestorCompare { investor } => {
-            investor_compare_text(alloc, investor.as_bytes(), input)
+            investor_compare_text(alloc, investor.as_bytes(), input.as_slice())
         }
-        VenueCommand::Blotter { firm } => blotter_command_text(alloc, firm.as_bytes(), input),
+        VenueCommand::Blotter { firm } => {
+            blotter_command_text(alloc, firm.as_bytes(), input.as_slice())
+        }
     }
 }
 

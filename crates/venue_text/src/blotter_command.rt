@@ -3,7 +3,7 @@ ghost use Rattle.std.specs.Prelude.{◌≡◌, ◌≢◌, slice_get, string_byte
 ghost use Rattle.venue_text.specs.AskedDays as asked;
 ghost use Rattle.venue_text.specs.BlotterCommand as spec;
 
-use crate::day_arguments::{read_firms_day, replayed};
+use crate::day_arguments::{AskedDay, read_firms_day, replayed_once};
 use blotter::blotter_text;
 use fix_fields::Memory;
 use input_lines::{MOST_INPUT, ProgramFault, day_parts};
@@ -27,9 +27,9 @@ pub fn blotter_command_text(
         return Err(ProgramFault::Input);
     }
     let parts = day_parts(input)?;
-    let day = read_firms_day(alloc, parts, firm)?;
-    let world = replayed(alloc, &day.venue, day.steps.as_slice())?;
-    let text = lines_text(alloc, &world, day.firm)?;
+    let AskedDay { venue, firm, steps } = read_firms_day(alloc, parts, firm)?;
+    let world = replayed_once(alloc, &venue, steps)?;
+    let text = lines_text(alloc, &world, firm)?;
     Ok(text.into_bytes())
 }
 

@@ -7,9 +7,11 @@ ghost use Rattle.step_replay.specs.StepFaults.{first_fault};
 ghost use Rattle.venue_rows.specs.Rows.{dealer_numbered, values_of};
 ghost use Rattle.venue_text.specs.AskedDays as spec;
 
-use input_lines::{DayParts, ProgramFault, asked_dealer, asked_firm, read_steps, read_venue};
+use input_lines::{
+    DayParts, MOST_INPUT, ProgramFault, asked_dealer, asked_firm, day_parts, read_steps, read_venue,
+};
 use std::alloc::Global;
-use step_replay::{Due, ReplayFault, Step, World, due, run};
+use step_replay::{Due, ReplayFault, Step, World, due, run, run_once};
 use venue_rows::VenueConfig;
 
 /// A venue, the number of the firm that an argument names in it, and the steps of a day.
@@ -92,6 +94,42 @@ pub(crate) fn read_open_day(
     Ok(OpenDay { venue, only, steps })
 }
 
+/// The same of the bytes of an input.
+fn read_day_in(alloc: Global, input: &[u8], name: Option<&[u8]>) -> Result<OpenDay, ProgramFault>
+    ensures ok { IfOk result (λ day.
+        spec.one_day (spec.firms_by (option_copied name.entry)) input.now
+        ≡ Ok (day.only, record { config = values_of day.venue; steps = day.steps.items })) }
+    ensures err { IfErr result (λ fault. fault ≢ ProgramFault.Memory
+        → spec.one_day (spec.firms_by (option_copied name.entry)) input.now ≡ Err fault) }
+    ensures unwritten { IfErr result (λ fault. fault ≢ ProgramFault.Write) }
+    ensures known { IfOk result (λ day. first_fault day.venue day.steps.items ≡ None) }
+{
+    if input.len() > MOST_INPUT {
+        return Err(ProgramFault::Input);
+    }
+    let parts = day_parts(input)?;
+    let day = read_open_day(alloc, parts, name)?;
+    Ok(day)
+}
+
+/// The same of an input that nobody needs afterwards: its memory is given back.
+pub(crate) fn read_whole_day(
+    alloc: Global,
+    input: Vec<u8>,
+    name: Option<&[u8]>,
+) -> Result<OpenDay, ProgramFault>
+    ensures ok { IfOk result (λ day.
+        spec.one_day (spec.firms_by (option_copied name.entry)) input.items
+        ≡ Ok (day.only, record { config = values_of day.venue; steps = day.steps.items })) }
+    ensures err { IfErr result (λ fault. fault ≢ ProgramFault.Memory
+        → spec.one_day (spec.firms_by (option_copied name.entry)) input.items ≡ Err fault) }
+    ensures unwritten { IfErr result (λ fault. fault ≢ ProgramFault.Write) }
+    ensures known { IfOk result (λ day. first_fault day.venue day.steps.items ≡ None) }
+{
+    let day = read_day_in(alloc, input.as_slice(), name)?;
+    Ok(day)
+}
+
 /// Reads a day for DEALER, which may be left out.
 pub(crate) fn read_open_dealers_day(
     alloc: Global,
@@ -153,6 +191,23 @@ pub(crate) fn replayed(
     ensures err { IfErr result (λ fault. fault ≡ ProgramFault.Memory) }
 {
     match run(alloc, venue, steps) {
+        Ok(world) => Ok(world),
+        Err(fault) => Err(refused(fault)),
+    }
+}
+
+/// The same of steps that nobody needs afterwards.
+pub(crate) fn replayed_once(
+    alloc: Global,
+    venue: &VenueConfig,
+    steps: Vec<Step>,
+) -> Result<World, ProgramFault>
+    requires { first_fault venue.now steps.items ≡ None }
+    ensures ok { IfOk result (λ world. world
+        ≡ firm_days venue.now (audit_trail venue.now steps.items).facts) }
+    ensures err { IfErr result (λ fault. fault ≡ ProgramFault.Memory) }
+{
+    match run_once(alloc, venue, steps) {
         Ok(world) => Ok(world),
         Err(fault) => Err(refused(fault)),
     }

@@ -6,10 +6,10 @@ ghost use Rattle.venue_rows.specs.Rows.{firm_names};
 ghost use Rattle.venue_text.specs.AskedDays as asked;
 ghost use Rattle.venue_text.specs.ReplayText as spec;
 
-use crate::day_arguments::{read_open_day, replayed};
+use crate::day_arguments::{OpenDay, read_whole_day, replayed_once};
 use crate::message_lines::push_messages;
 use fix_fields::Memory;
-use input_lines::{MOST_INPUT, ProgramFault, day_parts};
+use input_lines::ProgramFault;
 use std::alloc::Global;
 use step_replay::World;
 use venue_rows::{Name, VenueConfig};
@@ -18,26 +18,23 @@ use venue_rows::{Name, VenueConfig};
 /// line each, by the bytes of an input: a configuration, a line `%%`, and the steps of a day. Or
 /// the first fault of these: [`ProgramFault::Input`], [`ProgramFault::Parts`],
 /// [`ProgramFault::Config`], [`ProgramFault::Firm`], or that of the first line at fault. Memory may
-/// be refused at any point.
+/// be refused at any point. The input and the steps are given back as soon as nothing needs them, so
+/// that a long day takes less memory.
 pub fn replay_text(
     alloc: Global,
     only: Option<&[u8]>,
     with_frames: bool,
-    input: &[u8],
+    input: Vec<u8>,
 ) -> Result<Vec<u8>, ProgramFault>
     ensures ok { IfOk result (λ text.
-        spec.IsReplayed (option_copied only.entry) with_frames input.now text.items) }
+        spec.IsReplayed (option_copied only.entry) with_frames input.items text.items) }
     ensures err { IfErr result (λ fault. fault ≢ ProgramFault.Memory
-        → asked.one_day (asked.firms_by (option_copied only.entry)) input.now ≡ Err fault) }
+        → asked.one_day (asked.firms_by (option_copied only.entry)) input.items ≡ Err fault) }
     ensures unwritten { IfErr result (λ fault. fault ≢ ProgramFault.Write) }
 {
-    if input.len() > MOST_INPUT {
-        return Err(ProgramFault::Input);
-    }
-    let parts = day_parts(input)?;
-    let day = read_open_day(alloc, parts, only)?;
-    let world = replayed(alloc, &day.venue, day.steps.as_slice())?;
-    let text = days_text(alloc, with_frames, &day.venue, &world, day.only)?;
+    let OpenDay { venue, only, steps } = read_whole_day(alloc, input, only)?;
+    let world = replayed_once(alloc, &venue, steps)?;
+    let text = days_text(alloc, with_frames, &venue, &world, only)?;
     Ok(text)
 }
 

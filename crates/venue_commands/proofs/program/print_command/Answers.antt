@@ -4,16 +4,16 @@ use Rattle.venue_commands.proofs.program.print_command.Goals as goal
 
 pub returns-in-Err-clause-err : goal.returns-in-Err-clause-err
 returns-in-Err-clause-err g c =
-    fault_left (meant c.args.command.now) _ _ c.as_slice.result.now c.in-Err.fault (rw c.as_slice.ensures.value c.in_ok-bytes.ensures.ok)
+    fault_left (meant c.args.command.now) _ _ c.in_ok-bytes.bytes.items c.in-Err.fault c.in_ok-bytes.ensures.ok
     c.in-Err.ensures.unwritten c.in-Err.ensures.err
 
 pub returns-clause-ok : goal.returns-clause-ok
 returns-clause-ok g c =
-    printed_ok c.print_text.result (meant c.args.command.now) _ _ c.as_slice.result.now c.as_slice-2.result.now
-    (rw c.as_slice.ensures.value c.in_ok-bytes.ensures.ok) (rw c.as_slice-2.ensures.value c.in-Ok.ensures.ok) c.print_text.ensures.ok
+    printed_ok c.print_text.result (meant c.args.command.now) _ _ c.in_ok-bytes.bytes.items c.as_slice.result.now
+    c.in_ok-bytes.ensures.ok (rw c.as_slice.ensures.value c.in-Ok.ensures.ok) c.print_text.ensures.ok
 
 pub returns-clause-err : goal.returns-clause-err
 returns-clause-err g c =
-    printed_err c.print_text.result (meant c.args.command.now) _ _ c.as_slice.result.now c.as_slice-2.result.now
-    (rw c.as_slice.ensures.value c.in_ok-bytes.ensures.ok) (rw c.as_slice-2.ensures.value c.in-Ok.ensures.ok) c.print_text.ensures.err
+    printed_err c.print_text.result (meant c.args.command.now) _ _ c.in_ok-bytes.bytes.items c.as_slice.result.now
+    c.in_ok-bytes.ensures.ok (rw c.as_slice.ensures.value c.in-Ok.ensures.ok) c.print_text.ensures.err
     c.print_text.ensures.part
