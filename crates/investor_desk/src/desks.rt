@@ -13,16 +13,16 @@ ghost use Rattle.investor_desk.specs.BookChanges.{book_with};
 ghost use Rattle.investor_desk.specs.RuleCuts.{IsLawful, messages_of, next_written, noted};
 ghost use Rattle.investor_desk.specs.RequestLines.{lines_of};
 
-use crate::InvestorEvent;
 use crate::answers::{
     answer_outcome, decline_outcome, duty_of, expiry_outcome, offer_outcome, received_outcome,
-    response_again, take_note, withdrawal_outcome,
+    take_note, withdrawal_outcome,
 };
 use crate::index::{InvestorIndex, copy_of};
 use crate::market::Market;
 use crate::outcomes::{Note, Outcome, Sent};
 use crate::rules::investor_verdict;
 use crate::sending::{push_some, write_both};
+use crate::{InvestorEvent, KeptResponse};
 use fix_fields::{Date, Memory, Moment};
 use market_terms::{Duty, Offer, Reply, RequestLine, ResponseRef};
 use quote_messages::{Message, SentMessage};
@@ -202,10 +202,11 @@ impl InvestorDesk {
     {
         let outcome = answer_outcome(&self.index, n, response, reply);
         let sent = self.written(moment, &outcome)?;
+        let kept = KeptResponse::of(self.alloc, response)?;
         let note = outcome.note;
         let event = InvestorEvent::Answered {
             request: n,
-            response: response_again(response),
+            response: kept,
             reply,
             moment,
         };

@@ -41,6 +41,6 @@ mod standing;
 mod verdicts;
 
 pub use desks::InvestorDesk;
-pub use events::InvestorEvent;
+pub use events::{InvestorEvent, KeptResponse};
 pub use standing::{AcceptedRequest, RequestClose, ShownOffer};
 pub use verdicts::InvestorVerdict;

@@ -1,7 +1,9 @@
 -- What readers and writers hold, where they tell it.
-use Rattle.std.proofs.Common.{◌≡◌, ℕ, ◌-◌, List, [], ◌++◌, length, take, drop, sym, ap, ◌∙◌, subst, refl, arith, Option, Some, None, append_assoc}
+use Rattle.std.proofs.Common.{◌≡◌, ◌<◌, ◌≤◌, ℕ, ◌+◌, ◌-◌, List, [], ◌∷◌, ◌++◌, length, get_or, take, drop, sym, ap, ◌∙◌, subst, refl, arith, Option, Some, None, append_assoc}
 use Rattle.std.specs.Io.KnownBytes.{Appends, Keeps}
-use Rattle.std.proofs.lemmas.List.{append-nil, take-append-drop, take_all, length-drop}
+use Rattle.std.proofs.lemmas.Grind.{flat_map-append}
+use Rattle.std.specs.List.{flat_map}
+use Rattle.std.proofs.lemmas.List.{append-nil, take-append-drop, take_all, take_more, length-drop}
 use Rattle.std.proofs.Math.Seq.{take-append_seam}
 use Rattle.live_runs.specs.Written.{Gains, GainsPart, Written}
 
@@ -74,3 +76,47 @@ pub line_more : (old mid new : Option (List ℕ)) (a b c : List ℕ) → Appends
     → GainsPart (b ++ c) (record { before = mid; after = new }) → GainsPart ((a ++ b) ++ c) (record { before = old; after = new })
 line_more old mid new a b c first part =
     subst (λ (l : List ℕ). GainsPart l (record { before = old; after = new })) (sym (append_assoc a b c)) (more_part old mid new a (b ++ c) first part)
+
+-- ---- texts one behind the other
+
+pub appends_none : (known : Option (List ℕ)) → Appends known known []
+appends_none None = tt
+appends_none (Some xs) = sym (append-nil xs)
+
+-- one text more
+one_more : {X : Type 0} (text : X → List ℕ) (xs : List X) (i : ℕ) (x : X) → i < length xs → x ≡ get_or xs i x
+    → flat_map text (take i xs) ++ text x ≡ flat_map text (take (i + 1) xs)
+one_more text xs i x within is =
+    ap (λ l. flat_map text (take i xs) ++ l) (sym (append-nil (text x)))
+    ∙ sym (flat_map-append text (take i xs) (x ∷ []))
+    ∙ ap (flat_map text) (ap (λ y. take i xs ++ y ∷ []) is ∙ sym (take_more xs i x within))
+
+pub blocks_more : {X : Type 0} (text : X → List ℕ) (old mid new : Option (List ℕ)) (xs : List X) (i : ℕ) (x : X) (block : List ℕ)
+    → i < length xs → x ≡ get_or xs i x → block ≡ text x → Appends old mid (flat_map text (take i xs)) → Appends mid new block
+    → Appends old new (flat_map text (take (i + 1) xs))
+blocks_more text old mid new xs i x block within is same first second =
+    subst (Appends old new) (ap (λ l. flat_map text (take i xs) ++ l) same ∙ one_more text xs i x within is)
+    (appends_both old mid new (flat_map text (take i xs)) block first second)
+
+-- a part of one text more
+pub blocks_part : {X : Type 0} (text : X → List ℕ) (old mid new : Option (List ℕ)) (xs : List X) (i : ℕ) (x : X) (block : List ℕ)
+    → i < length xs → x ≡ get_or xs i x → block ≡ text x → Appends old mid (flat_map text (take i xs))
+    → GainsPart block (record { before = mid; after = new })
+    → GainsPart (flat_map text xs) (record { before = old; after = new })
+blocks_part text old mid new xs i x block within is same first part =
+    let whole : flat_map text (take (i + 1) xs) ++ flat_map text (drop (i + 1) xs) ≡ flat_map text xs =
+    sym (flat_map-append text (take (i + 1) xs) (drop (i + 1) xs)) ∙ ap (flat_map text) (take-append-drop (i + 1) xs) in
+    let more : flat_map text (take i xs) ++ block ≡ flat_map text (take (i + 1) xs) =
+    ap (λ l. flat_map text (take i xs) ++ l) same ∙ one_more text xs i x within is in
+    subst (λ l. GainsPart l (record { before = old; after = new }))
+    (ap (λ l. l ++ flat_map text (drop (i + 1) xs)) more ∙ whole)
+    (front_part (record { before = old; after = new }) (flat_map text (take i xs) ++ block)
+    (flat_map text (drop (i + 1) xs))
+    (more_part old mid new (flat_map text (take i xs)) block first part))
+
+-- all of them
+pub blocks_whole : {X : Type 0} (text : X → List ℕ) (old new : Option (List ℕ)) (xs : List X) (i : ℕ) → length xs ≤ i
+    → Appends old new (flat_map text (take i xs)) → GainsPart (flat_map text xs) (record { before = old; after = new })
+blocks_whole text old new xs i past all =
+    prefix_taken (record { before = old; after = new }) (flat_map text xs) (flat_map text (take i xs)) [] all
+    (ap (flat_map text) (sym (take_all i xs past)) ∙ sym (append-nil (flat_map text (take i xs))))

@@ -11,8 +11,8 @@
 //!   printed; with status 1 whole lines from its front, and then one fault, which is true of it.
 //!   The pieces in which the input comes make no difference (`EndsInLive` of `specs/LiveRuns`).
 //! - [`read_input`] reads all of an input, unless it is longer than one may be.
-//! - [`print_text`] and [`write_text`] write a text as a whole, or a front of it where the writer
-//!   refuses; [`report`] tells a fault in its line.
+//! - [`print_text`], [`print_long`] and [`write_text`] write a text as a whole, or a front of it
+//!   where the writer refuses; [`report`] tells a fault in its line.
 #![tactic(auto)]
 
 mod input;
@@ -23,4 +23,4 @@ mod output;
 pub use input::read_input;
 pub use line_forms::LineForm;
 pub use live::{MOST_LINES, run_live};
-pub use output::{print_text, report, write_text};
+pub use output::{print_long, print_text, report, write_text};

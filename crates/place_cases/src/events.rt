@@ -43,7 +43,10 @@ fn tries(room: &mut Room, event: &RoomEvent) -> Result<(), CaseFault> {
         return Ok(());
     }
     match event {
-        RoomEvent::Open(request) => opened(room, request.ask.copy(), request.dealers.copy()),
+        RoomEvent::Open(kept) => {
+            let request = kept.request();
+            opened(room, request.ask.copy(), request.dealers.copy())
+        }
         RoomEvent::Ready => readied(room),
         other => tries_rest(room, other),
     }
@@ -95,7 +98,7 @@ fn push_tried(answer: &mut String, event: &RoomEvent) -> Result<(), CaseFault> {
         return push_until(answer, valid_until);
     }
     match event {
-        RoomEvent::Open(request) => push_open(answer, request),
+        RoomEvent::Open(kept) => push_open(answer, kept.request()),
         RoomEvent::Ready => push_named(answer, "ready"),
         other => push_rest(answer, other),
     }

@@ -1,6 +1,6 @@
 //! The events of a room.
 
-use crate::RoomRequest;
+use crate::KeptRequest;
 use bond_prices::Ticks;
 use fix_fields::Moment;
 use quote_word::Settled;
@@ -9,7 +9,7 @@ use quote_word::Settled;
 #[derive(Drop)]
 pub enum RoomEvent {
     /// It is opened for a request (QuoteRequest 35=R).
-    Open(RoomRequest),
+    Open(KeptRequest),
     /// Each named dealer was shown the request.
     Ready,
     /// A quote is posted (Quote 35=S).

@@ -71,5 +71,5 @@ pub use laws::{
     the_cover_is_the_best_other_quote,
 };
 pub use quotes::PostedQuote;
-pub use requests::RoomRequest;
+pub use requests::{KeptRequest, RoomRequest};
 pub use rooms::Room;

@@ -7,7 +7,7 @@ ghost use Rattle.request_room.specs.Book.{room_after};
 
 use crate::book::RoomBook;
 use crate::hits::{is_expired, is_past_deadline, settled};
-use crate::{End, EndKind, PostedQuote, RoomEvent, RoomRequest};
+use crate::{End, EndKind, KeptRequest, PostedQuote, RoomEvent, RoomRequest};
 use bond_prices::Ticks;
 use fix_fields::{Memory, Moment};
 use market_terms::{Ask, AskedDealers, HitRefusal, Reply, Side};
@@ -77,8 +77,9 @@ impl Room {
     {
         let side = ask.side;
         let request = RoomRequest { ask, dealers };
+        let kept = KeptRequest::new(self.alloc(), request.copy())?;
         self.events.reserve(1)?;
-        self.events.push(RoomEvent::Open(request.copy()))?;
+        self.events.push(RoomEvent::Open(kept))?;
         self.book.side = side;
         self.request = Some(request);
         Ok(())

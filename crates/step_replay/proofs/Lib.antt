@@ -1,6 +1,7 @@
 mod AskLemmas
 mod ComingLemmas
 mod DealerActionLemmas
+mod DoneLemmas
 mod DueListLemmas
 mod DutyLemmas
 mod FloorLemmas

@@ -5,6 +5,7 @@ use Rattle.std.proofs.Common.{Option, Some, None, refl, sym, ap, ◌∙◌, subs
 use Rattle.std.specs.Prelude.{slice_get}
 use Rattle.std.proofs.lemmas.Bool.Decides.{nat_tests}
 use Rattle.std.proofs.lemmas.List.{length-replicate, take_all, take_more}
+use Rattle.std.proofs.lemmas.List.Elements.{All-cons, All-nil}
 use Rattle.std.proofs.lemmas.List.Sums.{fold-append}
 use Rattle.std.proofs.lemmas.Option.{slice_get_read}
 use Rattle.market_terms.specs.declared.duties.Duty.{Duty}
@@ -13,6 +14,7 @@ use Rattle.step_replay.specs.AuditTrail.{AuditTrail, audit_trail, after_step, no
 use Rattle.step_replay.specs.AuditTrail.{after_turn, with_effect}
 use Rattle.step_replay.specs.Actions.{message_effect, sweep_effect}
 use Rattle.market_terms.specs.declared.rooms.RoomRef.{RoomRef}
+use Rattle.step_replay.specs.DoneSteps.{AreKnown}
 use Rattle.step_replay.specs.Following.{ReplayStands, duties_in}
 use Rattle.step_replay.specs.Openings.{Opens}
 use Rattle.step_replay.specs.Queues.{QueueHas, QueuesStand, is_known, queue_of}
@@ -148,6 +150,15 @@ pub no_fault_at : (config : Configuration) (steps : List Step) (at : ℕ) (s : S
 no_fault_at config steps at s none within is =
     no_fault_from config 1 steps at s none
     (slice_get_read steps (length steps) at s refl within is)
+
+-- the same of all steps of a list
+pub all_known : (config : Configuration) (k : ℕ) (steps : List Step)
+    → first_fault_from config k steps ≡ None → AreKnown steps config
+all_known config k [] none = All-nil (λ step. fault_of config 0 step ≡ None)
+all_known config k (s ∷ steps) none =
+    let each = none_of (fault_of config k s) (first_fault_from config (k + 1) steps) none in
+    All-cons (λ step. fault_of config 0 step ≡ None) s steps (any_place config k s each.0)
+    (all_known config (k + 1) steps each.1)
 
 -- no step
 pub day_begins : (config : Configuration) (steps : List Step)

@@ -1,8 +1,9 @@
 -- What a venue has of the day of each firm, where its places stand.
 use Rattle.std.proofs.Common.{◌≡◌, ◌<◌, ◌≤◌, ℕ, zero, suc, ◌+◌, ◌-◌, List, [], ◌∷◌, ◌++◌, length, map}
 use Rattle.std.proofs.Common.{Option, Some, None, option_map, refl, sym, ap, ◌∙◌, subst, arith}
+use Rattle.std.proofs.Common.{append_assoc}
 use Rattle.std.specs.Prelude.{slice_get}
-use Rattle.std.proofs.lemmas.List.{length-map}
+use Rattle.std.proofs.lemmas.List.{length-map, map-append}
 use Rattle.std.proofs.lemmas.Option.{slice_get-map}
 use Rattle.venue_rows.specs.Rows.{Configuration, investor_numbered}
 use Rattle.venue_rows.specs.declared.dealer_rows.DealerRow.{DealerRow}
@@ -16,7 +17,7 @@ use Rattle.investor_desk.specs.InvestorRules.{InvestorMarket}
 use Rattle.investor_desk.specs.RequestLines as requests
 use Rattle.step_replay.specs.FirmDays.{dealer_day, dealer_days, investor_day, investor_days}
 use Rattle.market_terms.specs.DayLines.{OfDealer, OfInvestor}
-use Rattle.step_replay.specs.FirmDays.{firm_days}
+use Rattle.step_replay.specs.FirmDays.{FirmDay, firm_days}
 use Rattle.step_replay.specs.FloorDays.{dealer_day_at, investor_day_at, days_of_floor}
 use Rattle.step_replay.specs.Standing.{DealerStands, DealerStandsIn, InvestorStands, InvestorStandsIn}
 use Rattle.step_replay.specs.Standing.{Stands}
@@ -180,3 +181,44 @@ investor_read floor firm beyond =
     (map investor_day_at floor.investors.items) firm mapped
     ∙ ap (λ n. slice_get (map investor_day_at floor.investors.items) (firm - n)) count
     ∙ slice_get-map investor_day_at floor.investors.items (firm - length floor.dealers.items)
+
+-- What each firm was sent, taken out of its place.
+
+-- one more
+pub mapped_more : {A B C : Type 0} (f : A → C) (g : B → C) (start : List C) (done : List B)
+    (before now : List A) (y : B) (x : A) → map f before ≡ start ++ map g done
+    → now ≡ before ++ x ∷ [] → f x ≡ g y → map f now ≡ start ++ map g (done ++ y ∷ [])
+mapped_more f g start done before now y x was is same =
+    ap (map f) is ∙ map-append f before (x ∷ []) ∙ ap (λ l. l ++ f x ∷ []) was
+    ∙ ap (λ z. (start ++ map g done) ++ z ∷ []) same
+    ∙ append_assoc start (map g done) (g y ∷ [])
+    ∙ ap (λ l. start ++ l) (sym (map-append g done (y ∷ [])))
+
+mapped_twice : {X Y Z : Type 0} (g : Y → Z) (f : X → Y) (xs : List X)
+    → map g (map f xs) ≡ map (λ x. g (f x)) xs
+mapped_twice g f [] = refl
+mapped_twice g f (x ∷ xs) = ap (λ l. g (f x) ∷ l) (mapped_twice g f xs)
+
+sent_mapped : (dealers : List DealerPlace) (investors : List InvestorPlace)
+    → map (λ (day : FirmDay). day.sent) (map dealer_day_at dealers ++ map investor_day_at investors)
+    ≡ map (λ place. (dealer_day_at place).sent) dealers
+    ++ map (λ place. (investor_day_at place).sent) investors
+sent_mapped dealers investors =
+    map-append (λ (day : FirmDay). day.sent) (map dealer_day_at dealers)
+    (map investor_day_at investors)
+    ∙ ap (λ l. l ++ map (λ (day : FirmDay). day.sent) (map investor_day_at investors))
+    (mapped_twice (λ (day : FirmDay). day.sent) dealer_day_at dealers)
+    ∙ ap (λ l. map (λ place. (dealer_day_at place).sent) dealers ++ l)
+    (mapped_twice (λ (day : FirmDay). day.sent) investor_day_at investors)
+
+-- the dealers' first, and then the investors'
+pub all_sent : {X : Type 0} (items : X → List (List ℕ)) (dealers : List DealerPlace)
+    (investors : List InvestorPlace) (start first all : List X) → start ≡ []
+    → map items first ≡ map items start ++ map (λ place. (dealer_day_at place).sent) dealers
+    → map items all ≡ map items first ++ map (λ place. (investor_day_at place).sent) investors
+    → map items all ≡ map (λ (day : FirmDay). day.sent)
+    (map dealer_day_at dealers ++ map investor_day_at investors)
+all_sent items dealers investors start first all none are is =
+    is ∙ ap (λ l. l ++ map (λ place. (investor_day_at place).sent) investors)
+    (are ∙ ap (λ l. map items l ++ map (λ place. (dealer_day_at place).sent) dealers) none)
+    ∙ sym (sent_mapped dealers investors)

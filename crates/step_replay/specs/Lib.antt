@@ -5,6 +5,7 @@ pub mod Coming
 pub mod Deadlines
 pub mod DealerTrail
 pub mod DealerView
+pub mod DoneSteps
 pub mod DueList
 pub mod EachLemmas
 pub mod FirmDays

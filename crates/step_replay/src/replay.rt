@@ -2,6 +2,7 @@
 ghost use Rattle.std.specs.Prelude.{◌≡◌, true, None, [], length, map, replicate, IfOk, OnOk};
 ghost use Rattle.step_replay.specs.Actions.{message_effect, sweep_effect};
 ghost use Rattle.step_replay.specs.AuditTrail as venue;
+ghost use Rattle.step_replay.specs.DoneSteps.{AreKnown, after_steps};
 ghost use Rattle.step_replay.specs.Following as spec;
 ghost use Rattle.step_replay.specs.Following.{Follows, ReplayStands};
 ghost use Rattle.step_replay.specs.Queues.{is_known};
@@ -59,6 +60,18 @@ impl Replay {
                 Ok(())
             }
         }
+    }
+
+    /// Steps that nobody needs afterwards are done. The memory of each goes once it is done, and
+    /// that of their list with the last.
+    pub(crate) fn run(&mut self, steps: Vec<Step>) -> Result<(), Memory>
+        ensures { OnOk result
+            (Follows (AreKnown steps.items) (after_steps steps.items) self.old self.new) }
+    {
+        for step in steps {
+            self.step(&step)?;
+        }
+        Ok(())
     }
 
     /// Which queue is an actor's.

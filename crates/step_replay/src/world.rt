@@ -1,16 +1,18 @@
 //! A day of the venue, replayed, and what each firm has of it.
-ghost use Rattle.std.specs.Prelude.{◌≡◌, slice_get, Ok, Err, None, IfOk, IfErr, IfSome, OnOk};
+ghost use Rattle.std.specs.Prelude.{◌≡◌, ◌++◌, map, slice_get, Ok, Err, None, IfOk, IfErr};
+ghost use Rattle.std.specs.Prelude.{IfSome, OnOk};
 ghost use Rattle.std.specs.Option.{option_copied, option_map};
 ghost use Rattle.step_replay.specs.AuditTrail as venue;
 ghost use Rattle.market_terms.specs.DayLines.{lines_in};
 ghost use Rattle.step_replay.specs.FirmDays.{FirmDay, firm_days};
+ghost use Rattle.step_replay.specs.FloorDays.{dealer_day_at, investor_day_at};
 ghost use Rattle.step_replay.specs.Standing.{Stands};
 ghost use Rattle.step_replay.specs.StepFaults as spec;
 
 use crate::due_lists::dues_at;
 use crate::dues::Due;
 use crate::faults::{ReplayFault, first_fault};
-use crate::floor::Floor;
+use crate::floor::{DealerPlace, Floor, InvestorPlace};
 use crate::replay::Replay;
 use crate::steps::Step;
 use fix_fields::Memory;
@@ -64,6 +66,57 @@ impl World {
         let place = self.floor.investors.get(index)?;
         Some(FirmLines::Investor(place.desk.lines()))
     }
+
+    /// The messages that each firm was sent, the first firm first, taken out of the venue. The
+    /// memory of all else is given back.
+    pub fn into_sent(self, alloc: Global) -> Result<Vec<Vec<SentMessage>>, Memory>
+        ensures { IfOk result (λ all. map (λ sent. sent.items) all.items
+            ≡ map (λ (day : FirmDay). day.sent) self) }
+    {
+        let Self { floor } = self;
+        let Floor {
+            dealers,
+            investors,
+            ..
+        } = floor;
+        let mut all = Vec::new(alloc);
+        push_sent_to_dealers(&mut all, dealers)?;
+        push_sent_to_investors(&mut all, investors)?;
+        Ok(all)
+    }
+}
+
+/// Puts what each of these dealers was sent behind the others.
+fn push_sent_to_dealers(
+    all: &mut Vec<Vec<SentMessage>>,
+    dealers: Vec<DealerPlace>,
+) -> Result<(), Memory>
+    ensures { OnOk result (map (λ sent. sent.items) all.new.items
+        ≡ map (λ sent. sent.items) all.old.items
+        ++ map (λ place. (dealer_day_at place).sent) dealers.items) }
+{
+    for place in dealers {
+        let DealerPlace { desk, .. } = place;
+        all.push(desk.into_sent())?;
+    }
+    Ok(())
+}
+
+/// The same of investors.
+fn push_sent_to_investors(
+    all: &mut Vec<Vec<SentMessage>>,
+    investors: Vec<InvestorPlace>,
+) -> Result<(), Memory>
+    ensures { OnOk result (map (λ sent. sent.items) all.new.items
+        ≡ map (λ sent. sent.items) all.old.items
+        ++ map (λ place. (investor_day_at place).sent) investors.items) }
+{
+    for place in investors {
+        let InvestorPlace { desk, .. } = place;
+        let (_, sent, _) = desk.into_parts();
+        all.push(sent)?;
+    }
+    Ok(())
 }
 
 /// Replays a day of the venue, step by step. Where a step names a firm or a room that the venue
@@ -144,15 +197,20 @@ fn replayed(alloc: Global, config: &VenueConfig, steps: &[Step]) -> Result<Floor
     Ok(floor)
 }
 
-/// The same of a day whose steps go, each once it is done.
+/// The same of a day whose steps go: a half of those that are left at a time is done, and the list
+/// of it given back, so that little of the day's steps stands beside what they leave.
 fn replayed_once(alloc: Global, config: &VenueConfig, day: Vec<Step>) -> Result<Floor, Memory>
     requires { spec.first_fault config.now day.items ≡ None }
     ensures { IfOk result (λ floor.
         Stands config.now (venue.audit_trail config.now day.items).facts floor) }
 {
     let mut replay = Replay::new(alloc, config)?;
-    for step in day {
-        replay.step(&step)?;
+    let mut left = day;
+    while !left.is_empty() {
+        let half = left.len() - left.len() / 2;
+        let later = left.split_off(half)?;
+        replay.run(left)?;
+        left = later;
     }
     let Replay { floor, .. } = replay;
     Ok(floor)

@@ -9,7 +9,7 @@ use crate::texts::{command_argument, command_text, line_form};
 use clap::Error;
 use command_arguments::{Response, VenueCommand, read_command, response_to};
 use input_lines::ProgramFault;
-use live_runs::{print_text, read_input, report, run_live, write_text};
+use live_runs::{print_long, print_text, read_input, report, run_live, write_text};
 use std::alloc::Global;
 use std::convert::AsStr;
 use std::io::{Read, Write};
@@ -139,5 +139,5 @@ fn print_command<H: Threads + Wait + Sync, R: Read, W: Write>(
         Ok(text) => text,
         Err(fault) => return Err(fault),
     };
-    print_text(out, text.as_slice())
+    print_long(out, &text)
 }

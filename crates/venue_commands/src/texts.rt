@@ -16,7 +16,9 @@ use std::alloc::Global;
 use std::marker::Sync;
 use std::sync::Wait;
 use std::thread::Threads;
-use venue_text::{Wanted, blotter_command_text, compare_text, due_command_text, replay_text};
+use venue_text::{
+    LongText, Wanted, blotter_command_text, compare_text, due_command_text, replay_text,
+};
 
 /// What a command prints for an input, or the input's first fault; memory may be refused at any
 /// point.
@@ -25,42 +27,61 @@ pub(crate) fn command_text<H: Threads + Wait + Sync>(
     alloc: Global,
     command: &VenueCommand<'_>,
     input: Vec<u8>,
-) -> Result<Vec<u8>, ProgramFault>
+) -> Result<LongText, ProgramFault>
     requires { line_form (meant command.now) ≡ None }
-    ensures ok { IfOk result (λ text. spec.IsTextOf (meant command.now) input.items text.items) }
+    ensures ok { IfOk result (λ text. spec.IsTextOf (meant command.now) input.items text) }
     ensures err { IfErr result (λ fault. fault ≢ ProgramFault.Memory
         → spec.IsFaultOf (meant command.now) input.items fault) }
     ensures unwritten { IfErr result (λ fault. fault ≢ ProgramFault.Write) }
 {
     match command {
-        VenueCommand::Alone { frames } => alone_command_text(alloc, *frames, input.as_slice()),
+        VenueCommand::Alone { frames } => {
+            let text = alone_command_text(alloc, *frames, input.as_slice())?;
+            one_block(alloc, text)
+        }
         VenueCommand::Replay { firm, frames } => {
             let only = argument_bytes(*firm);
             replay_text(alloc, only, *frames, input)
         }
         VenueCommand::Day { frames, woven } => {
-            day_text(rt, alloc, *frames, *woven, input.as_slice())
+            let text = day_text(rt, alloc, *frames, *woven, input.as_slice())?;
+            one_block(alloc, text)
         }
         VenueCommand::Live { .. } => unreachable!(),
         VenueCommand::Kept(_) => unreachable!(),
         VenueCommand::Compared(_) => unreachable!(),
         VenueCommand::Due { dealer } => {
             let only = argument_bytes(*dealer);
-            due_command_text(alloc, only, input.as_slice())
+            let text = due_command_text(alloc, only, input.as_slice())?;
+            one_block(alloc, text)
         }
         VenueCommand::InvestorDue { investor } => {
-            investor_due_text(alloc, investor.as_bytes(), input.as_slice())
+            let text = investor_due_text(alloc, investor.as_bytes(), input.as_slice())?;
+            one_block(alloc, text)
         }
         VenueCommand::Compare { dealer } => {
-            compare_text(alloc, dealer.as_bytes(), input.as_slice())
+            let text = compare_text(alloc, dealer.as_bytes(), input.as_slice())?;
+            one_block(alloc, text)
         }
         VenueCommand::InvestorCompare { investor } => {
-            investor_compare_text(alloc, investor.as_bytes(), input.as_slice())
+            let text = investor_compare_text(alloc, investor.as_bytes(), input.as_slice())?;
+            one_block(alloc, text)
         }
         VenueCommand::Blotter { firm } => {
-            blotter_command_text(alloc, firm.as_bytes(), input.as_slice())
+            let text = blotter_command_text(alloc, firm.as_bytes(), input.as_slice())?;
+            one_block(alloc, text)
         }
     }
+}
+
+/// A text that fits into one block, as a long one.
+fn one_block(alloc: Global, text: Vec<u8>) -> Result<LongText, ProgramFault>
+    ensures ok { IfOk result (λ long. long ≡ text.items) }
+    ensures err { IfErr result (λ fault. fault ≡ ProgramFault.Memory) }
+{
+    let mut long = LongText::new(alloc);
+    long.push(text)?;
+    Ok(long)
 }
 
 /// Whether a command takes a day line by line, and how it prints then.

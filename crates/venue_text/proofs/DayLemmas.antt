@@ -1,7 +1,8 @@
 -- Lists one item at a time: firms with their days, and words behind spaces.
-use Rattle.std.proofs.Common.{◌≡◌, ℕ, ◌+◌, List, [], ◌∷◌, ◌++◌, length, map, take}
-use Rattle.std.proofs.Common.{zero, suc, add-one, sym, ap, ◌∙◌, refl, append_assoc, Option, Some, None}
+use Rattle.std.proofs.Common.{◌≡◌, ◌<◌, ◌≤◌, ℕ, ◌+◌, List, [], ◌∷◌, ◌++◌, length, map, take}
+use Rattle.std.proofs.Common.{zero, suc, add-one, get_or, sym, subst, ap, ◌∙◌, refl, append_assoc, Option, Some, None}
 use Rattle.std.proofs.lemmas.List.{append-nil, length-append, length-map}
+use Rattle.std.proofs.lemmas.Option.{slice_get-map, slice_get_past, slice_get_read}
 use Rattle.std.proofs.lemmas.Grind.{flat_map-append}
 use Rattle.venue_rows.specs.Rows.{Configuration, firm_names}
 use Rattle.venue_rows.specs.declared.dealer_rows.DealerRow.{DealerRow}
@@ -11,8 +12,8 @@ use Rattle.std.specs.List.{flat_map, zip, join_with_byte}
 use Rattle.std.proofs.Common.{Bool}
 use Rattle.std.specs.Option.{option_map}
 use Rattle.step_replay.specs.FirmDays.{FirmDay}
-use Rattle.venue_text.specs.MessageLines.{messages_text}
-use Rattle.venue_text.specs.ReplayText.{one_at, firm_text}
+use Rattle.venue_text.specs.MessageLines.{line_of, messages_text}
+use Rattle.venue_text.specs.ReplayText.{one_at, days_text, firm_text, list_text, sent_text}
 use Rattle.venue_text.specs.DueCommand.{part_line}
 use Rattle.venue_text.specs.DueCuts.{parts_behind}
 
@@ -80,6 +81,73 @@ pub messages_of_no_day : (with_frames : Bool) (names : List (List ℕ)) (days : 
     → flat_map (firm_text with_frames) (one_at n (zip names days)) ≡ []
 messages_of_no_day with_frames names days n none =
     ap (flat_map (firm_text with_frames)) (other_ended_at names days n (no_day (slice_get days n) none))
+
+-- the same by what each firm was sent, as it is read at the place of the firm
+pub list_at : {X : Type 0} (items : X → List (List ℕ)) (with_frames : Bool) (names : List (List ℕ)) (sent : List X) (n at : ℕ) (name : List ℕ) (messages : X)
+    → at ≡ n → Some name ≡ slice_get names n → at < length sent → messages ≡ get_or sent at messages
+    → flat_map (list_text with_frames) (one_at n (zip names (map items sent))) ≡ messages_text with_frames name (items messages)
+list_at items with_frames names sent n at name messages same named within is =
+    let here : slice_get sent n ≡ Some messages =
+    subst (λ k. slice_get sent k ≡ Some messages) same (slice_get_read sent (length sent) at messages refl within is) in
+    let there : slice_get (map items sent) n ≡ Some (items messages) = slice_get-map items sent n ∙ ap (option_map items) here in
+    ap (flat_map (list_text with_frames)) (pair_at names (map items sent) n name (items messages) (sym named) there)
+    ∙ append-nil (messages_text with_frames name (items messages))
+
+pub list_of_none : (with_frames : Bool) (names : List (List ℕ)) (lists : List (List (List ℕ))) (n : ℕ)
+    → None ≡ slice_get names n → flat_map (list_text with_frames) (one_at n (zip names lists)) ≡ []
+list_of_none with_frames names lists n none = ap (flat_map (list_text with_frames)) (ended_at names lists n (sym none))
+
+pub list_of_no_firm : {X : Type 0} (items : X → List (List ℕ)) (with_frames : Bool) (names : List (List ℕ)) (sent : List X) (n at : ℕ)
+    → at ≡ n → length sent ≤ at → flat_map (list_text with_frames) (one_at n (zip names (map items sent))) ≡ []
+list_of_no_firm items with_frames names sent n at same past =
+    let none : slice_get sent n ≡ None = slice_get_past sent n (subst (λ k. length sent ≤ k) same past) in
+    ap (flat_map (list_text with_frames))
+    (other_ended_at names (map items sent) n (slice_get-map items sent n ∙ ap (option_map items) none))
+
+-- a text in blocks, and one block more
+pub block_more : {X : Type 0} (text : X → List ℕ) (before now : List X) (block : X) (value : List ℕ)
+    → flat_map text before ≡ value → now ≡ before ++ block ∷ [] → flat_map text now ≡ value ++ text block
+block_more text before now block value was is =
+    ap (flat_map text) is ∙ flat_map-append text before (block ∷ [])
+    ∙ ap (λ l. flat_map text before ++ l) (append-nil (text block)) ∙ ap (λ l. l ++ text block) was
+
+-- messages in two parts, a line each
+pub parts_text : (with_frames : Bool) (firm : List ℕ) (start all text now block : List ℕ) (rest front behind : List (List ℕ))
+    → rest ≡ front ++ behind → text ++ messages_text with_frames firm rest ≡ start ++ all → now ≡ text ++ block
+    → block ≡ messages_text with_frames firm front → now ++ messages_text with_frames firm behind ≡ start ++ all
+parts_text with_frames firm start all text now block rest front behind parts is pushed made =
+    ap (λ l. l ++ messages_text with_frames firm behind) (pushed ∙ ap (λ l. text ++ l) made)
+    ∙ append_assoc text (messages_text with_frames firm front) (messages_text with_frames firm behind)
+    ∙ ap (λ l. text ++ l) (sym (flat_map-append (line_of with_frames firm) front behind) ∙ ap (flat_map (line_of with_frames firm)) (sym parts))
+    ∙ is
+
+-- what `replay` prints by what each firm was sent is what it prints by their days
+list_one : (with_frames : Bool) (n : ℕ) (names : List (List ℕ)) (days : List FirmDay)
+    → flat_map (list_text with_frames) (one_at n (zip names (map (λ (day : FirmDay). day.sent) days)))
+    ≡ flat_map (firm_text with_frames) (one_at n (zip names days))
+list_one with_frames zero [] days = refl
+list_one with_frames zero (name ∷ names) [] = refl
+list_one with_frames zero (name ∷ names) (day ∷ days) = refl
+list_one with_frames (suc n) [] days = refl
+list_one with_frames (suc n) (name ∷ names) [] = refl
+list_one with_frames (suc n) (name ∷ names) (day ∷ days) = list_one with_frames n names days
+
+list_all : (with_frames : Bool) (names : List (List ℕ)) (days : List FirmDay)
+    → flat_map (list_text with_frames) (zip names (map (λ (day : FirmDay). day.sent) days)) ≡ flat_map (firm_text with_frames) (zip names days)
+list_all with_frames [] days = refl
+list_all with_frames (name ∷ names) [] = refl
+list_all with_frames (name ∷ names) (day ∷ days) = ap (λ l. messages_text with_frames name day.sent ++ l) (list_all with_frames names days)
+
+lists_asked : (with_frames : Bool) (only : Option ℕ) (names : List (List ℕ)) (days : List FirmDay)
+    → sent_text with_frames only (zip names (map (λ (day : FirmDay). day.sent) days)) ≡ days_text with_frames only (zip names days)
+lists_asked with_frames None names days = list_all with_frames names days
+lists_asked with_frames (Some n) names days = list_one with_frames n names days
+
+pub lists_text : {X : Type 0} (items : X → List (List ℕ)) (with_frames : Bool) (only : Option ℕ) (names : List (List ℕ)) (lent sent : List X) (days : List FirmDay) (text : List ℕ)
+    → text ≡ sent_text with_frames only (zip names (map items lent)) → lent ≡ sent → map items sent ≡ map (λ (day : FirmDay). day.sent) days
+    → text ≡ days_text with_frames only (zip names days)
+lists_text items with_frames only names lent sent days text is same are =
+    is ∙ ap (λ l. sent_text with_frames only (zip names l)) (ap (map items) same ∙ are) ∙ lists_asked with_frames only names days
 
 -- as many pairs as the first list has items are all
 pub take_zip : {A B : Type 0} (xs : List A) (ys : List B) → take (length xs) (zip xs ys) ≡ zip xs ys

@@ -33,6 +33,18 @@ firm_text with_frames firm = messages_text with_frames firm.0 firm.1.sent
 abbrev pub days_text : Bool → Option ℕ → List NamedDay → List ℕ
 days_text with_frames only firms = flat_map (firm_text with_frames) (those_asked only firms)
 
+-- a firm's name, and the messages that it was sent
+abbrev pub NamedList : Type 0
+NamedList = List ℕ × List (List ℕ)
+
+-- these, a line each
+abbrev pub list_text : Bool → NamedList → List ℕ
+list_text with_frames firm = messages_text with_frames firm.0 firm.1
+
+-- the messages of the firms that are asked for, by what each firm was sent
+abbrev pub sent_text : Bool → Option ℕ → List NamedList → List ℕ
+sent_text with_frames only firms = flat_map (list_text with_frames) (those_asked only firms)
+
 -- What `replay` prints for an input: of the day that the input spells, what the firms were sent by
 -- its audit trail.
 pub record IsReplayed (only : Option (List ℕ)) (with_frames : Bool) (input text : List ℕ)

@@ -34,6 +34,7 @@ mod live_form;
 mod live_laws;
 mod live_lines;
 mod live_marks;
+mod long_text;
 mod message_lines;
 mod read_back;
 mod record_lines;
@@ -54,6 +55,7 @@ pub use live_laws::{
     without_marks_a_day_is_its_messages,
 };
 pub use live_lines::{LineOutput, LineSent, LiveDay, read_live_line};
+pub use long_text::LongText;
 pub use message_lines::messages_text;
 pub use read_back::what_was_due_is_read_back;
 pub use record_lines::{record_text, woven_line};

@@ -1,6 +1,10 @@
-use Rattle.step_replay.specs.AuditTrail.{audit_trail}
-use Rattle.step_replay.specs.Following.{ReplayStands}
+-- Some of the day is done, and the rest is left.
+use Rattle.std.proofs.Common.{length}
+use Rattle.step_replay.specs.DoneSteps.{IsLeft}
 use Rattle.step_replay.proofs.world.replayed_once.Given as goal
 
-abbrev pub invariant-loop-step : goal.invariant-loop-step
-invariant-loop-step l = ReplayStands l.config (audit_trail l.config l.yielded) l.replay
+abbrev pub invariant-loop-left : goal.invariant-loop-left
+invariant-loop-left l = IsLeft l.config l.fn.day.items l.left.items l.replay
+
+abbrev pub decreases-loop-left : goal.decreases-loop-left
+decreases-loop-left l = length l.left.items

@@ -9,11 +9,10 @@ returns-in-Err-clause-err g c =
 
 pub returns-clause-ok : goal.returns-clause-ok
 returns-clause-ok g c =
-    printed_ok c.print_text.result (meant c.args.command.now) _ _ c.in_ok-bytes.bytes.items c.as_slice.result.now
-    c.in_ok-bytes.ensures.ok (rw c.as_slice.ensures.value c.in-Ok.ensures.ok) c.print_text.ensures.ok
+    printed_ok c.print_long.result (meant c.args.command.now) _ _ c.in_ok-bytes.bytes.items c.in-Ok.text
+    c.in_ok-bytes.ensures.ok c.in-Ok.ensures.ok c.print_long.ensures.ok
 
 pub returns-clause-err : goal.returns-clause-err
 returns-clause-err g c =
-    printed_err c.print_text.result (meant c.args.command.now) _ _ c.in_ok-bytes.bytes.items c.as_slice.result.now
-    c.in_ok-bytes.ensures.ok (rw c.as_slice.ensures.value c.in-Ok.ensures.ok) c.print_text.ensures.err
-    c.print_text.ensures.part
+    printed_err c.print_long.result (meant c.args.command.now) _ _ c.in_ok-bytes.bytes.items c.in-Ok.text
+    c.in_ok-bytes.ensures.ok c.in-Ok.ensures.ok c.print_long.ensures.err c.print_long.ensures.part

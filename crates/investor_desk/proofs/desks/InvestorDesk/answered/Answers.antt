@@ -15,9 +15,9 @@ unfolding event_facts
 keep-requires-clause-facts c =
     let desk = c.self.inside in
     let outcome = c.answer_outcome-outcome in
-    owed_facts desk.market desk.events.items desk.sent.items desk.index c.args.self.now outcome.result.note (event.Answered c.args.n c.response_again.result c.args.reply c.args.moment)
+    owed_facts desk.market desk.events.items desk.sent.items desk.index c.args.self.now outcome.result.note (event.Answered c.args.n c.in_ok-kept.kept c.args.reply c.args.moment)
     c.self.invariant c.self.view_is (outcome.ensures.facts
-    ∙ ap (λ (r : ResponseRef). book_with desk.index (answer_facts desk.index c.args.n r c.args.reply (request_numbered desk.index c.args.n))) (sym c.response_again.ensures))
+    ∙ ap (λ (r : ResponseRef). book_with desk.index (answer_facts desk.index c.args.n r c.args.reply (request_numbered desk.index c.args.n))) (sym c.in_ok-kept.ensures))
 
 pub keep-requires-clause-sent : goal.keep-requires-clause-sent
 unfolding event_messages
@@ -26,5 +26,5 @@ keep-requires-clause-sent c =
     let outcome = c.answer_outcome-outcome in
     let sent = c.in_ok-sent.sent in
     owed_sent desk.market desk.events.items desk.sent.items desk.index c.args.self.now (messages_of outcome.result)
-    (option_to_list sent.first ++ option_to_list sent.second) (event.Answered c.args.n c.response_again.result c.args.reply c.args.moment)
-    c.self.invariant c.self.view_is (outcome.ensures.messages ∙ ap (λ (r : ResponseRef). answer_messages r c.args.reply (request_numbered desk.index c.args.n)) (sym c.response_again.ensures)) c.in_ok-sent.ensures
+    (option_to_list sent.first ++ option_to_list sent.second) (event.Answered c.args.n c.in_ok-kept.kept c.args.reply c.args.moment)
+    c.self.invariant c.self.view_is (outcome.ensures.messages ∙ ap (λ (r : ResponseRef). answer_messages r c.args.reply (request_numbered desk.index c.args.n)) (sym c.in_ok-kept.ensures)) c.in_ok-sent.ensures

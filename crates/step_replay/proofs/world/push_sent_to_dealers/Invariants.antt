@@ -1,0 +1,7 @@
+use Rattle.std.proofs.Common.{◌≡◌, ◌++◌, map}
+use Rattle.step_replay.specs.FloorDays.{dealer_day_at}
+use Rattle.step_replay.proofs.world.push_sent_to_dealers.Given as goal
+
+abbrev pub invariant-loop-place : goal.invariant-loop-place
+invariant-loop-place l = map (λ sent. sent.items) l.all.items
+    ≡ map (λ sent. sent.items) l.fn.all.items ++ map (λ place. (dealer_day_at place).sent) l.yielded
