@@ -1,5 +1,5 @@
 -- What the forms of names imply: each is ASCII, so it is UTF-8, and has no SOH.
-use Rattle.std.proofs.Common.{◌≡◌, ◌≢◌, ◌==◌, ℕ, ◌<◌, Bool, true, false, List, [], ◌∷◌, ◌++◌}
+use Rattle.std.proofs.Common.{◌≡◌, ◌≢◌, ◌==◌, ℕ, ◌<◌, ◌≤◌, Bool, true, false, List, [], ◌∷◌, ◌++◌}
 use Rattle.std.proofs.Common.{length, ◌&&◌, nat_le, arith, refl, ap, map, ◌||◌, ◌∙◌, Option, Some}
 use Rattle.std.proofs.Common.{None, cond, nat_eq, sym}
 use Rattle.std.specs.Cmp.Lexicographic.{bytes_decides, pointwise}
@@ -26,6 +26,14 @@ name_is_utf8 (first ∷ rest) h =
     let lead = and_parts (is_ascii_uppercase first) (nat_le (length rest) 7) parts.0 in
     let capital : is_ascii_uppercase first ≡ true = lead.0 in
     utf8_if_all is_capital_or_digit capital_or_digit-low (first ∷ rest) (rw capital parts.1)
+
+pub name_is_short : (text : List ℕ) → is_name text ≡ true → length text ≤ 8
+name_is_short [] h = cc
+name_is_short (first ∷ rest) h =
+    let parts = and_parts (is_ascii_uppercase first && nat_le (length rest) 7) (list_all is_capital_or_digit rest) h in
+    let lead = and_parts (is_ascii_uppercase first) (nat_le (length rest) 7) parts.0 in
+    let short : nat_le (length rest) 7 ≡ true = lead.1 in
+    grind (arith, nat_tests)
 
 -- a name is among texts of fixed room where it is among their bytes
 pub is_among_map : (names : List ArrayString) (name : List ℕ) → list_any (λ own. same_text own.bytes name) names ≡ is_among (map (λ own. own.bytes) names) name
