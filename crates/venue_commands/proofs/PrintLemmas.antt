@@ -1,5 +1,5 @@
 -- What was read, printed and told where a command prints one text.
-use Rattle.std.proofs.lemmas.Bool.{cases_Bool, false≢true}
+use Rattle.std.proofs.lemmas.Bool.{cases_Bool}
 use Rattle.std.proofs.Common.{◌≡◌, ◌≢◌, ℕ, ◌-◌, ◌<◌, ◌≤◌, List, ◌++◌, length, sym, ap, ◌∙◌, subst, refl, arith, Option, Some, None}
 use Rattle.std.proofs.Common.{true, nat_lt, inl, inr, Result, Ok, Err, ◌⊎◌}
 use Rattle.std.proofs.lemmas.List.{append-nil, length-append}
@@ -25,7 +25,7 @@ long_fault : (command : Command) (input : List ℕ) (fault : ProgramFault) → n
 long_fault (alone with_frames) input fault long is = let same : Some Input ≡ Some fault = rw long at is in cc
 long_fault (replay firm with_frames) input fault long is = let same : Err Input ≡ Err fault = rw long at is in cc
 long_fault (day with_frames woven) input fault long (inl is) = let same : Err Input ≡ Err fault = rw long at is in cc
-long_fault (day with_frames woven) input fault long (inr (inl unkept)) = let lawful = unkept.lawful in absurd (false≢true (rw long at lawful))
+long_fault (day with_frames woven) input fault long (inr (inl unkept)) = let same = unkept.spelled in cc (rw long at same)
 long_fault (day with_frames woven) input fault long (inr (inr unwoven)) = let same = unwoven.recorded.spelled in cc (rw long at same)
 long_fault (live form) input fault long is = absurd is
 long_fault (kept sought) input fault long is = absurd is

@@ -1,6 +1,5 @@
 -- What `day` prints.
-use Rattle.std.specs.Prelude.{◌≡◌, ◌⊎◌, ℕ, Bool, true, false, List, [], ◌++◌, length, Ok, Err}
-use Rattle.std.specs.Prelude.{is_ok}
+use Rattle.std.specs.Prelude.{◌≡◌, ◌≢◌, ◌⊎◌, ℕ, Bool, true, false, List, [], ◌++◌, length, Ok, Err}
 use Rattle.venue_rows.specs.Rows.{Configuration, values_of}
 use Rattle.recorded_days.specs.Records.{RecordedDay}
 use Rattle.day_weaving.specs.Weaving.{AreWoven, FaultIsTrue, SendAsRecorded}
@@ -9,6 +8,7 @@ use Rattle.recorded_days.specs.declared.actions.Sweep.{Sweep}
 use Rattle.step_replay.specs.declared.steps.Step.{Step}
 use Rattle.day_weaving.specs.declared.weaving.WeaveFault.{WeaveFault}
 use Rattle.day_weaving.specs.declared.weaving.WeaveFault.TheVariants as weaving
+use Rattle.session_worker.specs.DayFaults.{IsFaultOf}
 use Rattle.session_worker.specs.KeptDays.{KeepsDay}
 use Rattle.session_worker.specs.declared.faults.DayFault.{DayFault}
 use Rattle.session_worker.specs.declared.faults.DayFault.TheVariants as threaded
@@ -16,7 +16,6 @@ use Rattle.venue_text.specs.ArrivingDays.{arriving_day}
 use Rattle.venue_text.specs.RecordText.{record_text, woven_line}
 use Rattle.input_lines.specs.declared.faults.ProgramFault.{ProgramFault}
 use Rattle.input_lines.specs.declared.faults.ProgramFault.TheVariants as program
-use Rattle.input_lines.specs.declared.faults.UnkeptDay.{UnkeptDay}
 use Rattle.input_lines.specs.declared.faults.UnkeptDay.TheVariants.{Inbox, Told, Sweep as Swept}
 use Rattle.input_lines.specs.declared.faults.UnwovenDay.TheVariants.{Malformed, Cycle, Differs}
 
@@ -53,11 +52,26 @@ pub record IsDay (with_frames woven : Bool) (input text : List ℕ) : Type 0 whe
   pub last_is : IsLast woven config day last
   pub printed : text ≡ record_text with_frames config day ++ last
 
--- Something does not agree after the day, and the input has no fault.
+-- a fault of a day on threads, as a fault of the program
+abbrev pub unkept : DayFault → ProgramFault
+unkept threaded.Memory = program.Memory
+unkept (threaded.Inbox firm) = program.Day Inbox
+unkept (threaded.Told dealer) = program.Day Told
+unkept (threaded.Sweep room) = program.Day Swept
+
+-- Something does not agree after the day, and the input has no fault. What is told is so: a
+-- dealer's notices, or a room's sweeps, are the first fault of a joined day that has the venue's
+-- firms and rooms and these inboxes.
 pub record IsUnkept (input : List ℕ) (fault : ProgramFault) : Type 0 where
-  pub what : UnkeptDay
-  pub is_day : fault ≡ program.Day what
-  pub lawful : is_ok (arriving_day input) ≡ true
+  pub config : Configuration
+  pub inboxes : List (List Inbound)
+  pub sweeps : List Sweep
+  pub spelled : arriving_day input
+      ≡ Ok (record { config = values_of config; inboxes = inboxes; sweeps = sweeps })
+  pub what : DayFault
+  pub fault_is : fault ≡ unkept what
+  pub no_memory : what ≢ threaded.Memory
+  pub is_true : IsFaultOf config inboxes sweeps what
 
 -- a fault of weaving, as a fault of the program
 abbrev pub unwoven : WeaveFault → ProgramFault
@@ -81,10 +95,3 @@ pub record IsUnwoven (woven : Bool) (input : List ℕ) (fault : ProgramFault) : 
 abbrev pub IsDayFault : Bool → List ℕ → ProgramFault → Type 0
 IsDayFault woven input fault =
     (arriving_day input ≡ Err fault) ⊎ (IsUnkept input fault ⊎ IsUnwoven woven input fault)
-
--- a fault of a day on threads, as a fault of the program
-abbrev pub unkept : DayFault → ProgramFault
-unkept threaded.Memory = program.Memory
-unkept (threaded.Inbox firm) = program.Day Inbox
-unkept (threaded.Told dealer) = program.Day Told
-unkept (threaded.Sweep room) = program.Day Swept
