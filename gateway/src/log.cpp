@@ -169,6 +169,11 @@ std::uint32_t Log::last_place() {
     return next_place_ - 1;
 }
 
+std::optional<std::chrono::steady_clock::time_point> Log::commits_since() {
+    const std::lock_guard lock(mutex_);
+    return writing_ && failure_.empty() ? std::optional(writing_since_) : std::nullopt;
+}
+
 std::string Log::failure() {
     const std::lock_guard lock(mutex_);
     return failure_;
@@ -223,8 +228,13 @@ bool Log::wait_for_work(std::unique_lock<std::mutex> &lock, const std::stop_toke
     return failure_.empty() && !filling_.rows.empty();
 }
 
-void Log::use_lull(std::unique_lock<std::mutex> &lock, int looks) {
+void Log::begin_writing() {
     writing_ = true;
+    writing_since_ = std::chrono::steady_clock::now();
+}
+
+void Log::use_lull(std::unique_lock<std::mutex> &lock, int looks) {
+    begin_writing();
     lock.unlock();
     if (looks == looks_to_rest) {
         writer_->rest();
@@ -254,7 +264,7 @@ Log::Filling Log::take(bool all) {
 }
 
 void Log::commit_some(std::unique_lock<std::mutex> &lock, bool all) {
-    writing_ = true;
+    begin_writing();
     Filling filling = take(all);
     room_.notify_all();
     lock.unlock();

@@ -82,6 +82,8 @@ class Log {
     void flush();
 
     std::uint32_t last_place();
+    // When the commit of now began; nothing where none is waited for.
+    std::optional<std::chrono::steady_clock::time_point> commits_since();
 
     // Why nothing is written any more; empty where it is.
     std::string failure();
@@ -106,6 +108,8 @@ class Log {
     void write_all(const std::stop_token &stop);
     // False at the end, where nothing is left. The lock is held before and behind.
     bool wait_for_work(std::unique_lock<std::mutex> &lock, const std::stop_token &stop);
+    // Some thread has the writer from now on. The lock is held.
+    void begin_writing();
     void use_lull(std::unique_lock<std::mutex> &lock, int looks);
     // Whether there is what a commit does not wait for. The lock is held.
     bool is_pressing() const;
@@ -134,6 +138,7 @@ class Log {
     std::chrono::steady_clock::time_point whole_at_; // when a whole batch was taken last
     bool held_ = false;
     bool writing_ = false; // some thread has the writer
+    std::chrono::steady_clock::time_point writing_since_;
     Ticket filling_ticket_ = 1;
     Ticket committed_ = 0;
     std::string failure_;

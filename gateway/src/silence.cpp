@@ -4,7 +4,7 @@ namespace gateway {
 
 namespace {
 
-// A venue answers within milliseconds, and goes on while it is fed again.
+// A venue and a log answer within milliseconds; a venue that is fed again goes on meanwhile.
 constexpr auto longest = std::chrono::seconds(5);
 
 } // namespace
@@ -22,6 +22,16 @@ void Silence::look(std::uint32_t answered, std::uint32_t last) {
         events_->warn("venue does not answer{} place={} entries={}", of_venue_, answered + 1,
                       last - answered);
     }
+}
+
+void Stall::look(std::optional<std::chrono::steady_clock::time_point> since) {
+    const bool waits = since && std::chrono::steady_clock::now() - *since >= longest;
+    if (waits && !told_) {
+        events_->warn("log does not answer{}", of_venue_);
+    } else if (told_ && !waits) {
+        events_->info("log answers again{}", of_venue_);
+    }
+    told_ = waits;
 }
 
 } // namespace gateway

@@ -1,10 +1,11 @@
-// A venue that has stopped to answer.
+// A venue that has stopped to answer, and a log that has.
 #ifndef GATEWAY_SILENCE_H
 #define GATEWAY_SILENCE_H
 
 #include <chrono>
 #include <cstdint>
 #include <memory>
+#include <optional>
 #include <string>
 
 #include <spdlog/logger.h>
@@ -29,6 +30,21 @@ class Silence {
     const std::string of_venue_;
     std::uint32_t answered_ = 0;
     Clock::time_point since_ = Clock::now();
+    bool told_ = false;
+};
+
+// The same of a log whose database keeps a commit waiting. One thread.
+class Stall {
+  public:
+    Stall(std::shared_ptr<spdlog::logger> events, std::string of_venue)
+        : events_(std::move(events)), of_venue_(std::move(of_venue)) {}
+
+    // To be called each second, with the moment at which the commit of now began, if there is one.
+    void look(std::optional<std::chrono::steady_clock::time_point> since);
+
+  private:
+    std::shared_ptr<spdlog::logger> events_;
+    const std::string of_venue_;
     bool told_ = false;
 };
 

@@ -43,7 +43,8 @@ VenueDay::VenueDay(const Config &config, Metrics &metrics, Status &status,
     : config_(config), metrics_(metrics), status_(status), events_(std::move(events)),
       clock_(config_.firms.date), database_(open_database(config_, clock_)),
       stored_(*database_, status_.stopping()), comparison_(*database_, status_.stopping()),
-      ahead_(config_.waiting_messages), silence_(events_, of_venue()) {}
+      ahead_(config_.waiting_messages), silence_(events_, of_venue()), stall_(events_, of_venue()) {
+}
 
 VenueDay::~VenueDay() {
     close();

@@ -57,10 +57,11 @@ class VenueDay final : private SessionHost, private VenueListener {
     // Ends all at once, and what is handed to the engine.
     void close();
 
-    // Looks whether the venue answers; to be called each second behind start().
+    // Looks whether the venue and the log answer; to be called each second behind start().
     void look_for_silence() {
         if (log_) {
             silence_.look(answers_.last_place(), log_->last_place());
+            stall_.look(log_->commits_since());
         }
     }
 
@@ -145,6 +146,7 @@ class VenueDay final : private SessionHost, private VenueListener {
     bool is_first_ = true; // of what was read; of the thread that reads the venue
     Answers answers_;
     Silence silence_;
+    Stall stall_;
     std::unique_ptr<Log> log_;
     std::unique_ptr<Venue> venue_;
     std::unique_ptr<Sweeper> sweeper_;

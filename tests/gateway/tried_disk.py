@@ -12,8 +12,9 @@ from firm import Received
 from ledger import Ledger, marks, read_ledger, rows
 from market import Act, Market
 from settle import settled, wait_all_on
-from stage import Stage, check
-from wait import within
+from stage import DEALER, Stage, check
+from wait import LONG, until, within
+from wire import Wire
 
 MESSAGES = 60  # of a short day
 FULL_AT = [1, 2, 3, 4, 5, 6, 7, 8, 9, 10, 12, 14, 17, 20, 25, 30, 40, 50]
@@ -193,6 +194,19 @@ def cut_power(stage: Stage, number: int) -> None:
     wait_all_on(stage.door, stage.firms)
 
 
+def slow_commits(stage: Stage) -> None:
+    """Commits that take seconds: the operator is told of one while it is waited for, and that it came."""
+    stage.door.write()
+    stage.door.environment = shim(stage, DISK_SLOW="7000")
+    stage.door.start()
+    stage.door.wait_open()
+    with Wire(stage.door.port) as wire:
+        wire.logon(DEALER.name.encode(), DEALER.password.encode())
+        until("it is told", LONG, lambda: b"log does not answer" in stage.door.told.read_bytes())
+        until("that it goes on is told", LONG, lambda: b"log answers again" in stage.door.told.read_bytes())
+        check(wire.read_kind(b"A") is not None, "it is not logged on")
+
+
 def at_commit(at: int) -> Callable[[Stage], None]:
     test = functools.partial(full_disk, at=at)
     functools.update_wrapper(test, full_disk)
@@ -200,5 +214,5 @@ def at_commit(at: int) -> Callable[[Stage], None]:
     return test
 
 
-TRIED = [cut_back, power_cuts] + [at_commit(at) for at in FULL_AT]
-QUICK = [cut_back, power_cuts] + [at_commit(at) for at in QUICK_FULL_AT]
+TRIED = [cut_back, power_cuts, slow_commits] + [at_commit(at) for at in FULL_AT]
+QUICK = [cut_back, power_cuts, slow_commits] + [at_commit(at) for at in QUICK_FULL_AT]
