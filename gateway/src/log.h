@@ -106,7 +106,7 @@ class Log {
     void throw_if_failed() const;
     void write(const std::stop_token &stop);
     void write_all(const std::stop_token &stop);
-    // False at the end, where nothing is left. The lock is held before and behind.
+    // False at the end, where nothing is left. The lock is held before and after.
     bool wait_for_work(std::unique_lock<std::mutex> &lock, const std::stop_token &stop);
     // Some thread has the writer from now on. The lock is held.
     void begin_writing();

@@ -57,7 +57,7 @@ class VenueDay final : private SessionHost, private VenueListener {
     // Ends all at once, and what is handed to the engine.
     void close();
 
-    // Looks whether the venue and the log answer; to be called each second behind start().
+    // Looks whether the venue and the log answer; to be called each second after start().
     void look_for_silence() {
         if (log_) {
             silence_.look(answers_.last_place(), log_->last_place());
