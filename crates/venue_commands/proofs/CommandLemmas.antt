@@ -68,6 +68,7 @@ before_lines form argument (Some all) status streams memory = inr (
       lines = [];
       rest = lines_of all;
       split = refl;
+      reached = tt;
       left = answers_nothing form [] streams.out (record { before = streams.err.before; after = streams.err.before })
           (record { undivided = refl; left = memory.1; untold = keeps_same streams.err.before });
     };

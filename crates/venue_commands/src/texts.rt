@@ -4,6 +4,7 @@ ghost use Rattle.live_runs.specs.LineForms.{meant_form};
 ghost use Rattle.venue_commands.specs.Runs.{line_form};
 ghost use Rattle.command_arguments.specs.Arguments.{meant};
 ghost use Rattle.venue_commands.specs.Runs as spec;
+ghost use Rattle.venue_commands.specs.ThreadedDays as threaded;
 ghost use Rattle.investor_texts.specs.SoughtDays as sought_days;
 ghost use Rattle.venue_text.specs.KeptDays as kept;
 
@@ -43,10 +44,7 @@ pub(crate) fn command_text<H: Threads + Wait + Sync>(
             let only = argument_bytes(*firm);
             replay_text(alloc, only, *frames, input)
         }
-        VenueCommand::Day { frames, woven } => {
-            let text = day_text(rt, alloc, *frames, *woven, input.as_slice())?;
-            one_block(alloc, text)
-        }
+        VenueCommand::Day { frames, woven } => day_block(rt, alloc, *frames, *woven, input),
         VenueCommand::Live { .. } => unreachable!(),
         VenueCommand::Kept(_) => unreachable!(),
         VenueCommand::Compared(_) => unreachable!(),
@@ -71,6 +69,25 @@ pub(crate) fn command_text<H: Threads + Wait + Sync>(
             let text = blotter_command_text(alloc, firm.as_bytes(), input.as_slice())?;
             one_block(alloc, text)
         }
+    }
+}
+
+/// What `day` prints, as a long text.
+fn day_block<H: Threads + Wait + Sync>(
+    rt: &H,
+    alloc: Global,
+    with_frames: bool,
+    woven: bool,
+    input: Vec<u8>,
+) -> Result<LongText, ProgramFault>
+    ensures ok { IfOk result (λ text. threaded.IsDay with_frames woven input.items text) }
+    ensures err { IfErr result (λ fault. fault ≢ ProgramFault.Memory
+        → threaded.IsDayFault woven input.items fault) }
+    ensures unwritten { IfErr result (λ fault. fault ≢ ProgramFault.Write) }
+{
+    match day_text(rt, alloc, with_frames, woven, input.as_slice()) {
+        Ok(text) => one_block(alloc, text),
+        Err(fault) => Err(fault),
     }
 }
 
