@@ -19,7 +19,7 @@ use Rattle.live_runs.specs.Written.{Streams, Written}
 use Rattle.live_runs.specs.declared.line_forms.LineForm.{LineForm as RustForm}
 use Rattle.live_runs.proofs.StreamLemmas.{keeps_same}
 use Rattle.command_arguments.proofs.LawfulArguments.{lawful_arguments}
-use Rattle.live_runs.proofs.LiveLemmas.{answers_nothing}
+use Rattle.live_runs.proofs.TwoDayLemmas.{answers_nothing}
 
 first_or : (a b : Bool) → (a || false) ≡ true → (a || b) ≡ true
 first_or true b h = refl
