@@ -17,8 +17,11 @@ use Rattle.command_arguments.specs.Arguments.{Words, are_flags, are_words, flags
 use Rattle.command_arguments.specs.Arguments.{one_word, plain_in, spelled}
 use Rattle.command_arguments.proofs.TableRows.{all_defaulted, at_default, at_flag, default_row, defaulted, firm, flag_row, lacks, lacks_word}
 use Rattle.command_arguments.proofs.TableRows.{no_default_fault, row_at, rules_of, word_row}
-use Rattle.command_arguments.proofs.TableTurns.{AreNames, Fits, Spot, before, behind, given_at, given_more, held_at, open_turn, settled_at}
-use Rattle.command_arguments.proofs.TableTurns.{among_spelled, or_none, settled_is, shape, trailing_turn, waits, walk_at, with_flag, words_at}
+use Rattle.command_arguments.proofs.TableFlags.{AreNames, given_more, or_none}
+use Rattle.command_arguments.proofs.TableSpots.{Fits, Spot, before, behind, given_at, held_at}
+use Rattle.command_arguments.proofs.TableSpots.{settled_at, among_spelled, settled_is, shape, waits}
+use Rattle.command_arguments.proofs.TableSpots.{walk_at, with_flag, words_at}
+use Rattle.command_arguments.proofs.TableTurns.{open_turn, trailing_turn}
 use Rattle.command_arguments.proofs.WordLemmas.{both_false, neither, never}
 
 abbrev end_fault : List Text → Words → Text → Held → Kinds
