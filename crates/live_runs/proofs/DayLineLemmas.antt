@@ -24,7 +24,8 @@ use Rattle.live_runs.specs.LineForms.{answered}
 use Rattle.live_runs.specs.LiveRuns.{EndsDay, GainsFaults, fault_if}
 use Rattle.live_runs.specs.LiveStages.{DayGoes, KeepsAnywhere, KeptTakes}
 use Rattle.live_runs.specs.Written.{GainsPart, Written}
-use Rattle.live_runs.proofs.LineLemmas.{configuration_stays, parts_stay, taken_any, text_more}
+use Rattle.live_runs.proofs.LineLemmas.{configuration_stays, taken_any, text_more}
+use Rattle.live_runs.proofs.PartLemmas.{parts_stay}
 use Rattle.live_runs.proofs.StreamLemmas.{appends_both, more_part}
 use Rattle.live_runs.proofs.GainLemmas.{faults_kept, faults_more}
 

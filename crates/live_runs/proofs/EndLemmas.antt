@@ -27,7 +27,7 @@ use Rattle.live_runs.specs.Written.{GainsPart, Written}
 use Rattle.live_runs.specs.declared.live.LiveRun.{LiveRun}
 use Rattle.live_runs.specs.declared.live.Stage.{Stage}
 use Rattle.live_runs.specs.declared.live.Stage.TheVariants as stage
-use Rattle.live_runs.proofs.LineLemmas.{line_last}
+use Rattle.live_runs.proofs.FeedLemmas.{line_last}
 use Rattle.live_runs.proofs.StreamLemmas.{appends_both, more_part}
 use Rattle.live_runs.proofs.TwoDayLemmas.{awaiting_taken, both_taken, first_brought, no_day}
 use Rattle.live_runs.proofs.TwoDayLemmas.{not_whole, one_taken, second_brought}

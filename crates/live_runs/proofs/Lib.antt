@@ -1,4 +1,6 @@
+pub mod PartLemmas
 pub mod LineLemmas
+pub mod FeedLemmas
 pub mod StreamLemmas
 mod GainLemmas
 mod DayLineLemmas

@@ -24,8 +24,9 @@ use Rattle.live_runs.specs.Written.{IsUntouched, Written}
 use Rattle.live_runs.proofs.LineLemmas.{configuration_is, configuration_stays, alone_still}
 use Rattle.live_runs.proofs.LineLemmas.{first_alone, first_taken_alone, first_taken_is, four_is}
 use Rattle.live_runs.proofs.LineLemmas.{nothing_at, second_configuration_is, second_taken_is}
-use Rattle.live_runs.proofs.LineLemmas.{taken_any_at, undivided_alone, now_divided, parts_stay}
-use Rattle.live_runs.proofs.LineLemmas.{still_undivided, text_grows}
+use Rattle.live_runs.proofs.LineLemmas.{taken_any_at, undivided_alone, now_divided, still_undivided}
+use Rattle.live_runs.proofs.LineLemmas.{text_grows}
+use Rattle.live_runs.proofs.PartLemmas.{parts_stay}
 use Rattle.live_runs.proofs.StreamLemmas.{keeps_same}
 use Rattle.live_runs.proofs.GainLemmas.{faults_more}
 use Rattle.live_runs.proofs.DayLineLemmas.{asked_of}
