@@ -13,9 +13,9 @@ use Rattle.input_lines.specs.declared.faults.ProgramFault.TheVariants.{Input, Me
 use Rattle.input_lines.specs.declared.lines.TheConstants.{MOST_INPUT}
 use Rattle.live_runs.specs.LineForms.{LineForm, meant_form}
 use Rattle.live_runs.specs.LiveRuns.{EndsDay}
-use Rattle.live_runs.specs.LiveStages.{IsCut, StageIs, StandsAt, err_new, err_old, out_new, out_old}
-use Rattle.live_runs.specs.LiveStages.{FeedFails, Feeds, LineFails, LineTakes, StageFails}
-use Rattle.live_runs.specs.LiveStages.{StageTakes}
+use Rattle.live_runs.specs.LiveCalls.{err_new, err_old, out_new, out_old, FeedFails, Feeds}
+use Rattle.live_runs.specs.LiveCalls.{LineFails, LineTakes, StageFails, StageTakes}
+use Rattle.live_runs.specs.LiveStages.{IsCut, StageIs, StandsAt}
 use Rattle.live_runs.specs.Written.{Written}
 use Rattle.live_runs.specs.declared.line_forms.LineForm.{LineForm as RustForm}
 use Rattle.live_runs.specs.declared.live.LiveRun.{LiveRun}

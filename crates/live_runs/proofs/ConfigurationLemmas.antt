@@ -14,7 +14,8 @@ use Rattle.venue_text.specs.declared.live_form.LiveForm.{LiveForm}
 use Rattle.venue_text.specs.declared.live_lines.LiveDay.{LiveDay}
 use Rattle.live_runs.specs.LineForms.{LineForm, answered, compared_for, kept_for}
 use Rattle.live_runs.specs.LiveRuns.{GainsFaults}
-use Rattle.live_runs.specs.LiveStages.{AwaitsDay, DayGoes, KeptGoes, StageIs, OpensStage}
+use Rattle.live_runs.specs.LiveCalls.{OpensStage}
+use Rattle.live_runs.specs.LiveStages.{AwaitsDay, DayGoes, KeptGoes, StageIs}
 use Rattle.live_runs.specs.Written.{Gains, Written}
 use Rattle.live_runs.specs.declared.live.Stage.{Stage}
 use Rattle.live_runs.specs.declared.live.Stage.TheVariants as stage

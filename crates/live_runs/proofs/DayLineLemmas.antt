@@ -22,7 +22,8 @@ use Rattle.venue_text.specs.declared.live_form.LiveForm.{LiveForm}
 use Rattle.venue_text.specs.declared.live_lines.LiveDay.{LiveDay}
 use Rattle.live_runs.specs.LineForms.{answered}
 use Rattle.live_runs.specs.LiveRuns.{EndsDay, GainsFaults, fault_if}
-use Rattle.live_runs.specs.LiveStages.{DayGoes, KeepsAnywhere, KeptTakes}
+use Rattle.live_runs.specs.LiveCalls.{KeepsAnywhere, KeptTakes}
+use Rattle.live_runs.specs.LiveStages.{DayGoes}
 use Rattle.live_runs.specs.Written.{GainsPart, Written}
 use Rattle.live_runs.proofs.LineLemmas.{configuration_stays, taken_any, text_more}
 use Rattle.live_runs.proofs.PartLemmas.{parts_stay}

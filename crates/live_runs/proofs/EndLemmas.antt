@@ -21,8 +21,9 @@ use Rattle.venue_text.specs.declared.live_lines.LiveDay.{LiveDay}
 use Rattle.live_runs.specs.LineForms.{answered, compared_for, kept_for}
 use Rattle.live_runs.specs.LiveRuns.{EndsDay, EndsInAnswers, HasCompared, TakesOne, ended_lines}
 use Rattle.live_runs.specs.LiveRuns.{second_taken}
-use Rattle.live_runs.specs.LiveStages.{BothGo, IsCut, StageIs, taken_at, err_new, out_new}
-use Rattle.live_runs.specs.LiveStages.{CloseFails, Closes, EndFails, Ends, LineFails, LineTakes}
+use Rattle.live_runs.specs.LiveCalls.{err_new, out_new, CloseFails, Closes, EndFails, Ends}
+use Rattle.live_runs.specs.LiveCalls.{LineFails, LineTakes}
+use Rattle.live_runs.specs.LiveStages.{BothGo, IsCut, StageIs, taken_at}
 use Rattle.live_runs.specs.Written.{GainsPart, Written}
 use Rattle.live_runs.specs.declared.live.LiveRun.{LiveRun}
 use Rattle.live_runs.specs.declared.live.Stage.{Stage}

@@ -32,8 +32,9 @@ use Rattle.investor_texts.specs.declared.sought_days.SoughtDay.{SoughtDay}
 use Rattle.input_lines.specs.declared.lines.TheConstants.{MOST_INPUT}
 use Rattle.live_runs.specs.LineForms.{LineForm, answered, compared_for, kept_for}
 use Rattle.live_runs.specs.LiveRuns.{EndsDay, IsLiveFault, fault_if, name_fault}
-use Rattle.live_runs.specs.LiveStages.{AwaitsDay, IsBad, TurnFails, OfConfig, OfFirm, OfLength}
-use Rattle.live_runs.specs.LiveStages.{OfMemory, OpensNone}
+use Rattle.live_runs.specs.LiveCalls.{IsBad, TurnFails, OfConfig, OfFirm, OfLength, OfMemory}
+use Rattle.live_runs.specs.LiveCalls.{OpensNone}
+use Rattle.live_runs.specs.LiveStages.{AwaitsDay}
 use Rattle.live_runs.specs.Written.{Written}
 use Rattle.live_runs.specs.declared.live.Stage.{Stage}
 use Rattle.live_runs.specs.declared.live.Stage.TheVariants as stage

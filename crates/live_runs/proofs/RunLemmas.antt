@@ -17,8 +17,9 @@ use Rattle.input_lines.specs.declared.faults.ProgramFault.TheVariants.{UnknownFi
 use Rattle.input_lines.specs.declared.faults.ProgramFault.TheVariants.{Weave, Write}
 use Rattle.live_runs.specs.LineForms.{LineForm, answered, meant_form}
 use Rattle.live_runs.specs.LiveRuns.{EndsWith, EndsDay, EndsInAnswers, EndsInLive, HasAnswered}
-use Rattle.live_runs.specs.LiveStages.{StageIs, Start, AnswersAll, EndFails, Ends, FailsIn}
-use Rattle.live_runs.specs.LiveStages.{FeedFails, Feeds, StandsFirst}
+use Rattle.live_runs.specs.LiveCalls.{Start, AnswersAll, EndFails, Ends, FailsIn, FeedFails, Feeds}
+use Rattle.live_runs.specs.LiveCalls.{StandsFirst}
+use Rattle.live_runs.specs.LiveStages.{StageIs}
 use Rattle.live_runs.specs.Written.{GainsPart, Written}
 use Rattle.live_runs.specs.declared.line_forms.LineForm.{LineForm as RustForm}
 use Rattle.live_runs.specs.declared.live.LiveRun.{LiveRun}

@@ -11,9 +11,10 @@ use Rattle.investor_texts.specs.declared.sought_days.SoughtDay.{SoughtDay}
 use Rattle.venue_text.specs.declared.live_lines.LiveDay.{LiveDay}
 use Rattle.live_runs.specs.LineForms.{LineForm, answered, compared_for, kept_for}
 use Rattle.live_runs.specs.LiveRuns.{EndsDay, GainsFaults, HasAnswered}
-use Rattle.live_runs.specs.LiveStages.{IsBad, StageIs, KeepsAnywhere, KeepsStep, is_turn, err_new}
-use Rattle.live_runs.specs.LiveStages.{err_old, out_new, out_old, DayFails, DayTakes, IsNext}
-use Rattle.live_runs.specs.LiveStages.{KeptTakes, StageFails, StageTakes}
+use Rattle.live_runs.specs.LiveCalls.{IsBad, KeepsAnywhere, KeepsStep, is_turn, err_new, err_old}
+use Rattle.live_runs.specs.LiveCalls.{out_new, out_old, DayFails, DayTakes, IsNext, KeptTakes}
+use Rattle.live_runs.specs.LiveCalls.{StageFails, StageTakes}
+use Rattle.live_runs.specs.LiveStages.{StageIs}
 use Rattle.live_runs.specs.Written.{Written}
 use Rattle.live_runs.specs.declared.live.Stage.{Stage}
 use Rattle.live_runs.specs.declared.live.Stage.TheVariants as stage

@@ -17,8 +17,9 @@ use Rattle.input_lines.specs.declared.lines.TheConstants.{MOST_INPUT}
 use Rattle.live_runs.specs.LineForms.{LineForm, answered, compared_for, kept_for}
 use Rattle.live_runs.specs.LiveRuns.{EndsDay, HasAnswered, IsLiveFault, name_fault}
 use Rattle.live_runs.specs.LiveRuns.{second_configuration}
-use Rattle.live_runs.specs.LiveStages.{AreTwo, AwaitsSecond, BothGo, TurnFails, Turns, is_turn}
-use Rattle.live_runs.specs.LiveStages.{err_new, out_new, StageFails, StageTakes}
+use Rattle.live_runs.specs.LiveCalls.{TurnFails, Turns, is_turn, err_new, out_new, StageFails}
+use Rattle.live_runs.specs.LiveCalls.{StageTakes}
+use Rattle.live_runs.specs.LiveStages.{AreTwo, AwaitsSecond, BothGo}
 use Rattle.live_runs.specs.Written.{Written}
 use Rattle.live_runs.specs.declared.live.Stage.{Stage}
 use Rattle.live_runs.specs.declared.live.Stage.TheVariants as stage

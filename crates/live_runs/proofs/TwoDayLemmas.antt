@@ -17,9 +17,9 @@ use Rattle.live_runs.specs.LineForms.{LineForm, answered, compared_for, kept_for
 use Rattle.live_runs.specs.LiveRuns.{GainsFaults, HasAnswered, AnswersNothing, HasNoDay}
 use Rattle.live_runs.specs.LiveRuns.{IsConfigurationIn, TakesBoth, TakesOne, are_four, are_whole}
 use Rattle.live_runs.specs.LiveRuns.{first_taken, second_configuration, second_taken}
-use Rattle.live_runs.specs.LiveStages.{AreTwo, AwaitsSecond, BothGo, FirstGoes, Start}
-use Rattle.live_runs.specs.LiveStages.{KeepsAnywhere, taken_at, err_new, err_old, out_new, out_old}
-use Rattle.live_runs.specs.LiveStages.{KeptTakes}
+use Rattle.live_runs.specs.LiveCalls.{Start, KeepsAnywhere, err_new, err_old, out_new, out_old}
+use Rattle.live_runs.specs.LiveCalls.{KeptTakes}
+use Rattle.live_runs.specs.LiveStages.{AreTwo, AwaitsSecond, BothGo, FirstGoes, taken_at}
 use Rattle.live_runs.specs.Written.{IsUntouched, Written}
 use Rattle.live_runs.proofs.LineLemmas.{configuration_is, configuration_stays, alone_still}
 use Rattle.live_runs.proofs.LineLemmas.{first_alone, first_taken_alone, first_taken_is, four_is}

@@ -1,6 +1,6 @@
 use Rattle.std.proofs.Common.{◌≡◌, Some, refl, rules, subst, sym}
 use Rattle.live_runs.specs.LineForms.{meant_form}
-use Rattle.live_runs.specs.LiveStages.{IsNext}
+use Rattle.live_runs.specs.LiveCalls.{IsNext}
 use Rattle.live_runs.specs.declared.live.Stage.TheVariants as stage
 use Rattle.live_runs.proofs.GainLemmas.{same_fault}
 use Rattle.live_runs.proofs.StageLemmas.{stage_bad, stage_between, stage_keeps, stage_of_both}
