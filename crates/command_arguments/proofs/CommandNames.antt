@@ -18,8 +18,8 @@ use Rattle.clap.specs.Walk.{bundle_step, finished, idle, long_or_other, nothing_
 use Rattle.clap.specs.Walk.{settled, short_or_plain, subcommand_or_other, trailing, walked}
 use Rattle.clap.proofs.OnLiterals.{clap_on_literals}
 use Rattle.clap.proofs.WalkLemmas.{walk_stopped}
-use Rattle.command_arguments.specs.Arguments.{Line, arguments_fault, commands, flags_in, line_of}
-use Rattle.command_arguments.specs.Arguments.{plain_in, venue_app}
+use Rattle.command_arguments.specs.ArgumentWords.{flags_in, plain_in}
+use Rattle.command_arguments.specs.Arguments.{Line, arguments_fault, commands, line_of, venue_app}
 use Rattle.command_arguments.proofs.TableEnds.{Ends, ends, leaf_kinds, leaf_rows}
 use Rattle.command_arguments.proofs.TableSpots.{before, fits_first, walk_at}
 use Rattle.command_arguments.proofs.WordLemmas.{neither, never, or_nothing}

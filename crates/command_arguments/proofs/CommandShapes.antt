@@ -12,8 +12,9 @@ use Rattle.clap.specs.Lexer.{has_byte}
 use Rattle.clap.specs.Simple.{App, Shape, built, built_leaf, filled_from, help_rule, help_shape}
 use Rattle.clap.specs.Simple.{inherited, names_of, new_app, on_top, with_rule}
 use Rattle.clap.specs.Walk.{Names, Rule, Text}
-use Rattle.command_arguments.specs.Arguments.{Line, commands, flag_rule, is_among, line_app}
-use Rattle.command_arguments.specs.Arguments.{line_of, venue_app, argument_rules}
+use Rattle.command_arguments.specs.ArgumentWords.{is_among}
+use Rattle.command_arguments.specs.Arguments.{Line, commands, flag_rule, line_app, line_of}
+use Rattle.command_arguments.specs.Arguments.{venue_app, argument_rules}
 use Rattle.command_arguments.proofs.TableRows.{firm, rules_are, rules_of}
 use Rattle.command_arguments.proofs.TableFlags.{AreNames}
 use Rattle.command_arguments.proofs.TableSpots.{above, shape}

@@ -9,9 +9,9 @@ use Rattle.std.specs.Str.{bytes_eq}
 use Rattle.clap.specs.Kinds.{Kinds}
 use Rattle.clap.specs.Simple.{subcommand_of}
 use Rattle.clap.specs.Walk.{Row, Text, first_of, one_of}
+use Rattle.command_arguments.specs.ArgumentWords.{flags_in, given, plain_in}
 use Rattle.command_arguments.specs.Arguments.{Line, arguments_fault, asked_by, command_of, commands}
-use Rattle.command_arguments.specs.Arguments.{flags_in, given, line_of, named_command, plain_in}
-use Rattle.command_arguments.specs.Arguments.{venue_app}
+use Rattle.command_arguments.specs.Arguments.{line_of, named_command, venue_app}
 use Rattle.command_arguments.specs.declared.command.Flags.{Flags}
 use Rattle.command_arguments.proofs.TableEnds.{AreRead, Ends, Reads, are_lawful, leaf_rows}
 use Rattle.command_arguments.proofs.TableRows.{firm}

@@ -18,8 +18,8 @@ use Rattle.clap.specs.Lexer.{has_byte}
 use Rattle.clap.specs.Simple.{filled, help_rule, with_index}
 use Rattle.clap.specs.Walk.{Held, Row, Rule, Text, Walk, after_flag, after_step, arg_by_long}
 use Rattle.clap.specs.Walk.{has_row, idle, long_met, reacted, settled}
-use Rattle.command_arguments.specs.Arguments.{Words, are_flags, is_among, no_word, one_or_none}
-use Rattle.command_arguments.specs.Arguments.{one_word, spelled}
+use Rattle.command_arguments.specs.ArgumentWords.{Words, are_flags, is_among, no_word, one_or_none}
+use Rattle.command_arguments.specs.ArgumentWords.{one_word, spelled}
 use Rattle.command_arguments.proofs.TableRows.{behind_flags, built_flag, by_long, firm, flag_row}
 use Rattle.command_arguments.proofs.TableRows.{has_flag, one_used, rules_of, word_row}
 use Rattle.command_arguments.proofs.WordLemmas.{IsLong, neither, never}

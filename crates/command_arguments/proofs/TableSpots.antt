@@ -15,8 +15,9 @@ use Rattle.clap.specs.Kinds.{or_else}
 use Rattle.clap.specs.Simple.{Shape, built_leaf, filled, inherited, marked_built, new_shape, on_top}
 use Rattle.clap.specs.Simple.{with_index, with_leaf_noted}
 use Rattle.clap.specs.Walk.{Held, Row, Rule, Text, Walk, arg_by_id, idle, settled, used_by_id}
-use Rattle.command_arguments.specs.Arguments.{Words, are_flags, is_among, no_word, one_or_none}
-use Rattle.command_arguments.specs.Arguments.{one_word, spelled, venue_app, argument_rule}
+use Rattle.command_arguments.specs.ArgumentWords.{Words, are_flags, is_among, no_word, one_or_none}
+use Rattle.command_arguments.specs.ArgumentWords.{one_word, spelled}
+use Rattle.command_arguments.specs.Arguments.{venue_app, argument_rule}
 use Rattle.command_arguments.proofs.TableRows.{by_id, firm, flag_row, has_flag, one_used, rules_of}
 use Rattle.command_arguments.proofs.TableRows.{word_row}
 use Rattle.command_arguments.proofs.WordLemmas.{both_false}

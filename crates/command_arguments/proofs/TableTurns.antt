@@ -14,8 +14,8 @@ use Rattle.clap.specs.Lexer.{long_of}
 use Rattle.clap.specs.Walk.{Held, Rule, Text, Walk, after_flag, after_step, arg_by_index}
 use Rattle.clap.specs.Walk.{arg_by_short, bundle_met, bundle_step, idle, long_or_other, plain}
 use Rattle.clap.specs.Walk.{short_or_plain, to_positional, trailing, value, walked}
-use Rattle.command_arguments.specs.Arguments.{Words, are_words, is_among, is_dashes, is_flag}
-use Rattle.command_arguments.specs.Arguments.{no_word, one_or_none, one_word, spelled}
+use Rattle.command_arguments.specs.ArgumentWords.{Words, are_words, is_among, is_dashes, is_flag}
+use Rattle.command_arguments.specs.ArgumentWords.{no_word, one_or_none, one_word, spelled}
 use Rattle.command_arguments.proofs.TableRows.{behind_flags, by_index, by_short, rules_of}
 use Rattle.command_arguments.proofs.WordLemmas.{IsLong, IsPlain, IsShort, neither, never, word_form}
 use Rattle.command_arguments.proofs.TableSpots.{shape, Spot, before, waits, behind, given_at}
