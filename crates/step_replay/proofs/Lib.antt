@@ -10,6 +10,8 @@ mod FirmSent
 mod FloorLemmas
 mod FollowLemmas
 mod HitLemmas
+mod HitRefused
+mod HitSettled
 mod InvestorActionLemmas
 mod InvestorOpeningLemmas
 mod InvestorPlaceLemmas
